@@ -1,0 +1,3 @@
+pub mod Fields
+pub mod Pattern
+pub mod Rows8080

@@ -1,0 +1,10 @@
+//! The registers and flags of the Intel 8080 and the Zilog Z80, and their arithmetic on bytes and words.
+#![tactic(auto)]
+
+pub mod arithmetic;
+pub mod flag_byte;
+pub mod regs;
+
+pub use arithmetic::{Byte, Word, add8, add16, and8, daa, dec8, inc8, logic8, sub8};
+pub use flag_byte::{pack, unpack};
+pub use regs::{Cpu, Flags, Regs, Alternate};
