@@ -1,5 +1,5 @@
 -- What a copy of a page and a write of a byte change.
-use Rattle.std.proofs.Common.{◌≡◌, ◌≢◌, ℕ, ◌+◌, ◌<◌, ◌≤◌, ◌/◌, ◌%◌, true, [], length, map, get_or, set, refl, arith, ap, sym, ◌∙◌, Option, Some, None, is_some, unwrap_or, option_map, ⊎_elim, subst}
+use Rattle.std.proofs.Common.{◌≡◌, ◌≢◌, ℕ, ◌+◌, ◌*◌, ◌<◌, ◌≤◌, ◌/◌, ◌%◌, true, [], length, map, get_or, set, refl, arith, ap, sym, ◌∙◌, Option, Some, None, is_some, unwrap_or, option_map, ⊎_elim, subst}
 use Rattle.std.proofs.lemmas.List.{get_or-set_same, get_or-set_other, set-get_or, map-set, set-set}
 use Rattle.std.proofs.lemmas.Bool.{cases_eq, false≢true}
 use Rattle.cpm_memory.specs.Contents.{Contents, after_set, byte_at}
@@ -197,3 +197,16 @@ after_set-marked c d address value e =
 -- a byte of a table's memory
 pub byte_at-table : (s : Frames) (t address : ℕ) → address < 65536 → byte_at (memory_of s t) address ≡ table_byte s t address
 byte_at-table s t address l = get_or-tabulated 65536 (table_byte s t) address 0 l
+
+-- the same, by page and offset
+pub byte_of-page : (s : Frames) (t page offset : ℕ) → page < 256 → offset < 256 → byte_at (memory_of s t) (256 * page + offset) ≡ get_or (frame_of s (place_of s t page)) offset 0
+byte_of-page s t page offset lp lo =
+    byte_at-table s t (256 * page + offset) (omega (arith, lp, lo))
+    ∙ ap (λ p. get_or (frame_of s (place_of s t p)) ((256 * page + offset) % 256) 0) (number page offset lo)
+    ∙ ap (λ k. get_or (frame_of s (place_of s t page)) k 0) (within page offset lo)
+  where
+    number : (page offset : ℕ) → offset < 256 → (256 * page + offset) / 256 ≡ page
+    number page offset l = omega (arith, l)
+
+    within : (page offset : ℕ) → offset < 256 → (256 * page + offset) % 256 ≡ offset
+    within page offset l = omega (arith, l)

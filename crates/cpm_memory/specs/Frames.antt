@@ -104,7 +104,11 @@ pub record ChangesTable (old new : Frames) (t : ℕ) : Type 0 where
   pub private : new.private ≡ old.private
   pub reservation : (table_at new t).reservation ≡ (table_at old t).reservation
 
--- no other page moves
+-- No page of another table moves. (own)
+abbrev pub KeepsPlaces : Frames → Frames → ℕ → Type 0
+KeepsPlaces old new t = (t' page : ℕ) → t' ≢ t → place_of new t' page ≡ place_of old t' page
+
+-- No page but this one of the table moves. (own)
 abbrev pub MovesAtMost : Frames → Frames → ℕ → ℕ → Type 0
 MovesAtMost old new t page = (t' page' : ℕ) → (t' ≡ t → page' ≡ page → ⊥) → place_of new t' page' ≡ place_of old t' page'
 

@@ -10,3 +10,4 @@ pub mod Room
 pub mod Reserved
 pub mod View
 pub mod Opened
+pub mod Laws

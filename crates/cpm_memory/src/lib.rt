@@ -4,6 +4,7 @@
 pub mod access;
 pub mod flat;
 mod frames;
+pub mod laws;
 pub mod memory;
 pub mod opening;
 pub mod pages;

@@ -1,6 +1,6 @@
 //! The memory of one table of a store.
 
-ghost use Rattle.std.specs.Prelude.{◌<◌};
+ghost use Rattle.std.specs.Prelude.{◌≡◌, ◌<◌};
 ghost use Rattle.cpm_memory.specs.Frames.{IsSound, IsTaken};
 
 use crate::memory::Memory;
@@ -18,8 +18,9 @@ pub struct View<'a> {
 }
 
 impl Memory for View<'_> {
-    ghost use Rattle.cpm_memory.specs.View.{contents_of, surroundings_of, ViewLeads, IsContents-view};
-    ghost use Rattle.cpm_memory.specs.Sets.{IsAfterSets-none, IsAfterSets-on};
+    ghost use Rattle.cpm_memory.specs.Contents.{CanSet, after_set, page_of};
+    ghost use Rattle.cpm_memory.specs.Frames.{MovesAtMost};
+    ghost use Rattle.cpm_memory.specs.View.{contents_of, surroundings_of, store_of, table_of, ViewLeads, ViewLeads-none, ViewLeads-on, IsContents-view};
 
     ghost contents = { contents_of };
 
@@ -31,7 +32,14 @@ impl Memory for View<'_> {
         self.store.byte(self.table.index(), address)
     }
 
-    fn set(&mut self, address: u16, value: u8) {
+    /// Stores a byte. At most the frame of its page is another one then; no page of another table moves.
+    fn set(&mut self, address: u16, value: u8)
+        requires { CanSet (contents_of self.old) address }
+        ensures contents { contents_of self.new ≡ after_set (contents_of self.old) address value }
+        ensures surroundings { surroundings_of self.new ≡ surroundings_of self.old }
+        ensures moves { MovesAtMost (store_of self.old) (store_of self.new) (table_of self.old) (page_of address) }
+        ensures leads { ViewLeads self.old self.new }
+    {
         self.store.set_byte(self.table.index(), address, value);
     }
 
@@ -45,9 +53,9 @@ impl Memory for View<'_> {
 
     ghost sound = { IsContents-view };
 
-    ghost leads_same = { λ a. IsAfterSets-none (contents_of a) (surroundings_of a) };
+    ghost leads_same = { ViewLeads-none };
 
-    ghost leads_on = { λ a b c. IsAfterSets-on (contents_of a) (contents_of b) (contents_of c) (surroundings_of a) (surroundings_of b) (surroundings_of c) };
+    ghost leads_on = { ViewLeads-on };
 
-    ghost leads_by = { λ a b h. h };
+    ghost leads_by = { λ a b h. h.stores };
 }

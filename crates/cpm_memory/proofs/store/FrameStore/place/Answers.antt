@@ -1,7 +1,7 @@
-use Rattle.std.proofs.Common.{◌≡◌, ℕ, ◌+◌, ◌*◌, ◌/◌, ◌%◌, ◌<◌, get_or, arith, ap, sym, ◌∙◌, subst, true, false}
+use Rattle.std.proofs.Common.{◌≡◌, ℕ, ◌+◌, ◌*◌, ◌<◌, get_or, arith, ap, sym, ◌∙◌, subst, true, false}
 use Rattle.cpm_memory.specs.Contents.{is_written, byte_at}
 use Rattle.cpm_memory.specs.Frames.{Frames, IsSound, place_of, boot_of, frame_of, private_at, memory_of}
-use Rattle.cpm_memory.proofs.Bytes.{byte_at-table, place_of-cases}
+use Rattle.cpm_memory.proofs.Bytes.{byte_of-page, place_of-cases}
 use Rattle.cpm_memory.proofs.Places.{same_table, same_page}
 use Rattle.cpm_memory.proofs.Copies.{written-place, place-written, place-boot, place_of-lt}
 use Rattle.cpm_memory.proofs.store.FrameStore.place.Goals as goal
@@ -27,17 +27,7 @@ returns-clause-within c = subst (λ n. n < c.args.self.now.private + 4) (sym c.p
 -- a byte of a page, read in the page's frame
 byte-of : (s : Frames) (i t page offset place : ℕ) → i ≡ t → page < 256 → offset < 256 → place ≡ place_of s i page → byte_at (memory_of s t) (256 * page + offset) ≡ get_or (frame_of s place) offset 0
 byte-of s i t page offset place e lp lo at =
-    byte_at-table s t (256 * page + offset) (omega (arith, lp, lo))
-    ∙ ap (λ p. get_or (frame_of s (place_of s t p)) ((256 * page + offset) % 256) 0) (number page offset lo)
-    ∙ ap (λ k. get_or (frame_of s (place_of s t page)) k 0) (within page offset lo)
-    ∙ ap (λ x. get_or (frame_of s (place_of s x page)) offset 0) (sym e)
-    ∙ ap (λ f. get_or (frame_of s f) offset 0) (sym at)
-  where
-    number : (page offset : ℕ) → offset < 256 → (256 * page + offset) / 256 ≡ page
-    number page offset l = omega (arith, l)
-
-    within : (page offset : ℕ) → offset < 256 → (256 * page + offset) % 256 ≡ offset
-    within page offset l = omega (arith, l)
+    byte_of-page s t page offset lp lo ∙ ap (λ x. get_or (frame_of s (place_of s x page)) offset 0) (sym e) ∙ ap (λ f. get_or (frame_of s f) offset 0) (sym at)
 
 pub returns-clause-bytes : goal.returns-clause-bytes
 returns-clause-bytes c offset l = byte-of c.args.self.now c.index.result c.args.table c.args.page offset c.place_at.result c.index.ensures.index (omega arith) l c.place_at.ensures.place
