@@ -110,7 +110,7 @@ no_page : (p q : Bool) (x y : ℕ) → p ≡ false → q ≡ false → cond p x 
 no_page p q x y a b = rw (a, b) refl
 
 -- the other pages are zeros at opening
-blank-page : (page k : ℕ) → page ≢ 0 → page ≢ 250 → page ≢ 252 → opening_byte 1 k ≡ opening_byte page k
+pub blank-page : (page k : ℕ) → page ≢ 0 → page ≢ 250 → page ≢ 252 → opening_byte 1 k ≡ opening_byte page k
 unfolding opening_byte
 blank-page page k a b c =
     sym (no_page (page == 0) (page == 250) (base_byte k) (jumps_byte k) (grind (arith, nat_tests)) (grind (arith, nat_tests)))
