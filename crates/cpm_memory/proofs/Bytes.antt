@@ -4,7 +4,7 @@ use Rattle.std.proofs.lemmas.List.{get_or-set_same, get_or-set_other, set-get_or
 use Rattle.std.proofs.lemmas.Bool.{cases_eq, false≢true}
 use Rattle.cpm_memory.specs.Contents.{Contents, after_set, byte_at}
 use Rattle.cpm_memory.specs.Tabulated.{tabulated, same_tabulated, tabulated-set, get_or-tabulated}
-use Rattle.cpm_memory.specs.Frames.{Frames, Table, IsSound, blank_table, table_at, private_at, place_of, frame_of, boot_of, table_byte, memory_of, ChangesTable, IsTaken, memory_at, memories, owners_of}
+use Rattle.cpm_memory.specs.Frames.{Frames, Table, IsSound, blank_table, table_at, private_at, place_of, frame_of, boot_of, table_byte, memory_of, ChangesTable, memory_at, memories, owners_of}
 use Rattle.cpm_memory.specs.Kept.{with_place, with_private, with_byte, with_table}
 use Rattle.cpm_memory.proofs.Places.{owners_of-at, same_table, same_page}
 
@@ -165,15 +165,6 @@ ChangesTable-written s t address f value private at single fits size = record {
 -- one change after another
 pub ChangesTable-both : (a b c : Frames) (t : ℕ) → ChangesTable a b t → ChangesTable b c t → ChangesTable a c t
 ChangesTable-both a b c t h k = record { others = λ t' ne. k.others t' ne ∙ h.others t' ne; private = k.private ∙ h.private; reservation = k.reservation ∙ h.reservation }
-
--- the memories after such a change
-pub memories-changed : (s s' : Frames) (t : ℕ) (c : Contents) → t < 64 → ChangesTable s s' t → IsTaken s t → memory_of s' t ≡ c → memories s' ≡ set (memories s) t (Some c)
-memories-changed s s' t c lt h taken e =
-    tabulated-set 64 (memory_at s) (memory_at s') t (Some c) None lt (own (table_at s' t).reservation (ap is_some h.reservation ∙ taken)) (λ k _ ne. h.others k ne)
-  where
-    own : (o : Option ℕ) → is_some o ≡ true → option_map (λ _. memory_of s' t) o ≡ Some c
-    own None q = absurd (false≢true q)
-    own (Some n) q = ap Some e
 
 -- what a write is, in one record
 pub record Written (s s' : Frames) (t address value : ℕ) : Type 0 where

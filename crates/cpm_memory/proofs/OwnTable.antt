@@ -7,6 +7,7 @@ use Rattle.cpm_memory.specs.Contents.{Contents, Surroundings, byte_at}
 use Rattle.cpm_memory.specs.Tabulated.{tabulated, same_as_tabulated, get_or-tabulated, same_tabulated}
 use Rattle.cpm_memory.specs.Frames.{Frames, IsSound, IsTaken, table_at, place_of, frame_of, memory_of, memory_at, memories}
 use Rattle.cpm_memory.specs.View.{ViewLeads, store_of, table_of, memories-after_leads, surroundings_of}
+use Rattle.cpm_memory.specs.Memories.{HasReservation-taken}
 use Rattle.cpm_memory.specs.Laws.{ChangesOwnTable}
 use Rattle.cpm_memory.specs.declared.view.View.{View}
 use Rattle.cpm_memory.proofs.Bytes.{byte_of-page}
@@ -42,7 +43,7 @@ module _ (v w : View) (h : ViewLeads v w) where
   frame-kept t page ne lt lp taken =
       ap (frame_of (store_of w)) (sym (h.places t page ne))
       ∙ frame-by_memory (store_of w) t page w.sound lp
-      ∙ ap (λ (c : Contents). tabulated 256 (λ k. byte_at c (256 * page + k))) (same-contents (table_at (store_of v) t).reservation (table_at (store_of w) t).reservation (memory_of (store_of v) t) (memory_of (store_of w) t) taken (memory-kept t ne lt))
+      ∙ ap (λ (c : Contents). tabulated 256 (λ k. byte_at c (256 * page + k))) (same-contents (table_at (store_of v) t).reservation (table_at (store_of w) t).reservation (memory_of (store_of v) t) (memory_of (store_of w) t) (HasReservation-taken (store_of v) t lt taken) (memory-kept t ne lt))
       ∙ sym (frame-by_memory (store_of v) t page v.sound lp)
 
   pub own-table : ChangesOwnTable v w

@@ -49,12 +49,16 @@ memory_of s t = record { bytes = tabulated 65536 (table_byte s t); written = map
 abbrev pub memory_at : Frames → ℕ → Option Contents
 memory_at s t = option_map (λ _. memory_of s t) (table_at s t).reservation
 
-abbrev pub IsTaken : Frames → ℕ → Type 0
-IsTaken s t = is_some (table_at s t).reservation ≡ true
+abbrev pub HasReservation : Frames → ℕ → Type 0
+HasReservation s t = is_some (table_at s t).reservation ≡ true
 
 -- the memories of all tables; a table that is not taken has none
 abbrev pub memories : Frames → List (Option Contents)
 memories s = tabulated 64 (memory_at s)
+
+-- The table is taken: it has a memory. (own)
+abbrev pub IsTaken : Frames → ℕ → Type 0
+IsTaken s t = is_some (slice_index_or (memories s) t None) ≡ true
 
 -- whether this is the frame's number
 abbrev pub names : ℕ → Option ℕ → Bool

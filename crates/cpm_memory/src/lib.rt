@@ -17,3 +17,6 @@ pub use memory::Memory;
 pub use pages::TableId;
 pub use store::{FrameStore, MemoryError};
 pub use view::View;
+
+#[cfg(test)]
+mod tests;

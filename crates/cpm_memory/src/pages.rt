@@ -161,3 +161,10 @@ pub fn find_free_table(tables: &[PageTable]) -> usize
     }
     unreachable!()
 }
+
+/// How many tables are taken.
+pub fn count_taken(tables: &[PageTable]) -> usize
+    ensures { result ≡ count_by is_taken tables.now }
+{
+    tables.iter().filter(|table| table.reservation().is_some()).count()
+}

@@ -1,7 +1,7 @@
 //! The memory of one table of a store.
 
 ghost use Rattle.std.specs.Prelude.{◌≡◌, ◌<◌};
-ghost use Rattle.cpm_memory.specs.Frames.{IsSound, IsTaken};
+ghost use Rattle.cpm_memory.specs.Frames.{IsSound, HasReservation};
 
 use crate::memory::Memory;
 use crate::pages::TableId;
@@ -12,7 +12,7 @@ use crate::store::FrameStore;
 pub struct View<'a> {
     pub(crate) store: &'a mut FrameStore,
     pub(crate) table: TableId,
-    ghost taken: { IsTaken store.now table },
+    ghost taken: { HasReservation store.now table },
     ghost within: { table < 64 },
     ghost sound: { IsSound store.now },
 }
