@@ -76,19 +76,21 @@ fn shares_boot_frames_until_a_page_is_written(rt: HostRuntime) -> Result<(), Fai
     Ok(())
 }
 
-/// A store of 16 frames: its boot frames at its opening, and after a byte of page 00h was stored.
+/// The frames at pages of a table that wrote nothing, after another stored a byte at 0003h.
 #[test]
 fn boot_frames_stay(rt: HostRuntime) -> Result<(), Fail> {
     let mut store = FrameStore::new(rt.alloc(), 16)?;
-    let table = reserve(&rt, &mut store, 1)?;
-    store_byte(&rt, &mut store, table, 0x0003, 0x55);
-    for (frame, offset, byte) in [(16, 3, 0), (17, 0, 0xC3), (17, 3, 0x00), (17, 6, 0x06), (18, 1, 0x00), (18, 49, 0x10), (19, 255, 0)] {
+    let writer = reserve(&rt, &mut store, 1)?;
+    let other = reserve(&rt, &mut store, 1)?;
+    store_byte(&rt, &mut store, writer, 0x0003, 0x55);
+    for (page, offset, byte) in [(0x00, 0, 0xC3), (0x00, 3, 0x00), (0x00, 6, 0x06), (0xFA, 1, 0x00), (0xFA, 49, 0x10), (0x20, 255, 0x00)] {
         let want: u8 = byte;
-        assert!(rt; frame < 20);
-        assert_eq!(rt; store.frame(frame).get(offset), Some(&want), "frame {frame}");
+        assert!(rt; store.is_taken(other));
+        let place = store.place(other, page);
+        assert_eq!(rt; store.frame(place).get(offset), Some(&want), "page {page}");
     }
-    assert_eq!(rt; byte_of(&rt, &mut store, table, 0x0003), 0x55);
-    assert_eq!(rt; byte_of(&rt, &mut store, table, 0x0006), 0x06);
+    assert_eq!(rt; byte_of(&rt, &mut store, writer, 0x0003), 0x55);
+    assert_eq!(rt; byte_of(&rt, &mut store, writer, 0x0006), 0x06);
     Ok(())
 }
 
