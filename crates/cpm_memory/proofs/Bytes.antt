@@ -1,10 +1,10 @@
 -- What a copy of a page and a write of a byte change.
 use Rattle.std.proofs.Common.{◌≡◌, ◌≢◌, ℕ, ◌+◌, ◌*◌, ◌<◌, ◌≤◌, ◌/◌, ◌%◌, true, [], length, map, get_or, set, refl, arith, ap, sym, ◌∙◌, Option, Some, None, is_some, unwrap_or, option_map, ⊎_elim, subst}
 use Rattle.std.proofs.lemmas.List.{get_or-set_same, get_or-set_other, set-get_or, map-set, set-set}
-use Rattle.std.proofs.lemmas.Bool.{cases_eq, false≢true}
+use Rattle.std.proofs.lemmas.Bool.{cases_eq}
 use Rattle.cpm_memory.specs.Contents.{Contents, after_set, byte_at}
 use Rattle.cpm_memory.specs.Tabulated.{tabulated, same_tabulated, tabulated-set, get_or-tabulated}
-use Rattle.cpm_memory.specs.Frames.{Frames, Table, IsSound, blank_table, table_at, private_at, place_of, frame_of, boot_of, table_byte, memory_of, ChangesTable, memory_at, memories, owners_of}
+use Rattle.cpm_memory.specs.Frames.{Frames, Table, IsSound, blank_table, table_at, private_at, place_of, frame_of, boot_of, table_byte, memory_of, ChangesTable, memory_at, owners_of}
 use Rattle.cpm_memory.specs.Kept.{with_place, with_private, with_byte, with_table}
 use Rattle.cpm_memory.proofs.Places.{owners_of-at, same_table, same_page}
 

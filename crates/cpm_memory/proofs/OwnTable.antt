@@ -1,12 +1,12 @@
 -- What the calls of a view leave of the other tables.
-use Rattle.std.proofs.Common.{◌≡◌, ◌≢◌, ℕ, ◌+◌, ◌*◌, ◌<◌, List, get_or, set, length, arith, ap, sym, ◌∙◌, Option, Some, None, is_some, option_map, subst, true}
+use Rattle.std.proofs.Common.{◌≡◌, ◌≢◌, ℕ, ◌+◌, ◌*◌, ◌<◌, List, get_or, set, ap, sym, ◌∙◌, Option, Some, None, is_some, option_map, true}
 use Rattle.std.proofs.lemmas.List.{get_or-set_other}
 use Rattle.std.proofs.lemmas.Option.{same_Some}
 use Rattle.std.proofs.lemmas.Bool.{false≢true}
 use Rattle.cpm_memory.specs.Contents.{Contents, Surroundings, byte_at}
-use Rattle.cpm_memory.specs.Tabulated.{tabulated, same_as_tabulated, get_or-tabulated, same_tabulated}
+use Rattle.cpm_memory.specs.Tabulated.{tabulated, same_as_tabulated, get_or-tabulated}
 use Rattle.cpm_memory.specs.Frames.{Frames, IsSound, IsTaken, table_at, place_of, frame_of, memory_of, memory_at, memories}
-use Rattle.cpm_memory.specs.View.{ViewLeads, store_of, table_of, memories-after_leads, surroundings_of}
+use Rattle.cpm_memory.specs.View.{ViewLeads, store_of, table_of, memories-after_leads}
 use Rattle.cpm_memory.specs.Memories.{HasReservation-taken}
 use Rattle.cpm_memory.specs.Laws.{ChangesOwnTable}
 use Rattle.cpm_memory.specs.declared.view.View.{View}

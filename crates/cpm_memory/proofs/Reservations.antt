@@ -1,6 +1,6 @@
 -- Tables that are taken and given up, and pages that are made of their boot frames again.
 use Rattle.std.proofs.Common.{◌≡◌, ◌≢◌, ℕ, zero, suc, ◌+◌, ◌-◌, ◌<◌, ◌≤◌, ◌/◌, ◌%◌, Bool, true, false, cond, List, [], ◌∷◌, length, map, get_or, set, count_by, refl, arith, ap, sym, ◌∙◌, Option, Some, None, is_some, unwrap_or, option_map, ⊎_elim, ◌==◌}
-use Rattle.std.proofs.lemmas.List.{get_or-set_same, get_or-set_other, length-set, get_or-map, length-map, set-set}
+use Rattle.std.proofs.lemmas.List.{get_or-set_same, get_or-set_other, length-set, get_or-map, length-map}
 use Rattle.std.proofs.lemmas.List.Sums.{sum_by-set, sum_by-cons, get_or-le-sum_by}
 use Rattle.std.proofs.lemmas.Option.{none-some}
 use Rattle.std.proofs.lemmas.Bool.{cases_eq}
@@ -144,16 +144,7 @@ module _ (s : Frames) (t page : ℕ) (ok : IsSound s) (lt : t < 64) (lp : page <
     single = λ g. omega (arith, owners-cleared g, ok.single g);
   }
 
-  -- it had a boot frame
-  pub IsKept-shared_none : (counts : List ℕ) (reservations : ℕ) → IsKept s counts reservations → private_at s t page ≡ None → IsKept (with_shared s t page) counts reservations
-  IsKept-shared_none counts reservations kept e = record {
-    sound = IsSound-shared;
-    owners = kept.owners ∙ same_tabulated s.private (owners_of s) (owners_of (with_shared s t page)) 0 (λ k _. omega (arith, owners-cleared k, ap (λ o. cond {A = ℕ} (names k o) 1 0) e));
-    total = omega (arith, kept.total, used-moved s t page None in_range in_pages, ap (λ o. cond {A = ℕ} (is_some o) 1 0) e);
-    reserved = omega (arith, kept.reserved, sum_by-set reserved_by s.tables t cleared blank_table in_range);
-  }
-
-  -- it had a private frame
+  -- where the page had a private frame
   module _ (counts : List ℕ) (reservations f : ℕ) (kept : IsKept s counts reservations) (e : private_at s t page ≡ Some f) where
     itself : cond {A = ℕ} (f == f) 1 0 ≡ 1
     itself = grind arith

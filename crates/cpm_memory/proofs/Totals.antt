@@ -1,7 +1,7 @@
 -- What tables have reserved and used, counted over their memories.
-use Rattle.std.proofs.Common.{◌≡◌, ℕ, zero, suc, ◌+◌, ◌-◌, ◌<◌, ◌≤◌, cond, List, [], ◌∷◌, length, get_or, sum_by, count_by, refl, arith, ap, sym, ◌∙◌, Option, Some, None, is_some, unwrap_or, option_map}
+use Rattle.std.proofs.Common.{◌≡◌, ℕ, suc, ◌+◌, ◌-◌, ◌<◌, ◌≤◌, cond, List, [], ◌∷◌, length, get_or, sum_by, count_by, refl, arith, ap, sym, ◌∙◌, Option, Some, None, is_some, unwrap_or, option_map}
 use Rattle.std.proofs.lemmas.List.Sums.{sum_by-cons}
-use Rattle.cpm_memory.specs.Contents.{Contents, touched_of, room_of}
+use Rattle.cpm_memory.specs.Contents.{Contents, touched_of}
 use Rattle.cpm_memory.specs.Tabulated.{length-tabulated, get_or-tabulated}
 use Rattle.cpm_memory.specs.Frames.{Frames, Table, IsSound, blank_table, table_at, memory_of, memory_at, memories, is_taken, used_by, reserved_by, reserved_of}
 use Rattle.cpm_memory.specs.Memories.{touched_of-table}
@@ -50,9 +50,11 @@ module _ (s : Frames) (ok : IsSound s) where
 
   -- what is used and what is left make what is reserved
   pub unused_in-tables : unused_in (memories s) + sum_by used_by s.tables ≡ reserved_of s
-  unused_in-tables = omega (arith,
-      over_tables room_at (λ t. reserved_by t - used_by t) (λ k _. room-at (memory_of s k) (table_at s k).reservation (used_by (table_at s k)) refl (touched_of-table s k)),
-      both)
+  unused_in-tables = omega (
+    arith,
+    over_tables room_at (λ t. reserved_by t - used_by t) (λ k _. room-at (memory_of s k) (table_at s k).reservation (used_by (table_at s k)) refl (touched_of-table s k)),
+    both,
+  )
     where
       pairs : (xs : List Table) → ((k : ℕ) → used_by (get_or xs k blank_table) ≤ reserved_by (get_or xs k blank_table)) → sum_by (λ t. reserved_by t - used_by t) xs + sum_by used_by xs ≡ sum_by reserved_by xs
       pairs [] h = refl

@@ -27,5 +27,6 @@ pub record ChangesOwnTable (v w : View) : Type 0 where
   -- and the frames of the other tables have the bytes that they had
   pub frames : (t page : ℕ) → t ≢ table_of v → t < 64 → page < 256 → IsTaken (store_of v) t → frame_of (store_of w) (place_of (store_of v) t page) ≡ frame_of (store_of v) (place_of (store_of v) t page)
 
+-- Whatever is done through a view changes its own table alone. (own)
 abbrev pub ViewsChangeOwnTable : Type 0
 ViewsChangeOwnTable = (v w : View) → ViewLeads v w → ChangesOwnTable v w

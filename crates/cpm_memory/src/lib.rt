@@ -11,7 +11,9 @@ pub mod pages;
 pub mod store;
 pub mod view;
 
-pub use access::{change_byte, change_run, change_word, get_word, has_room, set_byte, set_run, set_word};
+pub use access::{
+    change_byte, change_run, change_word, get_word, has_room, set_byte, set_run, set_word,
+};
 pub use flat::FlatMemory;
 pub use memory::Memory;
 pub use pages::TableId;

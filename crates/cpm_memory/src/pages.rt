@@ -166,5 +166,8 @@ pub fn find_free_table(tables: &[PageTable]) -> usize
 pub fn count_taken(tables: &[PageTable]) -> usize
     ensures { result ≡ count_by is_taken tables.now }
 {
-    tables.iter().filter(|table| table.reservation().is_some()).count()
+    tables
+        .iter()
+        .filter(|table| table.reservation().is_some())
+        .count()
 }

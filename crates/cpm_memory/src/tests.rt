@@ -83,7 +83,14 @@ fn boot_frames_stay(rt: HostRuntime) -> Result<(), Fail> {
     let writer = reserve(&rt, &mut store, 1)?;
     let other = reserve(&rt, &mut store, 1)?;
     store_byte(&rt, &mut store, writer, 0x0003, 0x55);
-    for (page, offset, byte) in [(0x00, 0, 0xC3), (0x00, 3, 0x00), (0x00, 6, 0x06), (0xFA, 1, 0x00), (0xFA, 49, 0x10), (0x20, 255, 0x00)] {
+    for (page, offset, byte) in [
+        (0x00, 0, 0xC3),
+        (0x00, 3, 0x00),
+        (0x00, 6, 0x06),
+        (0xFA, 1, 0x00),
+        (0xFA, 49, 0x10),
+        (0x20, 255, 0x00),
+    ] {
         let want: u8 = byte;
         assert!(rt; store.is_taken(other));
         let place = store.place(other, page);
@@ -106,7 +113,13 @@ fn reserves_writes_and_releases_at_full_size(rt: HostRuntime) -> Result<(), Fail
     assert_eq!(rt; store.used(), 0);
     for (k, table) in tables.iter().enumerate() {
         for page in 0..=(k % 64) as u8 {
-            store_byte(&rt, &mut store, *table, u16::from(page) * 256, (k % 64) as u8 + 1);
+            store_byte(
+                &rt,
+                &mut store,
+                *table,
+                u16::from(page) * 256,
+                (k % 64) as u8 + 1,
+            );
         }
     }
     assert_eq!(rt; store.used(), 2_080);
@@ -124,7 +137,10 @@ fn reserves_writes_and_releases_at_full_size(rt: HostRuntime) -> Result<(), Fail
     for (k, table) in tables.iter().enumerate().skip(1).step_by(2) {
         let count = (k % 64) as u16 + 1;
         assert_eq!(rt; pages_of(&rt, &mut store, *table), (count, 256 - count));
-        assert_eq!(rt; byte_of(&rt, &mut store, *table, 256 * (count - 1)), count as u8);
+        assert_eq!(rt;
+            byte_of(&rt, &mut store, *table, 256 * (count - 1)),
+            count as u8
+        );
         assert_eq!(rt; byte_of(&rt, &mut store, *table, 256 * count), 0);
     }
     let mut is_named = vec![in rt.alloc(); false; 16_384]?;

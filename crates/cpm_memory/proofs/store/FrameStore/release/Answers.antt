@@ -1,4 +1,4 @@
-use Rattle.std.proofs.Common.{◌≡◌, ◌≢◌, ℕ, ◌+◌, ◌<◌, ◌-◌, arith, ap, sym, ◌∙◌, subst, refl, None, set}
+use Rattle.std.proofs.Common.{◌≡◌, ◌≢◌, ℕ, ◌+◌, ◌<◌, ◌-◌, arith, ap, sym, ◌∙◌, subst, None, set}
 use Rattle.std.proofs.lemmas.List.{get_or_read, set-set}
 use Rattle.cpm_memory.specs.Frames.{Frames, Table, IsSound, table_at, blank_table, empty_table, used_by, reserved_by, memories, private_at, owners_of, pages_on}
 use Rattle.cpm_memory.specs.Kept.{IsKept, with_place, with_table}

@@ -1,4 +1,4 @@
-use Rattle.std.proofs.Common.{arith, ap, sym, ◌∙◌, count_by}
+use Rattle.std.proofs.Common.{ap, sym, ◌∙◌, count_by}
 use Rattle.cpm_memory.specs.Frames.{Frames, is_taken, memories}
 use Rattle.cpm_memory.specs.Reserved.{taken_in}
 use Rattle.cpm_memory.proofs.Totals.{taken_in-tables}

@@ -1,7 +1,7 @@
-use Rattle.std.proofs.Common.{◌≡◌, ◌≤◌, ◌+◌, arith, ap, ◌∙◌, subst, count_by, sum_by, ltb, length}
+use Rattle.std.proofs.Common.{◌≡◌, ◌≤◌, ◌+◌, arith, ap, ◌∙◌, subst, count_by, ltb, length}
 use Rattle.std.proofs.lemmas.List.Sums.{count_by-le-length}
 use Rattle.cpm_memory.specs.Tabulated.{length-tabulated}
-use Rattle.cpm_memory.specs.Frames.{Frames, used_of, used_by, reserved_of, owners_of, memories}
+use Rattle.cpm_memory.specs.Frames.{Frames, used_of, owners_of, memories}
 use Rattle.cpm_memory.specs.Reserved.{touched_in, unused_in}
 use Rattle.cpm_memory.proofs.Owners.{used_of-le}
 use Rattle.cpm_memory.proofs.Totals.{touched_in-tables, unused_in-tables}
