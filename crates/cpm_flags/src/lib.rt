@@ -7,4 +7,4 @@ pub mod regs;
 
 pub use arithmetic::{Byte, Word, add8, add16, and8, daa, dec8, inc8, logic8, sub8};
 pub use flag_byte::{pack, unpack};
-pub use regs::{Cpu, Flags, Regs, Alternate};
+pub use regs::{Alternate, Cpu, Flags, Regs};
