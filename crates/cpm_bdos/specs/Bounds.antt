@@ -1,0 +1,12 @@
+-- How much a step can change.
+use Rattle.std.specs.Prelude.{◌≡◌, ◌≤◌, ◌+◌}
+use Rattle.cpm_console.specs.Terminal.{IsWithin}
+use Rattle.cpm_memory.specs.Contents.{Contents, touched_of}
+use Rattle.cpm_bdos.specs.Did.{Did}
+use Rattle.cpm_bdos.specs.declared.session.Session.{Session}
+
+-- a step newly writes at most 8 pages and puts at most 4,096 bytes on each device, and how many pages may be written stays
+pub record IsBounded (s : Session) (m : Contents) (d : Did) : Type 0 where
+  pub pages : touched_of d.memory ≤ touched_of m + 8
+  pub limit : d.memory.limit ≡ m.limit
+  pub output : IsWithin 4096 s.console d.session.console

@@ -1,0 +1,41 @@
+-- What calls read from the registers and leave in them.
+use Rattle.std.specs.Prelude.{ℕ, ◌+◌, ◌*◌, ◌/◌, ◌%◌, false}
+use Rattle.cpm_flags.specs.declared.regs.Flags.{Flags}
+use Rattle.cpm_flags.specs.declared.regs.Regs.{Regs}
+
+abbrev pub no_flags : Flags
+no_flags = record { sign = false; zero = false; bit5 = false; half_carry = false; bit3 = false; parity = false; subtract = false; carry = false }
+
+-- own: at opening all is 0 but SP, which is EBFEh, and PC, which is E406h
+abbrev pub at_opening : Regs
+at_opening = record {
+  a = 0;
+  flags = no_flags;
+  b = 0;
+  c = 0;
+  d = 0;
+  e = 0;
+  h = 0;
+  l = 0;
+  sp = 60414;
+  pc = 58374;
+  ix = 0;
+  iy = 0;
+  interrupt_page = 0;
+  refresh = 0;
+  alternate = record { a = 0; flags = no_flags; b = 0; c = 0; d = 0; e = 0; h = 0; l = 0 };
+  iff1 = false;
+  iff2 = false;
+}
+
+-- the pair DE
+abbrev pub de_of : Regs → ℕ
+de_of regs = 256 * regs.d + regs.e
+
+-- CP/M 2.2 Operating System Manual, section 5: a result lies in HL, with its low byte in A and its high byte in B
+abbrev pub with_result : Regs → ℕ → Regs
+with_result regs value = record regs { h = value / 256; l = value % 256; a = value % 256; b = value / 256 }
+
+-- a return to an address that was popped
+abbrev pub returned_to : Regs → ℕ → Regs
+returned_to regs address = record regs { pc = address; sp = (regs.sp + 2) % 65536 }

@@ -1,0 +1,44 @@
+//! What every call may end in: a return with a result, or a warm boot.
+
+ghost use Rattle.std.specs.Prelude.{◌≡◌};
+ghost use Rattle.cpm_memory.specs.Room.{HasRoomFor};
+ghost use Rattle.cpm_bdos.specs.Did.{did, returned, answered, rebooted};
+
+use crate::registers::{put_result, return_to};
+use crate::session::{Mode, Session, Went};
+use cpm_memory::{Memory, change_run, get_word};
+
+impl Session {
+    /// Returns from a call as RET does.
+    pub(crate) fn return_from_call<M: Memory>(&mut self, memory: &M) -> Went
+        ensures { did self.new (M.contents memory.now) result ≡ returned self.old (M.contents memory.now) }
+    {
+        let address = get_word(memory, self.regs.sp);
+        return_to(&mut self.regs, address);
+        self.mode = Mode::Program;
+        Went::Returned
+    }
+
+    /// Returns from a call with a result.
+    pub(crate) fn answer<M: Memory>(&mut self, memory: &M, value: u16) -> Went
+        ensures { did self.new (M.contents memory.now) result ≡ answered self.old (M.contents memory.now) value }
+    {
+        put_result(&mut self.regs, value);
+        self.return_from_call(memory)
+    }
+
+    /// Boots the session anew.
+    pub(crate) fn reboot<M: Memory>(&mut self, memory: &mut M) -> Went
+        requires { HasRoomFor 2 (M.contents memory.old) }
+        ensures step { did self.new (M.contents memory.new) result ≡ rebooted self.old (M.contents memory.old) }
+        ensures surroundings { M.surroundings memory.new ≡ M.surroundings memory.old }
+        ensures leads { M.Leads memory.old memory.new }
+    {
+        change_run(memory, 0x0000, &[0xC3, 0x03, 0xFA]);
+        change_run(memory, 0x0005, &[0xC3, 0x06, 0xEC]);
+        self.regs.sp = 0xEBFE;
+        self.regs.pc = 0xE406;
+        self.mode = Mode::Program;
+        Went::Reboot
+    }
+}

@@ -1,0 +1,78 @@
+//! What a call reads from the registers and leaves in them.
+
+ghost use Rattle.std.specs.Prelude.{◌≡◌, ◌+◌, ◌*◌, ◌/◌, ◌%◌};
+ghost use Rattle.cpm_bdos.specs.Registers.{at_opening, de_of, with_result, returned_to};
+
+use cpm_flags::{Alternate, Flags, Regs};
+
+const NO_FLAGS: Flags = Flags {
+    sign: false,
+    zero: false,
+    bit5: false,
+    half_carry: false,
+    bit3: false,
+    parity: false,
+    subtract: false,
+    carry: false,
+};
+
+/// The registers of a session at its opening.
+pub fn at_opening() -> Regs
+    ensures { result ≡ at_opening }
+{
+    Regs {
+        a: 0,
+        flags: NO_FLAGS,
+        b: 0,
+        c: 0,
+        d: 0,
+        e: 0,
+        h: 0,
+        l: 0,
+        sp: 0xEBFE,
+        pc: 0xE406,
+        ix: 0,
+        iy: 0,
+        interrupt_page: 0,
+        refresh: 0,
+        alternate: Alternate {
+            a: 0,
+            flags: NO_FLAGS,
+            b: 0,
+            c: 0,
+            d: 0,
+            e: 0,
+            h: 0,
+            l: 0,
+        },
+        iff1: false,
+        iff2: false,
+    }
+}
+
+/// The pair DE.
+pub fn pair_de(regs: &Regs) -> u16
+    ensures { result ≡ de_of regs.now }
+{
+    256 * u16::from(regs.d) + u16::from(regs.e)
+}
+
+/// Puts a call's result into HL, A and B.
+pub fn put_result(regs: &mut Regs, value: u16)
+    ensures { regs.new ≡ with_result regs.old value }
+{
+    let high = (value >> 8) as u8;
+    let low = (value & 0xff) as u8;
+    regs.h = high;
+    regs.l = low;
+    regs.a = low;
+    regs.b = high;
+}
+
+/// Returns to an address that was popped.
+pub fn return_to(regs: &mut Regs, address: u16)
+    ensures { regs.new ≡ returned_to regs.old address }
+{
+    regs.pc = address;
+    regs.sp = regs.sp.wrapping_add(2);
+}

@@ -1,0 +1,77 @@
+-- A machine does the same whatever output waits, and so is the machine run alone whatever was taken.
+use Rattle.std.proofs.Common.{◌≡◌, ℕ, zero, suc, Bool, true, false, List, [], ◌∷◌, ◌++◌, length, take, drop, min, Option, Some, None, refl, sym, ap, ◌∙◌}
+use Rattle.std.proofs.lemmas.List.{append_assoc, take-append-drop}
+use Rattle.cpm_memory.specs.Contents.{Contents}
+use Rattle.cpm_bdos.specs.Behind.{session_behind}
+use Rattle.cpm_bdos.proofs.Waiting.{bdos-behind, bios-behind}
+use Rattle.cpm_bdos.specs.declared.session.Session.{Session}
+use Rattle.cpm_bdos.specs.declared.session.Mode.{Mode}
+use Rattle.cpm_bdos.specs.declared.session.Mode.TheVariants.{Program, Text}
+use Rattle.cpm_slots.specs.declared.trap.Trap.{Trap}
+use Rattle.cpm_slots.specs.declared.trap.Trap.TheVariants.{CommandProcessor, Bdos, Bios}
+use Rattle.cpm_slots.specs.Trap.{trap_at}
+use Rattle.cpm_slots.specs.MachineState.{MachineState}
+use Rattle.cpm_slots.specs.Step.{Part, part, part_in, at_trap, by_call, after_part, step_if, is_running, step, after}
+use Rattle.cpm_slots.specs.Serve.{executed, taken, taken_list}
+use Rattle.cpm_slots.specs.Calls.{Call, Grant, Take, TakeList, LookAt, Peek, Account, serve, entered, state_after, account_after, state_behind}
+use Rattle.cpm_slots.proofs.GrantLaws.{after-add}
+
+module _ (p q : List ℕ) where
+  part_behind : Part → Part
+  part_behind x = record x { session = session_behind p q x.session }
+
+  at_trap-behind : (t : Option Trap) (s : Session) (m : Contents) → at_trap t (session_behind p q s) m ≡ part_behind (at_trap t s m)
+  unfolding part_behind
+  at_trap-behind None s m = refl
+  at_trap-behind (Some CommandProcessor) s m = refl
+  at_trap-behind (Some Bdos) s m = ap by_call (bdos-behind p q s m)
+  at_trap-behind (Some (Bios number)) s m = ap by_call (bios-behind p q number s m)
+
+  part_in-behind : (mode : Mode) (s : Session) (m : Contents) → part_in mode (session_behind p q s) m ≡ part_behind (part_in mode s m)
+  unfolding part_behind
+  part_in-behind Program s m = at_trap-behind (trap_at s.regs.pc) s m
+  part_in-behind (Text next) s m = ap by_call (bdos-behind p q s m)
+
+  part-behind : (s : Session) (m : Contents) → part (session_behind p q s) m ≡ part_behind (part s m)
+  unfolding part
+  part-behind s m = part_in-behind s.mode s m
+
+  step_if-behind : (b : Bool) (s : MachineState) → step_if b (state_behind p q s) ≡ state_behind p q (step_if b s)
+  unfolding part_behind
+  step_if-behind true s = ap (after_part s) (part-behind s.session s.memory)
+  step_if-behind false s = refl
+
+  pub step-behind : (s : MachineState) → step (state_behind p q s) ≡ state_behind p q (step s)
+  unfolding step
+  step-behind s = step_if-behind (is_running s.ended) s
+
+  pub after-behind : (n : ℕ) (s : MachineState) → after n (state_behind p q s) ≡ state_behind p q (after n s)
+  after-behind zero s = refl
+  after-behind (suc n) s = ap step (after-behind n s) ∙ step-behind (after n s)
+
+-- bytes that are taken stand in front of those that wait
+moved : (p xs : List ℕ) (n : ℕ) → (p ++ take n xs) ++ drop n xs ≡ p ++ xs
+moved p xs n = append_assoc p (take n xs) (drop n xs) ∙ ap (λ ys. p ++ ys) (take-append-drop n xs)
+
+pub taken-behind : (p q : List ℕ) (room : ℕ) (s : MachineState) → state_behind (p ++ take (min room (length s.session.console.screen)) s.session.console.screen) q (taken room s) ≡ state_behind p q s
+taken-behind p q room s =
+    ap (λ xs. record s { session = record s.session { console = record s.session.console { screen = xs; printer = q ++ s.session.console.printer } } }) (moved p s.session.console.screen (min room (length s.session.console.screen)))
+
+pub taken_list-behind : (p q : List ℕ) (room : ℕ) (s : MachineState) → state_behind p (q ++ take (min room (length s.session.console.printer)) s.session.console.printer) (taken_list room s) ≡ state_behind p q s
+taken_list-behind p q room s =
+    ap (λ xs. record s { session = record s.session { console = record s.session.console { screen = p ++ s.session.console.screen; printer = xs } } }) (moved q s.session.console.printer (min room (length s.session.console.printer)))
+
+-- one call more
+after-call : (call : Call) (a : Account) (s start : MachineState) → state_behind a.screen a.printer s ≡ after a.executed start → let b = entered a call (serve call s).answer in state_behind b.screen b.printer (serve call s).state ≡ after b.executed start
+unfolding serve
+after-call (Grant steps) a s start h =
+    sym (after-behind a.screen a.printer (executed steps s) s) ∙ ap (after (executed steps s)) h ∙ sym (after-add a.executed (executed steps s) start)
+after-call (Take room) a s start h = taken-behind a.screen a.printer room s ∙ h
+after-call (TakeList room) a s start h = taken_list-behind a.screen a.printer room s ∙ h
+after-call LookAt a s start h = h
+after-call (Peek address) a s start h = h
+
+pub alone-after : (calls : List Call) (a : Account) (s start : MachineState) → state_behind a.screen a.printer s ≡ after a.executed start → let b = account_after calls a s in state_behind b.screen b.printer (state_after calls s) ≡ after b.executed start
+alone-after [] a s start h = h
+alone-after (call ∷ calls) a s start h =
+    alone-after calls (entered a call (serve call s).answer) (serve call s).state start (after-call call a s start h)

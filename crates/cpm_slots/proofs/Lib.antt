@@ -1,0 +1,4 @@
+pub mod StepLaws
+pub mod GrantLaws
+pub mod AloneLaws
+pub mod StepBounds

@@ -1,0 +1,67 @@
+-- The calls to a machine, what they are answered, and what they leave.
+use Rattle.std.specs.Prelude.{ℕ, ◌+◌, List, [], ◌∷◌, ◌++◌, length, take, min}
+use Rattle.cpm_memory.specs.Contents.{byte_at}
+use Rattle.cpm_bdos.specs.Behind.{session_behind}
+use Rattle.cpm_slots.specs.declared.reply.Granted.{Granted}
+use Rattle.cpm_slots.specs.declared.reply.Look.{Look}
+use Rattle.cpm_slots.specs.MachineState.{MachineState}
+use Rattle.cpm_slots.specs.Step.{after}
+use Rattle.cpm_slots.specs.Serve.{executed, why, look_of, taken, taken_list}
+
+-- a call: steps granted, bytes taken into so much room, a look, a byte of the memory
+pub data Call : Type 0 where
+  Grant : (steps : ℕ) → Call
+  Take : (room : ℕ) → Call
+  TakeList : (room : ℕ) → Call
+  LookAt : Call
+  Peek : (address : ℕ) → Call
+
+pub data Answer : Type 0 where
+  Grants : (granted : Granted) → Answer
+  Bytes : (bytes : List ℕ) → Answer
+  Looked : (look : Look) → Answer
+  Peeked : (byte : ℕ) → Answer
+
+pub record Served : Type 0 where
+  pub answer : Answer
+  pub state : MachineState
+
+abbrev pub granted : ℕ → MachineState → Granted
+granted n s = let k = executed n s in record { executed = k; why = why n k (after k s) }
+
+-- what a call is answered, and the state after it
+unfoldable pub serve : Call → MachineState → Served
+serve (Grant steps) s = record { answer = Grants (granted steps s); state = after (executed steps s) s }
+serve (Take room) s = record { answer = Bytes (take (min room (length s.session.console.screen)) s.session.console.screen); state = taken room s }
+serve (TakeList room) s = record { answer = Bytes (take (min room (length s.session.console.printer)) s.session.console.printer); state = taken_list room s }
+serve LookAt s = record { answer = Looked (look_of s); state = s }
+serve (Peek address) s = record { answer = Peeked (byte_at s.memory address); state = s }
+
+-- the steps executed, and the console and list bytes taken
+pub record Account : Type 0 where
+  pub executed : ℕ
+  pub screen : List ℕ
+  pub printer : List ℕ
+
+abbrev pub no_account : Account
+no_account = record { executed = 0; screen = []; printer = [] }
+
+-- an account goes on by the answers alone
+abbrev pub entered : Account → Call → Answer → Account
+entered a (Grant steps) (Grants granted) = record a { executed = a.executed + granted.executed }
+entered a (Take room) (Bytes bytes) = record a { screen = a.screen ++ bytes }
+entered a (TakeList room) (Bytes bytes) = record a { printer = a.printer ++ bytes }
+entered a _ _ = a
+
+-- the state, and the account, after some calls
+abbrev pub state_after : List Call → MachineState → MachineState
+state_after [] s = s
+state_after (call ∷ calls) s = state_after calls (serve call s).state
+
+abbrev pub account_after : List Call → Account → MachineState → Account
+account_after [] a s = a
+account_after (call ∷ calls) a s = account_after calls (entered a call (serve call s).answer) (serve call s).state
+
+-- the state with the bytes that were taken put back in front
+abbrev pub state_behind : List ℕ → List ℕ → MachineState → MachineState
+state_behind p q s = record s { session = session_behind p q s.session }

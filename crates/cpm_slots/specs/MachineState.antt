@@ -1,0 +1,34 @@
+-- The state of a machine.
+use Rattle.std.specs.Prelude.{ℕ, ◌++◌, List}
+use Rattle.cpm_memory.specs.Contents.{Contents, Write, run_puts, word_puts, after_sets}
+use Rattle.cpm_memory.specs.Opening.{opening}
+use Rattle.cpm_console.specs.Terminal.{blank}
+use Rattle.cpm_bdos.specs.Step.{opened}
+use Rattle.cpm_bdos.specs.declared.session.Session.{Session}
+use Rattle.cpm_slots.specs.declared.reply.End.{End}
+use Rattle.cpm_slots.specs.declared.reply.End.TheVariants.{Running}
+
+pub record MachineState : Type 0 where
+  -- the registers, the call in progress, and the console with the bytes that wait to be taken
+  pub session : Session
+  -- the bytes, and which pages were written
+  pub memory : Contents
+  -- how many pages may be written, 256 for all
+  pub quota : ℕ
+  -- the steps executed since the opening
+  pub count : ℕ
+  pub ended : End
+
+-- the stores that make a machine with a program: the program at 0100h, and the address of the command processor on the stack
+abbrev pub program_puts : List ℕ → List Write
+program_puts program = run_puts 256 program ++ word_puts 60414 58374
+
+-- own: a machine made with a program is at its opening but for those stores, and begins at 0100h
+abbrev pub opened_with : List ℕ → MachineState
+opened_with program = record {
+  session = record (opened blank) { regs = record (opened blank).regs { pc = 256 } };
+  memory = after_sets (opening 256) (program_puts program);
+  quota = 256;
+  count = 0;
+  ended = Running;
+}

@@ -1,0 +1,23 @@
+//! Laws of machines, as contracts.
+
+ghost use Rattle.cpm_slots.specs.Laws.{Greatest, Cutting, Bounded, Alone};
+
+/// A grant executes the greatest number of steps that can be made.
+pub fn greatest()
+    ensures { Greatest }
+{}
+
+/// Cutting a grant changes nothing.
+pub fn cutting()
+    ensures { Cutting }
+{}
+
+/// A step newly writes at most 8 pages, and puts at most 4,096 bytes on each device.
+pub fn bounded()
+    ensures { Bounded }
+{}
+
+/// After any calls a machine is the machine run alone, but for the bytes that were taken.
+pub fn alone()
+    ensures { Alone }
+{}

@@ -1,0 +1,59 @@
+//! What a machine answers.
+
+use cpm_flags::Regs;
+
+/// Whether a session still runs, and else how it ended.
+#[derive(Clone, Copy, Debug, PartialEq, Eq, Drop)]
+pub enum End {
+    Running,
+    /// By HLT.
+    Halted,
+    /// At an opcode that is no instruction.
+    Illegal,
+    /// A further step might have written more pages than its quota.
+    Quota,
+    /// Its count reached the greatest number.
+    CountEnd,
+    /// A program made by itself came to the command processor.
+    Exited,
+}
+
+/// Why a grant ended.
+#[derive(Clone, Copy, Debug, PartialEq, Eq, Drop)]
+pub enum Why {
+    /// All steps were executed.
+    All,
+    /// The session ended.
+    Stopped,
+    /// The console or the list device has no room for what a step may put: take some output.
+    Blocked,
+}
+
+/// What became of a grant.
+#[derive(Clone, Copy, Debug, PartialEq, Eq, Drop)]
+pub struct Granted {
+    /// How many steps were executed.
+    pub executed: u64,
+    pub why: Why,
+}
+
+/// What is seen of a session.
+#[derive(Clone, Copy, Debug, PartialEq, Eq, Drop)]
+pub struct Look {
+    pub regs: Regs,
+    /// How many steps were executed since the opening.
+    pub count: u64,
+    pub ended: End,
+    /// How many pages of 256 bytes were written.
+    pub pages: u16,
+    /// How many console bytes wait to be taken.
+    pub console: usize,
+    /// How many list bytes wait to be taken.
+    pub list: usize,
+}
+
+/// What is left of a machine.
+#[derive(Clone, Copy, Debug, PartialEq, Eq, Drop)]
+pub struct Closed {
+    pub look: Look,
+}
