@@ -6,4 +6,3 @@ pub mod Runner
 pub mod Laws
 pub mod Opening
 pub mod Calls
-pub mod Alone
