@@ -3,7 +3,7 @@ ghost use Rattle.std.specs.Prelude.{◌≡◌};
 ghost use Rattle.cpm_flags.specs.Arithmetic.{bit};
 ghost use Rattle.cpm_flags.specs.ArithmeticZ80.{add16_carry_of, difference16, sub16_overflows, sub16_borrow_of, byte_flags, shift_flags, interrupt_flags};
 
-use crate::arithmetic::{Word, is_even};
+use crate::arithmetic::{Word, has_even_parity};
 use crate::regs::Flags;
 
 /// a + b + carry, of words. Zilog Z80 CPU User Manual, "ADC HL, ss".
@@ -67,7 +67,7 @@ pub fn flags_of_byte(flags: Flags, value: u8) -> Flags
         sign: value & 0x80 != 0,
         zero: value == 0,
         half_carry: false,
-        parity: is_even(value),
+        parity: has_even_parity(value),
         subtract: false,
         ..flags
     }

@@ -11,4 +11,4 @@ pub use arithmetic_z80::{
     add16_carry, flags_of_byte, flags_of_interrupt, flags_of_shift, sub16_borrow,
 };
 pub use flag_byte::{pack, unpack};
-pub use regs::{Cpu, Flags, Regs, Alternate};
+pub use regs::{Alternate, Cpu, Flags, Regs};

@@ -1,6 +1,6 @@
 -- Bytes that are stored from an address on.
-use Rattle.std.proofs.Common.{◌≡◌, ℕ, zero, suc, ◌+◌, ◌%◌, ◌<◌, List, [], ◌∷◌, ◌++◌, length, take, get_or, refl, ap, ◌∙◌, sym, arith, inr}
-use Rattle.cpm_memory.specs.Contents.{Contents, IsContents, Write, CanSet, next, put, run_puts, after_set, after_sets}
+use Rattle.std.proofs.Common.{◌≡◌, ℕ, zero, suc, ◌+◌, ◌%◌, ◌<◌, List, [], ◌∷◌, ◌++◌, length, take, get_or, refl, ap, ◌∙◌, arith, inr}
+use Rattle.cpm_memory.specs.Contents.{Contents, IsContents, CanSet, next, put, run_puts, after_set, after_sets}
 use Rattle.cpm_memory.specs.Sets.{after_sets-append}
 use Rattle.cpm_memory.specs.Room.{CanSet-room, limit-after_sets}
 

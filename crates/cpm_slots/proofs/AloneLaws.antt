@@ -1,5 +1,5 @@
 -- A machine does the same whatever output waits, and so is the machine run alone whatever was taken.
-use Rattle.std.proofs.Common.{◌≡◌, ℕ, zero, suc, ◌+◌, Bool, true, false, List, [], ◌∷◌, ◌++◌, length, take, drop, min, Option, Some, None, refl, sym, ap, ◌∙◌}
+use Rattle.std.proofs.Common.{◌≡◌, ℕ, zero, suc, Bool, true, false, List, [], ◌∷◌, ◌++◌, length, take, drop, min, Option, Some, None, refl, sym, ap, ◌∙◌}
 use Rattle.std.proofs.lemmas.List.{append_assoc, take-append-drop}
 use Rattle.cpm_memory.specs.Contents.{Contents}
 use Rattle.cpm_bdos.specs.Behind.{session_behind}
@@ -13,7 +13,7 @@ use Rattle.cpm_slots.specs.Trap.{trap_at}
 use Rattle.cpm_slots.specs.MachineState.{MachineState}
 use Rattle.cpm_slots.specs.Step.{Part, part, part_in, at_trap, by_call, after_part, step_if, is_running, step, after}
 use Rattle.cpm_slots.specs.Serve.{executed, taken, taken_list}
-use Rattle.cpm_slots.specs.Calls.{Call, Grant, Take, TakeList, LookAt, Peek, Answer, Account, serve, entered, state_after, account_after, state_behind}
+use Rattle.cpm_slots.specs.Calls.{Call, Grant, Take, TakeList, LookAt, Peek, Account, serve, entered, state_after, account_after, state_behind}
 use Rattle.cpm_slots.proofs.GrantLaws.{after-add}
 
 module _ (p q : List ℕ) where

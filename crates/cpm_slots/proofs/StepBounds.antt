@@ -1,6 +1,6 @@
 -- How much a step can change.
-use Rattle.std.proofs.Common.{◌≡◌, ℕ, ◌+◌, ◌≤◌, Bool, true, false, Option, Some, None, length, arith}
-use Rattle.cpm_memory.specs.Contents.{Contents, touched_of, after_sets}
+use Rattle.std.proofs.Common.{◌+◌, ◌≤◌, Bool, true, false, Option, Some, None, arith}
+use Rattle.cpm_memory.specs.Contents.{Contents, touched_of}
 use Rattle.cpm_memory.specs.Room.{touched_of-after_sets}
 use Rattle.cpm_console.proofs.Growth.{IsWithin-same}
 use Rattle.cpm_console.specs.Terminal.{IsWithin}

@@ -1,5 +1,5 @@
 -- The state of a machine.
-use Rattle.std.specs.Prelude.{ℕ, ◌+◌, ◌++◌, List}
+use Rattle.std.specs.Prelude.{ℕ, ◌++◌, List}
 use Rattle.cpm_memory.specs.Contents.{Contents, Write, run_puts, word_puts, after_sets}
 use Rattle.cpm_memory.specs.Opening.{opening}
 use Rattle.cpm_console.specs.Terminal.{blank}

@@ -18,7 +18,7 @@ pub returns : goal.returns
 returns c =
     let program = c.args.program.now in
     let memory : flat_contents c.set_word.new.memory ≡ after_sets (opening 256) (program_puts program) = c.set_word.ensures.contents
-        ∙ ap (λ m. after_sets m (word_puts 60414 58374)) (c.set_run.ensures.contents ∙ ap (λ m. after_sets m (run_puts 256 program)) c.in_ok-memory.ensures)
-        ∙ sym (after_sets-append (opening 256) (run_puts 256 program) (word_puts 60414 58374)) in
+    ∙ ap (λ m. after_sets m (word_puts 60414 58374)) (c.set_run.ensures.contents ∙ ap (λ m. after_sets m (run_puts 256 program)) c.in_ok-memory.ensures)
+    ∙ sym (after_sets-append (opening 256) (run_puts 256 program) (word_puts 60414 58374)) in
     let session : c.new-session.result ≡ opened blank = c.new-session.ensures ∙ ap opened c.in_ok-new.ensures in
     ap (λ s. begun s (flat_contents c.set_word.new.memory)) session ∙ ap (begun (opened blank)) memory
