@@ -29,7 +29,12 @@ fn in_three(index: IndexRegister, displacement: u8, op: IndexedOp) -> Option<Dec
 }
 
 /// The rows with a displacement.
-fn displaced_row(index: IndexRegister, opcode: u8, displacement: u8, value: u8) -> Option<DecodedZ80>
+fn displaced_row(
+    index: IndexRegister,
+    opcode: u8,
+    displacement: u8,
+    value: u8,
+) -> Option<DecodedZ80>
     ensures { result ≡ decoded_displaced index opcode displacement value }
 {
     if opcode == 0x34 {
@@ -48,7 +53,11 @@ fn displaced_row(index: IndexRegister, opcode: u8, displacement: u8, value: u8) 
     } else if opcode & 0xf8 == 0x70 {
         in_three(index, displacement, IndexedOp::Store(place_of(opcode)))
     } else if opcode & 0xc7 == 0x86 {
-        in_three(index, displacement, IndexedOp::Arithmetic(arithmetic_of(opcode >> 3)))
+        in_three(
+            index,
+            displacement,
+            IndexedOp::Arithmetic(arithmetic_of(opcode >> 3)),
+        )
     } else {
         None
     }
