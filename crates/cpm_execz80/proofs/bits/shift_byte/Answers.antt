@@ -1,0 +1,8 @@
+use Rattle.std.proofs.Common.{◌≡◌, ◌<◌, ◌%◌, ◌/◌, ◌+◌, ◌∙◌, ap, bit_or, bit_and, ℕ, ◌-◌, arith}
+use Rattle.std.proofs.lemmas.Nat.{and_mask}
+use Rattle.cpm_execz80.proofs.BitLemmas.{high_and_low}
+use Rattle.cpm_execz80.proofs.bits.shift_byte.Goals as goal
+
+pub returns-in-ArithmeticRight : goal.returns-in-ArithmeticRight
+returns-in-ArithmeticRight c =
+    rw c.in-ArithmeticRight.is (high_and_low c.args.byte (c.args.byte / 2) (omega arith) ∙ omega arith)
