@@ -4,4 +4,6 @@
 #[cfg(test)]
 mod programs;
 #[cfg(test)]
+mod programs_z80;
+#[cfg(test)]
 mod run;

@@ -1,4 +1,5 @@
 use crate::run::run;
+use cpm_flags::Cpu;
 use cpm_slots::{End, Machine, OpenError, Why};
 use std::test::Fail;
 
@@ -72,7 +73,7 @@ const PRINTING: [Row; 7] = [
 #[test]
 fn shows_and_ends(rt: HostRuntime) -> Result<(), Fail> {
     for row in &PRINTING {
-        let mut ran = run(rt.alloc(), row.program)?;
+        let mut ran = run(rt.alloc(), Cpu::I8080, row.program)?;
         assert_eq!(rt; ran.granted.executed, row.executed);
         assert_eq!(rt; ran.granted.why, Why::Stopped);
         let look = ran.machine.look();
@@ -89,9 +90,9 @@ fn shows_and_ends(rt: HostRuntime) -> Result<(), Fail> {
 
 #[test]
 fn ends_where_it_should(rt: HostRuntime) -> Result<(), Fail> {
-    let exited = run(rt.alloc(), &[0x0E, 0x02, 0x1E, 0x41, 0xCD, 0x05, 0x00, 0xC9])?;
+    let exited = run(rt.alloc(), Cpu::I8080, &[0x0E, 0x02, 0x1E, 0x41, 0xCD, 0x05, 0x00, 0xC9])?;
     assert_eq!(rt; exited.machine.look().regs.pc, 0xE406);
-    let illegal = run(rt.alloc(), &[0x08])?;
+    let illegal = run(rt.alloc(), Cpu::I8080, &[0x08])?;
     assert_eq!(rt; illegal.machine.look().regs.pc, 0x0100);
     let closed = illegal.machine.finish();
     assert_eq!(rt; closed.look.count, 1);
@@ -148,14 +149,14 @@ const HALTING: [Left; 6] = [
 #[test]
 fn halts_with_flags(rt: HostRuntime) -> Result<(), Fail> {
     for row in &HALTING {
-        let ran = run(rt.alloc(), row.program)?;
+        let ran = run(rt.alloc(), Cpu::I8080, row.program)?;
         assert_eq!(rt; ran.granted.executed, row.executed);
         assert_eq!(rt; ran.machine.look().ended, End::Halted);
         for (address, byte) in row.bytes {
             assert_eq!(rt; ran.machine.peek(*address), *byte);
         }
     }
-    let sum = run(rt.alloc(), HALTING[5].program)?;
+    let sum = run(rt.alloc(), Cpu::I8080, HALTING[5].program)?;
     let regs = sum.machine.look().regs;
     assert_eq!(rt; regs.h, 0);
     assert_eq!(rt; regs.l, 0);
@@ -166,6 +167,7 @@ fn halts_with_flags(rt: HostRuntime) -> Result<(), Fail> {
 fn full_ring_blocks(rt: HostRuntime) -> Result<(), Fail> {
     let mut ran = run(
         rt.alloc(),
+        Cpu::I8080,
         &[0x0E, 0x09, 0x11, 0x00, 0x80, 0xCD, 0x05, 0x00, 0xC9],
     )?;
     assert_eq!(rt; ran.granted.executed, 4_101);
@@ -183,7 +185,7 @@ fn full_ring_blocks(rt: HostRuntime) -> Result<(), Fail> {
 fn steps_one_by_one(rt: HostRuntime) -> Result<(), Fail> {
     let program = [0x0E, 0x02, 0x1E, 0x41, 0xCD, 0x05, 0x00, 0xC9];
     let bytes = Vec::from_slice(rt.alloc(), &program)?;
-    let mut machine = match Machine::with_program(rt.alloc(), bytes) {
+    let mut machine = match Machine::with_program(rt.alloc(), Cpu::I8080, bytes) {
         Ok(machine) => machine,
         Err((_, error)) => return Err(Fail::from(error)),
     };
@@ -203,7 +205,7 @@ fn steps_one_by_one(rt: HostRuntime) -> Result<(), Fail> {
 #[test]
 fn long_program_comes_back(rt: HostRuntime) -> Result<(), Fail> {
     let long = vec![in rt.alloc(); 7u8; 58_113]?;
-    match Machine::with_program(rt.alloc(), long) {
+    match Machine::with_program(rt.alloc(), Cpu::I8080, long) {
         Ok(_) => return Err(Fail::from("58,113 bytes were taken")),
         Err((bytes, error)) => {
             assert_eq!(rt; error, OpenError::ProgramTooLong);
@@ -211,7 +213,7 @@ fn long_program_comes_back(rt: HostRuntime) -> Result<(), Fail> {
         }
     }
     let longest = vec![in rt.alloc(); 0u8; 58_112]?;
-    match Machine::with_program(rt.alloc(), longest) {
+    match Machine::with_program(rt.alloc(), Cpu::I8080, longest) {
         Ok(machine) => assert_eq!(rt; machine.look().pages, 228),
         Err((_, error)) => return Err(Fail::from(error)),
     }

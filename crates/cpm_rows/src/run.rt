@@ -1,5 +1,6 @@
 //! A program run by one grant, and what it showed.
 
+use cpm_flags::Cpu;
 use cpm_slots::{Granted, Machine};
 use std::alloc::Global;
 use std::test::Fail;
@@ -12,9 +13,9 @@ pub struct Ran {
 }
 
 /// Runs a program by one grant of 1,000,000 steps.
-pub fn run(alloc: Global, program: &[u8]) -> Result<Ran, Fail> {
+pub fn run(alloc: Global, cpu: Cpu, program: &[u8]) -> Result<Ran, Fail> {
     let bytes = Vec::from_slice(alloc, program)?;
-    let mut machine = match Machine::with_program(alloc, bytes) {
+    let mut machine = match Machine::with_program(alloc, cpu, bytes) {
         Ok(machine) => machine,
         Err((_, error)) => return Err(Fail::from(error)),
     };
