@@ -24,6 +24,7 @@ fn shift_of(bits: u8) -> Shift
     }
 }
 
+/// A row with the byte in a register or at HL.
 fn on_place(op: BitOp, opcode: u8) -> Option<DecodedZ80>
     ensures { result ≡ Some (decoded_with 2 (OpZ80.Bits op (place (opcode % 8)))) }
 {
@@ -52,6 +53,7 @@ pub fn bits_row(opcode: u8) -> Option<DecodedZ80>
     }
 }
 
+/// A row with the byte at an index register and a displacement.
 fn on_byte(index: IndexRegister, displacement: u8, op: BitOp) -> Option<DecodedZ80>
     ensures { result ≡ Some (decoded_with 4 (OpZ80.Indexed index displacement (IndexedOp.Bits op))) }
 {

@@ -10,12 +10,14 @@ use crate::index_z80::index_row;
 use crate::operation_z80::{DecodedZ80, IndexRegister, OpZ80};
 use cpm_memory::Memory;
 
+/// A row of one byte.
 fn in_one(op: OpZ80) -> Option<DecodedZ80>
     ensures { result ≡ Some (decoded_with 1 op) }
 {
     Some(DecodedZ80 { op, length: 1 })
 }
 
+/// A row of two bytes.
 fn in_two(op: OpZ80) -> Option<DecodedZ80>
     ensures { result ≡ Some (decoded_with 2 op) }
 {
@@ -75,7 +77,8 @@ fn prefixed_row(index: IndexRegister, second: u8, third: u8, fourth: u8) -> Opti
     }
 }
 
-/// The row of an instruction's four bytes; None where no row fits.
+/// The row of the four bytes from PC on, of which an instruction takes one to four; None where no row fits.
+/// Zilog Z80 CPU User Manual, "Z80 Instruction Description".
 #[tactic(auto, unfolding(crate::specs::RowsZ80::decodedz80))]
 pub fn rowz80(bytes: [u8; 4]) -> Option<DecodedZ80>
     ensures { result ≡ decodedz80 (slice_index bytes 0) (slice_index bytes 1) (slice_index bytes 2) (slice_index bytes 3) }
@@ -94,7 +97,7 @@ pub fn rowz80(bytes: [u8; 4]) -> Option<DecodedZ80>
     }
 }
 
-/// The row of the bytes from an address on.
+/// The row of the bytes from an address on, in the memory as it is now; None where no row fits.
 pub fn decodez80<M: Memory>(memory: &M, pc: u16) -> Option<DecodedZ80>
     ensures { result ≡ decodedz80_at (M.contents memory.now) pc }
 {

@@ -7,6 +7,7 @@ ghost use Rattle.cpm_decode.specs.RowsZ80Extended.{decoded_extended};
 use crate::decoder::{pair_of, place_of, word_of};
 use crate::operation_z80::{DecodedZ80, Direction, ExtendedOp, OpZ80, Repeat};
 
+/// A row of two bytes.
 fn in_two(op: ExtendedOp) -> Option<DecodedZ80>
     ensures { result ≡ Some (decoded_with 2 (OpZ80.Extended op)) }
 {
@@ -16,6 +17,7 @@ fn in_two(op: ExtendedOp) -> Option<DecodedZ80>
     })
 }
 
+/// A row of four bytes.
 fn in_four(op: ExtendedOp) -> Option<DecodedZ80>
     ensures { result ≡ Some (decoded_with 4 (OpZ80.Extended op)) }
 {
@@ -25,6 +27,7 @@ fn in_four(op: ExtendedOp) -> Option<DecodedZ80>
     })
 }
 
+/// Which way the block instruction of an opcode moves.
 fn direction(opcode: u8) -> Direction
     ensures { result ≡ direction_of (opcode / 8 % 2) }
 {
@@ -35,6 +38,7 @@ fn direction(opcode: u8) -> Direction
     }
 }
 
+/// Whether the block instruction of an opcode repeats.
 fn repeat(opcode: u8) -> Repeat
     ensures { result ≡ repeat_of (opcode / 16 % 2) }
 {

@@ -19,6 +19,7 @@ fn has_index(opcode: u8) -> bool
         | (opcode & 0xef == 0xe9)
 }
 
+/// A row of three bytes.
 fn in_three(index: IndexRegister, displacement: u8, op: IndexedOp) -> Option<DecodedZ80>
     ensures { result ≡ Some (decoded_with 3 (OpZ80.Indexed index displacement op)) }
 {

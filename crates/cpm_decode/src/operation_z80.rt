@@ -1,7 +1,7 @@
 //! The operations of the Zilog Z80 that the 8080 does not have.
 use crate::operation::{Arithmetic, Condition, Op, Pair, Place};
 
-/// A shift or rotation of a byte.
+/// A shift or rotation of a byte: RLC, RRC, RL, RR, SLA, SRA and SRL.
 #[derive(Clone, Copy, Debug, PartialEq, Eq)]
 pub enum Shift {
     RotateLeft,
@@ -13,7 +13,7 @@ pub enum Shift {
     LogicalRight,
 }
 
-/// What an operation of the prefix CBh does with a byte.
+/// What an operation of the prefix CBh does with a byte: a shift, or BIT, RES or SET of a bit.
 #[derive(Clone, Copy, Debug, PartialEq, Eq)]
 pub enum BitOp {
     Shift(Shift),
@@ -39,25 +39,45 @@ pub enum Repeat {
 /// An operation of the prefix EDh.
 #[derive(Clone, Copy, Debug, PartialEq, Eq)]
 pub enum ExtendedOp {
+    /// IN r, (C).
     Input(Place),
+    /// OUT (C), r.
     Output(Place),
+    /// SBC HL, ss.
     SubtractBorrowPair(Pair),
+    /// ADC HL, ss.
     AddCarryPair(Pair),
+    /// LD (nn), ss.
     StorePair(Pair, u16),
+    /// LD ss, (nn).
     LoadPair(Pair, u16),
+    /// NEG.
     Negate,
+    /// RETN.
     ReturnFromNonMaskable,
+    /// RETI.
     ReturnFromInterrupt,
+    /// IM.
     InterruptMode(u8),
+    /// LD I, A.
     SetInterruptPage,
+    /// LD R, A.
     SetRefresh,
+    /// LD A, I.
     LoadInterruptPage,
+    /// LD A, R.
     LoadRefresh,
+    /// RRD.
     RotateDigitsRight,
+    /// RLD.
     RotateDigitsLeft,
+    /// LDI, LDD, LDIR, LDDR.
     CopyBlock(Direction, Repeat),
+    /// CPI, CPD, CPIR, CPDR.
     SearchBlock(Direction, Repeat),
+    /// INI, IND, INIR, INDR.
     InputBlock(Direction, Repeat),
+    /// OUTI, OUTD, OTIR, OTDR.
     OutputBlock(Direction, Repeat),
 }
 

@@ -72,7 +72,8 @@ fn flags_of_test(flags: Flags, byte: u8, bit: u8) -> Flags
     }
 }
 
-/// The byte that an operation makes of a byte, and the flags.
+/// The byte that a shift, a rotation or an operation on a bit makes of a byte, and the flags.
+/// Zilog Z80 CPU User Manual, "Rotate and Shift Group" and "Bit Set, Reset, and Test Group".
 pub fn apply(op: BitOp, flags: Flags, byte: u8) -> Byte
     ensures { result ≡ applied op flags byte }
 {
@@ -99,7 +100,8 @@ pub fn apply(op: BitOp, flags: Flags, byte: u8) -> Byte
     }
 }
 
-/// Whether an operation stores nothing.
+/// Whether an operation is a test of a bit, which stores nothing.
+/// Zilog Z80 CPU User Manual, "BIT b, r".
 pub fn is_test_of_bit(op: BitOp) -> bool
     ensures { result ≡ is_test op }
 {
@@ -109,7 +111,8 @@ pub fn is_test_of_bit(op: BitOp) -> bool
     }
 }
 
-/// An operation of the prefix CBh.
+/// Does an operation of the prefix CBh with the byte in a register or at HL.
+/// Zilog Z80 CPU User Manual, "Rotate and Shift Group" and "Bit Set, Reset, and Test Group".
 pub fn perform_bits<M: Memory>(regs: &mut Regs, memory: &mut M, op: BitOp, place: Place)
     requires { HasRoom (M.contents memory.old) }
     ensures regs { regs.new ≡ (meaning_bits op place (M.contents memory.old) regs.old).regs }

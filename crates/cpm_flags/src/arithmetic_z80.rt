@@ -26,6 +26,7 @@ pub fn add16_carry(flags: Flags, a: u16, b: u16, carry: bool) -> Word
     }
 }
 
+/// The word of a - b - borrow.
 fn difference(a: u16, b: u16, borrow: bool) -> u16
     ensures { result ≡ difference16 a b (bit borrow) }
 {

@@ -1,7 +1,5 @@
-use Rattle.std.proofs.Common.{◌≡◌, ◌+◌, ◌*◌, ◌/◌, ◌%◌, ◌≤◌, ◌<◌, ◌≢◌, arith, bit_and}
+use Rattle.std.proofs.Common.{arith}
 use Rattle.std.proofs.lemmas.Bool.Decides.{nat_tests}
-use Rattle.std.proofs.lemmas.Nat.{and_mask}
-use Rattle.std.proofs.lemmas.Nat.Bits.{and_pow}
 use Rattle.cpm_decode.proofs.ArmsZ80.{jumps_relative, not_own}
 use Rattle.cpm_decode.specs.RowsZ80.{decoded_own}
 use Rattle.cpm_decode.proofs.decoder_z80.own_row.Goals as goal

@@ -1,7 +1,5 @@
-use Rattle.std.proofs.Common.{◌≡◌, ◌+◌, ◌*◌, ◌/◌, ◌%◌, ◌≤◌, ◌<◌, ◌≢◌, arith, bit_and}
+use Rattle.std.proofs.Common.{arith}
 use Rattle.std.proofs.lemmas.Bool.Decides.{nat_tests}
-use Rattle.std.proofs.lemmas.Nat.{and_mask}
-use Rattle.std.proofs.lemmas.Nat.Bits.{and_pow}
 use Rattle.cpm_decode.proofs.ArmsZ80Index.{indexed_loads, indexed_stores, indexed_arithmetic, not_displaced}
 use Rattle.cpm_decode.specs.RowsZ80Index.{decoded_displaced}
 use Rattle.cpm_decode.proofs.index_z80.displaced_row.Goals as goal

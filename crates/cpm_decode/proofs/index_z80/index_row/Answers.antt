@@ -1,4 +1,4 @@
-use Rattle.std.proofs.Common.{◌≡◌, ◌+◌, ◌≤◌, arith, ◌∙◌, sym}
+use Rattle.std.proofs.Common.{arith, ◌∙◌, sym}
 use Rattle.cpm_decode.proofs.ArmsZ80Index.{length_of}
 use Rattle.cpm_decode.proofs.index_z80.index_row.Goals as goal
 

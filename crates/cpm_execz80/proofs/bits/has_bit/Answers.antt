@@ -1,5 +1,3 @@
-use Rattle.std.proofs.Common.{◌≡◌, ◌<◌, ◌%◌, ◌/◌, ◌+◌, ◌∙◌, ap, bit_or, bit_and, ℕ, ◌-◌, arith}
-use Rattle.std.proofs.lemmas.Nat.{and_mask}
 use Rattle.cpm_execz80.proofs.BitLemmas.{tested_by}
 use Rattle.cpm_execz80.proofs.bits.has_bit.Goals as goal
 

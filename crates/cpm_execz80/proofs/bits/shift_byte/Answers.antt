@@ -1,5 +1,4 @@
-use Rattle.std.proofs.Common.{◌≡◌, ◌<◌, ◌%◌, ◌/◌, ◌+◌, ◌∙◌, ap, bit_or, bit_and, ℕ, ◌-◌, arith}
-use Rattle.std.proofs.lemmas.Nat.{and_mask}
+use Rattle.std.proofs.Common.{◌/◌, ◌∙◌, arith}
 use Rattle.cpm_execz80.proofs.BitLemmas.{high_and_low}
 use Rattle.cpm_execz80.proofs.bits.shift_byte.Goals as goal
 

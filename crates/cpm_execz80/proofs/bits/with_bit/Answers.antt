@@ -1,5 +1,4 @@
-use Rattle.std.proofs.Common.{◌≡◌, ◌<◌, ◌%◌, ◌/◌, ◌+◌, ◌∙◌, ap, bit_or, bit_and, ℕ, ◌-◌, arith}
-use Rattle.std.proofs.lemmas.Nat.{and_mask}
+use Rattle.std.proofs.Common.{ap, bit_or, ℕ}
 use Rattle.cpm_execz80.proofs.BitLemmas.{mask_of}
 use Rattle.cpm_execz80.proofs.bits.with_bit.Goals as goal
 

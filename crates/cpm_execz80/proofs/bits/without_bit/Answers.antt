@@ -1,5 +1,4 @@
-use Rattle.std.proofs.Common.{◌≡◌, ◌<◌, ◌%◌, ◌/◌, ◌+◌, ◌∙◌, ap, bit_or, bit_and, ℕ, ◌-◌, arith}
-use Rattle.std.proofs.lemmas.Nat.{and_mask}
+use Rattle.std.proofs.Common.{arith}
 use Rattle.cpm_execz80.proofs.BitLemmas.{mask_of, cleared_by}
 use Rattle.cpm_execz80.proofs.bits.without_bit.Goals as goal
 

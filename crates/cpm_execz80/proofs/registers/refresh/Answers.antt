@@ -1,4 +1,4 @@
-use Rattle.std.proofs.Common.{◌≡◌, ◌<◌, ◌%◌, ◌/◌, ◌+◌, ◌∙◌, ap, bit_or, bit_and, ℕ, ◌-◌, arith}
+use Rattle.std.proofs.Common.{◌%◌, ◌+◌, ◌∙◌, bit_and, arith}
 use Rattle.std.proofs.lemmas.Nat.{and_mask}
 use Rattle.cpm_execz80.proofs.BitLemmas.{high_and_low}
 use Rattle.cpm_execz80.proofs.registers.refresh.Goals as goal
