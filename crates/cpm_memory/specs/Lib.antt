@@ -3,5 +3,11 @@ pub mod Sets
 pub mod Opening
 pub mod Tabulated
 pub mod Flat
+pub mod Frames
+pub mod Kept
+pub mod Memories
 pub mod Room
+pub mod Reserved
+pub mod View
 pub mod Opened
+pub mod Laws

@@ -1,0 +1,32 @@
+-- Laws of memories and of the store. All are own: CP/M has one memory and no store.
+use Rattle.std.specs.Prelude.{◌≡◌, ◌≢◌, ℕ, ◌/◌, ◌%◌, ◌<◌, List, Some, slice_index, slice_set}
+use Rattle.cpm_memory.specs.Contents.{Write, byte_at, touched_of, after_sets}
+use Rattle.cpm_memory.specs.Opening.{opening, opening_byte}
+use Rattle.cpm_memory.specs.Frames.{Frames, IsTaken, place_of, frame_of, memory_of, memories}
+use Rattle.cpm_memory.specs.View.{ViewLeads, store_of, table_of, contents_of}
+use Rattle.cpm_memory.specs.declared.view.View.{View}
+
+-- A memory at its opening has the bytes of the table, and no page is written. (own)
+abbrev pub OpensBlank : Type 0
+OpensBlank = (limit : ℕ) →
+    (touched_of (opening limit) ≡ 0)
+    × ((address : ℕ) → address < 65536 → byte_at (opening limit) address ≡ opening_byte (address / 256) (address % 256))
+
+-- A byte of a table's memory is a byte of the frame at its page. (own)
+abbrev pub FramesMakeMemories : Type 0
+FramesMakeMemories = (s : Frames) (t address : ℕ) → address < 65536 →
+    byte_at (memory_of s t) address ≡ slice_index (frame_of s (place_of s t (address / 256))) (address % 256)
+
+-- What a store is after any calls of a view, whether or not the view still lives. (own)
+pub record ChangesOwnTable (v w : View) : Type 0 where
+  -- some stores were made to the memory of its table, and no other memory changed
+  pub stores : List Write
+  pub memories : memories (store_of w) ≡ slice_set (memories (store_of v)) (table_of v) (Some (after_sets (contents_of v) stores))
+  -- no page of another table moved
+  pub places : (t page : ℕ) → t ≢ table_of v → place_of (store_of w) t page ≡ place_of (store_of v) t page
+  -- and the frames of the other tables have the bytes that they had
+  pub frames : (t page : ℕ) → t ≢ table_of v → t < 64 → page < 256 → IsTaken (store_of v) t → frame_of (store_of w) (place_of (store_of v) t page) ≡ frame_of (store_of v) (place_of (store_of v) t page)
+
+-- Whatever is done through a view changes its own table alone. (own)
+abbrev pub ViewsChangeOwnTable : Type 0
+ViewsChangeOwnTable = (v w : View) → ViewLeads v w → ChangesOwnTable v w
