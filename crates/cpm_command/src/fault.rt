@@ -9,9 +9,9 @@ use clap::error::ErrorKind;
 use std::alloc::Global;
 use thiserror::Error;
 
-/// What a word looks like in a message: at most its first 80 bytes, with `?` for each control
-/// character.
-pub type Word = ArrayString<80>;
+/// What a word looks like in a message: `?` stands for each control character, and a word that is
+/// too long ends in dots.
+pub type Word = ArrayString<200>;
 
 /// What was wrong, with the word that was at fault where there is one.
 #[derive(Clone, Copy, Debug, PartialEq, Eq, Drop, Error)]
@@ -53,12 +53,14 @@ pub enum UsageError {
     OutOfMemory,
 }
 
-/// The beginning of a text that fits a word, with `?` for each control character.
-fn shown(text: &str) -> Word {
+/// A text as it is shown in a message of one line.
+pub fn shown(text: &str) -> Word {
     let mut word = Word::new();
     for c in text.chars() {
         let c = if c.is_control() { '?' } else { c };
-        if word.try_push(c).is_err() {
+        if word.remaining_capacity() < 8 || word.try_push(c).is_err() {
+            // There is room for the dots, since fewer than five bytes went in since the last look.
+            let _ = word.try_push_str("...");
             break;
         }
     }

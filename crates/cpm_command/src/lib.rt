@@ -7,7 +7,7 @@ mod read;
 mod task;
 mod usage;
 
-pub use fault::{Fault, UsageError, Word};
+pub use fault::{Fault, UsageError, Word, shown};
 pub use read::command;
 pub use task::Task;
 pub use usage::{HELP_TEXT, help};
