@@ -1,7 +1,7 @@
 -- Every step is bounded.
 use Rattle.std.proofs.Common.{◌≡◌, ℕ, ◌+◌, ◌≤◌, Bool, true, false, [], ◌∷◌, refl, ◌∙◌, arith}
 use Rattle.std.specs.Prelude.{if◌then◌else◌, ◌==◌}
-use Rattle.cpm_console.specs.Terminal.{Terminal, expanded, IsWithin}
+use Rattle.cpm_console.specs.Terminal.{expanded, IsWithin}
 use Rattle.cpm_console.proofs.Growth.{IsWithin-shown, IsWithin-same, length-expanded}
 use Rattle.cpm_memory.specs.Contents.{Contents, byte_at, next, touched_of, after_run}
 use Rattle.cpm_memory.proofs.Runs.{touched_of-run, limit-run}

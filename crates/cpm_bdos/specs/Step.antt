@@ -1,5 +1,5 @@
 -- One step of a call of the BDOS or the BIOS, as a function of the session and the memory.
-use Rattle.std.specs.Prelude.{ℕ, ◌+◌, ◌==◌, if◌then◌else◌, [], ◌∷◌}
+use Rattle.std.specs.Prelude.{ℕ, ◌==◌, if◌then◌else◌, [], ◌∷◌}
 use Rattle.cpm_console.specs.Terminal.{Terminal, shown, expanded}
 use Rattle.cpm_memory.specs.Contents.{Contents, byte_at, next, after_run}
 use Rattle.cpm_bdos.specs.Registers.{at_opening, de_of}

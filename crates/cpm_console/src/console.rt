@@ -69,14 +69,6 @@ impl Console {
         self.screen.len() <= RING - STEP_OUTPUT && self.printer.len() <= RING - STEP_OUTPUT
     }
 
-    /// The column of the cursor, 0 to 255.
-    pub fn column(&self) -> u8
-        ensures value { result ≡ self.now.column }
-        ensures fits { self.now.column ≤ 255 }
-    {
-        self.column
-    }
-
     /// Shows a byte on the console as it is. There must be room for it.
     #[tactic(auto, unfolding(crate::specs::Terminal::shown))]
     pub fn put(&mut self, byte: u8)

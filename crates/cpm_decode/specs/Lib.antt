@@ -1,3 +1,9 @@
 pub mod Fields
+pub mod FieldsZ80
+pub mod PageZ80
 pub mod Pattern
 pub mod Rows8080
+pub mod RowsZ80
+pub mod RowsZ80Bits
+pub mod RowsZ80Extended
+pub mod RowsZ80Index

@@ -1,5 +1,5 @@
 -- An instruction stores two bytes at most.
-use Rattle.std.proofs.Common.{ℕ, ◌≤◌, Bool, true, false, Option, Some, None, List, length, arith}
+use Rattle.std.proofs.Common.{ℕ, ◌≤◌, Bool, true, false, Option, Some, None, length, arith}
 use Rattle.std.specs.Prelude.{if◌then◌else◌}
 use Rattle.cpm_flags.specs.declared.regs.Cpu.{Cpu}
 use Rattle.cpm_flags.specs.declared.regs.Cpu.TheVariants.{I8080}
@@ -11,9 +11,9 @@ use Rattle.cpm_decode.specs.declared.operation.Place.{Place}
 use Rattle.cpm_decode.specs.declared.operation.Place.TheVariants as places
 use Rattle.cpm_decode.specs.declared.operation.Decoded.{Decoded}
 use Rattle.cpm_decode.specs.Rows8080.{decoded_at}
-use Rattle.cpm_exec8080.specs.Effect.{Effect, to}
+use Rattle.cpm_exec8080.specs.Effect.{Effect}
 use Rattle.cpm_exec8080.specs.Operands.{place_stores, holds}
-use Rattle.cpm_exec8080.specs.Meaning8080.{meaning, called, effect_of, effect_of_row, step8080_of}
+use Rattle.cpm_exec8080.specs.Meaning8080.{meaning, effect_of, effect_of_row, step8080_of}
 
 few_places : (place : Place) (regs : Regs) (value : ℕ) → length (place_stores regs place value) ≤ 2
 few_places places.B regs value = omega arith

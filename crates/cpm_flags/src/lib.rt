@@ -2,9 +2,13 @@
 #![tactic(auto)]
 
 pub mod arithmetic;
+pub mod arithmetic_z80;
 pub mod flag_byte;
 pub mod regs;
 
 pub use arithmetic::{Byte, Word, add8, add16, and8, daa, dec8, inc8, logic8, sub8};
+pub use arithmetic_z80::{
+    add16_carry, flags_of_byte, flags_of_interrupt, flags_of_shift, sub16_borrow,
+};
 pub use flag_byte::{pack, unpack};
-pub use regs::{Cpu, Flags, Regs, Alternate};
+pub use regs::{Alternate, Cpu, Flags, Regs};

@@ -1,6 +1,7 @@
 -- A machine does the same whatever output waits, and so is the machine run alone whatever was taken.
-use Rattle.std.proofs.Common.{◌≡◌, ℕ, zero, suc, ◌+◌, Bool, true, false, List, [], ◌∷◌, ◌++◌, length, take, drop, min, Option, Some, None, refl, sym, ap, ◌∙◌}
+use Rattle.std.proofs.Common.{◌≡◌, ℕ, zero, suc, Bool, true, false, List, [], ◌∷◌, ◌++◌, length, take, drop, min, Option, Some, None, refl, sym, ap, ◌∙◌}
 use Rattle.std.proofs.lemmas.List.{append_assoc, take-append-drop}
+use Rattle.cpm_flags.specs.declared.regs.Cpu.{Cpu}
 use Rattle.cpm_memory.specs.Contents.{Contents}
 use Rattle.cpm_bdos.specs.Behind.{session_behind}
 use Rattle.cpm_bdos.proofs.Waiting.{bdos-behind, bios-behind}
@@ -13,32 +14,32 @@ use Rattle.cpm_slots.specs.Trap.{trap_at}
 use Rattle.cpm_slots.specs.MachineState.{MachineState}
 use Rattle.cpm_slots.specs.Step.{Part, part, part_in, at_trap, by_call, after_part, step_if, is_running, step, after}
 use Rattle.cpm_slots.specs.Serve.{executed, taken, taken_list}
-use Rattle.cpm_slots.specs.Calls.{Call, Grant, Take, TakeList, LookAt, Peek, Answer, Account, serve, entered, state_after, account_after, state_behind}
+use Rattle.cpm_slots.specs.Calls.{Call, Grant, Take, TakeList, LookAt, Peek, Account, serve, entered, state_after, account_after, state_behind}
 use Rattle.cpm_slots.proofs.GrantLaws.{after-add}
 
 module _ (p q : List ℕ) where
   part_behind : Part → Part
   part_behind x = record x { session = session_behind p q x.session }
 
-  at_trap-behind : (t : Option Trap) (s : Session) (m : Contents) → at_trap t (session_behind p q s) m ≡ part_behind (at_trap t s m)
+  at_trap-behind : (cpu : Cpu) (t : Option Trap) (s : Session) (m : Contents) → at_trap cpu t (session_behind p q s) m ≡ part_behind (at_trap cpu t s m)
   unfolding part_behind
-  at_trap-behind None s m = refl
-  at_trap-behind (Some CommandProcessor) s m = refl
-  at_trap-behind (Some Bdos) s m = ap by_call (bdos-behind p q s m)
-  at_trap-behind (Some (Bios number)) s m = ap by_call (bios-behind p q number s m)
+  at_trap-behind cpu None s m = refl
+  at_trap-behind cpu (Some CommandProcessor) s m = refl
+  at_trap-behind cpu (Some Bdos) s m = ap by_call (bdos-behind p q s m)
+  at_trap-behind cpu (Some (Bios number)) s m = ap by_call (bios-behind p q number s m)
 
-  part_in-behind : (mode : Mode) (s : Session) (m : Contents) → part_in mode (session_behind p q s) m ≡ part_behind (part_in mode s m)
+  part_in-behind : (cpu : Cpu) (mode : Mode) (s : Session) (m : Contents) → part_in cpu mode (session_behind p q s) m ≡ part_behind (part_in cpu mode s m)
   unfolding part_behind
-  part_in-behind Program s m = at_trap-behind (trap_at s.regs.pc) s m
-  part_in-behind (Text next) s m = ap by_call (bdos-behind p q s m)
+  part_in-behind cpu Program s m = at_trap-behind cpu (trap_at s.regs.pc) s m
+  part_in-behind cpu (Text next) s m = ap by_call (bdos-behind p q s m)
 
-  part-behind : (s : Session) (m : Contents) → part (session_behind p q s) m ≡ part_behind (part s m)
+  part-behind : (cpu : Cpu) (s : Session) (m : Contents) → part cpu (session_behind p q s) m ≡ part_behind (part cpu s m)
   unfolding part
-  part-behind s m = part_in-behind s.mode s m
+  part-behind cpu s m = part_in-behind cpu s.mode s m
 
   step_if-behind : (b : Bool) (s : MachineState) → step_if b (state_behind p q s) ≡ state_behind p q (step_if b s)
   unfolding part_behind
-  step_if-behind true s = ap (after_part s) (part-behind s.session s.memory)
+  step_if-behind true s = ap (after_part s) (part-behind s.cpu s.session s.memory)
   step_if-behind false s = refl
 
   pub step-behind : (s : MachineState) → step (state_behind p q s) ≡ state_behind p q (step s)

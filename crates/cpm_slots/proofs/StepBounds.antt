@@ -1,11 +1,15 @@
 -- How much a step can change.
-use Rattle.std.proofs.Common.{◌≡◌, ℕ, ◌+◌, ◌≤◌, Bool, true, false, Option, Some, None, length, arith}
-use Rattle.cpm_memory.specs.Contents.{Contents, touched_of, after_sets}
+use Rattle.std.proofs.Common.{◌+◌, ◌≤◌, Bool, true, false, Option, Some, None, arith, length}
+use Rattle.cpm_memory.specs.Contents.{Contents, touched_of}
 use Rattle.cpm_memory.specs.Room.{touched_of-after_sets}
 use Rattle.cpm_console.proofs.Growth.{IsWithin-same}
 use Rattle.cpm_console.specs.Terminal.{IsWithin}
-use Rattle.cpm_exec8080.specs.Meaning8080.{step8080_of}
-use Rattle.cpm_exec8080.proofs.FewStores.{few_stores}
+use Rattle.cpm_flags.specs.declared.regs.Cpu.{Cpu}
+use Rattle.cpm_flags.specs.declared.regs.Cpu.TheVariants.{I8080, Z80}
+use Rattle.cpm_flags.specs.declared.regs.Regs.{Regs}
+use Rattle.cpm_exec8080.proofs.FewStores.{few_stores as few_stores_8080}
+use Rattle.cpm_execz80.proofs.FewStores.{few_step as few_stores_z80}
+use Rattle.cpm_slots.specs.Processor.{effect_at}
 use Rattle.cpm_bdos.proofs.Bounded.{IsBounded-bdos, IsBounded-bios}
 use Rattle.cpm_bdos.specs.declared.session.Session.{Session}
 use Rattle.cpm_bdos.specs.declared.session.Mode.{Mode}
@@ -17,29 +21,33 @@ use Rattle.cpm_slots.specs.MachineState.{MachineState}
 use Rattle.cpm_slots.specs.Step.{Part, part, part_in, at_trap, step_if, is_running, step}
 use Rattle.cpm_slots.specs.Laws.{IsBounded}
 
+few_stores : (cpu : Cpu) (m : Contents) (regs : Regs) → length (effect_at cpu m regs).stores ≤ 2
+few_stores I8080 m regs = few_stores_8080 m regs
+few_stores Z80 m regs = few_stores_z80 m regs
+
 record IsBoundedPart (s : Session) (m : Contents) (x : Part) : Type 0 where
   pages : touched_of x.memory ≤ touched_of m + 8
   output : IsWithin 4096 s.console x.session.console
 
-bounded_trap : (t : Option Trap) (s : Session) (m : Contents) → IsBoundedPart s m (at_trap t s m)
-bounded_trap None s m = record {
-  pages = omega (arith, few_stores m s.regs, touched_of-after_sets m (step8080_of m s.regs).stores);
+bounded_trap : (cpu : Cpu) (t : Option Trap) (s : Session) (m : Contents) → IsBoundedPart s m (at_trap cpu t s m)
+bounded_trap cpu None s m = record {
+  pages = omega (arith, few_stores cpu m s.regs, touched_of-after_sets m (effect_at cpu m s.regs).stores);
   output = IsWithin-same 4096 s.console;
 }
-bounded_trap (Some CommandProcessor) s m = record { pages = omega arith; output = IsWithin-same 4096 s.console }
-bounded_trap (Some Bdos) s m = let b = IsBounded-bdos s m in record { pages = b.pages; output = b.output }
-bounded_trap (Some (Bios number)) s m = let b = IsBounded-bios number s m in record { pages = b.pages; output = b.output }
+bounded_trap cpu (Some CommandProcessor) s m = record { pages = omega arith; output = IsWithin-same 4096 s.console }
+bounded_trap cpu (Some Bdos) s m = let b = IsBounded-bdos s m in record { pages = b.pages; output = b.output }
+bounded_trap cpu (Some (Bios number)) s m = let b = IsBounded-bios number s m in record { pages = b.pages; output = b.output }
 
-bounded_mode : (mode : Mode) (s : Session) (m : Contents) → IsBoundedPart s m (part_in mode s m)
-bounded_mode Program s m = bounded_trap (trap_at s.regs.pc) s m
-bounded_mode (Text next) s m = let b = IsBounded-bdos s m in record { pages = b.pages; output = b.output }
+bounded_mode : (cpu : Cpu) (mode : Mode) (s : Session) (m : Contents) → IsBoundedPart s m (part_in cpu mode s m)
+bounded_mode cpu Program s m = bounded_trap cpu (trap_at s.regs.pc) s m
+bounded_mode cpu (Text next) s m = let b = IsBounded-bdos s m in record { pages = b.pages; output = b.output }
 
-bounded_part : (s : Session) (m : Contents) → IsBoundedPart s m (part s m)
+bounded_part : (cpu : Cpu) (s : Session) (m : Contents) → IsBoundedPart s m (part cpu s m)
 unfolding part
-bounded_part s m = bounded_mode s.mode s m
+bounded_part cpu s m = bounded_mode cpu s.mode s m
 
 bounded_if : (b : Bool) (s : MachineState) → IsBounded s (step_if b s)
-bounded_if true s = let x = bounded_part s.session s.memory in record { pages = x.pages; output = x.output }
+bounded_if true s = let x = bounded_part s.cpu s.session s.memory in record { pages = x.pages; output = x.output }
 bounded_if false s = record { pages = omega arith; output = IsWithin-same 4096 s.session.console }
 
 pub IsBounded-step : (s : MachineState) → IsBounded s (step s)

@@ -4,7 +4,7 @@ use Rattle.cpm_memory.specs.Contents.{touched_of}
 use Rattle.cpm_console.specs.Terminal.{IsWithin}
 use Rattle.cpm_slots.specs.MachineState.{MachineState}
 use Rattle.cpm_slots.specs.Step.{step, after, can_step}
-use Rattle.cpm_slots.specs.Serve.{executed, longest}
+use Rattle.cpm_slots.specs.Serve.{executed}
 use Rattle.cpm_slots.specs.Calls.{Call, no_account, account_after, state_after, state_behind}
 
 -- the number is the greatest up to n below which the test holds everywhere

@@ -1,3 +1,4 @@
+pub mod Processor
 pub mod Trap
 pub mod MachineState
 pub mod Step

@@ -1,5 +1,6 @@
 -- The state of a machine.
-use Rattle.std.specs.Prelude.{ℕ, ◌+◌, ◌++◌, List}
+use Rattle.std.specs.Prelude.{ℕ, ◌++◌, List}
+use Rattle.cpm_flags.specs.declared.regs.Cpu.{Cpu}
 use Rattle.cpm_memory.specs.Contents.{Contents, Write, run_puts, word_puts, after_sets}
 use Rattle.cpm_memory.specs.Opening.{opening}
 use Rattle.cpm_console.specs.Terminal.{blank}
@@ -9,6 +10,7 @@ use Rattle.cpm_slots.specs.declared.reply.End.{End}
 use Rattle.cpm_slots.specs.declared.reply.End.TheVariants.{Running}
 
 pub record MachineState : Type 0 where
+  pub cpu : Cpu
   -- the registers, the call in progress, and the console with the bytes that wait to be taken
   pub session : Session
   -- the bytes, and which pages were written
@@ -24,8 +26,9 @@ abbrev pub program_puts : List ℕ → List Write
 program_puts program = run_puts 256 program ++ word_puts 60414 58374
 
 -- own: a machine made with a program is at its opening but for those stores, and begins at 0100h
-abbrev pub opened_with : List ℕ → MachineState
-opened_with program = record {
+abbrev pub opened_with : Cpu → List ℕ → MachineState
+opened_with cpu program = record {
+  cpu = cpu;
   session = record (opened blank) { regs = record (opened blank).regs { pc = 256 } };
   memory = after_sets (opening 256) (program_puts program);
   quota = 256;

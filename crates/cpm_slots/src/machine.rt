@@ -11,6 +11,7 @@ use crate::reply::{Closed, End, Granted, Look};
 use crate::steps::{self, Runner};
 use cpm_bdos::Session;
 use cpm_console::Console;
+use cpm_flags::Cpu;
 use cpm_memory::{FlatMemory, Memory, set_run, set_word};
 use std::alloc::{AllocError, Global};
 use std::marker::Model;
@@ -49,10 +50,10 @@ impl Model for Machine {
 }
 
 impl Machine {
-    /// A machine of the 8080 with a program at 0100h, which begins there. All pages may be written. What is refused comes back with the reason:
+    /// A machine with a program at 0100h, which begins there. All pages may be written. What is refused comes back with the reason:
     /// a program of more than 58,112 bytes, else want of memory.
-    pub fn with_program(alloc: Global, program: Vec<u8>) -> Result<Machine, (Vec<u8>, OpenError)>
-        ensures made { IfOk result (λ m. m ≡ opened_with program.items) }
+    pub fn with_program(alloc: Global, cpu: Cpu, program: Vec<u8>) -> Result<Machine, (Vec<u8>, OpenError)>
+        ensures made { IfOk result (λ m. m ≡ opened_with cpu program.items) }
         ensures fits { IfOk result (λ m. program_fault program.items ≡ None) }
         ensures refused { IfErr result (λ r. IsRefusal (program_fault program.items) r.1) }
         ensures handed_back { IfErr result (λ r. r.0 ≡ program) }
@@ -60,15 +61,15 @@ impl Machine {
         if program.len() > MOST_PROGRAM {
             return Err((program, OpenError::ProgramTooLong));
         }
-        match Self::loaded(alloc, program.as_slice()) {
+        match Self::loaded(alloc, cpu, program.as_slice()) {
             Ok(machine) => Ok(machine),
             Err(_) => Err((program, OpenError::OutOfMemory)),
         }
     }
 
     /// A machine with a program that fits.
-    fn loaded(alloc: Global, program: &[u8]) -> Result<Machine, AllocError>
-        ensures { IfOk result (λ m. m ≡ opened_with program.now) }
+    fn loaded(alloc: Global, cpu: Cpu, program: &[u8]) -> Result<Machine, AllocError>
+        ensures { IfOk result (λ m. m ≡ opened_with cpu program.now) }
     {
         let mut session = Session::new(Console::new(alloc)?);
         session.regs.pc = 0x0100;
@@ -76,6 +77,7 @@ impl Machine {
         set_run(&mut memory, 0x0100, program);
         set_word(&mut memory, 0xEBFE, 0xE406);
         let runner = Runner {
+            cpu,
             session,
             quota: 256,
             count: 0,

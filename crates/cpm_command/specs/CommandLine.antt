@@ -1,0 +1,85 @@
+-- The program's subcommands, and the task that a subcommand's entries give.
+use Rattle.std.specs.Prelude.{◌≡◌, ◌∷◌, [], ◌^◌, ◌<◌, IsSome, IsSomeAnd, ℕ, List, Option, Some, true, false, codes}
+use Rattle.std.specs.Str.Parse.{IsNumeral, digits_value, without_leading_plus}
+use Rattle.clap.specs.Words.{App, Row, Rule, Text, app_of, first_of, new_app, new_rule, one_of, rule_of, with_rule, with_subcommand}
+use Rattle.clap.specs.declared.builder.arg.Arg.{Arg}
+use Rattle.clap.specs.declared.builder.command.Command.{Command}
+use Rattle.clap.specs.declared.builder.command.Command.TheViews.{out-Command}
+use Rattle.clap.specs.declared.builder.value_parser.ValueParser.TheVariants as parser
+use Rattle.cpm_command.specs.declared.task.Task.{Task}
+use Rattle.cpm_command.specs.declared.task.Task.TheVariants.{Com}
+
+-- a word that has to be there, with a name in usage
+abbrev pub operand : List ℕ → Rule
+operand id = record (new_rule id) { required = true; value_names = 1 }
+
+-- `--steps N`, of `u64`, 1,000,000 where it is left out
+abbrev pub steps_option : Rule
+steps_option = record (new_rule (codes "steps")) {
+  long = Some (codes "steps");
+  value_names = 1;
+  parser = Some (parser.Unsigned 0 18446744073709551615);
+  defaults = codes "1000000" ∷ [];
+}
+
+-- ---- the subcommands
+
+-- `com FILE [--steps N]`
+abbrev pub com_app : App
+com_app = with_rule (with_rule (new_app (codes "com")) (operand (codes "file"))) steps_option
+
+-- the program's command without its subcommands: it wants one, and adds no help of its own
+abbrev pub top_app : App
+top_app = record (new_app (codes "cpmhost")) {
+  top = record (new_app (codes "cpmhost")).top {
+    subcommand_required = true;
+    disable_help_flag = true;
+    disable_help_subcommand = true;
+  };
+}
+
+abbrev pub host_app : App
+host_app = with_subcommand top_app com_app.top
+
+-- an argument of clap with this rule, which is the command's own
+pub record IsArgumentOf (r : Rule) (a : Arg) : Type 0 where
+  pub rule : rule_of a ≡ r
+  pub own : a.global ≡ false
+
+-- a command of clap with these rules, and no argument that its subcommands share
+pub record IsCommandOf (a : App) (c : Command) : Type 0 where
+  pub app : app_of c ≡ a
+  pub globals : (out-Command c).has_globals ≡ false
+
+-- ---- the task of a subcommand's entries
+
+-- the text is a number of `u64` as `parse` reads it
+pub record ReadsCount (text : Option Text) (n : ℕ) : Type 0 where
+  pub digits : Text
+  pub given : text ≡ Some digits
+  pub numeral : IsNumeral 10 (without_leading_plus digits)
+  pub value : n ≡ digits_value 10 (without_leading_plus digits)
+
+-- the task has what the entries of the subcommand of this name give
+abbrev pub HasEntriesOf : Text × List Row → Task → Type 0
+HasEntriesOf given (Com file steps) =
+    (given.0 ≡ codes "com") × (first_of (codes "file") given.1 ≡ Some file.now)
+    × ReadsCount (one_of (codes "steps") given.1) steps
+
+-- ---- entries that make a task
+
+-- a number of `u64` stands there
+pub record IsCount (text : Option Text) : Type 0 where
+  pub digits : Text
+  pub given : text ≡ Some digits
+  pub numeral : IsNumeral 10 (without_leading_plus digits)
+  pub fits : digits_value 10 (without_leading_plus digits) < 2 ^ 64
+
+-- the entries of `com` are whole
+pub record IsWholeCom (rows : List Row) : Type 0 where
+  pub file : IsSome (first_of (codes "file") rows)
+  pub steps : IsCount (one_of (codes "steps") rows)
+
+-- the subcommand is one of the program's, and its entries are whole
+abbrev pub IsWhole : Option (Text × List Row) → Type 0
+IsWhole given = IsSomeAnd given (λ p. (p.0 ≡ codes "com") × IsWholeCom p.1)

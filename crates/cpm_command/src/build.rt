@@ -1,0 +1,74 @@
+//! The command of `clap` that reads the words.
+ghost use Rattle.std.specs.Prelude.{◌≡◌, IfOk};
+ghost use Rattle.clap.specs.Words.{App, Rule, new_app, with_rule, with_subcommand};
+ghost use Rattle.cpm_command.specs.CommandLine.{IsArgumentOf, IsCommandOf, com_app, host_app, operand, steps_option, top_app};
+
+use clap::{Arg, Command};
+use std::alloc::{AllocError, Global};
+
+/// A word that has to be there.
+fn required_word<'a>(alloc: Global, id: &'a str, shown: &'a str) -> Arg<'a>
+    ensures { IsArgumentOf (operand id.now) result }
+{
+    Arg::new(alloc, id).value_name(shown).required(true)
+}
+
+/// `--steps N`
+fn steps_argument<'a>(alloc: Global) -> Arg<'a>
+    ensures { IsArgumentOf steps_option result }
+{
+    Arg::new(alloc, "steps")
+        .long("steps")
+        .value_name("N")
+        .value_parser(clap::value_parser!(u64))
+        .default_value("1000000")
+}
+
+/// A subcommand with no argument yet.
+fn named<'a>(alloc: Global, name: &'a str) -> Command<'a>
+    ensures { IsCommandOf (new_app name.now) result }
+{
+    Command::new(alloc, name)
+}
+
+/// The program's command with no subcommand yet. It adds no help of its own: the program answers
+/// that before it reads a task.
+fn top_command<'a>(alloc: Global) -> Command<'a>
+    ensures { IsCommandOf top_app result }
+{
+    Command::new(alloc, "cpmhost")
+        .subcommand_required(true)
+        .disable_help_flag(true)
+        .disable_help_subcommand(true)
+}
+
+/// The command with one more argument.
+fn with_argument<'a>(command: Command<'a>, argument: Arg<'a>) -> Result<Command<'a>, AllocError>
+    ensures { IfOk result (λ c. (a : App) (r : Rule) → IsCommandOf a command.entry
+        → IsArgumentOf r argument.entry → IsCommandOf (with_rule a r) c) }
+{
+    command.arg(argument)
+}
+
+/// The command with one more subcommand.
+fn with_command<'a>(command: Command<'a>, inner: Command<'a>) -> Result<Command<'a>, AllocError>
+    ensures { IfOk result (λ c. (a b : App) → IsCommandOf a command.entry
+        → IsCommandOf b inner.entry → IsCommandOf (with_subcommand a b.top) c) }
+{
+    command.subcommand(inner)
+}
+
+/// `com FILE [--steps N]`
+fn com_command<'a>(alloc: Global) -> Result<Command<'a>, AllocError>
+    ensures { IfOk result (IsCommandOf com_app) }
+{
+    let with_file = with_argument(named(alloc, "com"), required_word(alloc, "file", "FILE"))?;
+    with_argument(with_file, steps_argument(alloc))
+}
+
+/// The program's command, with its subcommands.
+pub(crate) fn host_command<'a>(alloc: Global) -> Result<Command<'a>, AllocError>
+    ensures { IfOk result (IsCommandOf host_app) }
+{
+    with_command(top_command(alloc), com_command(alloc)?)
+}

@@ -1,0 +1,134 @@
+//! What was wrong with the words of a command line.
+ghost use Rattle.std.specs.Prelude.{◌≡◌};
+ghost use Rattle.clap.specs.Words.{kind_of};
+ghost use Rattle.cpm_command.specs.Refusals.{IsOfKind};
+
+use arrayvec::ArrayString;
+use clap::Error;
+use clap::error::ErrorKind;
+use std::alloc::Global;
+use thiserror::Error;
+
+/// What a word looks like in a message: `?` stands for each control character, and a word that is
+/// too long ends in dots.
+pub type Word = ArrayString<200>;
+
+/// What was wrong, with the word that was at fault where there is one.
+#[derive(Clone, Copy, Debug, PartialEq, Eq, Drop, Error)]
+pub enum Fault {
+    /// There is no word after the program's name.
+    #[error("no command was given; try 'cpmhost com FILE' or 'cpmhost --help'")]
+    NoCommand,
+    /// The word stands where a command does, and names none.
+    #[error("unknown command '{0}'; try 'cpmhost --help'")]
+    UnknownCommand(Word),
+    /// The command has no such option, or takes no more words.
+    #[error("unexpected argument '{0}'; try 'cpmhost --help'")]
+    UnexpectedArgument(Word),
+    /// A word that has to be there is not.
+    #[error("the argument {0} is missing; try 'cpmhost --help'")]
+    MissingArgument(Word),
+    /// An option stands without its value.
+    #[error("a value is wanted for '{0}'; try 'cpmhost --help'")]
+    MissingValue(Word),
+    /// The value of `--steps` is no number of 64 bits.
+    #[error("invalid value '{0}' for '--steps': a number from 0 to 18446744073709551615 is wanted; try 'cpmhost --help'")]
+    NotANumber(Word),
+    /// An option was given twice.
+    #[error("the argument '{0}' was given twice; try 'cpmhost --help'")]
+    GivenTwice(Word),
+    /// Anything else, in the words of the reader of command lines.
+    #[error("{0}; try 'cpmhost --help'")]
+    Other(Word),
+}
+
+/// Why a command line names no task.
+#[derive(Clone, Copy, Debug, PartialEq, Eq, Drop, Error)]
+pub enum UsageError {
+    /// The words name no task.
+    #[error("{0}")]
+    Usage(Fault),
+    /// Memory was refused.
+    #[error("out of memory")]
+    OutOfMemory,
+}
+
+/// A text as it is shown in a message of one line.
+pub fn shown(text: &str) -> Word {
+    let mut word = Word::new();
+    for c in text.chars() {
+        let c = if c.is_control() { '?' } else { c };
+        if word.remaining_capacity() < 8 || word.try_push(c).is_err() {
+            // There is room for the dots, since fewer than five bytes went in since the last look.
+            let _ = word.try_push_str("...");
+            break;
+        }
+    }
+    word
+}
+
+/// What stands in the text from its first quote on, up to the last `end`.
+fn quoted(text: &str, end: &str) -> Word {
+    match text.split_once('\'') {
+        Some((_, rest)) => match rest.rsplit_once(end) {
+            Some((word, _)) => shown(word),
+            None => shown(rest),
+        },
+        None => shown(text),
+    }
+}
+
+/// The first name below the line that says that some are missing.
+fn missing_name(text: &str) -> Word {
+    match text.split_once(":\n") {
+        Some((_, names)) => shown(names.lines().next().unwrap_or("").trim()),
+        None => shown(text),
+    }
+}
+
+/// What an error of `clap` says was wrong, without what it adds on usage.
+fn message_of(text: &str) -> &str {
+    let message = match text.split_once("\n\n") {
+        Some((message, _)) => message,
+        None => text,
+    };
+    message.strip_prefix("error: ").unwrap_or(message)
+}
+
+/// The refusal for an error of `clap` of this kind, which says `message`.
+fn refusal_of(kind: ErrorKind, message: &str) -> UsageError
+    ensures { IsOfKind kind result }
+{
+    let fault = match kind {
+        ErrorKind::OutOfMemory => return UsageError::OutOfMemory,
+        ErrorKind::MissingSubcommand | ErrorKind::DisplayHelpOnMissingArgumentOrSubcommand => {
+            Fault::NoCommand
+        }
+        ErrorKind::InvalidSubcommand => Fault::UnknownCommand(quoted(message, "'")),
+        ErrorKind::UnknownArgument => Fault::UnexpectedArgument(quoted(message, "' found")),
+        ErrorKind::MissingRequiredArgument => Fault::MissingArgument(missing_name(message)),
+        ErrorKind::InvalidValue => Fault::MissingValue(quoted(message, "' but")),
+        ErrorKind::ValueValidation => Fault::NotANumber(quoted(message, "' for '")),
+        ErrorKind::ArgumentConflict => Fault::GivenTwice(quoted(message, "' cannot")),
+        ErrorKind::NoEquals
+        | ErrorKind::TooManyValues
+        | ErrorKind::TooFewValues
+        | ErrorKind::WrongNumberOfValues
+        | ErrorKind::DisplayHelp
+        | ErrorKind::DisplayVersion
+        | ErrorKind::Io
+        | ErrorKind::Format => Fault::Other(shown(message)),
+    };
+    UsageError::Usage(fault)
+}
+
+/// The refusal for an error of `clap`.
+pub(crate) fn refusal(alloc: Global, error: &Error) -> UsageError
+    ensures kind { IsOfKind (kind_of error.now) result }
+    ensures memory { kind_of error.now ≡ ErrorKind.OutOfMemory → result ≡ UsageError.OutOfMemory }
+{
+    match error.to_string(alloc) {
+        Ok(text) => refusal_of(error.kind(), message_of(text.as_str())),
+        Err(_) => UsageError::OutOfMemory,
+    }
+}

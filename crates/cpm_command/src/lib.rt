@@ -1,0 +1,16 @@
+//! The command line of `cpmhost`: its words, the task that they name, and the help.
+#![tactic(auto)]
+
+mod build;
+mod fault;
+mod read;
+mod task;
+mod usage;
+
+pub use fault::{Fault, UsageError, Word, shown};
+pub use read::command;
+pub use task::Task;
+pub use usage::{HELP_TEXT, help};
+
+#[cfg(test)]
+mod tests;

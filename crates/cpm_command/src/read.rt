@@ -1,0 +1,76 @@
+//! Reading the entries that a command line gave.
+ghost use Rattle.std.specs.Prelude.{◌≡◌, [], IfOk, IfErr, IsSomeAnd, IsSome, Some, codes, map, true};
+ghost use Rattle.clap.specs.Words.{fault_of, first_of, found_of, one_of, rows_of, subcommand_of, subcommand_rows_of, takes};
+ghost use Rattle.cpm_command.specs.CommandLine.{HasEntriesOf, IsCount, IsWhole, IsWholeCom, ReadsCount, host_app};
+ghost use Rattle.cpm_command.specs.Refusals.{IsRefusalOf};
+
+use crate::build::host_command;
+use crate::fault::{UsageError, refusal};
+use crate::task::Task;
+use clap::ArgMatches;
+use std::alloc::Global;
+
+/// The text of an argument that is there.
+fn text_of<'a>(matches: &ArgMatches<'a>, id: &str) -> &'a str
+    requires { IsSome (first_of id.now (rows_of (found_of matches.now))) }
+    ensures { first_of id.now (rows_of (found_of matches.now)) ≡ Some result.now }
+{
+    matches.get_str(id).unwrap()
+}
+
+/// The number of steps.
+fn steps_of(matches: &ArgMatches<'_>) -> u64
+    requires { IsCount (one_of (codes "steps") (rows_of (found_of matches.now))) }
+    ensures { ReadsCount (one_of (codes "steps") (rows_of (found_of matches.now))) result }
+{
+    matches.get_one::<u64>("steps").unwrap()
+}
+
+/// The task of `com`.
+fn com_task<'a>(matches: &ArgMatches<'a>) -> Task<'a>
+    requires { IsWholeCom (rows_of (found_of matches.now)) }
+    ensures { HasEntriesOf (codes "com", rows_of (found_of matches.now)) result }
+{
+    Task::Com {
+        file: text_of(matches, "file"),
+        steps: steps_of(matches),
+    }
+}
+
+/// The task of a parse.
+fn task_of<'a>(matches: &ArgMatches<'a>) -> Task<'a>
+    requires { IsWhole (subcommand_rows_of matches.now) }
+    ensures { IsSomeAnd (subcommand_rows_of matches.now) (λ given. HasEntriesOf given result) }
+{
+    match matches.subcommand() {
+        Some((_, inner)) => com_task(inner),
+        None => unreachable!(),
+    }
+}
+
+/// The task that the words name, of which the first is the program's own name.
+///
+/// `Usage` says what is wrong first with words that name none. `OutOfMemory` comes only where memory
+/// is refused, whatever is wrong with the words behind that place.
+pub fn command<'a>(alloc: Global, words: &'a [&'a str]) -> Result<Task<'a>, UsageError>
+    // The task has the subcommand and all entries that clap's rules give the words.
+    ensures task { IfOk result (λ t. IsSomeAnd
+        (subcommand_of host_app (map (λ w. w.now) words.entry.now)) (λ given. HasEntriesOf given t)) }
+
+    // Words with a fault are refused, and words that the rules take are not.
+    ensures faultless { IfOk result (λ _. fault_of host_app (map (λ w. w.now) words.entry.now) ≡ []) }
+    ensures taken { takes host_app (map (λ w. w.now) words.entry.now) ≡ true
+        → IfErr result (λ e. e ≡ UsageError.OutOfMemory) }
+
+    // A refusal says what is wrong first.
+    ensures refusal { IfErr result (IsRefusalOf (map (λ w. w.now) words.entry.now)) }
+{
+    let command = match host_command(alloc) {
+        Ok(command) => command,
+        Err(_) => return Err(UsageError::OutOfMemory),
+    };
+    match command.try_get_matches_from(words) {
+        Ok(matches) => Ok(task_of(&matches)),
+        Err(error) => Err(refusal(alloc, &error)),
+    }
+}

@@ -1,0 +1,171 @@
+//! Command lines: the tasks that they name, the texts of their refusals, and the words that ask for
+//! help.
+
+use crate::{HELP_TEXT, Task, command, help};
+use std::process::Abort;
+
+/// The text of the refusal that the words get.
+fn refusal(rt: &(impl Abort + AllocGlobal), words: &[&str]) -> String {
+    match command(rt.alloc(), words) {
+        Ok(task) => panic!(rt; "taken as {task:?}"),
+        Err(error) => error.to_string(rt.alloc()).expect(rt, "memory"),
+    }
+}
+
+#[test]
+fn takes_a_file_and_steps(rt: HostRuntime) {
+    let lines: [(&[&str], u64); 7] = [
+        (&["cpmhost", "com", "a.com"], 1_000_000),
+        (&["cpmhost", "com", "a.com", "--steps", "5"], 5),
+        (&["cpmhost", "com", "--steps", "5", "a.com"], 5),
+        (&["cpmhost", "com", "a.com", "--steps=5"], 5),
+        (&["cpmhost", "com", "a.com", "--steps", "+5"], 5),
+        (&["cpmhost", "com", "--", "a.com"], 1_000_000),
+        (
+            &["cpmhost", "com", "a.com", "--steps", "18446744073709551615"],
+            u64::MAX,
+        ),
+    ];
+    for (words, steps) in lines {
+        let wanted = Ok(Task::Com {
+            file: "a.com",
+            steps,
+        });
+        assert_eq!(rt; command(rt.alloc(), words), wanted, "at {words:?}");
+    }
+}
+
+#[test]
+fn names_what_is_wrong(rt: HostRuntime) {
+    let number =
+        "for '--steps': a number from 0 to 18446744073709551615 is wanted; try 'cpmhost --help'";
+    let lines: [(&[&str], &str, &str); 17] = [
+        (
+            &[],
+            "no command was given; try 'cpmhost com FILE' or 'cpmhost --help'",
+            "",
+        ),
+        (
+            &["cpmhost"],
+            "no command was given; try 'cpmhost com FILE' or 'cpmhost --help'",
+            "",
+        ),
+        (
+            &["cpmhost", "frob"],
+            "unknown command 'frob'; try 'cpmhost --help'",
+            "",
+        ),
+        (
+            &["cpmhost", "comm", "x"],
+            "unknown command 'comm'; try 'cpmhost --help'",
+            "",
+        ),
+        (
+            &["cpmhost", ""],
+            "unknown command ''; try 'cpmhost --help'",
+            "",
+        ),
+        (
+            &["cpmhost", "--frob"],
+            "unexpected argument '--frob'; try 'cpmhost --help'",
+            "",
+        ),
+        (
+            &["cpmhost", "com"],
+            "the argument <FILE> is missing; try 'cpmhost --help'",
+            "",
+        ),
+        (
+            &["cpmhost", "com", "a", "b"],
+            "unexpected argument 'b'; try 'cpmhost --help'",
+            "",
+        ),
+        (
+            &["cpmhost", "com", "a", "-x\n"],
+            "unexpected argument '-x'; try 'cpmhost --help'",
+            "",
+        ),
+        (
+            &["cpmhost", "com", "a", "b\n\x1bc"],
+            "unexpected argument 'b??c'; try 'cpmhost --help'",
+            "",
+        ),
+        (
+            &["cpmhost", "com", "a", "--steps"],
+            "a value is wanted for '--steps <N>'; try 'cpmhost --help'",
+            "",
+        ),
+        (
+            &["cpmhost", "com", "a", "--steps", "x"],
+            "invalid value 'x' ",
+            number,
+        ),
+        (
+            &["cpmhost", "com", "a", "--steps", "-1"],
+            "unexpected argument '-1'; try 'cpmhost --help'",
+            "",
+        ),
+        (
+            &["cpmhost", "com", "a", "--steps="],
+            "invalid value '' ",
+            number,
+        ),
+        (
+            &["cpmhost", "com", "a", "--steps=-1"],
+            "invalid value '-1' ",
+            number,
+        ),
+        (
+            &["cpmhost", "com", "a", "--steps", "18446744073709551616"],
+            "invalid value '18446744073709551616' ",
+            number,
+        ),
+        (
+            &["cpmhost", "com", "a", "--steps=1", "--steps=2"],
+            "the argument '--steps <N>' was given twice; try 'cpmhost --help'",
+            "",
+        ),
+    ];
+    for (words, first, second) in lines {
+        let shown = refusal(&rt, words);
+        let wanted = format!(in rt.alloc(); "{first}{second}").expect(&rt, "memory");
+        assert_eq!(rt; shown.as_str(), wanted.as_str(), "at {words:?}");
+    }
+}
+
+#[test]
+fn cuts_a_long_word(rt: HostRuntime) {
+    let mut long = String::new(rt.alloc());
+    for _ in 0..100 {
+        long.push_str("é").expect(&rt, "memory");
+    }
+    let text = refusal(&rt, &["cpmhost", long.as_str()]);
+    let wanted = 97;
+    assert_eq!(rt; text.matches('é').count(), wanted);
+    assert!(rt; text.ends_with("é...'; try 'cpmhost --help'"));
+}
+
+#[test]
+fn knows_who_asks_for_help(rt: HostRuntime) {
+    let lines: [(&[&str], bool); 15] = [
+        (&["cpmhost", "help"], true),
+        (&["cpmhost", "-h"], true),
+        (&["cpmhost", "--help"], true),
+        (&["cpmhost", "help", "com"], true),
+        (&["cpmhost", "com", "help"], true),
+        (&["cpmhost", "com", "-h"], true),
+        (&["cpmhost", "com", "a.com", "--steps", "5", "--help"], true),
+        (&[], false),
+        (&["help"], false),
+        (&["cpmhost"], false),
+        (&["cpmhost", "com"], false),
+        (&["cpmhost", "com", "a.com", "help"], false),
+        (&["cpmhost", "com", "--", "--help"], false),
+        (&["cpmhost", "frob", "--help"], false),
+        (&["cpmhost", "--", "--help"], false),
+    ];
+    for (words, asks) in lines {
+        let wanted = if asks { Some(HELP_TEXT) } else { None };
+        assert_eq!(rt; help(words), wanted, "at {words:?}");
+    }
+}

@@ -1,0 +1,105 @@
+//! The help, and the words that ask for it.
+ghost use Rattle.std.specs.Prelude.{◌≡◌, ◌↔◌, IsTrue, IsSome, IfSome, codes, map, not, take_while};
+ghost use Rattle.std.specs.List.{list_any};
+ghost use Rattle.std.specs.Str.{bytes_eq};
+ghost use Rattle.cpm_command.specs.HelpWords.{asks_below, asks_help, begins_with_help, is_command_name, is_help_flag};
+
+/// What `cpmhost --help` prints.
+pub const HELP_TEXT: &str = "\
+cpmhost runs CP/M 2.2 programs for the 8080 processor.
+
+Usage:
+  cpmhost com FILE [--steps N]   load the program in FILE at 0100h, run it, and
+                                 print what it writes to its console
+  cpmhost --help                 print this help
+
+Options of com:
+  --steps N   stop after N steps; N is 0 to 18446744073709551615
+              (1000000 unless given)
+
+Standard output has what the program wrote to its console. The last line on
+standard error says how it ended: 'end Exited count 7 pc E406' is a program
+that left by itself after 7 steps, 'end Running ..' one that was cut off by
+--steps.
+
+Examples:
+  cpmhost com hello.com
+  cpmhost com life.com --steps 50000000 > life.txt
+
+Exit status:
+  0   the program ran, whatever its end
+  1   the command line is wrong
+  4   FILE can't be read
+  5   standard output can't be written
+  8   memory ran out
+  9   the program in FILE is longer than 58,112 bytes
+
+A word that begins with '-', or a file that is called help, is given as './NAME'.
+";
+
+/// Whether the word is `-h` or `--help`.
+fn is_flag(word: &str) -> bool
+    ensures { result ≡ is_help_flag word.now }
+{
+    word == "-h" || word == "--help"
+}
+
+/// Whether the word is the name of a command.
+fn is_command(word: &str) -> bool
+    ensures { result ≡ is_command_name word.now }
+{
+    word == "com"
+}
+
+/// Whether a flag for help stands before any `--`.
+fn has_flag(words: &[&str]) -> bool
+    ensures { result ≡ list_any (λ w. is_help_flag w.now)
+        (take_while (λ w. not (bytes_eq w.now (codes "--"))) words.now) }
+{
+    words
+        .iter()
+        .take_while(|word| **word != "--")
+        .any(|word| is_flag(word))
+}
+
+/// Whether the first word is `help`.
+fn is_help_first(words: &[&str]) -> bool
+    ensures { result ≡ begins_with_help (map (λ w. w.now) words.now) }
+{
+    match words {
+        [first, ..] => *first == "help",
+        [] => false,
+    }
+}
+
+/// Whether the words after a command's name ask for help.
+fn is_asked_below(words: &[&str]) -> bool
+    ensures { result ≡ asks_below (map (λ w. w.now) words.now) }
+{
+    is_help_first(words) || has_flag(words)
+}
+
+/// Whether the words, of which the first is the program's own name, ask for help.
+fn is_asked(words: &[&str]) -> bool
+    ensures { result ≡ asks_help (map (λ w. w.now) words.now) }
+{
+    match words {
+        [_, first, rest @ ..] => {
+            *first == "help" || is_flag(first) || (is_command(first) && is_asked_below(rest))
+        }
+        _ => false,
+    }
+}
+
+/// The help, where the words ask for it, of which the first is the program's own name: by `help`,
+/// `-h` or `--help`, alone or after a command's name.
+pub fn help(words: &[&str]) -> Option<&'static str>
+    ensures asked { IsSome result ↔ IsTrue (asks_help (map (λ w. w.now) words.now)) }
+    ensures text { IfSome result (λ text. text.now ≡ HELP_TEXT.now) }
+{
+    if is_asked(words) {
+        Some(HELP_TEXT)
+    } else {
+        None
+    }
+}

@@ -1,0 +1,124 @@
+-- What moving output out of a machine, and running it in turns, leaves.
+use Rattle.std.proofs.Common.{◌≡◌, ◌∙◌, ◌++◌, ◌&&◌, ap, ap₂, sym, refl, subst, ℕ, zero, suc, ◌+◌, ◌-◌, ◌<◌, ◌≤◌, nat_le, Bool, true, false, List, [], Option, Some, None, length, take, drop, min, arith, append-nil}
+use Rattle.std.proofs.lemmas.List.{append_assoc, length-take-le, take-append-drop, take_at}
+use Rattle.std.specs.Io.KnownBytes.{Appends, Keeps}
+use Rattle.cpm_console.specs.Terminal.{Terminal, has_room}
+use Rattle.cpm_slots.specs.Calls.{state_behind}
+use Rattle.cpm_slots.specs.MachineState.{MachineState}
+use Rattle.cpm_slots.specs.Serve.{executed, taken}
+use Rattle.cpm_slots.specs.Step.{after, can_step, is_running, step, step_if}
+use Rattle.cpm_slots.proofs.AloneLaws.{after-behind}
+use Rattle.cpm_slots.proofs.GrantLaws.{after-add, longest-is}
+use Rattle.cpm_host.specs.Com.{HasNoOutput, IsRun, without_output}
+
+-- the state with other bytes on its console, or on its list device
+abbrev pub with_text : List ℕ → MachineState → MachineState
+with_text xs s = record s { session = record s.session { console = record s.session.console { screen = xs } } }
+
+abbrev pub with_list : List ℕ → MachineState → MachineState
+with_list xs s = record s { session = record s.session { console = record s.session.console { printer = xs } } }
+
+-- some of the console bytes were moved to the writer
+pub record IsMoved (start now : MachineState) (before after : Option (List ℕ)) : Type 0 where
+  pub text : List ℕ
+  pub written : Appends before after text
+  pub whole : text ++ now.session.console.screen ≡ start.session.console.screen
+  pub state : now ≡ with_text now.session.console.screen start
+
+-- known bytes grow twice, and then stay
+pub appends_more : (before middle grown kept : Option (List ℕ)) (xs ys : List ℕ) → Appends before middle xs → Appends middle grown ys → Keeps grown kept
+    → Appends before kept (xs ++ ys)
+appends_more None middle grown kept xs ys a b k = tt
+appends_more (Some w) None grown kept xs ys a b k = absurd a
+appends_more (Some w) (Some x) None kept xs ys a b k = absurd b
+appends_more (Some w) (Some x) (Some y) None xs ys a b k = absurd k
+appends_more (Some w) (Some x) (Some y) (Some z) xs ys a b k = k ∙ b ∙ ap (λ v. v ++ ys) a ∙ append_assoc w xs ys
+
+-- one chunk more
+pub moved_more : (start now next : MachineState) (before middle grown kept : Option (List ℕ)) (room : ℕ) (chunk : List ℕ) → IsMoved start now before middle
+    → chunk ≡ take (min room (length now.session.console.screen)) now.session.console.screen → next ≡ taken room now → Appends middle grown chunk → Keeps grown kept
+    → IsMoved start next before kept
+moved_more start now next before middle grown kept room chunk moved is state writes keeps =
+    let screen = now.session.console.screen in
+    let count = min room (length screen) in
+    let left : next.session.console.screen ≡ drop count screen = ap (λ (s : MachineState). s.session.console.screen) state in
+    record {
+      text = moved.text ++ chunk;
+      written = appends_more before middle grown kept moved.text chunk moved.written writes keeps;
+      whole = ap₂ (λ a b. (moved.text ++ a) ++ b) is left ∙ append_assoc moved.text (take count screen) (drop count screen)
+          ∙ ap (λ v. moved.text ++ v) (take-append-drop count screen) ∙ moved.whole;
+      state = state ∙ ap (taken room) moved.state ∙ ap (λ v. with_text v start) (sym left);
+    }
+
+-- what lies in the buffer after bytes were taken into it
+pub chunk_taken : (screen old new : List ℕ) (n room : ℕ) → n ≡ min room (length screen) → new ≡ take n screen ++ drop n old → take n new ≡ take (min room (length screen)) screen
+chunk_taken screen old new n room count bytes =
+    let within : n ≤ length screen = omega arith in
+    ap (take n) bytes ∙ take_at (take n screen) (drop n old) n (length-take-le n screen within) ∙ ap (λ k. take k screen) count
+
+-- ---- turns
+
+appends_none : (o : Option (List ℕ)) → Appends o o []
+appends_none None = tt
+appends_none (Some xs) = sym (append-nil xs)
+
+-- before the first turn
+pub run_none : (s : MachineState) (o : Option (List ℕ)) → HasNoOutput s → IsRun 0 s s o o
+run_none s o none = record { text = []; list = []; state = refl; written = appends_none o; taken = none }
+
+-- one turn more, and its output
+pub run_turn : (k e : ℕ) (old now turned next : MachineState) (before middle after_it : Option (List ℕ)) → IsRun k old now before middle → turned ≡ after e now
+    → next ≡ without_output turned → Appends middle after_it turned.session.console.screen → IsRun (k + e) old next before after_it
+run_turn k e old now turned next before middle after_it run is moved writes =
+    let screen = turned.session.console.screen in
+    let printer = turned.session.console.printer in
+    record {
+      text = run.text ++ screen;
+      list = run.list ++ printer;
+      state = ap (state_behind (run.text ++ screen) (run.list ++ printer)) moved
+          ∙ ap₂ (λ a b. with_text a (with_list b turned)) (append-nil (run.text ++ screen)) (append-nil (run.list ++ printer))
+          ∙ ap (state_behind run.text run.list) is ∙ sym (after-behind run.text run.list e now) ∙ ap (after e) run.state ∙ sym (after-add k e old);
+      written = appends_more before middle after_it after_it run.text screen run.written writes (keeps_all after_it);
+      taken = record { screen = ap (λ (s : MachineState). s.session.console.screen) moved; printer = ap (λ (s : MachineState). s.session.console.printer) moved };
+    }
+  where
+    keeps_all : (o : Option (List ℕ)) → Keeps o o
+    keeps_all None = tt
+    keeps_all (Some xs) = refl
+
+step_stays : (s : MachineState) → is_running s.ended ≡ false → step s ≡ s
+unfolding step
+step_stays s ended = ap (λ b. step_if b s) ended
+
+after_stays : (n : ℕ) (s : MachineState) → is_running s.ended ≡ false → after n s ≡ s
+after_stays zero s ended = refl
+after_stays (suc n) s ended = ap step (after_stays n s ended) ∙ step_stays s ended
+
+-- a machine with no output to take that makes no step has ended
+pub stopped : (n : ℕ) (s : MachineState) → HasNoOutput s → 0 < n → 0 ≡ executed n s → is_running s.ended ≡ false
+unfolding executed
+stopped n s none some is =
+    let longest = longest-is (λ k. can_step (after k s)) n in
+    let blocked : can_step s ≡ false = subst (λ k. k < n → can_step (after k s) ≡ false) (sym is) longest.greatest some in
+    go (is_running s.ended) (has_room s.session.console) (room s.session.console none.screen none.printer) blocked
+  where
+    room : (t : Terminal) → t.screen ≡ [] → t.printer ≡ [] → has_room t ≡ true
+    room t x y = ap₂ (λ (a b : List ℕ). nat_le (length a) 4096 && nat_le (length b) 4096) x y
+
+    go : (a b : Bool) → b ≡ true → (a && b) ≡ false → a ≡ false
+    go false b e f = refl
+    go true b e f = absurd (let bad : ⊥ = cc in bad)
+
+-- after that all further steps change nothing
+pub run_stopped : (k steps : ℕ) (old now : MachineState) (before written : Option (List ℕ)) → IsRun k old now before written → is_running now.ended ≡ false → k ≤ steps
+    → IsRun steps old now before written
+run_stopped k steps old now before written run ended within =
+    let total : k + (steps - k) ≡ steps = omega arith in
+    let stays : after (steps - k) (after k old) ≡ after k old = after_stays (steps - k) (after k old) (ap (λ (s : MachineState). is_running s.ended) (sym run.state) ∙ ended) in
+    record {
+      text = run.text;
+      list = run.list;
+      state = run.state ∙ sym stays ∙ sym (after-add k (steps - k) old) ∙ ap (λ n. after n old) total;
+      written = run.written;
+      taken = run.taken;
+    }

@@ -1,0 +1,52 @@
+-- What running a program shows, and when it is refused.
+use Rattle.std.specs.Prelude.{◌≡◌, ◌<◌, ◌≤◌, ℕ, List, [], length, Option}
+use Rattle.std.specs.Io.KnownBytes.{Appends}
+use Rattle.cpm_slots.specs.Calls.{state_behind}
+use Rattle.cpm_slots.specs.MachineState.{MachineState}
+use Rattle.cpm_slots.specs.Step.{after}
+use Rattle.cpm_host.specs.declared.ending.Ending.{Ending}
+use Rattle.cpm_host.specs.declared.error.HostError.{HostError}
+use Rattle.cpm_host.specs.declared.error.HostError.TheVariants.{Usage, NotText, FileUnreadable, OutputUnwritable, OutOfMemory, ProgramTooLong}
+
+-- the console bytes of a machine from which none was taken
+abbrev pub text_of : MachineState → List ℕ
+text_of s = s.session.console.screen
+
+abbrev pub ending_of : MachineState → Ending
+ending_of s = record { ended = s.ended; count = s.count; pc = s.session.regs.pc }
+
+-- the state with its console bytes taken, with its list bytes taken, and with both
+abbrev pub without_text : MachineState → MachineState
+without_text s =
+    record s { session = record s.session { console = record s.session.console { screen = [] } } }
+
+abbrev pub without_list : MachineState → MachineState
+without_list s =
+    record s { session = record s.session { console = record s.session.console { printer = [] } } }
+
+abbrev pub without_output : MachineState → MachineState
+without_output s = without_list (without_text s)
+
+-- no byte waits to be taken
+pub record HasNoOutput (s : MachineState) : Type 0 where
+  pub screen : s.session.console.screen ≡ []
+  pub printer : s.session.console.printer ≡ []
+
+-- The machine went from `old` to `new`, and the known bytes of a writer likewise: with the bytes that
+-- were taken put back in front it is `old` after so many steps, and the writer got the console bytes.
+pub record IsRun (steps : ℕ) (old new : MachineState) (before now : Option (List ℕ)) : Type 0 where
+  pub text : List ℕ
+  pub list : List ℕ
+  pub state : state_behind text list new ≡ after steps old
+  pub written : Appends before now text
+  pub taken : HasNoOutput new
+
+-- When a program is refused. The writer is as it was, but where it failed itself.
+abbrev pub IsComRefusal : {W : Type 0} → List ℕ → HostError → W → W → Type 0
+IsComRefusal {W} program (ProgramTooLong count) old new =
+    (58112 < length program) × (count ≡ length program) × (new ≡ old)
+IsComRefusal {W} program OutOfMemory old new = (length program ≤ 58112) × (new ≡ old)
+IsComRefusal {W} program (OutputUnwritable reason) old new = length program ≤ 58112
+IsComRefusal {W} program (Usage fault) old new = ⊥
+IsComRefusal {W} program NotText old new = ⊥
+IsComRefusal {W} program (FileUnreadable name reason) old new = ⊥

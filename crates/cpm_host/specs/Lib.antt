@@ -1,0 +1,2 @@
+pub mod Com
+pub mod Refusals

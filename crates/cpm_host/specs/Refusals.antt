@@ -1,0 +1,38 @@
+-- The exit statuses, and what a refused command line becomes.
+use Rattle.std.specs.Prelude.{⊤, ℕ}
+use Rattle.cpm_command.specs.declared.fault.UsageError.{UsageError}
+use Rattle.cpm_command.specs.declared.fault.UsageError.TheVariants as usage
+use Rattle.cpm_host.specs.declared.error.HostError.{HostError}
+use Rattle.cpm_host.specs.declared.error.HostError.TheVariants.{Usage, NotText, FileUnreadable, OutputUnwritable, OutOfMemory, ProgramTooLong}
+
+-- the number of the code that the text begins with
+abbrev pub status_of : HostError → ℕ
+status_of (Usage fault) = 1
+status_of NotText = 1
+status_of (FileUnreadable name reason) = 4
+status_of (OutputUnwritable reason) = 5
+status_of OutOfMemory = 8
+status_of (ProgramTooLong count) = 9
+
+-- what a file that is not read comes to
+abbrev pub IsFileRefusal : HostError → Type 0
+IsFileRefusal (FileUnreadable name reason) = ⊤
+IsFileRefusal OutOfMemory = ⊤
+IsFileRefusal (Usage fault) = ⊥
+IsFileRefusal NotText = ⊥
+IsFileRefusal (OutputUnwritable reason) = ⊥
+IsFileRefusal (ProgramTooLong count) = ⊥
+
+-- what words that can't be read come to
+abbrev pub IsWordRefusal : HostError → Type 0
+IsWordRefusal NotText = ⊤
+IsWordRefusal OutOfMemory = ⊤
+IsWordRefusal (Usage fault) = ⊥
+IsWordRefusal (FileUnreadable name reason) = ⊥
+IsWordRefusal (OutputUnwritable reason) = ⊥
+IsWordRefusal (ProgramTooLong count) = ⊥
+
+-- what a refused command line comes to
+abbrev pub host_error_of : UsageError → HostError
+host_error_of (usage.Usage fault) = Usage fault
+host_error_of usage.OutOfMemory = OutOfMemory

@@ -1,0 +1,74 @@
+//! Why a command is refused.
+ghost use Rattle.std.specs.Prelude.{◌≡◌};
+ghost use Rattle.cpm_host.specs.declared.error.HostError.TheVariants.{OutOfMemory};
+ghost use Rattle.cpm_host.specs.Refusals.{status_of, host_error_of};
+
+use cpm_command::{Fault, UsageError, Word};
+use std::alloc::{AllocError, AllocFailed};
+use std::io;
+use thiserror::Error;
+
+/// Why a command is refused. Its text is one line that begins with its code.
+#[derive(Clone, Copy, Debug, Drop, Error)]
+pub enum HostError {
+    /// The words of the command line name no task.
+    #[error("HO1 {0}")]
+    Usage(Fault),
+    /// A word of the command line is no text.
+    #[error("HO1 an argument is not UTF-8 text; try 'cpmhost --help'")]
+    NotText,
+    /// A file can't be read.
+    #[error("HO4 can't read '{name}': {reason}")]
+    FileUnreadable { name: Word, reason: io::Error },
+    /// Standard output can't be written.
+    #[error("HO5 can't write to standard output: {0}")]
+    OutputUnwritable(io::Error),
+    /// Memory was refused.
+    #[error("HO8 out of memory")]
+    OutOfMemory,
+    /// The program has this many bytes, which is more than a machine takes.
+    #[error("HO9 the program has {0} bytes, and a machine takes at most 58112")]
+    ProgramTooLong(usize),
+}
+
+impl HostError {
+    /// The exit status: the number of the code.
+    pub fn status(&self) -> u8
+        ensures { result ≡ status_of self.now }
+    {
+        match self {
+            HostError::Usage(_) | HostError::NotText => 1,
+            HostError::FileUnreadable { .. } => 4,
+            HostError::OutputUnwritable(_) => 5,
+            HostError::OutOfMemory => 8,
+            HostError::ProgramTooLong(_) => 9,
+        }
+    }
+}
+
+impl From<UsageError> for HostError {
+    ghost from_gives = { λ u e. e ≡ host_error_of u };
+
+    fn from(error: UsageError) -> HostError {
+        match error {
+            UsageError::Usage(fault) => HostError::Usage(fault),
+            UsageError::OutOfMemory => HostError::OutOfMemory,
+        }
+    }
+}
+
+impl From<AllocError> for HostError {
+    ghost from_gives = { λ _ e. e ≡ OutOfMemory };
+
+    fn from(_error: AllocError) -> HostError {
+        HostError::OutOfMemory
+    }
+}
+
+impl<T: Drop> From<AllocFailed<T>> for HostError {
+    ghost from_gives = { λ _ e. e ≡ OutOfMemory };
+
+    fn from(_error: AllocFailed<T>) -> HostError {
+        HostError::OutOfMemory
+    }
+}

@@ -1,0 +1,18 @@
+//! The commands of `cpmhost`: what each does, over the bytes of its files and a writer, and the
+//! refusals with their exit statuses.
+#![tactic(auto)]
+
+mod com;
+mod ending;
+mod error;
+mod input;
+mod turns;
+
+pub use com::run_com;
+pub use cpm_command::{Fault, HELP_TEXT, Task, UsageError, Word, command, help, shown};
+pub use ending::Ending;
+pub use error::HostError;
+pub use input::{MOST_FILE, read_whole};
+
+#[cfg(test)]
+mod tests;

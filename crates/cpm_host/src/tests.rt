@@ -1,0 +1,241 @@
+//! Running programs into writers that fail or take little, reading readers that fail or never end,
+//! and the texts and statuses of refusals.
+ghost use Rattle.std.specs.Prelude.{Some};
+
+use cpm_flags::Cpu;
+use crate::{Ending, Fault, HostError, MOST_FILE, UsageError, read_whole, run_com, shown};
+use std::alloc::Global;
+use std::io;
+use std::io::{ErrorKind, Read, Write};
+use std::process::Abort;
+
+/// Prints `A` and returns.
+const LETTER: &[u8] = &[0x0E, 0x02, 0x1E, 0x41, 0xCD, 0x05, 0x00, 0xC9];
+
+/// Prints `A` without end, a letter each 6 steps.
+const LETTERS: &[u8] = &[0x0E, 0x02, 0x1E, 0x41, 0xCD, 0x05, 0x00, 0xC3, 0x00, 0x01];
+
+/// Sends `A` to the list device without end.
+const LISTED: &[u8] = &[0x0E, 0x05, 0x1E, 0x41, 0xCD, 0x05, 0x00, 0xC3, 0x00, 0x01];
+
+/// Keeps what it is given, at most `most` bytes at a time, and fails once when it holds `fails_at`
+/// bytes.
+#[derive(Drop)]
+struct Recorder {
+    bytes: Vec<u8>,
+    most: usize,
+    fails_at: Option<usize>,
+}
+
+impl Recorder {
+    /// A writer that takes all.
+    fn new(alloc: Global) -> Recorder {
+        Recorder {
+            bytes: Vec::new(alloc),
+            most: usize::MAX,
+            fails_at: None,
+        }
+    }
+}
+
+impl Write for Recorder {
+    ghost contents = { λ r. Some r.bytes.items };
+
+    fn write(&mut self, buf: &[u8]) -> io::Result<usize> {
+        let room = match self.fails_at {
+            Some(at) => at.saturating_sub(self.bytes.len()),
+            None => usize::MAX,
+        };
+        if room == 0 {
+            self.fails_at = None;
+            return Err(io::Error::from(ErrorKind::StorageFull));
+        }
+        let count = buf.len().min(self.most).min(room);
+        self.bytes.extend_from_slice(&buf[..count])?;
+        Ok(count)
+    }
+
+    fn flush(&mut self) -> io::Result<()> {
+        Ok(())
+    }
+}
+
+/// How a program ends.
+fn ending(
+    rt: &(impl Abort + AllocGlobal),
+    program: &[u8],
+    steps: u64,
+    out: &mut Recorder,
+) -> Ending {
+    match run_com(rt.alloc(), Cpu::I8080, copied(rt, program), steps, out) {
+        Ok(ending) => ending,
+        Err(error) => panic!(rt; "refused: {error}"),
+    }
+}
+
+/// Why a program is refused.
+fn refusal(rt: &(impl Abort + AllocGlobal), program: &[u8], out: &mut Recorder) -> HostError {
+    match run_com(rt.alloc(), Cpu::I8080, copied(rt, program), 1_000_000, out) {
+        Ok(ending) => panic!(rt; "taken: {ending}"),
+        Err(error) => error,
+    }
+}
+
+fn copied(rt: &(impl Abort + AllocGlobal), bytes: &[u8]) -> Vec<u8> {
+    let mut copy = Vec::new(rt.alloc());
+    copy.extend_from_slice(bytes).expect(rt, "memory");
+    copy
+}
+
+#[test]
+fn says_how_a_program_ended(rt: HostRuntime) {
+    let programs: [(&[u8], u64, &str, &str); 6] = [
+        (LETTER, 1_000_000, "A", "end Exited count 7 pc E406"),
+        (LETTER, 7, "A", "end Exited count 7 pc E406"),
+        (LETTER, 3, "", "end Running count 3 pc 0005"),
+        (LETTER, 0, "", "end Running count 0 pc 0100"),
+        (&[0x76], 1_000_000, "", "end Halted count 1 pc 0101"),
+        (&[0x08], 1_000_000, "", "end Illegal count 1 pc 0100"),
+    ];
+    for (program, steps, text, wanted) in programs {
+        let mut out = Recorder::new(rt.alloc());
+        let end = ending(&rt, program, steps, &mut out);
+        let end = end.to_string(rt.alloc()).expect(&rt, "memory");
+        assert_eq!(rt; end.as_str(), wanted);
+        assert_eq!(rt; out.bytes.as_slice(), text.as_bytes());
+    }
+}
+
+#[test]
+fn writes_all_text_however_little_fits(rt: HostRuntime) {
+    let mut out = Recorder::new(rt.alloc());
+    out.most = 1000;
+    let end = ending(&rt, LETTERS, 3_000_000, &mut out);
+    assert_eq!(rt; end.count, 3_000_000);
+    assert_eq!(rt; out.bytes.len(), 500_000);
+    assert!(rt; out.bytes.iter().all(|&byte| byte == b'A'));
+}
+
+#[test]
+fn drops_what_is_listed(rt: HostRuntime) {
+    let mut out = Recorder::new(rt.alloc());
+    let end = ending(&rt, LISTED, 300_000, &mut out);
+    assert_eq!(rt; end.count, 300_000);
+    assert_eq!(rt; out.bytes.len(), 0);
+}
+
+#[test]
+fn stops_where_the_writer_fails(rt: HostRuntime) {
+    let mut out = Recorder::new(rt.alloc());
+    out.most = 1000;
+    out.fails_at = Some(5000);
+    let error = refusal(&rt, LETTERS, &mut out);
+    assert!(rt;
+        matches!(&error, HostError::OutputUnwritable(reason) if reason.kind() == ErrorKind::StorageFull)
+    );
+    assert_eq!(rt; out.bytes.len(), 5000);
+}
+
+#[test]
+fn refuses_a_program_that_is_too_long(rt: HostRuntime) {
+    let mut bytes = Vec::new(rt.alloc());
+    bytes.resize(58_113, 0).expect(&rt, "memory");
+    let mut out = Recorder::new(rt.alloc());
+    let error = refusal(&rt, bytes.as_slice(), &mut out);
+    let text = error.to_string(rt.alloc()).expect(&rt, "memory");
+    assert_eq!(rt;
+        text.as_str(),
+        "HO9 the program has 58113 bytes, and a machine takes at most 58112"
+    );
+    assert_eq!(rt; out.bytes.len(), 0);
+    let end = ending(&rt, &bytes.as_slice()[1..], 10, &mut out);
+    assert_eq!(rt; end.count, 10);
+}
+
+/// Gives zeros without end, and counts them, but fails once at the read that begins at `fails_at`.
+#[derive(Drop)]
+struct Zeros {
+    given: u64,
+    fails_at: Option<u64>,
+}
+
+impl Read for Zeros {
+    fn read(&mut self, buf: &mut [u8]) -> io::Result<usize> {
+        if self.fails_at.is_some_and(|at| at <= self.given) {
+            self.fails_at = None;
+            return Err(io::Error::other("the disk is gone"));
+        }
+        for byte in buf.iter_mut() {
+            *byte = 0;
+        }
+        self.given = self.given.saturating_add(buf.len() as u64);
+        Ok(buf.len())
+    }
+}
+
+#[test]
+fn reads_no_more_than_a_file_may_have(rt: HostRuntime) {
+    let mut whole: &[u8] = b"all of it";
+    let bytes = read_whole(rt.alloc(), &mut whole).expect(&rt, "bytes");
+    assert_eq!(rt; bytes.as_slice(), b"all of it".as_slice());
+
+    let mut endless = Zeros {
+        given: 0,
+        fails_at: None,
+    };
+    let error = read_whole(rt.alloc(), &mut endless).expect_err(&rt, "an error");
+    assert_eq!(rt; error.kind(), ErrorKind::FileTooLarge);
+    assert_eq!(rt; endless.given, MOST_FILE + 1);
+
+    let mut broken = Zeros {
+        given: 0,
+        fails_at: Some(50),
+    };
+    let error = read_whole(rt.alloc(), &mut broken).expect_err(&rt, "an error");
+    assert_eq!(rt; error.kind(), ErrorKind::Other);
+}
+
+#[test]
+fn names_code_and_status(rt: HostRuntime) {
+    let reason = io::Error::other("the disk is gone");
+    let errors = [
+        (
+            HostError::from(UsageError::Usage(Fault::UnknownCommand(shown("x")))),
+            1,
+            "HO1 unknown command 'x'; try 'cpmhost --help'",
+        ),
+        (
+            HostError::from(UsageError::OutOfMemory),
+            8,
+            "HO8 out of memory",
+        ),
+        (
+            HostError::NotText,
+            1,
+            "HO1 an argument is not UTF-8 text; try 'cpmhost --help'",
+        ),
+        (
+            HostError::FileUnreadable {
+                name: shown("a\nb"),
+                reason,
+            },
+            4,
+            "HO4 can't read 'a?b': the disk is gone",
+        ),
+        (
+            HostError::OutputUnwritable(reason),
+            5,
+            "HO5 can't write to standard output: the disk is gone",
+        ),
+        (
+            HostError::ProgramTooLong(60_000),
+            9,
+            "HO9 the program has 60000 bytes, and a machine takes at most 58112",
+        ),
+    ];
+    for (error, status, wanted) in errors {
+        assert_eq!(rt; error.status(), status, "at {wanted}");
+        let text = error.to_string(rt.alloc()).expect(&rt, "memory");
+        assert_eq!(rt; text.as_str(), wanted);
+    }
+}

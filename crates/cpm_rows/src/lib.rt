@@ -1,0 +1,9 @@
+//! Worked rows: programs with the output, the registers, the bytes and the counts that they must give.
+#![tactic(auto)]
+
+#[cfg(test)]
+mod programs;
+#[cfg(test)]
+mod programs_z80;
+#[cfg(test)]
+mod run;

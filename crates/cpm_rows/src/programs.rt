@@ -1,0 +1,221 @@
+use crate::run::run;
+use cpm_flags::Cpu;
+use cpm_slots::{End, Machine, OpenError, Why};
+use std::test::Fail;
+
+/// What a program shows, how many steps it makes and how it ends.
+#[derive(Drop)]
+struct Row {
+    program: &'static [u8],
+    shown: &'static [u8],
+    executed: u64,
+    ended: End,
+}
+
+const PRINTING: [Row; 7] = [
+    // a letter
+    Row {
+        program: &[0x0E, 0x02, 0x1E, 0x41, 0xCD, 0x05, 0x00, 0xC9],
+        shown: b"A",
+        executed: 7,
+        ended: End::Exited,
+    },
+    // nothing: zeros up to the command processor
+    Row {
+        program: &[],
+        shown: b"",
+        executed: 58_119,
+        ended: End::Exited,
+    },
+    // a loop
+    Row {
+        program: &[
+            0x16, 0x03, 0x0E, 0x02, 0x1E, 0x2A, 0xCD, 0x05, 0x00, 0x15, 0xC2, 0x06, 0x01, 0xC9,
+        ],
+        shown: b"***",
+        executed: 20,
+        ended: End::Exited,
+    },
+    // a text
+    Row {
+        program: &[
+            0x0E, 0x09, 0x11, 0x09, 0x01, 0xCD, 0x05, 0x00, 0xC9, 0x48, 0x49, 0x24,
+        ],
+        shown: b"HI",
+        executed: 9,
+        ended: End::Exited,
+    },
+    // a text with a tab
+    Row {
+        program: &[
+            0x0E, 0x09, 0x11, 0x09, 0x01, 0xCD, 0x05, 0x00, 0xC9, 0x41, 0x09, 0x42, 0x24,
+        ],
+        shown: b"A       B",
+        executed: 10,
+        ended: End::Exited,
+    },
+    // a warm boot
+    Row {
+        program: &[0x0E, 0x00, 0xCD, 0x05, 0x00],
+        shown: b"",
+        executed: 5,
+        ended: End::Exited,
+    },
+    // no instruction
+    Row {
+        program: &[0x08],
+        shown: b"",
+        executed: 1,
+        ended: End::Illegal,
+    },
+];
+
+#[test]
+fn shows_and_ends(rt: HostRuntime) -> Result<(), Fail> {
+    for row in &PRINTING {
+        let mut ran = run(rt.alloc(), Cpu::I8080, row.program)?;
+        assert_eq!(rt; ran.granted.executed, row.executed);
+        assert_eq!(rt; ran.granted.why, Why::Stopped);
+        let look = ran.machine.look();
+        assert_eq!(rt; look.ended, row.ended);
+        assert_eq!(rt; look.count, row.executed);
+        let mut out = [0; 64];
+        let count = ran.machine.take(&mut out);
+        assert_eq!(rt; count, row.shown.len());
+        assert_eq!(rt; &out[..count], row.shown);
+        assert_eq!(rt; ran.machine.take_list(&mut out), 0);
+    }
+    Ok(())
+}
+
+#[test]
+fn ends_where_it_should(rt: HostRuntime) -> Result<(), Fail> {
+    let exited = run(rt.alloc(), Cpu::I8080, &[0x0E, 0x02, 0x1E, 0x41, 0xCD, 0x05, 0x00, 0xC9])?;
+    assert_eq!(rt; exited.machine.look().regs.pc, 0xE406);
+    let illegal = run(rt.alloc(), Cpu::I8080, &[0x08])?;
+    assert_eq!(rt; illegal.machine.look().regs.pc, 0x0100);
+    let closed = illegal.machine.finish();
+    assert_eq!(rt; closed.look.count, 1);
+    Ok(())
+}
+
+/// A program that halts, its steps, and the bytes that it leaves.
+#[derive(Drop)]
+struct Left {
+    program: &'static [u8],
+    executed: u64,
+    bytes: &'static [(u16, u8)],
+}
+
+const HALTING: [Left; 6] = [
+    // the flags after SUB A
+    Left {
+        program: &[0x3E, 0x3E, 0x97, 0xF5, 0x76],
+        executed: 4,
+        bytes: &[(0xEBFC, 0x56), (0xEBFD, 0x00)],
+    },
+    // DAA
+    Left {
+        program: &[0x3E, 0x9B, 0x27, 0xF5, 0x76],
+        executed: 4,
+        bytes: &[(0xEBFD, 0x01), (0xEBFC, 0x13)],
+    },
+    // CPI
+    Left {
+        program: &[0x3E, 0x10, 0xFE, 0x01, 0xF5, 0x76],
+        executed: 4,
+        bytes: &[(0xEBFD, 0x10), (0xEBFC, 0x06)],
+    },
+    // ANA A
+    Left {
+        program: &[0x3E, 0x08, 0xA7, 0xF5, 0x76],
+        executed: 4,
+        bytes: &[(0xEBFC, 0x12)],
+    },
+    // DCR B
+    Left {
+        program: &[0x06, 0x10, 0x05, 0xF5, 0x76],
+        executed: 4,
+        bytes: &[(0xEBFC, 0x06)],
+    },
+    // DAD B
+    Left {
+        program: &[0x21, 0xFF, 0xFF, 0x01, 0x01, 0x00, 0x09, 0xF5, 0x76],
+        executed: 5,
+        bytes: &[(0xEBFC, 0x03)],
+    },
+];
+
+#[test]
+fn halts_with_flags(rt: HostRuntime) -> Result<(), Fail> {
+    for row in &HALTING {
+        let ran = run(rt.alloc(), Cpu::I8080, row.program)?;
+        assert_eq!(rt; ran.granted.executed, row.executed);
+        assert_eq!(rt; ran.machine.look().ended, End::Halted);
+        for (address, byte) in row.bytes {
+            assert_eq!(rt; ran.machine.peek(*address), *byte);
+        }
+    }
+    let sum = run(rt.alloc(), Cpu::I8080, HALTING[5].program)?;
+    let regs = sum.machine.look().regs;
+    assert_eq!(rt; regs.h, 0);
+    assert_eq!(rt; regs.l, 0);
+    Ok(())
+}
+
+#[test]
+fn full_ring_blocks(rt: HostRuntime) -> Result<(), Fail> {
+    let mut ran = run(
+        rt.alloc(),
+        Cpu::I8080,
+        &[0x0E, 0x09, 0x11, 0x00, 0x80, 0xCD, 0x05, 0x00, 0xC9],
+    )?;
+    assert_eq!(rt; ran.granted.executed, 4_101);
+    assert_eq!(rt; ran.granted.why, Why::Blocked);
+    assert_eq!(rt; ran.machine.look().console, 4_097);
+    assert!(rt; !ran.machine.step());
+    let mut out = [1; 8192];
+    assert_eq!(rt; ran.machine.take(&mut out), 4_097);
+    assert!(rt; out[..4_097].iter().all(|byte| *byte == 0));
+    assert_eq!(rt; ran.machine.grant(1_000_000).executed, 4_097);
+    Ok(())
+}
+
+#[test]
+fn steps_one_by_one(rt: HostRuntime) -> Result<(), Fail> {
+    let program = [0x0E, 0x02, 0x1E, 0x41, 0xCD, 0x05, 0x00, 0xC9];
+    let bytes = Vec::from_slice(rt.alloc(), &program)?;
+    let mut machine = match Machine::with_program(rt.alloc(), Cpu::I8080, bytes) {
+        Ok(machine) => machine,
+        Err((_, error)) => return Err(Fail::from(error)),
+    };
+    assert_eq!(rt; machine.look().pages, 2);
+    for _ in 0..7 {
+        assert!(rt; machine.step());
+    }
+    assert!(rt; !machine.step());
+    let none = machine.grant(5);
+    assert_eq!(rt; none.executed, 0);
+    assert_eq!(rt; none.why, Why::Stopped);
+    assert_eq!(rt; machine.grant(0).why, Why::All);
+    assert_eq!(rt; machine.look().ended, End::Exited);
+    Ok(())
+}
+
+#[test]
+fn long_program_comes_back(rt: HostRuntime) -> Result<(), Fail> {
+    let long = vec![in rt.alloc(); 7u8; 58_113]?;
+    match Machine::with_program(rt.alloc(), Cpu::I8080, long) {
+        Ok(_) => return Err(Fail::from("58,113 bytes were taken")),
+        Err((bytes, error)) => {
+            assert_eq!(rt; error, OpenError::ProgramTooLong);
+            assert_eq!(rt; bytes.len(), 58_113);
+        }
+    }
+    let longest = vec![in rt.alloc(); 0u8; 58_112]?;
+    match Machine::with_program(rt.alloc(), Cpu::I8080, longest) {
+        Ok(machine) => assert_eq!(rt; machine.look().pages, 228),
+        Err((_, error)) => return Err(Fail::from(error)),
+    }
+    Ok(())
+}

@@ -1,0 +1,125 @@
+use crate::run::run;
+use cpm_flags::Cpu;
+use cpm_slots::{End, Machine, Why};
+use std::test::Fail;
+
+/// A program that halts, its steps, and the bytes that it leaves.
+#[derive(Drop)]
+struct Left {
+    program: &'static [u8],
+    executed: u64,
+    bytes: &'static [(u16, u8)],
+}
+
+const HALTING: [Left; 8] = [
+    // the flags after SUB A
+    Left {
+        program: &[0x3E, 0x3E, 0x97, 0xF5, 0x76],
+        executed: 4,
+        bytes: &[(0xEBFC, 0x42)],
+    },
+    // INC A to 80h
+    Left {
+        program: &[0x3E, 0x7F, 0x3C, 0xF5, 0x76],
+        executed: 4,
+        bytes: &[(0xEBFD, 0x80), (0xEBFC, 0x94)],
+    },
+    // CP
+    Left {
+        program: &[0x3E, 0x10, 0xFE, 0x01, 0xF5, 0x76],
+        executed: 4,
+        bytes: &[(0xEBFC, 0x12)],
+    },
+    // AND A
+    Left {
+        program: &[0x3E, 0x08, 0xA7, 0xF5, 0x76],
+        executed: 4,
+        bytes: &[(0xEBFC, 0x10)],
+    },
+    // DAA
+    Left {
+        program: &[0x3E, 0x9B, 0x27, 0xF5, 0x76],
+        executed: 4,
+        bytes: &[(0xEBFD, 0x01), (0xEBFC, 0x11)],
+    },
+    // NEG
+    Left {
+        program: &[0x3E, 0x80, 0xED, 0x44, 0xF5, 0x76],
+        executed: 4,
+        bytes: &[(0xEBFD, 0x80), (0xEBFC, 0x87)],
+    },
+    // DJNZ
+    Left {
+        program: &[0x06, 0x03, 0x10, 0xFE, 0x76],
+        executed: 5,
+        bytes: &[],
+    },
+    // SET 0,(IX+5)
+    Left {
+        program: &[0xDD, 0x21, 0x00, 0x80, 0xDD, 0xCB, 0x05, 0xC6, 0x76],
+        executed: 3,
+        bytes: &[(0x8005, 0x01)],
+    },
+];
+
+#[test]
+fn halts_with_flags(rt: HostRuntime) -> Result<(), Fail> {
+    for row in &HALTING {
+        let ran = run(rt.alloc(), Cpu::Z80, row.program)?;
+        assert_eq!(rt; ran.granted.executed, row.executed);
+        assert_eq!(rt; ran.machine.look().ended, End::Halted);
+        for (address, byte) in row.bytes {
+            assert_eq!(rt; ran.machine.peek(*address), *byte);
+        }
+    }
+    let counted = run(rt.alloc(), Cpu::Z80, HALTING[6].program)?;
+    assert_eq!(rt; counted.machine.look().regs.b, 0);
+    Ok(())
+}
+
+/// A move of all of memory onto itself.
+const MOVE_ALL: [u8; 12] = [
+    0x21, 0x00, 0x00, 0x11, 0x00, 0x00, 0x01, 0x00, 0x00, 0xED, 0xB0, 0x76,
+];
+
+#[test]
+fn each_repetition_is_a_step(rt: HostRuntime) -> Result<(), Fail> {
+    let whole = run(rt.alloc(), Cpu::Z80, &MOVE_ALL)?;
+    assert_eq!(rt; whole.granted.executed, 65_540);
+    assert_eq!(rt; whole.granted.why, Why::Stopped);
+    let look = whole.machine.look();
+    assert_eq!(rt; look.ended, End::Halted);
+    assert_eq!(rt; look.pages, 256);
+    assert_eq!(rt; look.regs.b, 0);
+    assert_eq!(rt; look.regs.c, 0);
+    assert!(rt; !look.regs.flags.zero && !look.regs.flags.parity && !look.regs.flags.carry);
+    let bytes = Vec::from_slice(rt.alloc(), &MOVE_ALL)?;
+    let mut cut = match Machine::with_program(rt.alloc(), Cpu::Z80, bytes) {
+        Ok(machine) => machine,
+        Err((_, error)) => return Err(Fail::from(error)),
+    };
+    let opening = cut.peek(0x0005);
+    for _ in 0..65_540 {
+        assert_eq!(rt; cut.grant(1).executed, 1);
+    }
+    assert_eq!(rt; cut.grant(1).executed, 0);
+    assert_eq!(rt; cut.look(), look);
+    assert_eq!(rt; cut.peek(0x0005), opening);
+    assert_eq!(rt; cut.peek(0x0100), 0x21);
+    Ok(())
+}
+
+#[test]
+fn a_prefix_without_a_row_is_illegal(rt: HostRuntime) -> Result<(), Fail> {
+    let ran = run(rt.alloc(), Cpu::Z80, &[0xDD, 0x44])?;
+    assert_eq!(rt; ran.granted.executed, 1);
+    let look = ran.machine.look();
+    assert_eq!(rt; look.ended, End::Illegal);
+    assert_eq!(rt; look.regs.pc, 0x0100);
+    // what is no instruction of the 8080 exchanges AF here
+    let exchanged = run(rt.alloc(), Cpu::Z80, &[0x3E, 0x05, 0x08, 0x76])?;
+    assert_eq!(rt; exchanged.granted.executed, 3);
+    assert_eq!(rt; exchanged.machine.look().regs.a, 0);
+    assert_eq!(rt; exchanged.machine.look().regs.alternate.a, 5);
+    Ok(())
+}

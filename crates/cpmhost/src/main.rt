@@ -1,0 +1,65 @@
+//! The program: it reads its words, does what they ask for, and ends with the status of a refusal.
+#![tactic(auto)]
+
+ghost use Rattle.std.specs.Prelude.{IfErr};
+ghost use Rattle.cpm_host.specs.Refusals.{IsWordRefusal};
+
+mod files;
+
+use cpm_flags::Cpu;
+use cpm_host::{HostError, Task, command, help, run_com};
+use files::read_file;
+use std::env::Env;
+use std::io::ErrorKind;
+use std::process::ExitCode;
+use std::rt::Files;
+use std::{env, io};
+
+/// The words of the command line, of which the first is the program's own name.
+fn arguments(rt: &(impl Env + AllocGlobal)) -> Result<Vec<String>, HostError>
+    ensures { IfErr result IsWordRefusal }
+{
+    match env::args(rt) {
+        Ok(words) => Ok(words.collect(rt.alloc())?),
+        Err(error) if error.kind() == ErrorKind::OutOfMemory => Err(HostError::OutOfMemory),
+        Err(_) => Err(HostError::NotText),
+    }
+}
+
+/// Runs the program in a file, prints what it shows, and then how it ended.
+fn com(
+    rt: &(impl Files + Print + Eprint + AllocGlobal),
+    file: &str,
+    steps: u64,
+) -> Result<(), HostError> {
+    let program = read_file(rt, file)?;
+    let ending = run_com(rt.alloc(), Cpu::I8080, program, steps, &mut io::writer(rt))?;
+    // The program ran and its text is out, even where nobody reads how it ended.
+    let _ = eprintln!(rt; "{ending}");
+    Ok(())
+}
+
+/// Does what the words of the command line ask for.
+fn run(rt: &(impl Env + Files + Print + Eprint + AllocGlobal)) -> Result<(), HostError> {
+    let words = arguments(rt)?;
+    let mut texts = Vec::new(rt.alloc());
+    for word in &words {
+        texts.push(word.as_str())?;
+    }
+    if let Some(text) = help(texts.as_slice()) {
+        return rt.print(text).map_err(HostError::OutputUnwritable);
+    }
+    match command(rt.alloc(), texts.as_slice())? {
+        Task::Com { file, steps } => com(rt, file, steps),
+    }
+}
+
+fn main(rt: HostRuntime) -> ExitCode {
+    match run(&rt) {
+        Ok(()) => ExitCode::SUCCESS,
+        Err(error) => {
+            let _ = eprintln!(rt; "cpmhost: {error}");
+            ExitCode::from(error.status())
+        }
+    }
+}
