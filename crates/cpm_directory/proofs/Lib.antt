@@ -1,0 +1,7 @@
+pub mod DriveLemmas
+pub mod FirstLemmas
+pub mod SlotLemmas
+pub mod DirectoryLemmas
+pub mod LoginLemmas
+pub mod ReservedLemmas
+pub mod TextLemmas

@@ -1,0 +1,40 @@
+-- One more entry of a drive that is logged in.
+use Rattle.std.proofs.Common.{◌≡◌, ◌≢◌, ◌<◌, ◌+◌, ◌||◌, ◌&&◌, eqb, ℕ, List, length, get_or, take, true, false, Bool, sym, refl, ◌∙◌, arith}
+use Rattle.std.specs.List.{list_any}
+use Rattle.std.proofs.lemmas.List.Folds.{list_any_more}
+use Rattle.std.proofs.lemmas.Bool.{ne_eqb, eq-eqb}
+use Rattle.cpm_files.specs.declared.extent.Entry.{Entry}
+use Rattle.std.proofs.Common.{ltb, inl, inr, ◌≤◌}
+use Rattle.std.proofs.lemmas.List.{length-take-le, get_or-take}
+use Rattle.std.proofs.lemmas.List.FromFn.{fill_by_all}
+use Rattle.std.proofs.lemmas.Bool.{cases_eq, lt-ltb}
+use Rattle.cpm_geom.specs.declared.dpb.Dpb.{Dpb}
+use Rattle.cpm_directory.specs.Login.{has_block, is_directory_block, reserved_at_login}
+
+or_assoc : (a b c : Bool) → ((a || b) || c) ≡ (a || (b || c))
+or_assoc true b c = refl
+or_assoc false b c = refl
+
+or_false : (a : Bool) → (a || false) ≡ a
+or_false true = refl
+or_false false = refl
+
+pub entry_in_use : (b : ℕ) (es : List Entry) (i : ℕ) (d : Entry) (was old new : Bool) → i < length es → (get_or es i d).user ≢ 229 → old ≡ (was || list_any (has_block b) (take i es)) → new ≡ (old || list_any (λ number. eqb number b) (get_or es i d).extent.blocks) → new ≡ (was || list_any (has_block b) (take (i + 1) es))
+unfolding has_block
+entry_in_use b es i d was old new h used o n =
+    rw (list_any_more (has_block b) es i d h, ne_eqb _ _ used) (n ∙ (rw o (or_assoc was _ _)))
+
+pub entry_unused : (b : ℕ) (es : List Entry) (i : ℕ) (d : Entry) (was old : Bool) → i < length es → (get_or es i d).user ≡ 229 → old ≡ (was || list_any (has_block b) (take i es)) → old ≡ (was || list_any (has_block b) (take (i + 1) es))
+unfolding has_block
+entry_unused b es i d was old h unused o =
+    rw (list_any_more (has_block b) es i d h, eq-eqb _ _ unused, or_false) o
+
+-- the first tests of a table are the reserved blocks
+pub logged_in : (d : Dpb) (es : List Entry) (blocks : List Bool) (count : ℕ) → length blocks ≡ 512 → count ≡ d.last_block + 1 → count ≤ 512 → get_or blocks 0 true ≡ is_directory_block d 0 → ((b : ℕ) → 0 < b → b < 512 → get_or blocks b true ≡ (is_directory_block d b || list_any (has_block b) es)) → take count blocks ≡ reserved_at_login d es
+unfolding reserved_at_login
+logged_in d es blocks count size e small zero others =
+    let f : ℕ → Bool = λ b. is_directory_block d b || (ltb 0 b && list_any (has_block b) es) in
+    rw e (fill_by_all (λ b. is_directory_block d b || (ltb 0 b && list_any (has_block b) es)) (take (d.last_block + 1) blocks) (d.last_block + 1) true (length-take-le (d.last_block + 1) blocks (omega arith)) (λ b h. get_or-take (d.last_block + 1) blocks b true h ∙ elim (cases_eq b 0) [
+      | inl z ↦ rw z (zero ∙ sym (or_false _))
+      | inr n ↦ rw (lt-ltb 0 b (omega arith)) (others b (omega arith) (omega arith))
+    ]))

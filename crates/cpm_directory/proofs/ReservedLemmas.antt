@@ -1,0 +1,31 @@
+-- The reserved blocks as the first so many tests of a table.
+use Rattle.std.proofs.Common.{Some, None, inl, inr, ◌≡◌, ℕ, ◌<◌, ◌≤◌, Bool, true, false, not, List, length, get_or, take, ◌∙◌, arith}
+use Rattle.std.proofs.lemmas.List.{get_or_past, get_or-take, length-take-le, get_or_default}
+use Rattle.std.specs.List.{position, position_or_len}
+use Rattle.std.proofs.lemmas.List.Sums.{prefix_len-le-length}
+use Rattle.std.proofs.lemmas.Bool.{cases_lt, lt-ltb, le-ltb}
+use Rattle.cpm_files.specs.Reserved.{is_reserved, least_free}
+
+pub past_is_reserved : (xs : List Bool) (count b : ℕ) → count ≤ length xs → count ≤ b → is_reserved (take count xs) b ≡ true
+unfolding is_reserved
+past_is_reserved xs count b h l = get_or_past (take count xs) b true (let e = length-take-le count xs h in omega arith)
+
+pub below_is_reserved : (xs : List Bool) (count b : ℕ) → count ≤ length xs → b < count → is_reserved (take count xs) b ≡ get_or xs b false
+unfolding is_reserved
+below_is_reserved xs count b h l = get_or-take count xs b true l ∙ get_or_default xs b true false (omega arith)
+
+pub lowest_some : (r : List Bool) (i : ℕ) → position not r ≡ Some i → (i ≡ least_free r) × (i < length r)
+unfolding least_free
+lowest_some r i h =
+    elim (cases_lt (position_or_len not r) (length r)) [
+      | inl lt ↦ (let e = rw (lt-ltb _ _ lt) at h in let f : i ≡ position_or_len not r = cc in (f, rw f lt))
+      | inr ge ↦ absurd (let e = rw (le-ltb _ _ ge) at h in cc)
+    ]
+
+pub lowest_none : (r : List Bool) → position not r ≡ None → least_free r ≡ length r
+unfolding least_free
+lowest_none r h =
+    elim (cases_lt (position_or_len not r) (length r)) [
+      | inl lt ↦ absurd (let e = rw (lt-ltb _ _ lt) at h in cc)
+      | inr ge ↦ (let l = prefix_len-le-length (λ b. not (not b)) r in omega arith)
+    ]

@@ -1,0 +1,7 @@
+use Rattle.std.proofs.Common.{◌≡◌, ◌<◌, ℕ, length, get_or, true}
+use Rattle.cpm_directory.specs.Login.{is_directory_block}
+use Rattle.cpm_directory.proofs.reserved.directory_blocks.Given as goal
+
+abbrev pub invariant-loop-block : goal.invariant-loop-block
+invariant-loop-block l =
+    (length l.blocks ≡ 512) × ((b : ℕ) → b < l.block → get_or l.blocks b true ≡ is_directory_block l.dpb b)

@@ -1,0 +1,73 @@
+-- File names of command lines.
+use Rattle.std.specs.Prelude.{ℕ, ◌-◌, Bool, not, ◌||◌, ◌&&◌, ◌==◌, nat_lt, nat_le, if◌then◌else◌, List, [], ◌++◌, length, map, take, drop, replicate, slice_index}
+use Rattle.std.specs.List.{position_or_len, range_with_len}
+use Rattle.cpm_files.specs.declared.fcb.Fcb.{Fcb}
+
+-- CP/M 2.2 Operating System Manual, File References: the characters that end a name or a type: a space and = _ . : ; < >; own: a byte below 20h
+abbrev pub is_delimiter : ℕ → Bool
+is_delimiter c =
+    nat_lt c 32 || (c == 32) || (c == 61) || (c == 95) || (c == 46) || (c == 58) || (c == 59) || (c == 60) || (c == 62)
+
+-- the text behind the spaces in front
+unfoldable pub after_spaces : List ℕ → List ℕ
+after_spaces text = drop (position_or_len (λ c. not (c == 32)) text) text
+
+-- CP/M 2.2 Operating System Manual, File References: a letter and a colon name a drive; own: A to P
+unfoldable pub is_drive : List ℕ → Bool
+is_drive text =
+    (slice_index text 1 == 58) && (nat_le 65 (slice_index text 0) && nat_le (slice_index text 0) 80)
+
+-- 1 for A and so on, 0 where no drive is named
+unfoldable pub drive_of : List ℕ → ℕ
+drive_of text = if is_drive text then slice_index text 0 - 64 else 0
+
+unfoldable pub after_drive : List ℕ → List ℕ
+after_drive text = if is_drive text then drop 2 text else text
+
+-- the characters up to a delimiter, and the text from it on
+unfoldable pub word_of : List ℕ → List ℕ
+word_of text = take (position_or_len is_delimiter text) text
+
+unfoldable pub after_word : List ℕ → List ℕ
+after_word text = drop (position_or_len is_delimiter text) text
+
+-- the type behind a period, and the text behind it
+unfoldable pub type_of : List ℕ → List ℕ
+type_of text = if slice_index text 0 == 46 then word_of (drop 1 text) else []
+
+unfoldable pub after_type : List ℕ → List ℕ
+after_type text = if slice_index text 0 == 46 then after_word (drop 1 text) else text
+
+-- CP/M 2.2 Operating System Manual, File References: * stands for question marks up to the field's end; else spaces follow the characters
+unfoldable pub character_of : List ℕ → ℕ → ℕ
+character_of word place =
+    let star = position_or_len (λ c. c == 42) word in
+    if nat_lt place star then slice_index word place else (if nat_lt star (length word) then 63 else 32)
+
+abbrev pub field : ℕ → List ℕ → List ℕ
+field size word = map (character_of word) (range_with_len 0 size)
+
+-- the name and what is behind it, once spaces and a drive are skipped
+abbrev pub at_name : List ℕ → List ℕ
+at_name text = after_drive (after_spaces text)
+
+-- the file control block of the name at the front of a text
+unfoldable pub fcb_named : List ℕ → Fcb
+fcb_named text =
+    record {
+      drive = drive_of (after_spaces text);
+      extent = record {
+        name = field 8 (word_of (at_name text)) ++ field 3 (type_of (after_word (at_name text)));
+        ex = 0;
+        s1 = 0;
+        s2 = 0;
+        record_count = 0;
+        blocks = replicate 16 0;
+      };
+      current_record = 0;
+      random_record = replicate 3 0;
+    }
+
+-- the text behind that name
+unfoldable pub rest_of : List ℕ → List ℕ
+rest_of text = after_type (after_word (at_name text))

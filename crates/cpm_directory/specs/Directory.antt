@@ -1,0 +1,30 @@
+-- The directory of a drive, in its first records.
+use Rattle.std.specs.Prelude.{◌≡◌, ℕ, ◌+◌, ◌*◌, ◌/◌, ◌%◌, List, [], ◌++◌, map, take, drop, slice_range, slice_index_or, slice_set}
+use Rattle.std.specs.List.{range_with_len}
+use Rattle.cpm_geom.specs.declared.dpb.Dpb.{Dpb}
+use Rattle.cpm_geom.specs.Geometry.{dpb_of, record_index}
+use Rattle.cpm_geom.specs.Disk.{Disk, records_of, sector_at, with_sector}
+use Rattle.cpm_files.specs.declared.extent.Entry.{Entry}
+use Rattle.cpm_files.specs.Encoding.{entry_of, entry_bytes, IsStorable}
+
+-- the bytes of an entry in its record
+unfoldable pub slot_bytes : List ℕ → ℕ → List ℕ
+slot_bytes bytes slot = slice_range bytes (32 * slot) (32 * slot + 32)
+
+-- CP/M 2.2 Operating System Manual, Disk Parameter Tables: DRM + 1 entries of 32 bytes, four in a record from the first on
+unfoldable pub directory_of : Dpb → List (List ℕ) → List Entry
+directory_of d records =
+    map (λ i. entry_of d (slot_bytes (slice_index_or records (i / 4) []) (i % 4))) (range_with_len 0 (d.last_entry + 1))
+
+-- the entries of a drive
+unfoldable pub entries_of : Disk → List Entry
+entries_of disk = directory_of (dpb_of disk.format) (records_of disk)
+
+-- a record with the bytes of an entry in it
+unfoldable pub with_slot : List ℕ → ℕ → List ℕ → List ℕ
+with_slot bytes slot entry = take (32 * slot) bytes ++ (entry ++ drop 32 (drop (32 * slot) bytes))
+
+-- one entry is written: its 32 bytes in their record change, and in the directory the entry alone
+pub record PutsEntry (old : Disk) (index : ℕ) (e : Entry) (new : Disk) : Type 0 where
+  pub bytes : new ≡ with_sector old (record_index old.format (index / 4)) (with_slot (sector_at old (record_index old.format (index / 4))) (index % 4) (entry_bytes (dpb_of old.format) e))
+  pub entry : IsStorable (dpb_of old.format) e.extent → entries_of new ≡ slice_set (entries_of old) index e

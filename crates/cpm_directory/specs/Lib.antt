@@ -1,0 +1,5 @@
+pub mod Block
+pub mod Matching
+pub mod Directory
+pub mod Login
+pub mod CommandLine

@@ -1,0 +1,18 @@
+//! Directories of drives: entries found, read and written in an image, blocks reserved, and names of command lines.
+#![tactic(auto)]
+
+pub mod block;
+pub mod command_line;
+pub mod directory;
+pub mod pattern;
+pub mod reserved;
+
+pub use block::block_at;
+pub use command_line::parse_fcb;
+pub use cpm_files::{Entry, Extent, Fcb};
+pub use directory::{DirectoryError, entry, find, first_free, put_entry};
+pub use pattern::Pattern;
+pub use reserved::{Reserved, login};
+
+#[cfg(test)]
+mod tests;

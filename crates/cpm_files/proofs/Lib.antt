@@ -1,0 +1,16 @@
+pub mod Entries
+pub mod NameLemmas
+pub mod Maps
+pub mod Closing
+pub mod Opening
+pub mod Making
+pub mod Taking
+pub mod Places
+pub mod Writing
+pub mod Records
+pub mod Moving
+pub mod Sequential
+pub mod Reading
+pub mod Rows
+pub mod Clearing
+pub mod EncodingLemmas

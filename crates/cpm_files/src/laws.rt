@@ -1,0 +1,39 @@
+//! Laws on the definitions that the calls of this crate cite.
+
+ghost use Rattle.cpm_files.specs.Laws.{CloseLaw, WriteLaw, SequentialWriteLaw, SequentialReadLaw, RandomWriteLaw, ClearingWriteLaw};
+ghost use Rattle.cpm_files.specs.Encoding.{EncodingLaw};
+
+/// Entries and file control blocks are their bytes.
+pub fn entries_are_their_bytes()
+    ensures { EncodingLaw }
+{}
+
+/// A close keeps the file.
+pub fn close_keeps_the_file()
+    ensures { CloseLaw }
+{}
+
+/// A write changes one record of one file.
+pub fn write_changes_one_record()
+    ensures { WriteLaw }
+{}
+
+/// A write of the next record changes one record of one file.
+pub fn sequential_write_changes_one_record()
+    ensures { SequentialWriteLaw }
+{}
+
+/// A read of the next record answers the file's.
+pub fn sequential_read_answers_the_file()
+    ensures { SequentialReadLaw }
+{}
+
+/// A write of any record changes one record of one file.
+pub fn random_write_changes_one_record()
+    ensures { RandomWriteLaw }
+{}
+
+/// A write that takes a block fills the rest of it with zeros.
+pub fn clearing_write_clears_a_new_block()
+    ensures { ClearingWriteLaw }
+{}

@@ -1,0 +1,11 @@
+//! Files on a drive: what a directory and a file control block say of them, the parts of which the file functions
+//! consist, and their laws.
+#![tactic(auto)]
+
+mod encoding;
+pub mod extent;
+pub mod fcb;
+pub mod laws;
+
+pub use extent::{Entry, Extent};
+pub use fcb::Fcb;

@@ -1,0 +1,3 @@
+pub mod SectorLemmas
+pub mod GeometryLemmas
+pub mod RecordLemmas

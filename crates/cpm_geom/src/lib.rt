@@ -1,0 +1,15 @@
+//! Disk images, seen as sectors and as the records that CP/M reads and writes.
+#![tactic(auto)]
+
+pub mod dpb;
+pub mod format;
+pub mod image;
+pub mod laws;
+
+pub use dpb::Dpb;
+pub use format::Format;
+pub use image::{GeomError, Image};
+pub use laws::records_lie_apart;
+
+#[cfg(test)]
+mod tests;

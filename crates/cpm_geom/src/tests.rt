@@ -1,0 +1,82 @@
+//! Worked images.
+
+use crate::{Dpb, Format, GeomError, Image, records_lie_apart};
+use std::alloc::Global;
+use std::process::Abort;
+use std::test::Fail;
+
+fn blank(rt: &impl Abort, alloc: Global) -> Image {
+    let bytes = vec![in alloc; 0xE5u8; 256_256].expect(rt, "memory");
+    match Image::from_bytes(bytes) {
+        Ok(image) => image,
+        Err(_) => panic!(rt; "a blank image is refused"),
+    }
+}
+
+#[test]
+fn other_lengths_come_back(rt: HostRuntime) -> Result<(), Fail> {
+    for length in [0, 256_255, 256_257] {
+        let bytes = vec![in rt.alloc(); 0xE5u8; length]?;
+        match Image::from_bytes(bytes) {
+            Ok(_) => panic!(&rt; "{length} bytes are accepted"),
+            Err((bytes, error)) => {
+                assert_eq!(rt; bytes.len(), length);
+                assert_eq!(rt; error, GeomError::WrongLength);
+            }
+        }
+    }
+    Ok(())
+}
+
+#[test]
+fn last_record_is_there(rt: HostRuntime) {
+    let image = blank(&rt, rt.alloc());
+    assert_eq!(rt; image.format(), Format::Ibm3740);
+    assert_eq!(rt; image.format().dpb().last_block, 242);
+    assert!(rt; image.record(1949).is_ok());
+    assert_eq!(rt; image.record(1950).err(), Some(GeomError::NoSuchSector));
+    assert!(rt; image.sector(76, 26).is_ok());
+    for (track, sector) in [(77, 1), (0, 0), (0, 27)] {
+        assert_eq!(rt;
+            image.sector(track, sector).err(),
+            Some(GeomError::NoSuchSector)
+        );
+    }
+}
+
+#[test]
+fn records_follow_the_skew(rt: HostRuntime) {
+    let mut image = blank(&rt, rt.alloc());
+    records_lie_apart();
+    assert_eq!(rt; image.put_record(1, &[0x41; 128]), Ok(()));
+    assert_eq!(rt; image.put_record(26, &[0x42; 128]), Ok(()));
+    assert_eq!(rt; image.put_sector(0, 26, &[0x43; 128]), Ok(()));
+    assert_eq!(rt;
+        image.put_record(1950, &[0x44; 128]),
+        Err(GeomError::NoSuchSector)
+    );
+    assert_eq!(rt;
+        image.put_sector(77, 1, &[0x44; 128]),
+        Err(GeomError::NoSuchSector)
+    );
+    assert_eq!(rt;
+        image
+            .sector(2, 7)
+            .map(|bytes| bytes.iter().all(|b| *b == 0x41)),
+        Ok(true)
+    );
+    assert_eq!(rt;
+        image
+            .sector(3, 1)
+            .map(|bytes| bytes.iter().all(|b| *b == 0x42)),
+        Ok(true)
+    );
+    let bytes = image.into_bytes();
+    assert_eq!(rt; bytes.len(), 256_256);
+    assert_eq!(rt; bytes.iter().filter(|b| **b != 0xE5).count(), 384);
+    assert_eq!(rt; bytes.iter().position(|b| *b != 0xE5), Some(25 * 128));
+    assert_eq!(rt;
+        bytes.iter().rposition(|b| *b == 0x41),
+        Some((2 * 26 + 7) * 128 - 1)
+    );
+}
