@@ -2,8 +2,8 @@
 //! and the texts and statuses of refusals.
 ghost use Rattle.std.specs.Prelude.{Some};
 
-use cpm_flags::Cpu;
 use crate::{Ending, Fault, HostError, MOST_FILE, UsageError, read_whole, run_com, shown};
+use cpm_flags::Cpu;
 use std::alloc::Global;
 use std::io;
 use std::io::{ErrorKind, Read, Write};

@@ -90,7 +90,11 @@ fn shows_and_ends(rt: HostRuntime) -> Result<(), Fail> {
 
 #[test]
 fn ends_where_it_should(rt: HostRuntime) -> Result<(), Fail> {
-    let exited = run(rt.alloc(), Cpu::I8080, &[0x0E, 0x02, 0x1E, 0x41, 0xCD, 0x05, 0x00, 0xC9])?;
+    let exited = run(
+        rt.alloc(),
+        Cpu::I8080,
+        &[0x0E, 0x02, 0x1E, 0x41, 0xCD, 0x05, 0x00, 0xC9],
+    )?;
     assert_eq!(rt; exited.machine.look().regs.pc, 0xE406);
     let illegal = run(rt.alloc(), Cpu::I8080, &[0x08])?;
     assert_eq!(rt; illegal.machine.look().regs.pc, 0x0100);

@@ -52,7 +52,11 @@ impl Model for Machine {
 impl Machine {
     /// A machine with a program at 0100h, which begins there. All pages may be written. What is refused comes back with the reason:
     /// a program of more than 58,112 bytes, else want of memory.
-    pub fn with_program(alloc: Global, cpu: Cpu, program: Vec<u8>) -> Result<Machine, (Vec<u8>, OpenError)>
+    pub fn with_program(
+        alloc: Global,
+        cpu: Cpu,
+        program: Vec<u8>,
+    ) -> Result<Machine, (Vec<u8>, OpenError)>
         ensures made { IfOk result (λ m. m ≡ opened_with cpu program.items) }
         ensures fits { IfOk result (λ m. program_fault program.items ≡ None) }
         ensures refused { IfErr result (λ r. IsRefusal (program_fault program.items) r.1) }
