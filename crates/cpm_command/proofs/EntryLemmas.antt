@@ -1,9 +1,12 @@
 -- What the getters of clap read, in the words of `specs/`.
-use Rattle.std.proofs.Common.{◌≡◌, ◌∙◌, ℕ, Option, Some, None, Result, Ok, ap, refl, subst, sym, option_map, IsSome}
+use Rattle.std.proofs.Common.{◌≡◌, ◌∙◌, ℕ, Bool, true, false, Option, Some, None, Result, Ok, ap, codes, refl, subst, sym, option_map, IsSome}
 use Rattle.std.specs.Str.Parse.{ParsesUnsigned, ExplainsUnsignedError, HasUnsignedDigitsIfOk}
 use Rattle.std.specs.declared.num.ParseIntError.{ParseIntError}
 use Rattle.clap.specs.Words.{ReadsOne, Text}
-use Rattle.cpm_command.specs.CommandLine.{IsCount, ReadsCount}
+use Rattle.clap.specs.Values.{bool_text}
+use Rattle.cpm_flags.specs.declared.regs.Cpu.{Cpu}
+use Rattle.cpm_flags.specs.declared.regs.Cpu.TheVariants.{I8080, Z80}
+use Rattle.cpm_command.specs.CommandLine.{IsCount, IsPick, ReadsCount, flag_text}
 
 -- an option is there where its image is
 pub some_before : {A B : Type 0} (f : A → B) (o : Option A) (p : Option B) → option_map f o ≡ p → IsSome p → IsSome o
@@ -37,3 +40,12 @@ count_given text (Some n) value count = refl
 count_given text None value count =
     let read = value count.digits count.given in
     absurd (read.1.0 (count.numeral, count.fits))
+
+-- what a flag's getter says is what stands there
+pub pick_read : (text : Option Text) (b : Bool) → (text ≡ Some (codes "true") → b ≡ true) → (text ≡ Some (codes "false") → b ≡ false) → IsPick text
+    → text ≡ Some (bool_text b)
+pick_read text b on off pick = go pick.cpu pick.given
+  where
+    go : (cpu : Cpu) → text ≡ Some (flag_text cpu) → text ≡ Some (bool_text b)
+    go I8080 is = is ∙ ap (λ (t : Bool). Some (bool_text t)) (sym (off is))
+    go Z80 is = is ∙ ap (λ (t : Bool). Some (bool_text t)) (sym (on is))

@@ -1,25 +1,26 @@
 -- Rows of a parse whose values all passed the parser of an argument of the command.
-use Rattle.std.proofs.Common.{◌≡◌, ◌∙◌, ◌&&◌, ◌||◌, ◌++◌, ◌⊎◌, inl, inr, ⊎_elim, ap, sym, subst, refl, ℕ, Bool, true, false, cond, true≢false, List, [], ◌∷◌, Some, length, nat_lt, arith}
-use Rattle.std.specs.Prelude.{⊤, find, fold}
-use Rattle.std.specs.List.{list_all}
+use Rattle.std.proofs.Common.{◌≡◌, ◌∙◌, ◌&&◌, ◌||◌, ◌++◌, ◌⊎◌, inl, inr, ⊎_elim, ap, sym, subst, refl, ℕ, Bool, true, false, cond, not, true≢false, List, [], ◌∷◌, Some, length, nat_lt, arith}
+use Rattle.std.specs.Prelude.{⊤, find, fold, option_and_then, option_map, slice_get}
+use Rattle.std.specs.List.{list_all, list_any}
 use Rattle.std.specs.Option.{option_map_or}
 use Rattle.std.specs.Str.{bytes_eq}
 use Rattle.std.proofs.lemmas.Bool.{eqb-true}
 use Rattle.std.proofs.lemmas.List.Folds.{list_all-append}
 use Rattle.std.proofs.lemmas.Slice.Eq.{bytes_eq-Decides}
 use Rattle.clap.specs.Facts.{explicit_source, unwrap_or_range}
-use Rattle.clap.specs.Walk.{Row, Rule, Text, action_of, default_rows, has_row, is_empty, more_values, most_values, reading_by, stronger, used, used_as, values_or_missing, with_default, with_values, without}
-use Rattle.clap.specs.Takes.{is_given, values_pass}
+use Rattle.clap.specs.Walk.{Row, Rule, Text, action_of, default_rows, first_of, has_row, is_empty, more_values, most_values, one_of, reading_by, row_text, stronger, used, used_as, values_or_missing, with_default, with_values, without}
+use Rattle.clap.specs.Takes.{is_given, value_passes, values_pass}
 use Rattle.clap.specs.ValueTests.{accepts}
 use Rattle.clap.specs.Kinds.{Kinds, or_else, range_kinds, request_kinds, value_kinds, values_kinds}
 use Rattle.clap.specs.Faults.{action_fault, default_fault, defaults_fault, repeat_fault, use_fault, values_fault}
 use Rattle.clap.specs.declared.builder.action.ArgAction.{ArgAction}
 use Rattle.clap.specs.declared.builder.action.ArgAction.TheVariants.{Set, SetTrue}
 use Rattle.clap.specs.declared.builder.value_parser.ValueParser.{ValueParser}
-use Rattle.clap.specs.Values.{refused_kind}
+use Rattle.clap.specs.Values.{read_as, refused_kind}
 use Rattle.clap.specs.declared.builder.value_parser.Reading.{Reading}
 use Rattle.clap.specs.declared.parser.matches.ValueSource.{ValueSource}
 use Rattle.clap.specs.declared.parser.matches.ValueSource.TheVariants.{CommandLine, DefaultValue}
+use Rattle.clap.proofs.WalkLemmas.{both}
 
 -- ---- small facts
 
@@ -45,7 +46,7 @@ HasFirst-append : (xs ys : List Text) → HasFirst xs → HasFirst (xs ++ ys)
 HasFirst-append [] ys h = absurd h
 HasFirst-append (x ∷ xs) ys h = tt
 
-same_bytes : (xs ys : List ℕ) → bytes_eq xs ys ≡ true → xs ≡ ys
+pub same_bytes : (xs ys : List ℕ) → bytes_eq xs ys ≡ true → xs ≡ ys
 same_bytes xs ys e = (bytes_eq-Decides xs ys).0 e
 
 itself : (xs : List ℕ) → bytes_eq xs xs ≡ true
@@ -79,6 +80,41 @@ pub record IsSetting (a : Rule) : Type 0 where
 pub record IsPlain (c : List Rule) : Type 0 where
   pub unique : (a b : Rule) → IsIn c a → IsIn c b → a.id ≡ b.id → a ≡ b
   pub sets : (a : Rule) → IsIn c a → IsSetting a
+
+abbrev pub has_own_ids : List Rule → Bool
+has_own_ids [] = true
+has_own_ids (a ∷ rest) = not (list_any (λ b. bytes_eq b.id a.id) rest) && has_own_ids rest
+
+abbrev pub AllSetting : List Rule → Type 0
+AllSetting [] = ⊤
+AllSetting (a ∷ rest) = IsSetting a × AllSetting rest
+
+own_id : (a : Rule) (rest : List Rule) → not (list_any (λ b. bytes_eq b.id a.id) rest) ≡ true → (b : Rule) → IsIn rest b → b.id ≡ a.id → ⊥
+own_id a [] e b among same = among
+own_id a (x ∷ rest) e b among same = ⊎_elim (λ (h : b ≡ x). here (bytes_eq x.id a.id) ((bytes_eq-Decides x.id a.id).1 (ap (λ (r : Rule). r.id) (sym h) ∙ same)) e)
+    (λ h. own_id a rest (later (bytes_eq x.id a.id) e) b h same) among
+  where
+    here : (t : Bool) → t ≡ true → not (t || list_any (λ b. bytes_eq b.id a.id) rest) ≡ true → ⊥
+    here true is h = true≢false (sym h)
+    here false is h = true≢false (sym is)
+
+    later : (t : Bool) → not (t || list_any (λ b. bytes_eq b.id a.id) rest) ≡ true → not (list_any (λ b. bytes_eq b.id a.id) rest) ≡ true
+    later true h = absurd (true≢false (sym h))
+    later false h = h
+
+unique_by_ids : (c : List Rule) → has_own_ids c ≡ true → (a b : Rule) → IsIn c a → IsIn c b → a.id ≡ b.id → a ≡ b
+unique_by_ids [] e a b x y same = absurd x
+unique_by_ids (r ∷ rest) e a b x y same =
+    let parts = both _ _ e in
+    ⊎_elim (λ (f : a ≡ r). ⊎_elim (λ (g : b ≡ r). f ∙ sym g) (λ g. absurd (own_id r rest parts.0 b g (sym same ∙ ap (λ (z : Rule). z.id) f))) y)
+    (λ f. ⊎_elim (λ (g : b ≡ r). absurd (own_id r rest parts.0 a f (same ∙ ap (λ (z : Rule). z.id) g))) (λ g. unique_by_ids rest parts.1 a b f g same) y) x
+
+each_sets : (c : List Rule) → AllSetting c → (a : Rule) → IsIn c a → IsSetting a
+each_sets [] all a x = absurd x
+each_sets (r ∷ rest) all a x = ⊎_elim (λ f. subst IsSetting (sym f) all.0) (λ f. each_sets rest all.1 a f) x
+
+pub plain_by_ids : (c : List Rule) → has_own_ids c ≡ true → AllSetting c → IsPlain c
+plain_by_ids c own all = record { unique = unique_by_ids c own; sets = each_sets c all }
 
 module _ (c : List Rule) (plain : IsPlain c) (a : Rule) (among : IsIn c a) where
   pub with_values_filled : (s : ValueSource) (values : List Text) (rows : List Row) → values_pass a values ≡ true → HasFirst values → AllFilled c rows
@@ -257,6 +293,31 @@ row_filled c id (r ∷ rs) all e = go (row_filled c id rs all.1) (bytes_eq r.id 
         → (b || has_row id rs) ≡ true → (x : Row) × (cond b (Some r) (find (λ y. bytes_eq y.id id) rs) ≡ Some x) × IsFilled c x × (x.id ≡ id)
     go rest true is h = (r, refl, all.0, same_bytes _ _ is)
     go rest false is h = rest h
+
+-- the first value of an argument
+pub record HasText (a : Rule) (rows : List Row) : Type 0 where
+  pub text : Text
+  pub first : first_of a.id rows ≡ Some text
+  pub one : one_of a.id rows ≡ Some (read_as (reading_by a) text)
+  pub passes : value_passes a text ≡ true
+
+-- the row of an argument has a value, which passed the argument's parser
+pub text_filled : (c : List Rule) → IsPlain c → (a : Rule) → IsIn c a → (rows : List Row) → AllFilled c rows → has_row a.id rows ≡ true → HasText a rows
+text_filled c plain a among rows all has =
+    let found = row_filled c a.id rows all has in
+    let filled = found.2 in
+    let rule : filled.rule ≡ a = plain.unique filled.rule a filled.among among (sym filled.id ∙ found.3) in
+    go found.0 found.1 (filled.reading ∙ ap reading_by rule) found.0.values refl (subst (λ (x : Rule). values_pass x found.0.values ≡ true) rule filled.passes) filled.first
+  where
+    go : (r : Row) → find (λ x. bytes_eq x.id a.id) rows ≡ Some r → r.reading ≡ reading_by a → (vs : List Text) → r.values ≡ vs → values_pass a vs ≡ true → HasFirst vs
+        → HasText a rows
+    go r is how [] e pass first = absurd first
+    go r is how (v ∷ vs) e pass first = record {
+      text = v;
+      first = ap (option_and_then (λ (x : Row). slice_get x.values 0)) is ∙ ap (λ (ws : List Text). slice_get ws 0) e;
+      one = ap (option_and_then row_text) is ∙ ap (λ (ws : List Text). option_map (read_as r.reading) (slice_get ws 0)) e ∙ ap (λ (x : Reading). Some (read_as x v)) how;
+      passes = (both _ _ pass).0;
+    }
 
 -- an argument that was given has a row
 pub given_has : (id : Text) (rows : List Row) → is_given id rows ≡ true → has_row id rows ≡ true

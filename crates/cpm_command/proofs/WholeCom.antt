@@ -1,30 +1,24 @@
 -- Words with no fault give the whole entries of a subcommand.
-use Rattle.std.proofs.Common.{◌≡◌, ◌∙◌, ◌&&◌, ◌||◌, ap, sym, subst, refl, ⊎_elim, inl, inr, Bool, true, false, cond, not, true≢false, List, [], ◌∷◌, Option, Some, None, IsSome, option_map, is_some, codes}
-use Rattle.std.specs.Prelude.{slice_get}
+use Rattle.std.proofs.Common.{◌≡◌, ◌∙◌, ◌&&◌, ◌||◌, ap, sym, subst, refl, inl, inr, Bool, true, false, cond, not, true≢false, List, [], ◌∷◌, Option, Some, None, IsSome, option_map, is_some, codes}
 use Rattle.std.specs.Option.{option_map_or}
-use Rattle.clap.specs.Values.{read_as}
-use Rattle.clap.specs.Walk.{Row, Rule, Text, finished, first_of, has_row, nothing_held, one_of, reading_by, row_text, rows_after, settled, walk}
-use Rattle.clap.specs.Simple.{App, Shape, argument_words, built, built_leaf, entered, filled_from, inherited, label_of, marked_built, names_of, rows_at, subcommand_of, with_leaf_noted}
-use Rattle.clap.specs.Takes.{is_given, values_pass}
+use Rattle.std.specs.Str.{bytes_eq}
+use Rattle.clap.specs.Walk.{Row, Rule, Text, finished, nothing_held, one_of, rows_after, settled, walk}
+use Rattle.clap.specs.Simple.{App, Shape, argument_words, built, built_leaf, entered, filled, inherited, label_of, marked_built, names_of, rows_at, subcommand_of, with_index, with_leaf_noted}
+use Rattle.clap.specs.Takes.{is_given}
 use Rattle.clap.specs.Walk.{answers_to}
 use Rattle.clap.specs.Kinds.{check_kinds}
 use Rattle.clap.specs.Faults.{check_fault, entered_fault, fault_of, level_fault}
-use Rattle.clap.specs.declared.builder.value_parser.Reading.{Reading}
-use Rattle.clap.specs.declared.builder.value_parser.Reading.TheVariants.{AsWritten}
 use Rattle.clap.specs.declared.builder.value_parser.ValueParser.TheVariants as parser
 use Rattle.clap.proofs.ValueTestLemmas.{accepts-Accepts}
-use Rattle.clap.proofs.WalkLemmas.{both}
-use Rattle.cpm_command.specs.CommandLine.{IsCount, IsWhole, IsWholeCom, com_app, host_app, operand, steps_option}
-use Rattle.cpm_command.proofs.FilledRows.{AllFilled, HasFirst, IsFilled, IsPlain, IsSetting, defaults_have, given_has, row_filled}
+use Rattle.cpm_command.specs.CommandLine.{IsCount, IsPick, IsWhole, IsWholeCom, com_app, host_app, operand, steps_option, z80_flag}
+use Rattle.cpm_flags.specs.declared.regs.Cpu.TheVariants.{I8080, Z80}
+use Rattle.cpm_command.proofs.FilledRows.{AllFilled, HasText, IsPlain, defaults_have, given_has, plain_by_ids, same_bytes, text_filled}
 use Rattle.cpm_command.proofs.WalkRows.{HasNoShorts, level_checked, level_filled}
 
 -- ---- the subcommand `com` as clap builds it
 
 abbrev host_built : App
 host_built = built host_app
-
-abbrev com_rules : List Rule
-com_rules = filled_from 1 (operand (codes "file") ∷ steps_option ∷ [])
 
 abbrev com_built : Shape
 com_built = built_leaf (inherited (with_leaf_noted (marked_built host_app.top)) com_app.top)
@@ -33,66 +27,55 @@ only_com : host_built.subs ≡ com_built ∷ []
 only_com = refl
 
 com_plain : IsPlain com_built.rules
-com_plain = record {
-  unique = λ a b x y same. ⊎_elim
-      (λ f. ⊎_elim (λ g. f ∙ sym g) (λ rest. ⊎_elim (λ g. let bad : codes "file" ≡ codes "steps" = sym (ap (λ (r : Rule). r.id) f) ∙ same ∙ ap (λ (r : Rule). r.id) g in absurd (apart bad)) (λ none. absurd none) rest) y)
-      (λ more. ⊎_elim
-      (λ f. ⊎_elim (λ g. let bad : codes "file" ≡ codes "steps" = sym (ap (λ (r : Rule). r.id) g) ∙ sym same ∙ ap (λ (r : Rule). r.id) f in absurd (apart bad)) (λ rest. ⊎_elim (λ g. f ∙ sym g) (λ none. absurd none) rest) y)
-      (λ none. absurd none) more) x;
-  sets = λ a x. ⊎_elim (λ f. subst IsSetting (sym f) (record { action = inl refl; values = inl refl }))
-      (λ rest. ⊎_elim (λ f. subst IsSetting (sym f) (record { action = inl refl; values = inl refl })) (λ none. absurd none) rest) x;
-}
-  where
-    apart : codes "file" ≡ codes "steps" → ⊥
-    apart e = cc
+com_plain = plain_by_ids com_built.rules refl
+    (record { action = inl refl; values = inl refl }, (record { action = inr refl; values = inr tt }, (record { action = inl refl; values = inl refl }, tt)))
 
 com_no_shorts : HasNoShorts com_built.rules
 com_no_shorts x = refl
 
 -- ---- the entries of `com`
 
-first_value : (r : Row) → HasFirst r.values → IsSome (slice_get r.values 0)
-first_value r first = go r.values first
+abbrev file_rule : Rule
+file_rule = with_index 1 (filled (operand (codes "file")))
+
+abbrev z80_rule : Rule
+z80_rule = filled z80_flag
+
+abbrev steps_rule : Rule
+steps_rule = filled steps_option
+
+pick_of : (rows : List Row) → HasText z80_rule rows → IsPick (one_of (codes "z80") rows)
+pick_of rows has = go (bytes_eq has.text (codes "true")) refl has.passes
   where
-    go : (vs : List Text) → HasFirst vs → IsSome (slice_get vs 0)
-    go [] h = absurd h
-    go (v ∷ vs) h = refl
+    go : (b : Bool) → bytes_eq has.text (codes "true") ≡ b → (b || bytes_eq has.text (codes "false")) ≡ true → IsPick (one_of (codes "z80") rows)
+    go true e pass = record { cpu = Z80; given = has.one ∙ ap (λ (v : Text). Some v) (same_bytes _ _ e) }
+    go false e pass = record { cpu = I8080; given = has.one ∙ ap (λ (v : Text). Some v) (same_bytes _ _ pass) }
 
-file_there : (rows : List Row) → AllFilled com_built.rules rows → is_given (codes "file") rows ≡ true → IsSome (first_of (codes "file") rows)
-file_there rows all given =
-    let found = row_filled com_built.rules (codes "file") rows all (given_has (codes "file") rows given) in
-    rw found.1 (first_value found.0 found.2.first)
-
-steps_count : (r : Row) → IsFilled com_built.rules r → r.id ≡ codes "steps" → IsCount (row_text r)
-steps_count r filled id = ⊎_elim (λ f. absurd (apart (sym (ap (λ (x : Rule). x.id) f) ∙ sym filled.id ∙ id)))
-    (λ rest. ⊎_elim (λ f. go r.values (subst (λ (x : Rule). values_pass x r.values ≡ true) f filled.passes) filled.first (filled.reading ∙ ap reading_by f)) (λ none. absurd none) rest)
-    filled.among
-  where
-    apart : codes "file" ≡ codes "steps" → ⊥
-    apart e = cc
-
-    go : (vs : List Text) → values_pass steps_option vs ≡ true → HasFirst vs → r.reading ≡ AsWritten → IsCount (option_map (read_as r.reading) (slice_get vs 0))
-    go [] pass first how = absurd first
-    go (v ∷ vs) pass first how =
-        let taken = accepts-Accepts false (parser.Unsigned 0 18446744073709551615) v (both _ _ pass).0 in
-        record { digits = v; given = ap (λ (x : Reading). Some (read_as x v)) how; numeral = taken.0; fits = taken.1 }
-
-steps_there : (rows : List Row) → AllFilled com_built.rules rows → has_row (codes "steps") rows ≡ true → IsCount (one_of (codes "steps") rows)
-steps_there rows all has =
-    let found = row_filled com_built.rules (codes "steps") rows all has in
-    rw found.1 (steps_count found.0 found.2 found.3)
+count_of : (rows : List Row) → HasText steps_rule rows → IsCount (one_of (codes "steps") rows)
+count_of rows has =
+    let taken = accepts-Accepts false (parser.Unsigned 0 18446744073709551615) has.text has.passes in
+    record { digits = has.text; given = has.one; numeral = taken.0; fits = taken.1 }
 
 com_whole : (words : List Text) → level_fault com_built [] nothing_held words false [] ≡ [] → IsWholeCom (rows_after com_built.rules [] words)
 com_whole words e = record {
-  file = file_there (rows_after com_built.rules [] words) all (given (is_given (codes "file") (rows_after com_built.rules [] words)) checked);
-  steps = steps_there (rows_after com_built.rules [] words) all
-      (defaults_have com_built.rules _ (inr (inl refl)) tt (settled com_built.rules (walk com_built.rules [] nothing_held words).held).rows);
+  file = subst IsSome (sym (text_filled com_built.rules com_plain file_rule (inl refl) rows all
+      (given_has (codes "file") rows (given (is_given (codes "file") rows) checked))).first) refl;
+  z80 = pick_of rows (text_filled com_built.rules com_plain z80_rule (inr (inl refl)) rows all
+      (defaults_have com_built.rules z80_rule (inr (inl refl)) tt settled_rows));
+  steps = count_of rows (text_filled com_built.rules com_plain steps_rule (inr (inr (inl refl))) rows all
+      (defaults_have com_built.rules steps_rule (inr (inr (inl refl))) tt settled_rows));
 }
   where
-    all : AllFilled com_built.rules (rows_after com_built.rules [] words)
+    settled_rows : List Row
+    settled_rows = (settled com_built.rules (walk com_built.rules [] nothing_held words).held).rows
+
+    rows : List Row
+    rows = rows_after com_built.rules [] words
+
+    all : AllFilled com_built.rules rows
     all = level_filled com_built com_plain com_no_shorts [] nothing_held words false [] e tt
 
-    checked : check_fault com_built (rows_after com_built.rules [] words) false ≡ []
+    checked : check_fault com_built rows false ≡ []
     checked = (level_checked com_built [] nothing_held words false [] e).1
 
     given : (b : Bool) → check_kinds false false ((true && not b) || false) ≡ [] → b ≡ true

@@ -2,16 +2,23 @@
 use Rattle.std.specs.Prelude.{◌≡◌, ◌∷◌, [], ◌^◌, ◌<◌, IsSome, IsSomeAnd, ℕ, List, Option, Some, true, false, codes}
 use Rattle.std.specs.Str.Parse.{IsNumeral, digits_value, without_leading_plus}
 use Rattle.clap.specs.Words.{App, Row, Rule, Text, app_of, first_of, new_app, new_rule, one_of, rule_of, with_rule, with_subcommand}
+use Rattle.clap.specs.declared.builder.action.ArgAction.TheVariants.{SetTrue}
 use Rattle.clap.specs.declared.builder.arg.Arg.{Arg}
 use Rattle.clap.specs.declared.builder.command.Command.{Command}
 use Rattle.clap.specs.declared.builder.command.Command.TheViews.{out-Command}
 use Rattle.clap.specs.declared.builder.value_parser.ValueParser.TheVariants as parser
+use Rattle.cpm_flags.specs.declared.regs.Cpu.{Cpu}
+use Rattle.cpm_flags.specs.declared.regs.Cpu.TheVariants.{I8080, Z80}
 use Rattle.cpm_command.specs.declared.task.Task.{Task}
 use Rattle.cpm_command.specs.declared.task.Task.TheVariants.{Com}
 
 -- a word that has to be there, with a name in usage
 abbrev pub operand : List ℕ → Rule
 operand id = record (new_rule id) { required = true; value_names = 1 }
+
+-- `--z80`
+abbrev pub z80_flag : Rule
+z80_flag = record (new_rule (codes "z80")) { long = Some (codes "z80"); action = Some SetTrue }
 
 -- `--steps N`, of `u64`, 1,000,000 where it is left out
 abbrev pub steps_option : Rule
@@ -24,9 +31,10 @@ steps_option = record (new_rule (codes "steps")) {
 
 -- ---- the subcommands
 
--- `com FILE [--steps N]`
+-- `com FILE [--z80] [--steps N]`
 abbrev pub com_app : App
-com_app = with_rule (with_rule (new_app (codes "com")) (operand (codes "file"))) steps_option
+com_app = with_rule
+    (with_rule (with_rule (new_app (codes "com")) (operand (codes "file"))) z80_flag) steps_option
 
 -- the program's command without its subcommands: it wants one, and adds no help of its own
 abbrev pub top_app : App
@@ -60,13 +68,24 @@ pub record ReadsCount (text : Option Text) (n : ℕ) : Type 0 where
   pub numeral : IsNumeral 10 (without_leading_plus digits)
   pub value : n ≡ digits_value 10 (without_leading_plus digits)
 
+-- what the entry of `--z80` has for each processor: the flag was given, or was not
+abbrev pub flag_text : Cpu → Text
+flag_text I8080 = codes "false"
+flag_text Z80 = codes "true"
+
 -- the task has what the entries of the subcommand of this name give
 abbrev pub HasEntriesOf : Text × List Row → Task → Type 0
-HasEntriesOf given (Com file steps) =
+HasEntriesOf given (Com file cpu steps) =
     (given.0 ≡ codes "com") × (first_of (codes "file") given.1 ≡ Some file.now)
+    × (one_of (codes "z80") given.1 ≡ Some (flag_text cpu))
     × ReadsCount (one_of (codes "steps") given.1) steps
 
 -- ---- entries that make a task
+
+-- the entry of a flag stands there, which picks a processor
+pub record IsPick (text : Option Text) : Type 0 where
+  pub cpu : Cpu
+  pub given : text ≡ Some (flag_text cpu)
 
 -- a number of `u64` stands there
 pub record IsCount (text : Option Text) : Type 0 where
@@ -78,6 +97,7 @@ pub record IsCount (text : Option Text) : Type 0 where
 -- the entries of `com` are whole
 pub record IsWholeCom (rows : List Row) : Type 0 where
   pub file : IsSome (first_of (codes "file") rows)
+  pub z80 : IsPick (one_of (codes "z80") rows)
   pub steps : IsCount (one_of (codes "steps") rows)
 
 -- the subcommand is one of the program's, and its entries are whole

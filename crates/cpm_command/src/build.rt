@@ -1,9 +1,9 @@
 //! The command of `clap` that reads the words.
 ghost use Rattle.std.specs.Prelude.{◌≡◌, IfOk};
 ghost use Rattle.clap.specs.Words.{App, Rule, new_app, with_rule, with_subcommand};
-ghost use Rattle.cpm_command.specs.CommandLine.{IsArgumentOf, IsCommandOf, com_app, host_app, operand, steps_option, top_app};
+ghost use Rattle.cpm_command.specs.CommandLine.{IsArgumentOf, IsCommandOf, com_app, host_app, operand, steps_option, top_app, z80_flag};
 
-use clap::{Arg, Command};
+use clap::{Arg, ArgAction, Command};
 use std::alloc::{AllocError, Global};
 
 /// A word that has to be there.
@@ -11,6 +11,15 @@ fn required_word<'a>(alloc: Global, id: &'a str, shown: &'a str) -> Arg<'a>
     ensures { IsArgumentOf (operand id.now) result }
 {
     Arg::new(alloc, id).value_name(shown).required(true)
+}
+
+/// `--z80`
+fn z80_argument<'a>(alloc: Global) -> Arg<'a>
+    ensures { IsArgumentOf z80_flag result }
+{
+    Arg::new(alloc, "z80")
+        .long("z80")
+        .action(ArgAction::SetTrue)
 }
 
 /// `--steps N`
@@ -58,12 +67,13 @@ fn with_command<'a>(command: Command<'a>, inner: Command<'a>) -> Result<Command<
     command.subcommand(inner)
 }
 
-/// `com FILE [--steps N]`
+/// `com FILE [--z80] [--steps N]`
 fn com_command<'a>(alloc: Global) -> Result<Command<'a>, AllocError>
     ensures { IfOk result (IsCommandOf com_app) }
 {
     let with_file = with_argument(named(alloc, "com"), required_word(alloc, "file", "FILE"))?;
-    with_argument(with_file, steps_argument(alloc))
+    let with_flag = with_argument(with_file, z80_argument(alloc))?;
+    with_argument(with_flag, steps_argument(alloc))
 }
 
 /// The program's command, with its subcommands.

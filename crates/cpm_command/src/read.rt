@@ -1,13 +1,14 @@
 //! Reading the entries that a command line gave.
 ghost use Rattle.std.specs.Prelude.{◌≡◌, [], IfOk, IfErr, IsSomeAnd, IsSome, Some, codes, map, true};
 ghost use Rattle.clap.specs.Words.{fault_of, first_of, found_of, one_of, rows_of, subcommand_of, subcommand_rows_of, takes};
-ghost use Rattle.cpm_command.specs.CommandLine.{HasEntriesOf, IsCount, IsWhole, IsWholeCom, ReadsCount, host_app};
+ghost use Rattle.cpm_command.specs.CommandLine.{HasEntriesOf, IsCount, IsPick, IsWhole, IsWholeCom, ReadsCount, flag_text, host_app};
 ghost use Rattle.cpm_command.specs.Refusals.{IsRefusalOf};
 
 use crate::build::host_command;
 use crate::fault::{UsageError, refusal};
 use crate::task::Task;
 use clap::ArgMatches;
+use cpm_flags::Cpu;
 use std::alloc::Global;
 
 /// The text of an argument that is there.
@@ -16,6 +17,18 @@ fn text_of<'a>(matches: &ArgMatches<'a>, id: &str) -> &'a str
     ensures { first_of id.now (rows_of (found_of matches.now)) ≡ Some result.now }
 {
     matches.get_str(id).unwrap()
+}
+
+/// The processor that the flag picks.
+fn cpu_of(matches: &ArgMatches<'_>) -> Cpu
+    requires { IsPick (one_of (codes "z80") (rows_of (found_of matches.now))) }
+    ensures { one_of (codes "z80") (rows_of (found_of matches.now)) ≡ Some (flag_text result) }
+{
+    if matches.get_flag("z80") {
+        Cpu::Z80
+    } else {
+        Cpu::I8080
+    }
 }
 
 /// The number of steps.
@@ -33,6 +46,7 @@ fn com_task<'a>(matches: &ArgMatches<'a>) -> Task<'a>
 {
     Task::Com {
         file: text_of(matches, "file"),
+        cpu: cpu_of(matches),
         steps: steps_of(matches),
     }
 }

@@ -2,6 +2,7 @@
 //! help.
 
 use crate::{HELP_TEXT, Task, command, help};
+use cpm_flags::Cpu;
 use std::process::Abort;
 
 /// The text of the refusal that the words get.
@@ -29,8 +30,56 @@ fn takes_a_file_and_steps(rt: HostRuntime) {
     for (words, steps) in lines {
         let wanted = Ok(Task::Com {
             file: "a.com",
+            cpu: Cpu::I8080,
             steps,
         });
+        assert_eq!(rt; command(rt.alloc(), words), wanted, "at {words:?}");
+    }
+}
+
+#[test]
+fn takes_a_processor(rt: HostRuntime) {
+    let lines: [(&[&str], &str, Cpu, u64); 7] = [
+        (&["cpmhost", "com", "a.com"], "a.com", Cpu::I8080, 1_000_000),
+        (
+            &["cpmhost", "com", "a.com", "--z80"],
+            "a.com",
+            Cpu::Z80,
+            1_000_000,
+        ),
+        (
+            &["cpmhost", "com", "--z80", "a.com"],
+            "a.com",
+            Cpu::Z80,
+            1_000_000,
+        ),
+        (
+            &["cpmhost", "com", "--z80", "a.com", "--steps", "5"],
+            "a.com",
+            Cpu::Z80,
+            5,
+        ),
+        (
+            &["cpmhost", "com", "--steps=5", "--z80", "a.com"],
+            "a.com",
+            Cpu::Z80,
+            5,
+        ),
+        (
+            &["cpmhost", "com", "--z80", "--", "--z80"],
+            "--z80",
+            Cpu::Z80,
+            1_000_000,
+        ),
+        (
+            &["cpmhost", "com", "--", "--z80"],
+            "--z80",
+            Cpu::I8080,
+            1_000_000,
+        ),
+    ];
+    for (words, file, cpu, steps) in lines {
+        let wanted = Ok(Task::Com { file, cpu, steps });
         assert_eq!(rt; command(rt.alloc(), words), wanted, "at {words:?}");
     }
 }
@@ -39,7 +88,7 @@ fn takes_a_file_and_steps(rt: HostRuntime) {
 fn names_what_is_wrong(rt: HostRuntime) {
     let number =
         "for '--steps': a number from 0 to 18446744073709551615 is wanted; try 'cpmhost --help'";
-    let lines: [(&[&str], &str, &str); 17] = [
+    let lines: [(&[&str], &str, &str); 22] = [
         (
             &[],
             "no command was given; try 'cpmhost com FILE' or 'cpmhost --help'",
@@ -125,6 +174,31 @@ fn names_what_is_wrong(rt: HostRuntime) {
             "the argument '--steps <N>' was given twice; try 'cpmhost --help'",
             "",
         ),
+        (
+            &["cpmhost", "com", "a", "--z80", "--z80"],
+            "the argument '--z80' was given twice; try 'cpmhost --help'",
+            "",
+        ),
+        (
+            &["cpmhost", "com", "a", "--z80=1"],
+            "unexpected value '1' for '--z80' found; no more were expected; try 'cpmhost --help'",
+            "",
+        ),
+        (
+            &["cpmhost", "com", "--z80"],
+            "the argument <FILE> is missing; try 'cpmhost --help'",
+            "",
+        ),
+        (
+            &["cpmhost", "com", "a", "--z8"],
+            "unexpected argument '--z8'; try 'cpmhost --help'",
+            "",
+        ),
+        (
+            &["cpmhost", "--z80", "com", "a"],
+            "unexpected argument '--z80'; try 'cpmhost --help'",
+            "",
+        ),
     ];
     for (words, first, second) in lines {
         let shown = refusal(&rt, words);
@@ -147,7 +221,7 @@ fn cuts_a_long_word(rt: HostRuntime) {
 
 #[test]
 fn knows_who_asks_for_help(rt: HostRuntime) {
-    let lines: [(&[&str], bool); 15] = [
+    let lines: [(&[&str], bool); 17] = [
         (&["cpmhost", "help"], true),
         (&["cpmhost", "-h"], true),
         (&["cpmhost", "--help"], true),
@@ -155,11 +229,13 @@ fn knows_who_asks_for_help(rt: HostRuntime) {
         (&["cpmhost", "com", "help"], true),
         (&["cpmhost", "com", "-h"], true),
         (&["cpmhost", "com", "a.com", "--steps", "5", "--help"], true),
+        (&["cpmhost", "com", "a.com", "--z80", "--help"], true),
         (&[], false),
         (&["help"], false),
         (&["cpmhost"], false),
         (&["cpmhost", "com"], false),
         (&["cpmhost", "com", "a.com", "help"], false),
+        (&["cpmhost", "com", "--z80", "help"], false),
         (&["cpmhost", "com", "--", "--help"], false),
         (&["cpmhost", "frob", "--help"], false),
         (&["cpmhost", "--", "--help"], false),

@@ -6,14 +6,16 @@ ghost use Rattle.cpm_command.specs.HelpWords.{asks_below, asks_help, begins_with
 
 /// What `cpmhost --help` prints.
 pub const HELP_TEXT: &str = "\
-cpmhost runs CP/M 2.2 programs for the 8080 processor.
+cpmhost runs CP/M 2.2 programs for the 8080 and the Z80 processor.
 
 Usage:
-  cpmhost com FILE [--steps N]   load the program in FILE at 0100h, run it, and
-                                 print what it writes to its console
-  cpmhost --help                 print this help
+  cpmhost com FILE [--z80] [--steps N]
+                   load the program in FILE at 0100h, run it, and print what it
+                   writes to its console
+  cpmhost --help   print this help
 
 Options of com:
+  --z80       run it on the Z80; it runs on the 8080 unless this is given
   --steps N   stop after N steps; N is 0 to 18446744073709551615
               (1000000 unless given)
 
@@ -25,6 +27,7 @@ that left by itself after 7 steps, 'end Running ..' one that was cut off by
 Examples:
   cpmhost com hello.com
   cpmhost com life.com --steps 50000000 > life.txt
+  cpmhost com turbo.com --z80
 
 Exit status:
   0   the program ran, whatever its end

@@ -30,10 +30,11 @@ fn arguments(rt: &(impl Env + AllocGlobal)) -> Result<Vec<String>, HostError>
 fn com(
     rt: &(impl Files + Print + Eprint + AllocGlobal),
     file: &str,
+    cpu: Cpu,
     steps: u64,
 ) -> Result<(), HostError> {
     let program = read_file(rt, file)?;
-    let ending = run_com(rt.alloc(), Cpu::I8080, program, steps, &mut io::writer(rt))?;
+    let ending = run_com(rt.alloc(), cpu, program, steps, &mut io::writer(rt))?;
     // The program ran and its text is out, even where nobody reads how it ended.
     let _ = eprintln!(rt; "{ending}");
     Ok(())
@@ -50,7 +51,7 @@ fn run(rt: &(impl Env + Files + Print + Eprint + AllocGlobal)) -> Result<(), Hos
         return rt.print(text).map_err(HostError::OutputUnwritable);
     }
     match command(rt.alloc(), texts.as_slice())? {
-        Task::Com { file, steps } => com(rt, file, steps),
+        Task::Com { file, cpu, steps } => com(rt, file, cpu, steps),
     }
 }
 
