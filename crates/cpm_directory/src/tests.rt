@@ -16,6 +16,16 @@ fn blank(rt: &impl Abort, alloc: Global) -> Image {
     }
 }
 
+fn put(rt: &impl Abort, image: &mut Image, index: u16, new: &Entry) {
+    assert!(rt; index <= image.format().dpb().last_entry);
+    put_entry(image, index, new);
+}
+
+fn at(rt: &impl Abort, image: &Image, index: u16) -> Entry {
+    assert!(rt; index <= image.format().dpb().last_entry);
+    entry(image, index)
+}
+
 fn text_file(block: u16) -> Entry {
     let mut blocks = [0; 16];
     blocks[0] = block;
@@ -58,9 +68,9 @@ fn blank_directory_has_no_file(rt: HostRuntime) {
 #[test]
 fn an_entry_is_found_where_it_was_put(rt: HostRuntime) {
     let mut image = blank(&rt, rt.alloc());
-    put_entry(&mut image, 5, &text_file(2));
-    assert!(rt; entry(&image, 5) == text_file(2));
-    assert_eq!(rt; entry(&image, 4).user, 0xE5);
+    put(&rt, &mut image, 5, &text_file(2));
+    assert!(rt; at(&rt, &image, 5) == text_file(2));
+    assert_eq!(rt; at(&rt, &image, 4).user, 0xE5);
     assert_eq!(rt; find(&image, &all_files(), 0), Ok(5));
     assert_eq!(rt;
         find(&image, &all_files(), 6),
@@ -80,7 +90,7 @@ fn the_65th_entry_is_not_free(rt: HostRuntime) {
     let mut image = blank(&rt, rt.alloc());
     for index in 0..64u16 {
         assert_eq!(rt; first_free(&image), Ok(index));
-        put_entry(&mut image, index, &text_file(2));
+        put(&rt, &mut image, index, &text_file(2));
     }
     assert_eq!(rt; first_free(&image), Err(DirectoryError::NoEntryFree));
 }
@@ -88,8 +98,8 @@ fn the_65th_entry_is_not_free(rt: HostRuntime) {
 #[test]
 fn the_lowest_blocks_are_taken(rt: HostRuntime) {
     let mut image = blank(&rt, rt.alloc());
-    put_entry(&mut image, 0, &text_file(3));
-    put_entry(&mut image, 1, &text_file(0xF3));
+    put(&rt, &mut image, 0, &text_file(3));
+    put(&rt, &mut image, 1, &text_file(0xF3));
     let mut reserved = login(&image);
     for (block, want) in [
         (0, true),

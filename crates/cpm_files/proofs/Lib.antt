@@ -14,3 +14,4 @@ pub mod Reading
 pub mod Rows
 pub mod Clearing
 pub mod EncodingLemmas
+pub mod Functions

@@ -5,7 +5,7 @@ use Rattle.std.proofs.lemmas.Bool.Decides.{nat_tests}
 use Rattle.cpm_geom.specs.declared.dpb.Dpb.{Dpb}
 use Rattle.cpm_files.specs.declared.extent.Extent.{Extent}
 use Rattle.cpm_files.specs.declared.extent.Entry.{Entry}
-use Rattle.cpm_files.specs.Files.{extent_number, group_of, map_place, deleted, entry_at, first_of, block_number, block_if, open_record_count, open_block, file_block, open_file_block, drive_record, record_in, open_file, Volume, IsSound, get_record, no_record, read, read_next, read_opened, read_closed, open_to_read, ReadsNext, is_of, record_count_of, entry_block, opened, close_extent, with_entries}
+use Rattle.cpm_files.specs.Files.{extent_number, group_of, map_place, deleted, entry_at, first_of, block_number, block_if, open_record_count, open_block, file_block, open_file_block, drive_record, record_in, open_file, Volume, IsSound, get_record, no_record, read, read_next, read_at, staying, ReadsAt, read_opened, read_closed, open_to_read, ReadsNext, is_of, record_count_of, entry_block, opened, close_extent, with_entries}
 use Rattle.cpm_files.proofs.Entries.{first_of_passes}
 use Rattle.cpm_files.proofs.NameLemmas.{first_match_plain}
 use Rattle.cpm_files.proofs.Making.{none_block}
@@ -98,7 +98,7 @@ module _ (d : Dpb) (user : ℕ) (v : Volume) (x : Extent) (number : ℕ) (user_o
 
   Answers : ℕ → Type 0
   Answers n =
-      ((read_opened d v1 n (open_to_read d v1.entries user x.name number) ≡ no_record) × (open_file d v.entries v.records user x n ≡ None)) ⊎ ((x' : Extent) × (bytes : List ℕ) × (read_opened d v1 n (open_to_read d v1.entries user x.name number) ≡ read v1 x' 1 bytes) × (open_file d v.entries v.records user x n ≡ Some bytes) × IsSound d v1 user x' × ((m : ℕ) → open_file d v1.entries v1.records user x' m ≡ open_file d v.entries v.records user x m))
+      ((read_opened d v1 n (open_to_read d v1.entries user x.name number) ≡ no_record) × (open_file d v.entries v.records user x n ≡ None)) ⊎ ((x' : Extent) × (bytes : List ℕ) × (read_opened d v1 n (open_to_read d v1.entries user x.name number) ≡ read v1 x' (n % 128 + 1) bytes) × (open_file d v.entries v.records user x n ≡ Some bytes) × IsSound d v1 user x' × ((m : ℕ) → open_file d v1.entries v1.records user x' m ≡ open_file d v.entries v.records user x m))
 
   not_there : (n : ℕ) → n / 128 ≡ number → length v1.entries ≤ first_of d v1.entries user x.name (group_of d number) → Answers n
   unfolding Answers read_opened open_to_read
@@ -149,20 +149,20 @@ module _ (d : Dpb) (user : ℕ) (v : Volume) (x : Extent) (number : ℕ) (user_o
       opens =
           rw (first_match_plain d v1.entries user x.name (group_of d number) sound.kept.plain, lt-ltb _ _ there, le-ltb _ _ greater) refl
 
-      greater_or_equal : (n : ℕ) → n ≡ 128 * number → Answers n
+      greater_or_equal : (n : ℕ) → n / 128 ≡ number → Answers n
       unfolding Answers read_opened
       greater_or_equal n h =
-          elim (reads_record d user v1 next n 0 sound_next (rw number_next (omega arith)) (omega arith)) [
+          elim (reads_record d user v1 next n (n % 128) sound_next (rw number_next h) refl) [
             | inl e ↦ inl (rw opens e.0, sym (same_next n) ∙ e.1)
             | inr e ↦ inr (next, e.0, rw opens e.1, sym (same_next n) ∙ e.2, sound_next, same_next)
           ]
 
-  answers : (n : ℕ) → n ≡ 128 * number → Answers n
+  answers : (n : ℕ) → n / 128 ≡ number → Answers n
   answers n h =
       elim (cases_lt (first_of d v1.entries user x.name (group_of d number)) (length v1.entries)) [
-        | inr past ↦ not_there n (omega arith) past
+        | inr past ↦ not_there n h past
         | inl there ↦ elim (cases_lt (extent_number (entry_at v1.entries (index there)).extent) number) [
-          | inl l ↦ lesser there n (omega arith) l
+          | inl l ↦ lesser there n h l
           | inr g ↦ greater_or_equal there g n h
         ]
       ]
@@ -179,10 +179,28 @@ reads_next d user v x current user_ok sound h =
         | inl last ↦ inl (rw (le-ltb _ _ ge, eq-eqb _ _ last) refl, no_file d v user x _ (past_file d v.entries user x _ (omega arith)))
         | inr n ↦
             let small : extent_number x + 1 < 512 = let b = number_below x in omega arith in
-            let step = by_close d user v x (extent_number x + 1) user_ok small sound (128 * extent_number x + current) in
-            elim (answers d user v x (extent_number x + 1) user_ok small sound (128 * extent_number x + current) (omega arith)) [
-              | inl e ↦ inl (rw (le-ltb _ _ ge, ne_eqb _ _ n) (step ∙ e.0), e.1)
-              | inr e ↦ inr (v1 d user v x (extent_number x + 1) user_ok small sound, e.0, 1, e.1, rw (le-ltb _ _ ge, ne_eqb _ _ n) (step ∙ e.2), omega arith, e.3, e.4, e.5)
+            let same : 128 * extent_number x + current ≡ 128 * (extent_number x + 1) = omega arith in
+            let step = by_close d user v x (extent_number x + 1) user_ok small sound (128 * (extent_number x + 1)) in
+            elim (answers d user v x (extent_number x + 1) user_ok small sound (128 * (extent_number x + 1)) (omega arith)) [
+              | inl e ↦ inl (rw (le-ltb _ _ ge, ne_eqb _ _ n) (step ∙ e.0), rw same e.1)
+              | inr e ↦ inr (v1 d user v x (extent_number x + 1) user_ok small sound, e.0, 128 * (extent_number x + 1) % 128 + 1, e.1, rw (le-ltb _ _ ge, ne_eqb _ _ n) (step ∙ e.2), omega arith, rw same e.3, e.4, e.5)
             ]
       ]
+    ]
+
+pub reads_at : (d : Dpb) (user : ℕ) (v : Volume) (x : Extent) (n : ℕ) → user ≢ deleted → IsSound d v user x → n < 65536 → ReadsAt d user v x n
+unfolding read_at staying Answers
+reads_at d user v x n user_ok sound h =
+    elim (cases_eq (n / 128) (extent_number x)) [
+      | inl same ↦ elim (reads_record d user v x n (n % 128) sound same refl) [
+        | inl e ↦ inl (rw (eq-eqb _ _ same, e.0) refl, e.1)
+        | inr e ↦ inr (v, x, e.0, rw (eq-eqb _ _ same, e.1) refl, e.2, sound, λ m. refl)
+      ]
+      | inr other ↦
+          let small : n / 128 < 512 = omega arith in
+          let step = by_close d user v x (n / 128) user_ok small sound n in
+          elim (answers d user v x (n / 128) user_ok small sound n refl) [
+            | inl e ↦ inl (rw (ne_eqb _ _ other, step, e.0) refl, e.1)
+            | inr e ↦ inr (v1 d user v x (n / 128) user_ok small sound, e.0, e.1, rw (ne_eqb _ _ other, step, e.2) refl, e.3, e.4, e.5)
+          ]
     ]

@@ -3,7 +3,7 @@ use Rattle.std.proofs.Common.{◌≡◌, ◌≢◌, ℕ, ◌/◌, ◌*◌, ◌+�
 use Rattle.std.proofs.lemmas.Bool.{eq-eqb, ne_eqb, cases_eq, cases_lt, lt-ltb, le-ltb}
 use Rattle.cpm_geom.specs.declared.dpb.Dpb.{Dpb}
 use Rattle.cpm_files.specs.declared.extent.Extent.{Extent}
-use Rattle.cpm_files.specs.Files.{extent_number, same_name, deleted, open_file_block, open_file, directory_file, IsFormat, Volume, IsSound, HasWritten, OthersStay, MovesOn, next_put, next_moved, write_next, WritesNext, write_at, WritesAt}
+use Rattle.cpm_files.specs.Files.{extent_number, same_name, deleted, open_file_block, open_file, directory_file, IsFormat, Volume, IsSound, HasWritten, OthersStay, MovesOn, next_put, next_moved, write_next, WritesNext, write_at, at_record, at_moved, WritesAt}
 use Rattle.cpm_files.proofs.NameLemmas.{same_name-trans, same_name-sym}
 use Rattle.cpm_files.proofs.Records.{writes_one_record}
 use Rattle.cpm_files.proofs.Moving.{moves_to_next, goes_on, by_close}
@@ -41,21 +41,22 @@ writes_next d user v x current bytes user_ok format sound h =
       | inr ge ↦ elim (moves_to_next d user v x user_ok sound) [
         | inl none ↦ inl (rw (le-ltb _ _ ge, none) refl)
         | inr m ↦
-            let inside : (128 * extent_number x + current) / 128 ≡ extent_number m.1 = rw m.3.number_is (omega arith) in
-            elim (writes_one_record d user m.0 m.1 (128 * extent_number x + current) bytes user_ok format m.3.sound inside) [
+            let same : 128 * extent_number x + current ≡ 128 * (extent_number x + 1) = omega arith in
+            let inside : 128 * (extent_number x + 1) / 128 ≡ extent_number m.1 = rw m.3.number_is (omega arith) in
+            elim (writes_one_record d user m.0 m.1 (128 * (extent_number x + 1)) bytes user_ok format m.3.sound inside) [
               | inl full ↦ inr (inl (rw (le-ltb _ _ ge, m.2, full) refl))
-              | inr w ↦ inr (inr (w.0, w.1, 1, rw (le-ltb _ _ ge, m.2, w.2) refl, omega arith, written_after d user v x (128 * extent_number x + current) bytes m.0 m.1 (extent_number x + 1) m.3 w.0 w.1 w.3 w.4, stay_after d user v x (128 * extent_number x + current) bytes m.0 m.1 (extent_number x + 1) m.3 w.0 w.1 w.3 w.4, w.5))
+              | inr w ↦ inr (inr (w.0, w.1, 1, rw (le-ltb _ _ ge, m.2, w.2) refl, omega arith, rw same (written_after d user v x (128 * (extent_number x + 1)) bytes m.0 m.1 (extent_number x + 1) m.3 w.0 w.1 w.3 w.4), stay_after d user v x (128 * (extent_number x + 1)) bytes m.0 m.1 (extent_number x + 1) m.3 w.0 w.1 w.3 w.4, w.5))
             ]
       ]
     ]
 
 pub writes_at : (d : Dpb) (user : ℕ) (v : Volume) (x : Extent) (n : ℕ) (bytes : List ℕ) → user ≢ deleted → IsFormat d → IsSound d v user x → n < 65536 → WritesAt d user v x n bytes
-unfolding write_at next_put next_moved
+unfolding write_at at_record at_moved
 writes_at d user v x n bytes user_ok format sound h =
     elim (cases_eq (n / 128) (extent_number x)) [
       | inl same ↦ elim (writes_one_record d user v x n bytes user_ok format sound same) [
         | inl full ↦ inr (inl (rw (eq-eqb _ _ same, full) refl))
-        | inr w ↦ inr (inr (w.0, w.1, 1, rw (eq-eqb _ _ same, w.2) refl, w.3, w.4, w.5))
+        | inr w ↦ inr (inr (w.0, w.1, rw (eq-eqb _ _ same, w.2) refl, w.3, w.4, w.5))
       ]
       | inr other ↦
           let small : n / 128 < 512 = omega arith in
@@ -64,7 +65,7 @@ writes_at d user v x n bytes user_ok format sound h =
             | inl none ↦ inl (rw (ne_eqb _ _ other, step, none) refl)
             | inr m ↦ elim (writes_one_record d user m.0 m.1 n bytes user_ok format m.3.sound (sym m.3.number_is)) [
               | inl full ↦ inr (inl (rw (ne_eqb _ _ other, step, m.2, full) refl))
-              | inr w ↦ inr (inr (w.0, w.1, 1, rw (ne_eqb _ _ other, step, m.2, w.2) refl, written_after d user v x n bytes m.0 m.1 (n / 128) m.3 w.0 w.1 w.3 w.4, stay_after d user v x n bytes m.0 m.1 (n / 128) m.3 w.0 w.1 w.3 w.4, w.5))
+              | inr w ↦ inr (inr (w.0, w.1, rw (ne_eqb _ _ other, step, m.2, w.2) refl, written_after d user v x n bytes m.0 m.1 (n / 128) m.3 w.0 w.1 w.3 w.4, stay_after d user v x n bytes m.0 m.1 (n / 128) m.3 w.0 w.1 w.3 w.4, w.5))
             ]
           ]
     ]

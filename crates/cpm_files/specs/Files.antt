@@ -384,7 +384,7 @@ unfoldable pub write_next : Dpb → Volume → ℕ → Extent → ℕ → List �
 write_next d v user x current bytes =
     if nat_lt current 128
     then next_put current (put_record d v x (128 * extent_number x + current) bytes)
-    else next_moved d (128 * extent_number x + current) bytes (next_extent d v user x)
+    else next_moved d (128 * (extent_number x + 1)) bytes (next_extent d v user x)
 
 abbrev pub WritesNext : Dpb → ℕ → Volume → Extent → ℕ → List ℕ → Type 0
 WritesNext d user v x current bytes =
@@ -415,7 +415,7 @@ get_record d v x n current =
 
 unfoldable pub read_opened : Dpb → Volume → ℕ → Option Extent → Read
 read_opened d v n None = no_record
-read_opened d v n (Some x) = get_record d v x n 0
+read_opened d v n (Some x) = get_record d v x n (n % 128)
 
 unfoldable pub read_closed : Dpb → Volume → ℕ → ℕ → ℕ → Close → Read
 read_closed d v user number n bad_sector = read_fault
@@ -429,22 +429,79 @@ read_next d v user x current =
     if nat_lt current 128
     then get_record d v x (128 * extent_number x + current) current
     else (if extent_number x == 511 then no_record
-    else read_closed d v user (extent_number x + 1) (128 * extent_number x + current) (close_extent d v.entries user x))
+    else read_closed d v user (extent_number x + 1) (128 * (extent_number x + 1)) (close_extent d v.entries user x))
 
 -- a read answers the file's record at the position, or that there is none
 abbrev pub ReadsNext : Dpb → ℕ → Volume → Extent → ℕ → Type 0
 ReadsNext d user v x current =
     ((read_next d v user x current ≡ no_record) × (open_file d v.entries v.records user x (128 * extent_number x + current) ≡ None)) ⊎ ((v' : Volume) × (x' : Extent) × (next : ℕ) × (bytes : List ℕ) × (read_next d v user x current ≡ read v' x' next bytes) × (next ≤ 128) × (open_file d v.entries v.records user x (128 * extent_number x + current) ≡ Some bytes) × IsSound d v' user x' × ((m : ℕ) → open_file d v'.entries v'.records user x' m ≡ open_file d v.entries v.records user x m))
 
--- write record n of the file, wherever the file control block stands
+-- a random write leaves the file control block at its record
+unfoldable pub at_record : ℕ → Wrote → Next
+at_record current bad_block = write_fault
+at_record current disk_full = no_space
+at_record current (wrote v x) = next_wrote v x current
+
+unfoldable pub at_moved : Dpb → ℕ → List ℕ → Moved → Next
+at_moved d n bytes move_fault = write_fault
+at_moved d n bytes no_extent = at_end
+at_moved d n bytes (moved v x) = at_record (n % 128) (put_record d v x n bytes)
+
+-- CP/M 2.2 Operating System Manual, Operating System Call Conventions, WRITE RANDOM: write record n of the file, wherever the file control block stands
 unfoldable pub write_at : Dpb → Volume → ℕ → Extent → ℕ → List ℕ → Next
 write_at d v user x n bytes =
-    if n / 128 == extent_number x then next_put 0 (put_record d v x n bytes)
-    else next_moved d n bytes (closed_in d v user (n / 128) (close_extent d v.entries user x))
+    if n / 128 == extent_number x then at_record (n % 128) (put_record d v x n bytes)
+    else at_moved d n bytes (closed_in d v user (n / 128) (close_extent d v.entries user x))
 
 abbrev pub WritesAt : Dpb → ℕ → Volume → Extent → ℕ → List ℕ → Type 0
 WritesAt d user v x n bytes =
-    (write_at d v user x n bytes ≡ at_end) ⊎ ((write_at d v user x n bytes ≡ no_space) ⊎ ((v' : Volume) × (x' : Extent) × (next : ℕ) × (write_at d v user x n bytes ≡ next_wrote v' x' next) × HasWritten d user v x n bytes v' x' × OthersStay d user x.name v v' × IsSound d v' user x'))
+    (write_at d v user x n bytes ≡ at_end) ⊎ ((write_at d v user x n bytes ≡ no_space) ⊎ ((v' : Volume) × (x' : Extent) × (write_at d v user x n bytes ≡ next_wrote v' x' (n % 128)) × HasWritten d user v x n bytes v' x' × OthersStay d user x.name v v' × IsSound d v' user x'))
+
+-- a random read leaves the file control block at its record
+unfoldable pub staying : ℕ → Read → Read
+staying current read_fault = read_fault
+staying current no_record = no_record
+staying current (read v x next bytes) = read v x current bytes
+
+-- CP/M 2.2 Operating System Manual, Operating System Call Conventions, READ RANDOM: read record n of the file, wherever the file control block stands
+unfoldable pub read_at : Dpb → Volume → ℕ → Extent → ℕ → Read
+read_at d v user x n =
+    staying (n % 128) (if n / 128 == extent_number x then get_record d v x n (n % 128)
+    else read_closed d v user (n / 128) n (close_extent d v.entries user x))
+
+-- a read of record n answers the file's record n, or that there is none
+abbrev pub ReadsAt : Dpb → ℕ → Volume → Extent → ℕ → Type 0
+ReadsAt d user v x n =
+    ((read_at d v user x n ≡ no_record) × (open_file d v.entries v.records user x n ≡ None)) ⊎ ((v' : Volume) × (x' : Extent) × (bytes : List ℕ) × (read_at d v user x n ≡ read v' x' (n % 128) bytes) × (open_file d v.entries v.records user x n ≡ Some bytes) × IsSound d v' user x' × ((m : ℕ) → open_file d v'.entries v'.records user x' m ≡ open_file d v.entries v.records user x m))
+
+-- CP/M 2.2 Operating System Manual, Operating System Call Conventions, OPEN FILE: own: S2 is taken as 0, and an entry of a lesser number counts as none
+unfoldable pub open_function : Dpb → List Entry → ℕ → Extent → Option Extent
+open_function d es user x = open_to_read d es user x.name (x.ex % 32)
+
+-- CP/M 2.2 Operating System Manual, Operating System Call Conventions, MAKE FILE: own: S2 is taken as 0
+unfoldable pub make_function : List Entry → ℕ → Extent → Option (List Entry × Extent)
+make_function es user x = make_extent es user x (x.ex % 32)
+
+-- a drive that agrees with itself
+pub record IsSoundDrive (d : Dpb) (v : Volume) : Type 0 where
+  pub volume : IsVolume d v
+  pub well_formed : IsWellFormed d v.entries v.reserved
+
+-- the file control block knows the file as the directory has it
+pub record KnowsFile (d : Dpb) (user : ℕ) (name : List ℕ) (v : Volume) (v' : Volume) (x : Extent) : Type 0 where
+  pub name_is : same_name x.name name ≡ true
+  pub file : (m : ℕ) → open_file d v'.entries v'.records user x m ≡ directory_file d v.entries v.records user name m
+  pub sound : IsSound d v' user x
+
+-- an open answers that there is no such file, or the file
+abbrev pub OpensFile : Dpb → ℕ → Volume → Extent → Type 0
+OpensFile d user v x =
+    (open_function d v.entries user x ≡ None) ⊎ ((x' : Extent) × (open_function d v.entries user x ≡ Some x') × (extent_number x' ≡ x.ex % 32) × KnowsFile d user x.name v v x')
+
+-- a make answers that the directory is full, or makes an extent of the file and changes no file
+abbrev pub MakesFile : Dpb → ℕ → Volume → Extent → Type 0
+MakesFile d user v x =
+    (make_function v.entries user x ≡ None) ⊎ ((es : List Entry) × (x' : Extent) × (make_function v.entries user x ≡ Some (es, x')) × (extent_number x' ≡ x.ex % 32) × KnowsFile d user x.name v (with_entries v es) x' × ((other : ℕ) (name : List ℕ) (m : ℕ) → other ≢ deleted → directory_file d es v.records other name m ≡ directory_file d v.entries v.records other name m))
 
 -- records of zeros, `count` of them from a place on
 unfoldable pub cleared : ℕ → ℕ → List (List ℕ) → List (List ℕ)

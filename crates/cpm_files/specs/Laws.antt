@@ -1,9 +1,9 @@
 -- The laws of files, over all drives and file control blocks.
-use Rattle.std.specs.Prelude.{◌≡◌, ◌≢◌, ℕ, ◌/◌, ◌<◌, ◌≤◌, Bool, true, List}
+use Rattle.std.specs.Prelude.{◌≡◌, ◌≢◌, ℕ, ◌/◌, ◌%◌, ◌<◌, ◌≤◌, Bool, false, true, List}
 use Rattle.cpm_geom.specs.declared.dpb.Dpb.{Dpb}
 use Rattle.cpm_files.specs.declared.extent.Extent.{Extent}
 use Rattle.cpm_files.specs.declared.extent.Entry.{Entry}
-use Rattle.cpm_files.specs.Files.{extent_number, same_name, deleted, file_block, open_file_block, IsWellFormed, IsKept, IsFormat, IsSound, Volume, WritesOneRecord, WritesNext, WritesAt, WritesOneCleared, ReadsNext, close_extent, closed}
+use Rattle.cpm_files.specs.Files.{extent_number, group_of, is_of, entry_at, same_name, deleted, file_block, open_file_block, IsWellFormed, IsKept, IsFormat, IsSound, Volume, WritesOneRecord, WritesNext, WritesAt, WritesOneCleared, ReadsNext, ReadsAt, OpensFile, MakesFile, IsSoundDrive, has_wildcard, close_extent, closed}
 
 -- after a close the directory has the file as the file control block knew it, and no other file changed
 pub record ClosesFile (d : Dpb) (es : List Entry) (reserved : List Bool) (user : ℕ) (x : Extent) : Type 0 where
@@ -38,3 +38,15 @@ RandomWriteLaw =
 abbrev pub ClearingWriteLaw : Type 0
 ClearingWriteLaw =
     (d : Dpb) (user : ℕ) (v : Volume) (x : Extent) (n : ℕ) (bytes : List ℕ) → user ≢ deleted → IsFormat d → IsSound d v user x → n / 128 ≡ extent_number x → WritesOneCleared d user v x n bytes
+
+abbrev pub RandomReadLaw : Type 0
+RandomReadLaw =
+    (d : Dpb) (user : ℕ) (v : Volume) (x : Extent) (n : ℕ) → user ≢ deleted → IsSound d v user x → n < 65536 → ReadsAt d user v x n
+
+abbrev pub OpenLaw : Type 0
+OpenLaw =
+    (d : Dpb) (user : ℕ) (v : Volume) (x : Extent) → user ≢ deleted → IsSoundDrive d v → has_wildcard x.name ≡ false → OpensFile d user v x
+
+abbrev pub MakeLaw : Type 0
+MakeLaw =
+    (d : Dpb) (user : ℕ) (v : Volume) (x : Extent) → user ≢ deleted → IsSoundDrive d v → has_wildcard x.name ≡ false → ((j : ℕ) → is_of d user x.name (group_of d (x.ex % 32)) (entry_at v.entries j) ≡ false) → MakesFile d user v x

@@ -1,6 +1,6 @@
 //! Laws on the definitions that the calls of this crate cite.
 
-ghost use Rattle.cpm_files.specs.Laws.{CloseLaw, WriteLaw, SequentialWriteLaw, SequentialReadLaw, RandomWriteLaw, ClearingWriteLaw};
+ghost use Rattle.cpm_files.specs.Laws.{CloseLaw, WriteLaw, SequentialWriteLaw, SequentialReadLaw, RandomWriteLaw, ClearingWriteLaw, RandomReadLaw, OpenLaw, MakeLaw};
 ghost use Rattle.cpm_files.specs.Encoding.{EncodingLaw};
 
 /// Entries and file control blocks are their bytes.
@@ -36,4 +36,19 @@ pub fn random_write_changes_one_record()
 /// A write that takes a block fills the rest of it with zeros.
 pub fn clearing_write_clears_a_new_block()
     ensures { ClearingWriteLaw }
+{}
+
+/// A read of any record answers the file's.
+pub fn random_read_answers_the_file()
+    ensures { RandomReadLaw }
+{}
+
+/// An open knows the file as the directory has it.
+pub fn open_knows_the_file()
+    ensures { OpenLaw }
+{}
+
+/// A make changes no file.
+pub fn make_changes_no_file()
+    ensures { MakeLaw }
 {}

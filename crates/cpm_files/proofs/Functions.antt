@@ -1,0 +1,106 @@
+-- The laws of opening and making a file.
+use Rattle.std.proofs.Common.{◌≡◌, ◌≢◌, ℕ, ◌%◌, ◌<◌, ◌≤◌, true, false, List, Some, None, length, refl, inl, inr, arith}
+use Rattle.std.proofs.lemmas.Bool.{cases_lt, lt-ltb, le-ltb}
+use Rattle.std.proofs.lemmas.List.{length-replicate}
+use Rattle.cpm_geom.specs.declared.dpb.Dpb.{Dpb}
+use Rattle.cpm_files.specs.declared.extent.Extent.{Extent}
+use Rattle.cpm_files.specs.Files.{extent_number, group_of, has_wildcard, deleted, entry_at, is_of, first_of, first_free, directory_file, open_file, Volume, IsSoundDrive, KnowsFile, with_entries, opened, made, open_to_read, make_extent, open_function, make_function, OpensFile, MakesFile}
+use Rattle.cpm_files.proofs.Entries.{first_of_passes}
+use Rattle.cpm_files.proofs.NameLemmas.{first_match_plain, same_name-refl}
+use Rattle.cpm_files.proofs.Opening as opening
+use Rattle.cpm_files.proofs.Making as making
+
+made_map : (x : Extent) (number : ℕ) → length (made x number).blocks ≡ 16
+unfolding made
+made_map x number = length-replicate {A = ℕ} 16 0
+
+module _ (d : Dpb) (user : ℕ) (v : Volume) (x : Extent) (user_ok : user ≢ deleted) (drive : IsSoundDrive d v) (plain : has_wildcard x.name ≡ false) where
+  small : x.ex % 32 < 512
+  small = omega arith
+
+  index : ℕ
+  index = first_of d v.entries user x.name (group_of d (x.ex % 32))
+
+  -- ---- with an entry of the group
+  module _ (there : first_of d v.entries user x.name (group_of d (x.ex % 32)) < length v.entries) where
+    matched : is_of d user x.name (group_of d (x.ex % 32)) (entry_at v.entries index) ≡ true
+    unfolding index
+    matched = first_of_passes d v.entries user x.name (group_of d (x.ex % 32)) there
+
+    it : Extent
+    it = opened (entry_at v.entries index).extent (x.ex % 32)
+
+    number_it : extent_number it ≡ x.ex % 32
+    unfolding it
+    number_it = opening.opened_number (entry_at v.entries index).extent (x.ex % 32) small
+
+    lesser : extent_number (entry_at v.entries index).extent < x.ex % 32 → open_function d v.entries user x ≡ None
+    unfolding open_function open_to_read index
+    lesser l = rw (first_match_plain d v.entries user x.name (group_of d (x.ex % 32)) plain, lt-ltb _ _ there, lt-ltb _ _ l) refl
+
+    module _ (greater : x.ex % 32 ≤ extent_number (entry_at v.entries index).extent) where
+      opens : open_function d v.entries user x ≡ Some it
+      unfolding open_function open_to_read it index
+      opens = rw (first_match_plain d v.entries user x.name (group_of d (x.ex % 32)) plain, lt-ltb _ _ there, le-ltb _ _ greater) refl
+
+      knows : KnowsFile d user x.name v v it
+      unfolding it open_file directory_file
+      knows = record {
+        name_is = opening.opened_name_same d v.entries v.reserved user x.name (x.ex % 32) index user_ok plain small drive.well_formed matched;
+        file = λ m. rw (opening.open_same d v.entries v.reserved user x.name (x.ex % 32) index user_ok plain small drive.well_formed matched greater m) refl;
+        sound = record {
+          volume = drive.volume;
+          well_formed = drive.well_formed;
+          kept = opening.open_kept d v.entries v.reserved user x.name (x.ex % 32) index user_ok plain small drive.well_formed matched;
+          map = rw (opening.opened_map (entry_at v.entries index).extent (x.ex % 32)) (drive.volume.maps index (opening.there_used d v.entries v.reserved user x.name (x.ex % 32) index user_ok plain small drive.well_formed matched));
+        };
+      }
+
+  past : length v.entries ≤ first_of d v.entries user x.name (group_of d (x.ex % 32)) → open_function d v.entries user x ≡ None
+  unfolding open_function open_to_read
+  past h = rw (first_match_plain d v.entries user x.name (group_of d (x.ex % 32)) plain, le-ltb _ _ h) refl
+
+  pub opens_file : OpensFile d user v x
+  opens_file =
+      elim (cases_lt (first_of d v.entries user x.name (group_of d (x.ex % 32))) (length v.entries)) [
+        | inr h ↦ inl (past h)
+        | inl there ↦ elim (cases_lt (extent_number (entry_at v.entries index).extent) (x.ex % 32)) [
+          | inl l ↦ inl (lesser there l)
+          | inr g ↦ inr (it there, opens there g, number_it there, knows there g)
+        ]
+      ]
+
+  -- ---- with no entry of the group
+  module _ (none : (j : ℕ) → is_of d user x.name (group_of d (x.ex % 32)) (entry_at v.entries j) ≡ false) where
+    no_room : length v.entries ≤ first_free v.entries → make_function v.entries user x ≡ None
+    unfolding make_function make_extent
+    no_room h = rw (le-ltb _ _ h) refl
+
+    module _ (free : first_free v.entries < length v.entries) where
+      makes : make_function v.entries user x ≡ Some (making.after d v.entries v.reserved user x (x.ex % 32) user_ok plain small drive.well_formed none free, made x (x.ex % 32))
+      unfolding make_function
+      makes = making.make_answer d v.entries v.reserved user x (x.ex % 32) user_ok plain small drive.well_formed none free
+
+      stays : (other : ℕ) (name : List ℕ) (m : ℕ) → other ≢ deleted → directory_file d (making.after d v.entries v.reserved user x (x.ex % 32) user_ok plain small drive.well_formed none free) v.records other name m ≡ directory_file d v.entries v.records other name m
+      unfolding directory_file
+      stays other name m ok = rw (making.make_files d v.entries v.reserved user x (x.ex % 32) user_ok plain small drive.well_formed none free other name m ok) refl
+
+      knows_made : KnowsFile d user x.name v (with_entries v (making.after d v.entries v.reserved user x (x.ex % 32) user_ok plain small drive.well_formed none free)) (made x (x.ex % 32))
+      unfolding open_file directory_file with_entries
+      knows_made = record {
+        name_is = rw (making.made_name x (x.ex % 32)) (same_name-refl x.name);
+        file = λ m. rw (making.make_file d v.entries v.reserved user x (x.ex % 32) user_ok plain small drive.well_formed none free m) refl;
+        sound = record {
+          volume = record { blocks = drive.volume.blocks; space = drive.volume.space; maps = making.make_maps d v.entries v.reserved user x (x.ex % 32) user_ok plain small drive.well_formed none free drive.volume.maps };
+          well_formed = making.make_well_formed d v.entries v.reserved user x (x.ex % 32) user_ok plain small drive.well_formed none free;
+          kept = making.make_kept d v.entries v.reserved user x (x.ex % 32) user_ok plain small drive.well_formed none free;
+          map = made_map x (x.ex % 32);
+        };
+      }
+
+    pub makes_file : MakesFile d user v x
+    makes_file =
+        elim (cases_lt (first_free v.entries) (length v.entries)) [
+          | inl free ↦ inr (making.after d v.entries v.reserved user x (x.ex % 32) user_ok plain small drive.well_formed none free, made x (x.ex % 32), makes free, making.made_number x (x.ex % 32) small, knows_made free, stays free)
+          | inr full ↦ inl (no_room full)
+        ]
