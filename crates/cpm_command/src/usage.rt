@@ -10,34 +10,38 @@ cpmhost runs CP/M 2.2 programs for the 8080 and the Z80 processor.
 
 Usage:
   cpmhost com FILE [--z80] [--steps N]
-                   load the program in FILE at 0100h, run it, and print what it
-                   writes to its console
+                   run the CP/M program in FILE, such as a .COM file, and print
+                   what it writes to its console
   cpmhost --help   print this help
 
 Options of com:
   --z80       run it on the Z80; it runs on the 8080 unless this is given
-  --steps N   stop after N steps; N is 0 to 18446744073709551615
-              (1000000 unless given)
-
-Standard output has what the program wrote to its console. The last line on
-standard error says how it ended: 'end Exited count 7 pc E406' is a program
-that left by itself after 7 steps, 'end Running ..' one that was cut off by
---steps.
+  --steps N   stop after N steps: N is a number from 0 to 18446744073709551615,
+              and 1000000 where it is left out; a step is an instruction, or a
+              part of a system call
 
 Examples:
   cpmhost com hello.com
   cpmhost com life.com --steps 50000000 > life.txt
   cpmhost com turbo.com --z80
 
+Standard output has what the program wrote to its console. The last line on
+standard error says how it ended, after how many steps, and where its program
+counter then stood, as in 'end Exited count 7 pc E406':
+  Exited    the program returned to the system
+  Halted    it executed HLT
+  Illegal   it came to an opcode that the processor does not have
+  Running   it was cut off by --steps
+
 Exit status:
-  0   the program ran, whatever its end
+  0   the program ran, however it ended
   1   the command line is wrong
-  4   FILE can't be read
+  4   FILE can't be read, or has more than 16777216 bytes
   5   standard output can't be written
   8   memory ran out
-  9   the program in FILE is longer than 58,112 bytes
+  9   the program in FILE has more than 58112 bytes
 
-A word that begins with '-', or a file that is called help, is given as './NAME'.
+A file whose name is 'help' or begins with '-' is given as './NAME'.
 ";
 
 /// Whether the word is `-h` or `--help`.

@@ -1,5 +1,5 @@
 -- What moving output out of a machine, and running it in turns, leaves.
-use Rattle.std.proofs.Common.{◌≡◌, ◌∙◌, ◌++◌, ◌&&◌, ap, ap₂, sym, refl, subst, ℕ, zero, suc, ◌+◌, ◌-◌, ◌<◌, ◌≤◌, nat_le, Bool, true, false, List, [], Option, Some, None, length, take, drop, min, arith, append-nil}
+use Rattle.std.proofs.Common.{◌≡◌, ◌∙◌, ◌++◌, ◌&&◌, ap, ap₂, sym, refl, Result, Ok, Err, OnErr, subst, ℕ, zero, suc, ◌+◌, ◌-◌, ◌<◌, ◌≤◌, nat_le, Bool, true, false, List, [], ◌∷◌, Option, Some, None, length, take, drop, min, arith, append-nil}
 use Rattle.std.proofs.lemmas.List.{append_assoc, length-take-le, take-append-drop, take_at}
 use Rattle.std.specs.Io.KnownBytes.{Appends, Keeps}
 use Rattle.cpm_console.specs.Terminal.{Terminal, has_room}
@@ -9,7 +9,7 @@ use Rattle.cpm_slots.specs.Serve.{executed, taken}
 use Rattle.cpm_slots.specs.Step.{after, can_step, is_running, step, step_if}
 use Rattle.cpm_slots.proofs.AloneLaws.{after-behind}
 use Rattle.cpm_slots.proofs.GrantLaws.{after-add, longest-is}
-use Rattle.cpm_host.specs.Com.{HasNoOutput, IsRun, without_output}
+use Rattle.cpm_host.specs.Com.{HasNoOutput, HasText, IsRun, without_output}
 
 -- the state with other bytes on its console, or on its list device
 abbrev pub with_text : List ℕ → MachineState → MachineState
@@ -122,3 +122,46 @@ run_stopped k steps old now before written run ended within =
       written = run.written;
       taken = run.taken;
     }
+
+-- ---- where the writer refused some text
+
+-- a fact holds at an error too
+pub on_err : {A E P : Type 0} (r : Result A E) → P → OnErr r P
+on_err (Ok x) p = tt
+on_err (Err e) p = p
+
+both_empty : (xs ys : List ℕ) → xs ++ ys ≡ [] → ys ≡ []
+both_empty [] ys e = e
+both_empty (x ∷ xs) ys e = absurd (let bad : ⊥ = cc in bad)
+
+-- bytes were there to be taken
+pub moved_text : (start now : MachineState) (before written : Option (List ℕ)) (room count : ℕ) → IsMoved start now before written
+    → count ≡ min room (length now.session.console.screen) → (count ≡ 0 → ⊥) → HasText start
+moved_text start now before written room count moved is some none =
+    let left : now.session.console.screen ≡ [] = both_empty moved.text now.session.console.screen (moved.whole ∙ none) in
+    let zero : length now.session.console.screen ≡ 0 = ap length left in
+    some (omega arith)
+
+first_left : (xs ys : List ℕ) → (xs ≡ [] → ⊥) → xs ++ ys ≡ [] → ⊥
+first_left [] ys some e = some refl
+first_left (x ∷ xs) ys some e = cc
+
+-- text that was shown stays in front
+text_kept : (n : ℕ) (s : MachineState) → HasText s → HasText (after n s)
+text_kept n s some =
+    let screen = s.session.console.screen in
+    let printer = s.session.console.printer in
+    let split : state_behind screen printer (without_output s) ≡ s = ap₂ (λ a b. with_text a (with_list b s)) (append-nil screen) (append-nil printer) in
+    let kept : state_behind screen printer (after n (without_output s)) ≡ after n s = sym (after-behind screen printer n (without_output s)) ∙ ap (after n) split in
+    subst HasText kept (first_left screen (after n (without_output s)).session.console.screen some)
+
+-- so what a turn showed is text of the whole run
+pub turn_text : (k e steps : ℕ) (old now turned : MachineState) (before written : Option (List ℕ)) → IsRun k old now before written → turned ≡ after e now
+    → HasText turned → k + e ≤ steps → HasText (after steps old)
+turn_text k e steps old now turned before written run is some within =
+    let total : (k + e) + (steps - (k + e)) ≡ steps = omega arith in
+    let shown : state_behind run.text run.list turned ≡ after (k + e) old =
+    ap (state_behind run.text run.list) is ∙ sym (after-behind run.text run.list e now) ∙ ap (after e) run.state ∙ sym (after-add k e old) in
+    let behind : HasText (state_behind run.text run.list turned) = λ none. some (both_empty run.text turned.session.console.screen none) in
+    let here : HasText (after (k + e) old) = subst HasText shown behind in
+    subst HasText (sym (after-add (k + e) (steps - (k + e)) old) ∙ ap (λ n. after n old) total) (text_kept (steps - (k + e)) (after (k + e) old) here)

@@ -1,8 +1,9 @@
 -- What running a program shows, and when it is refused.
-use Rattle.std.specs.Prelude.{◌≡◌, ◌<◌, ◌≤◌, ℕ, List, [], length, Option}
+use Rattle.std.specs.Prelude.{◌≡◌, ◌≢◌, ◌<◌, ◌≤◌, ℕ, List, [], length, Option}
 use Rattle.std.specs.Io.KnownBytes.{Appends}
+use Rattle.cpm_flags.specs.declared.regs.Cpu.{Cpu}
 use Rattle.cpm_slots.specs.Calls.{state_behind}
-use Rattle.cpm_slots.specs.MachineState.{MachineState}
+use Rattle.cpm_slots.specs.MachineState.{MachineState, opened_with}
 use Rattle.cpm_slots.specs.Step.{after}
 use Rattle.cpm_host.specs.declared.ending.Ending.{Ending}
 use Rattle.cpm_host.specs.declared.error.HostError.{HostError}
@@ -11,6 +12,10 @@ use Rattle.cpm_host.specs.declared.error.HostError.TheVariants.{Usage, NotText, 
 -- the console bytes of a machine from which none was taken
 abbrev pub text_of : MachineState → List ℕ
 text_of s = s.session.console.screen
+
+-- it shows some text
+abbrev pub HasText : MachineState → Type 0
+HasText s = text_of s ≢ []
 
 abbrev pub ending_of : MachineState → Ending
 ending_of s = record { ended = s.ended; count = s.count; pc = s.session.regs.pc }
@@ -41,12 +46,14 @@ pub record IsRun (steps : ℕ) (old new : MachineState) (before now : Option (Li
   pub written : Appends before now text
   pub taken : HasNoOutput new
 
--- When a program is refused. The writer is as it was, but where it failed itself.
-abbrev pub IsComRefusal : {W : Type 0} → List ℕ → HostError → W → W → Type 0
-IsComRefusal {W} program (ProgramTooLong count) old new =
+-- When a program that runs for so many steps is refused: it is too long, memory is refused, or the
+-- writer refuses some of its text. The writer is as it was, but where it failed itself.
+abbrev pub IsComRefusal : {W : Type 0} → Cpu → List ℕ → ℕ → HostError → W → W → Type 0
+IsComRefusal {W} cpu program steps (ProgramTooLong count) old new =
     (58112 < length program) × (count ≡ length program) × (new ≡ old)
-IsComRefusal {W} program OutOfMemory old new = (length program ≤ 58112) × (new ≡ old)
-IsComRefusal {W} program (OutputUnwritable reason) old new = length program ≤ 58112
-IsComRefusal {W} program (Usage fault) old new = ⊥
-IsComRefusal {W} program NotText old new = ⊥
-IsComRefusal {W} program (FileUnreadable name reason) old new = ⊥
+IsComRefusal {W} cpu program steps OutOfMemory old new = (length program ≤ 58112) × (new ≡ old)
+IsComRefusal {W} cpu program steps (OutputUnwritable reason) old new =
+    (length program ≤ 58112) × HasText (after steps (opened_with cpu program))
+IsComRefusal {W} cpu program steps (Usage fault) old new = ⊥
+IsComRefusal {W} cpu program steps NotText old new = ⊥
+IsComRefusal {W} cpu program steps (FileUnreadable name reason) old new = ⊥

@@ -17,7 +17,8 @@ use std::io::Write;
 /// console as it comes. What it sends to its list device is dropped.
 ///
 /// `ProgramTooLong` and `OutOfMemory` come before anything is written. `OutputUnwritable` has the
-/// writer's error, before which the writer may have got some of the text.
+/// writer's error: it comes only where there was text to write, of which the writer may have got the
+/// beginning.
 pub fn run_com<W: Write>(
     alloc: Global,
     cpu: Cpu,
@@ -32,7 +33,7 @@ pub fn run_com<W: Write>(
 
     ensures too_long { IsErrOf result (HostError.ProgramTooLong (length program.items))
         ↔ (58112 < length program.items) }
-    ensures refusal { IfErr result (λ e. IsComRefusal program.items e out.old out.new) }
+    ensures refusal { IfErr result (λ e. IsComRefusal cpu program.items steps e out.old out.new) }
 {
     let length = program.len();
     let mut machine = match Machine::with_program(alloc, cpu, program) {

@@ -134,6 +134,12 @@ fn stops_where_the_writer_fails(rt: HostRuntime) {
         matches!(&error, HostError::OutputUnwritable(reason) if reason.kind() == ErrorKind::StorageFull)
     );
     assert_eq!(rt; out.bytes.len(), 5000);
+
+    // Where there is no text the writer is not asked.
+    let mut out = Recorder::new(rt.alloc());
+    out.fails_at = Some(0);
+    let end = ending(&rt, &[0x76], 10, &mut out);
+    assert_eq!(rt; end.count, 1);
 }
 
 #[test]

@@ -1,7 +1,8 @@
 //! Running a machine in turns, each followed by its output.
-ghost use Rattle.std.specs.Prelude.{◌≡◌, OnOk, [], List, ℕ};
+ghost use Rattle.std.specs.Prelude.{◌≡◌, OnOk, OnErr};
 ghost use Rattle.std.specs.Io.KnownBytes.{Appends};
-ghost use Rattle.cpm_host.specs.Com.{HasNoOutput, IsRun, without_list, without_output, without_text};
+ghost use Rattle.cpm_slots.specs.Step.{after};
+ghost use Rattle.cpm_host.specs.Com.{HasNoOutput, HasText, IsRun, without_list, without_output, without_text};
 
 use cpm_slots::Machine;
 use std::io;
@@ -18,6 +19,7 @@ fn move_text<W: Write>(machine: &mut Machine, out: &mut W) -> io::Result<()>
     ensures state { OnOk result (machine.new ≡ without_text machine.old) }
     ensures text { OnOk result (Appends (W.contents out.old) (W.contents out.new)
         machine.old.session.console.screen) }
+    ensures refused { OnErr result (HasText machine.old) }
 {
     let mut chunk = [0u8; CHUNK];
     loop {
@@ -43,6 +45,7 @@ fn move_output<W: Write>(machine: &mut Machine, out: &mut W) -> io::Result<()>
     ensures state { OnOk result (machine.new ≡ without_output machine.old) }
     ensures text { OnOk result (Appends (W.contents out.old) (W.contents out.new)
         machine.old.session.console.screen) }
+    ensures refused { OnErr result (HasText machine.old) }
 {
     move_text(machine, out)?;
     drop_list(machine);
@@ -51,10 +54,11 @@ fn move_output<W: Write>(machine: &mut Machine, out: &mut W) -> io::Result<()>
 
 /// Runs the machine for at most so many steps, and writes its console bytes as they come.
 ///
-/// An error is the writer's, which has then got the bytes up to it.
+/// An error is the writer's: it comes only where there was text to write.
 pub(crate) fn run<W: Write>(machine: &mut Machine, steps: u64, out: &mut W) -> io::Result<()>
     requires { HasNoOutput machine.old }
-    ensures { OnOk result (IsRun steps machine.old machine.new (W.contents out.old) (W.contents out.new)) }
+    ensures ran { OnOk result (IsRun steps machine.old machine.new (W.contents out.old) (W.contents out.new)) }
+    ensures refused { OnErr result (HasText (after steps machine.old)) }
 {
     let mut left = steps;
     while left > 0 {

@@ -9,7 +9,8 @@ returns-clause-bytes g c =
     let none = c.new-bytes.ensures.len in
     let len = c.read_to_end.new.buf.ok.0 in
     let fits : length c.read_to_end.new.buf.items ≤ 16777216 = omega arith in
-    let limited = rw c.take.ensures.limit at c.in_ok-count.ensures.bytes in
     let same : c.take.result.inner.now ≡ c.args.reader.now = ap (λ r. r.now) c.take.ensures.inner in
-    let read = subst (λ (r : g.row.R.Denot). IfSome (option_map (take 16777217) (g.R.Read.remaining r)) (λ xs. c.read_to_end.new.buf.items ≡ c.new-bytes.result.items ++ xs)) same limited in
-    whole_read (g.R.Read.remaining c.args.reader.now) c.new-bytes.result.items c.read_to_end.new.buf.items 16777216 c.new-bytes.ensures.items read fits
+    let read = subst (λ (r : g.row.R.Denot). IfSome (option_map (take c.take.result.limit) (g.R.Read.remaining r))
+    (λ xs. c.read_to_end.new.buf.items ≡ c.new-bytes.result.items ++ xs)) same c.in_ok-count.ensures.bytes in
+    whole_read (g.R.Read.remaining c.args.reader.now) c.new-bytes.result.items c.read_to_end.new.buf.items c.take.result.limit 16777216 c.take.ensures.limit
+    c.new-bytes.ensures.items read fits

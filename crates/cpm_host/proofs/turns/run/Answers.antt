@@ -2,7 +2,7 @@ use Rattle.std.proofs.Common.{◌≡◌, ◌∙◌, ◌-◌, ◌+◌, ◌<◌, �
 use Rattle.cpm_slots.specs.MachineState.{MachineState}
 use Rattle.cpm_slots.specs.Step.{after}
 use Rattle.cpm_host.specs.Com.{IsRun}
-use Rattle.cpm_host.proofs.TurnLemmas.{run_none, run_stopped, run_turn, stopped}
+use Rattle.cpm_host.proofs.TurnLemmas.{on_err, run_none, run_stopped, run_turn, stopped, turn_text}
 use Rattle.cpm_host.proofs.turns.run.Goals as goal
 
 pub loop-left-init : goal.loop-left-init
@@ -29,8 +29,8 @@ loop-left-preserved g c =
           c.in_ok-move_output.ensures.text);
     }
 
-pub returns-then-granted-eq0 : goal.returns-then-granted-eq0
-returns-then-granted-eq0 g c =
+pub returns-then-granted-eq0-clause-ran : goal.returns-then-granted-eq0-clause-ran
+returns-then-granted-eq0-clause-ran g c =
     let left = c.loop-left.left in
     let now = c.loop-left.machine in
     let some : 0 < c.min.result = let m = c.min.ensures in let t = c.loop-left-test.true in omega arith in
@@ -40,3 +40,13 @@ returns-then-granted-eq0 g c =
     subst (λ (s : MachineState). IsRun c.args.steps c.args.machine.now s (g.W.Write.contents c.args.out.now) (g.W.Write.contents c.loop-left.out)) same
     (run_stopped (c.args.steps - left) c.args.steps c.args.machine.now now (g.W.Write.contents c.args.out.now) (g.W.Write.contents c.loop-left.out) c.loop-left.invariant.run
     (stopped c.min.result now c.loop-left.invariant.run.taken some (none ∙ c.grant-granted.ensures.executed)) within)
+
+pub returns-in_err-move_output-clause-refused : goal.returns-in_err-move_output-clause-refused
+returns-in_err-move_output-clause-refused g c =
+    let left = c.loop-left.left in
+    let executed = c.grant-granted.result.executed in
+    let within : (c.args.steps - left) + executed ≤ c.args.steps =
+    let i = c.loop-left.invariant.within in let f = c.grant-granted.ensures.within in let m = c.min.ensures in omega arith in
+    on_err c.from_residual.result
+    (turn_text (c.args.steps - left) executed c.args.steps c.args.machine.now c.loop-left.machine c.grant-granted.new.self (g.W.Write.contents c.args.out.now)
+    (g.W.Write.contents c.loop-left.out) c.loop-left.invariant.run c.grant-granted.ensures.state c.in_err-move_output.ensures.refused within)
