@@ -1,4 +1,3 @@
-pub mod Block
 pub mod Matching
 pub mod Directory
 pub mod Login

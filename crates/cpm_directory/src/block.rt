@@ -1,8 +1,7 @@
 //! The block of a record.
 
 ghost use Rattle.std.specs.Prelude.{◌≡◌, ◌≤◌, ◌<◌, MatchResult};
-ghost use Rattle.cpm_files.specs.Files.{block_number};
-ghost use Rattle.cpm_directory.specs.Block.{place_of};
+ghost use Rattle.cpm_files.specs.Files.{block_number, place_of};
 
 use crate::directory::DirectoryError;
 use cpm_files::{Extent, Fcb};
@@ -23,7 +22,7 @@ pub fn block_at(dpb: &Dpb, fcb: &Fcb) -> Result<u16, DirectoryError>
 }
 
 /// The place of a record of an extent among its block numbers.
-#[tactic(auto, unfolding(crate::specs::Block::place_of))]
+#[tactic(auto, unfolding(cpm_files::specs::Files::place_of))]
 fn place_of(dpb: &Dpb, extent: &Extent, current: u8) -> usize
     ensures { result ≡ place_of dpb.now extent.now current }
 {

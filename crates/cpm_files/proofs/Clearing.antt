@@ -1,10 +1,11 @@
 -- A block that is filled with zeros.
-use Rattle.std.proofs.Common.{◌≡◌, ◌≢◌, ℕ, zero, suc, ◌/◌, ◌%◌, ◌*◌, ◌+◌, ◌-◌, ◌<◌, ◌≤◌, List, [], length, get_or, replicate, sym, refl, ap, ◌∙◌, inl, inr, arith}
+use Rattle.std.proofs.Common.{◌≡◌, ◌≢◌, Bool, true, false, ℕ, zero, suc, ◌/◌, ◌%◌, ◌*◌, ◌+◌, ◌-◌, ◌<◌, ◌≤◌, List, [], length, get_or, replicate, sym, refl, ap, ◌∙◌, inl, inr, arith}
 use Rattle.std.proofs.lemmas.List.{length-set, get_or-set_same, get_or-set_other}
 use Rattle.std.proofs.lemmas.Bool.{cases_eq}
 use Rattle.std.proofs.lemmas.Nat.{mod_below, div-mul-add}
 use Rattle.cpm_geom.specs.declared.dpb.Dpb.{Dpb}
-use Rattle.cpm_files.specs.Files.{cleared, drive_record, block_offset, record_in}
+use Rattle.cpm_files.specs.Files.{drive_record, block_offset, record_in}
+use Rattle.cpm_files.specs.Operations.{cleared, taken_records}
 
 pub length-cleared : (start count : ℕ) (rs : List (List ℕ)) → length (cleared start count rs) ≡ length rs
 unfolding cleared
@@ -42,3 +43,14 @@ pub record_in_other : (d : Dpb) (rs : List (List ℕ)) (b c m : ℕ) → c ≢ b
 unfolding record_in
 record_in_other d rs b c m other =
     rw (cleared_outside (b * (d.block_mask + 1)) (d.block_mask + 1) (drive_record d c m) rs (other_block d b c m other)) refl
+
+-- ---- a block that is taken, cleared or not
+pub length-taken : (d : Dpb) (clears : Bool) (b : ℕ) (rs : List (List ℕ)) → length (taken_records d clears b rs) ≡ length rs
+unfolding taken_records
+length-taken d false b rs = refl
+length-taken d true b rs = length-cleared (b * (d.block_mask + 1)) (d.block_mask + 1) rs
+
+pub taken_other : (d : Dpb) (clears : Bool) (rs : List (List ℕ)) (b c m : ℕ) → c ≢ b → record_in d (taken_records d clears b rs) c m ≡ record_in d rs c m
+unfolding taken_records
+taken_other d false rs b c m other = refl
+taken_other d true rs b c m other = record_in_other d rs b c m other

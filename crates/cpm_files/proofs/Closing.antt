@@ -1,10 +1,12 @@
 -- What a close leaves.
-use Rattle.std.proofs.Common.{◌≡◌, ◌≢◌, ℕ, ◌/◌, ◌<◌, ◌≤◌, Bool, true, false, List, length, get_or, set, sym, refl, ap, ◌∙◌, inl, inr, arith}
-use Rattle.std.proofs.lemmas.Bool.{eq-eqb, ne_eqb, cases_eq, cases_lt, lt-ltb, le-ltb, false_from_ne_true}
+use Rattle.std.proofs.Common.{◌≡◌, ◌≢◌, ◌⊎◌, ℕ, ◌/◌, ◌<◌, ◌≤◌, Bool, true, false, not, ◌&&◌, cond, eqb, List, [], ◌∷◌, length, get_or, set, sym, refl, ap, ap₂, ◌∙◌, inl, inr, arith}
+use Rattle.std.proofs.lemmas.List.{set-get_or, length-set}
+use Rattle.std.proofs.lemmas.Bool.{false≢true, eq-eqb, eqb-true, ne_eqb, and_parts, cases_eq, cases_lt, cases_Bool, lt-ltb, le-ltb, false_from_ne_true}
 use Rattle.cpm_geom.specs.declared.dpb.Dpb.{Dpb}
 use Rattle.cpm_files.specs.declared.extent.Extent.{Extent}
 use Rattle.cpm_files.specs.declared.extent.Entry.{Entry}
-use Rattle.cpm_files.specs.Files.{extent_number, group_of, map_place, same_name, deleted, entry_at, InUse, is_of, first_of, first_match, record_count_of, open_record_count, block_number, block_if, entry_block, file_block, open_block, open_file_block, IsStored, IsWellFormed, IsKept, closed_entry, close_extent, closed}
+use Rattle.cpm_files.specs.Files.{extent_number, group_of, map_place, same_name, deleted, entry_at, InUse, is_of, first_of, first_match, record_count_of, open_record_count, block_number, block_if, entry_block, file_block, open_block, open_file_block, IsStored, IsWellFormed, IsKept, no_entry}
+use Rattle.cpm_files.specs.Operations.{closed_entry, close_extent, closed, close_fault, read_only, is_unchanged, same_numbers}
 use Rattle.cpm_files.proofs.Entries.{entry_at-set_same, entry_at-set_other, in_use_within, is_of_parts, is_of_from, is_of_same, first_of_is, first_of_other, first_of-set}
 use Rattle.cpm_files.proofs.NameLemmas.{first_match_plain, same_name-trans, same_name-sym, same_name-refl}
 use Rattle.cpm_files.proofs.Maps.{agree_covering, merged_covering, no_bad_block, open_count_newer, open_count_older}
@@ -72,6 +74,57 @@ pub closed_block : (d : Dpb) (e : Entry) (x : Extent) (n : ℕ) → (extent_numb
 unfolding entry_block open_block block_if
 closed_block d e x n full = rw (closed_count (n / 128) e x full, closed_blocks e x (map_place d n)) refl
 
+same_counts : (number : ℕ) (x e : Extent) (blocks : List ℕ) → open_record_count number x (record e { blocks = blocks }) ≡ open_record_count number x e
+unfolding open_record_count record_count_of extent_number
+same_counts number x e blocks = refl
+
+-- two lists that are tested as equal
+same_numbers-true : (xs ys : List ℕ) → same_numbers xs ys ≡ true → xs ≡ ys
+unfolding same_numbers
+same_numbers-true [] [] h = refl
+same_numbers-true [] (y ∷ ys) h = absurd (false≢true h)
+same_numbers-true (x ∷ xs) [] h = absurd (false≢true h)
+same_numbers-true (x ∷ xs) (y ∷ ys) h =
+    let p = and_parts _ _ h in ap₂ (λ a b. a ∷ b) (eqb-true _ _ p.0) (same_numbers-true xs ys p.1)
+
+same_fields : (e : Entry) (x : Extent) → e.extent.ex ≡ x.ex → e.extent.s2 ≡ x.s2 → e.extent.record_count ≡ x.record_count → e.extent.blocks ≡ x.blocks → record e { extent = record e.extent { ex = x.ex; s2 = x.s2; record_count = x.record_count; blocks = x.blocks } } ≡ e
+same_fields e x a b c f =
+    ap₂ (λ (p q : ℕ × ℕ). record e { extent = record e.extent { ex = p.0; s2 = p.1; record_count = q.0; blocks = x.blocks } }) (ap₂ (λ m n. (m, n)) (sym a) (sym b)) (ap (λ k. (k, 0)) (sym c)) ∙ ap (λ k. record e { extent = record e.extent { blocks = k } }) (sym f)
+
+-- closing again changes no count
+count_closed : (number : ℕ) (e : Entry) (x : Extent) → open_record_count number x (closed_entry e x).extent ≡ open_record_count number x e.extent
+count_closed number e x =
+    elim (cases_lt (extent_number x) (extent_number e.extent)) [
+      | inl lt ↦ rw (closed_older e x lt) (same_counts number x e.extent x.blocks)
+      | inr ge ↦ open_count_newer number x (closed_entry e x).extent (let n = number_newer e x ge in omega arith) ∙ sym (open_count_newer number x e.extent ge)
+    ]
+
+-- an entry whose fields a close leaves is as it was
+unchanged_parts : (x y : Extent) → is_unchanged x y ≡ true → (x.ex ≡ y.ex) × (x.s2 ≡ y.s2) × (x.record_count ≡ y.record_count) × (x.blocks ≡ y.blocks)
+unfolding is_unchanged
+unchanged_parts x y h =
+    let p = and_parts (eqb x.ex y.ex) _ h in
+    let q = and_parts (eqb x.s2 y.s2) _ p.1 in
+    let r = and_parts (eqb x.record_count y.record_count) (same_numbers x.blocks y.blocks) q.1 in
+    (eqb-true _ _ p.0, eqb-true _ _ q.0, eqb-true _ _ r.0, same_numbers-true x.blocks y.blocks r.1)
+
+older_same : (e : Entry) (x : Extent) → extent_number x < extent_number e.extent → is_unchanged e.extent (closed_entry e x).extent ≡ true → closed_entry e x ≡ e
+older_same e x lt h =
+    let p = unchanged_parts e.extent (record e.extent { blocks = x.blocks }) (rw (closed_older e x lt) at h) in
+    closed_older e x lt ∙ ap (λ b. record e { extent = record e.extent { blocks = b } }) (sym p.3)
+
+newer_same : (e : Entry) (x : Extent) → extent_number e.extent ≤ extent_number x → is_unchanged e.extent (closed_entry e x).extent ≡ true → closed_entry e x ≡ e
+newer_same e x ge h =
+    let p = unchanged_parts e.extent (record e.extent { ex = x.ex; s2 = x.s2; record_count = x.record_count; blocks = x.blocks }) (rw (closed_newer e x ge) at h) in
+    closed_newer e x ge ∙ same_fields e x p.0 p.1 p.2 p.3
+
+same_entry : (e : Entry) (x : Extent) → is_unchanged e.extent (closed_entry e x).extent ≡ true → closed_entry e x ≡ e
+same_entry e x h =
+    elim (cases_lt (extent_number x) (extent_number e.extent)) [
+      | inl lt ↦ older_same e x lt h
+      | inr ge ↦ newer_same e x ge h
+    ]
+
 -- ---- a file control block that fits a well-formed directory
 module _ (d : Dpb) (es : List Entry) (reserved : List Bool) (user : ℕ) (x : Extent) (user_ok : user ≢ deleted) (wf : IsWellFormed d es reserved) (kept : IsKept d es reserved user x) where
   own : Entry
@@ -85,6 +138,10 @@ module _ (d : Dpb) (es : List Entry) (reserved : List Bool) (user : ℕ) (x : Ex
 
   own_used : InUse es kept.index
   own_used = record { used = λ e. user_ok (sym own_parts.0 ∙ e) }
+
+  pub same_length : length after ≡ length es
+  unfolding after
+  same_length = length-set es _ _
 
   own_within : kept.index < length es
   own_within = in_use_within es kept.index own_used.used
@@ -147,7 +204,7 @@ module _ (d : Dpb) (es : List Entry) (reserved : List Bool) (user : ℕ) (x : Ex
       elim (cases_eq (group_of d (n / 128)) (group_of d (extent_number x))) [ inl h ↦ group_own n h | inr h ↦ group_other n h ]
 
   -- an entry in use is now the file control block's or was in use
-  used_before : (j : ℕ) → InUse after j → InUse es j
+  pub used_before : (j : ℕ) → InUse after j → InUse es j
   used_before j h =
       elim (cases_eq j kept.index) [
         | inl e ↦ rw e own_used
@@ -213,13 +270,45 @@ module _ (d : Dpb) (es : List Entry) (reserved : List Bool) (user : ℕ) (x : Ex
   }
 
   -- what the close answers
-  pub answer : close_extent d es user x ≡ closed kept.index after x
+  by_protection : (protected : Bool) → close_extent d protected es user x ≡ cond (protected && not (is_unchanged (entry_at es kept.index).extent (closed_entry (entry_at es kept.index) x).extent)) (close_fault read_only) (closed kept.index after x)
   unfolding close_extent after block_number
-  answer =
+  by_protection protected =
       let f : first_match d es user x.name (group_of d (extent_number x)) ≡ kept.index = first_match_plain d es user x.name _ kept.plain ∙ own_first x.name (same_name-refl x.name) in
       let covers : (s : ℕ) → get_or (entry_at es kept.index).extent.blocks s 0 ≢ 0 → get_or x.blocks s 0 ≡ get_or (entry_at es kept.index).extent.blocks s 0 = kept.agrees in
       let good = no_bad_block d x.blocks (λ s. elim (cases_eq (get_or x.blocks s 0) 0) [ inl z ↦ omega arith | inr n ↦ (kept.stored s n).within ]) in
       rw (f, lt-ltb _ _ own_within, good, agree_covering _ _ covers, merged_covering _ _ covers) refl
+
+  pub answer_free : close_extent d false es user x ≡ closed kept.index after x
+  answer_free = by_protection false
+
+  -- on a protected drive a close that goes through changes nothing
+  unchanged_after : is_unchanged (entry_at es kept.index).extent (closed_entry (entry_at es kept.index) x).extent ≡ true → after ≡ es
+  unfolding after entry_at
+  unchanged_after h = rw (same_entry (entry_at es kept.index) x h) (set-get_or es kept.index no_entry)
+
+  pub answer : (protected : Bool) → ((close_extent d protected es user x ≡ closed kept.index after x) × (protected ≡ true → after ≡ es)) ⊎ ((protected ≡ true) × (close_extent d protected es user x ≡ close_fault read_only))
+  answer false = inl (by_protection false, λ e. absurd (false≢true e))
+  answer true =
+      elim (cases_Bool (is_unchanged (entry_at es kept.index).extent (closed_entry (entry_at es kept.index) x).extent)) [
+        | inl t ↦ inl (rw (by_protection true, t) refl, λ _. unchanged_after t)
+        | inr f ↦ inr (refl, rw (by_protection true, f) refl)
+      ]
+
+  -- the file control block knows the same file
+  same_count : (number : ℕ) → open_record_count number x (entry_at after kept.index).extent ≡ open_record_count number x (entry_at es kept.index).extent
+  same_count number = rw after_own (count_closed number (entry_at es kept.index) x)
+
+  pub same_open : (n : ℕ) → open_file_block d after user x n ≡ open_file_block d es user x n
+  unfolding open_file_block open_block
+  same_open n =
+      elim (cases_eq (group_of d (n / 128)) (group_of d (extent_number x))) [
+        | inl g ↦
+            let f : first_of d es user x.name (group_of d (n / 128)) ≡ kept.index = rw g (own_first x.name (same_name-refl x.name)) in
+            rw (eq-eqb _ _ g, same_keys user x.name (group_of d (n / 128)), f, same_count (n / 128)) refl
+        | inr g ↦
+            let f : is_of d user x.name (group_of d (n / 128)) (entry_at es kept.index) ≡ false = false_from_ne_true _ (λ t. g (sym (is_of_parts d user x.name _ _ t).2 ∙ own_parts.2)) in
+            rw (ne_eqb _ _ g) (stays user x.name n f)
+      ]
 
   pub maps_after : length x.blocks ≡ 16 → ((i : ℕ) → InUse es i → length (entry_at es i).extent.blocks ≡ 16) → (i : ℕ) → InUse after i → length (entry_at after i).extent.blocks ≡ 16
   maps_after own maps i used =

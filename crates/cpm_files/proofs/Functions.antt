@@ -4,7 +4,9 @@ use Rattle.std.proofs.lemmas.Bool.{cases_lt, lt-ltb, le-ltb}
 use Rattle.std.proofs.lemmas.List.{length-replicate}
 use Rattle.cpm_geom.specs.declared.dpb.Dpb.{Dpb}
 use Rattle.cpm_files.specs.declared.extent.Extent.{Extent}
-use Rattle.cpm_files.specs.Files.{extent_number, group_of, has_wildcard, deleted, entry_at, is_of, first_of, first_free, directory_file, open_file, Volume, IsSoundDrive, KnowsFile, with_entries, opened, made, open_to_read, make_extent, open_function, make_function, OpensFile, MakesFile}
+use Rattle.cpm_files.specs.Files.{extent_number, group_of, has_wildcard, deleted, entry_at, is_of, first_of, first_free, directory_file, open_file, Volume, IsSoundDrive}
+use Rattle.cpm_files.specs.Operations.{with_entries, opened, made, open_to_read, make_extent, open_function, make_function}
+use Rattle.cpm_files.specs.Laws.{KnowsFile, OpensFile, MakesFile}
 use Rattle.cpm_files.proofs.Entries.{first_of_passes}
 use Rattle.cpm_files.proofs.NameLemmas.{first_match_plain, same_name-refl}
 use Rattle.cpm_files.proofs.Opening as opening

@@ -7,11 +7,10 @@ pub mod Making
 pub mod Taking
 pub mod Places
 pub mod Writing
+pub mod Clearing
 pub mod Records
 pub mod Moving
-pub mod Sequential
 pub mod Reading
-pub mod Rows
-pub mod Clearing
+pub mod Sequential
 pub mod EncodingLemmas
 pub mod Functions

@@ -6,7 +6,8 @@ use Rattle.std.proofs.lemmas.Bool.{false≢true, eqb-true, eq-eqb, ne_eqb, cases
 use Rattle.cpm_geom.specs.declared.dpb.Dpb.{Dpb}
 use Rattle.cpm_files.specs.declared.extent.Extent.{Extent}
 use Rattle.cpm_files.specs.declared.extent.Entry.{Entry}
-use Rattle.cpm_files.specs.Files.{extent_number, group_of, same_name, has_wildcard, deleted, no_entry, entry_at, InUse, is_of, first_of, block_number, block_if, entry_block, file_block, open_block, open_file_block, IsStored, IsWellFormed, IsKept, made, make_extent, first_free}
+use Rattle.cpm_files.specs.Files.{extent_number, group_of, same_name, has_wildcard, deleted, no_entry, entry_at, InUse, is_of, first_of, block_number, block_if, entry_block, file_block, open_block, open_file_block, IsStored, IsWellFormed, IsKept, first_free}
+use Rattle.cpm_files.specs.Operations.{made, make_extent}
 use Rattle.cpm_files.proofs.Entries.{entry_at-set_same, entry_at-set_other, is_of_parts, is_of_from, first_of_is, first_of_passes, first_of_other, first_of-set}
 use Rattle.cpm_files.proofs.NameLemmas.{same_name-trans, same_name-sym, same_name-refl}
 

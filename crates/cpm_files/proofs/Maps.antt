@@ -4,7 +4,8 @@ use Rattle.std.proofs.lemmas.Bool.{eq-eqb, ne_eqb, and_from, or_from, cases_eq, 
 use Rattle.std.proofs.lemmas.Bool.Decides.{nat_tests}
 use Rattle.cpm_geom.specs.declared.dpb.Dpb.{Dpb}
 use Rattle.cpm_files.specs.declared.extent.Extent.{Extent}
-use Rattle.cpm_files.specs.Files.{extent_number, record_count_of, open_record_count, merged, agree, has_bad_block}
+use Rattle.cpm_files.specs.Files.{extent_number, record_count_of, open_record_count}
+use Rattle.cpm_files.specs.Operations.{merged, agree, has_bad_block}
 
 -- where each number of the second is the first's too, the maps agree and the first has all
 pub agree_covering : (xs ys : List ℕ) → ((s : ℕ) → get_or ys s 0 ≢ 0 → get_or xs s 0 ≡ get_or ys s 0) → agree xs ys ≡ true

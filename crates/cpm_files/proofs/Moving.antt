@@ -1,17 +1,53 @@
--- A write that goes on in the next extent.
-use Rattle.std.proofs.Common.{◌≡◌, ◌≢◌, ◌⊎◌, ℕ, ◌+◌, ◌<◌, ◌≤◌, true, false, List, Some, None, length, sym, refl, ◌∙◌, inl, inr, arith}
+-- A call that goes on in another extent.
+use Rattle.std.proofs.Common.{◌≡◌, ◌≢◌, ◌⊎◌, ℕ, ◌/◌, ◌<◌, ◌≤◌, Bool, true, false, eqb, List, Some, None, length, sym, refl, ◌∙◌, inl, inr, arith}
 use Rattle.std.proofs.lemmas.List.{get_or_past, length-replicate}
 use Rattle.std.proofs.lemmas.List.Sums.{fails_before_first}
-use Rattle.std.proofs.lemmas.Bool.{eq-eqb, ne_eqb, cases_eq, cases_lt, le-ltb}
+use Rattle.std.proofs.lemmas.Bool.{false≢true, eq-eqb, cases_lt, le-ltb}
 use Rattle.cpm_geom.specs.declared.dpb.Dpb.{Dpb}
 use Rattle.cpm_files.specs.declared.extent.Extent.{Extent}
 use Rattle.cpm_files.specs.declared.extent.Entry.{Entry}
-use Rattle.cpm_files.specs.Files.{extent_number, group_of, same_name, has_wildcard, deleted, no_entry, entry_at, InUse, is_of, first_of, file_block, open_file_block, Volume, IsSound, opened, made, open_extent, make_extent, close_extent, closed, first_free, no_extent, moved, with_entries, made_in, opened_in, open_or_make, closed_in, next_extent, MovesOn, MovesToNext}
+use Rattle.cpm_files.specs.Files.{extent_number, group_of, same_name, has_wildcard, deleted, no_entry, entry_at, InUse, is_of, first_of, first_free, file_block, open_file_block, record_in, directory_file, open_file, Volume, IsSound}
+use Rattle.cpm_files.specs.Operations.{read_only, fault, with_entries, opened, made, open_extent, make_extent, Purpose, writing, Target, stopped, standing, made_in, opened_or_made, have_extent, closed_in, cross}
+use Rattle.cpm_files.specs.Laws.{OthersStay, FileStays, IsFull}
 use Rattle.cpm_files.proofs.Entries.{no_entry_is_of, first_of_passes}
 use Rattle.cpm_files.proofs.NameLemmas.{first_match_plain, same_name-refl}
+use Rattle.cpm_files.proofs.Making.{none_block}
 use Rattle.cpm_files.proofs.Closing as closing
 use Rattle.cpm_files.proofs.Opening as opening
 use Rattle.cpm_files.proofs.Making as making
+
+-- the file goes on in another extent, and no file changed
+pub record MovesOn (d : Dpb) (user : ℕ) (v : Volume) (x : Extent) (number : ℕ) (v' : Volume) (x' : Extent) : Type 0 where
+  pub number_is : extent_number x' ≡ number
+  pub name_is : same_name x'.name x.name ≡ true
+  pub records : v'.records ≡ v.records
+  pub reserved : v'.reserved ≡ v.reserved
+  pub file : (n : ℕ) → open_file_block d v.entries user x n ≢ 0 → open_file_block d v'.entries user x' n ≡ open_file_block d v.entries user x n
+  pub others : (other : ℕ) (name : List ℕ) (n : ℕ) → other ≢ deleted → (other ≡ user → same_name name x.name ≡ true → ⊥) → file_block d v'.entries other name n ≡ file_block d v.entries other name n
+  pub sound : IsSound d v' user x'
+
+-- there is no extent of the number, and no entry for it
+pub record LacksExtent (d : Dpb) (user : ℕ) (v : Volume) (x : Extent) (number : ℕ) (v' : Volume) : Type 0 where
+  pub sound : IsSound d v' user x
+  pub others : OthersStay d user x.name v v'
+  pub file : FileStays d user v x v' x
+  pub none : (n : ℕ) → n / 128 ≡ number → open_file d v.entries v.records user x n ≡ None
+
+-- no move at all
+pub stays_there : (d : Dpb) (user : ℕ) (v : Volume) (x : Extent) (number : ℕ) → IsSound d v user x → extent_number x ≡ number → MovesOn d user v x number v x
+stays_there d user v x number sound e = record {
+  number_is = e;
+  name_is = same_name-refl x.name;
+  records = refl;
+  reserved = refl;
+  file = λ n h. refl;
+  others = λ other name n ok apart. refl;
+  sound = sound;
+}
+
+pub no_file : (d : Dpb) (v : Volume) (user : ℕ) (x : Extent) (n : ℕ) → open_file_block d v.entries user x n ≡ 0 → open_file d v.entries v.records user x n ≡ None
+unfolding open_file record_in
+no_file d v user x n h = rw h refl
 
 -- where the first is past the end there is none
 pub none_of : (d : Dpb) (es : List Entry) (user : ℕ) (name : List ℕ) (group : ℕ) → user ≢ deleted → length es ≤ first_of d es user name group → (j : ℕ) → is_of d user name group (entry_at es j) ≡ false
@@ -35,8 +71,14 @@ made_map : (x : Extent) (number : ℕ) → length (made x number).blocks ≡ 16
 unfolding made
 made_map x number = length-replicate {A = ℕ} 16 0
 
--- ---- after the close, the next extent of the same file
-module _ (d : Dpb) (user : ℕ) (v : Volume) (x : Extent) (number : ℕ) (user_ok : user ≢ deleted) (small : number < 512) (sound : IsSound d v user x) where
+-- no entry is free
+all_used : (es : List Entry) → length es ≤ first_free es → (i : ℕ) → i < length es → InUse es i
+unfolding first_free entry_at
+all_used es full i lt =
+    record { used = λ e. false≢true (sym (fails_before_first (λ (e : Entry). eqb e.user deleted) es i no_entry (omega arith)) ∙ eq-eqb _ _ e) }
+
+-- ---- after the close, another extent of the same file
+module _ (d : Dpb) (user : ℕ) (v : Volume) (x : Extent) (user_ok : user ≢ deleted) (sound : IsSound d v user x) where
   unfoldable pub closed_volume : Volume
   closed_volume = with_entries v (closing.after d v.entries v.reserved user x user_ok sound.well_formed sound.kept)
 
@@ -52,14 +94,15 @@ module _ (d : Dpb) (user : ℕ) (v : Volume) (x : Extent) (number : ℕ) (user_o
     map = sound.map;
   }
 
-  pub closed_first : close_extent d v.entries user x ≡ closed sound.kept.index (closing.after d v.entries v.reserved user x user_ok sound.well_formed sound.kept) x
-  closed_first = closing.answer d v.entries v.reserved user x user_ok sound.well_formed sound.kept
-
   pub same_file : (n : ℕ) → file_block d closed_volume.entries user x.name n ≡ open_file_block d v.entries user x n
   unfolding closed_volume with_entries
   same_file = closing.same_file d v.entries v.reserved user x user_ok sound.well_formed sound.kept
 
-  same_others : (other : ℕ) (name : List ℕ) (n : ℕ) → (other ≡ user → same_name name x.name ≡ true → ⊥) → file_block d closed_volume.entries other name n ≡ file_block d v.entries other name n
+  same_open : (n : ℕ) → open_file_block d closed_volume.entries user x n ≡ open_file_block d v.entries user x n
+  unfolding closed_volume with_entries
+  same_open = closing.same_open d v.entries v.reserved user x user_ok sound.well_formed sound.kept
+
+  pub same_others : (other : ℕ) (name : List ℕ) (n : ℕ) → (other ≡ user → same_name name x.name ≡ true → ⊥) → file_block d closed_volume.entries other name n ≡ file_block d v.entries other name n
   unfolding closed_volume with_entries
   same_others other name n apart = closing.others d v.entries v.reserved user x user_ok sound.well_formed sound.kept other name apart n
 
@@ -67,107 +110,138 @@ module _ (d : Dpb) (user : ℕ) (v : Volume) (x : Extent) (number : ℕ) (user_o
   unfolding closed_volume with_entries
   same_records = refl
 
+  same_reserved : closed_volume.reserved ≡ v.reserved
+  unfolding closed_volume with_entries
+  same_reserved = refl
+
+  pub same_length : length closed_volume.entries ≡ length v.entries
+  unfolding closed_volume with_entries
+  same_length = closing.same_length d v.entries v.reserved user x user_ok sound.well_formed sound.kept
+
+  used_before : (i : ℕ) → InUse closed_volume.entries i → InUse v.entries i
+  unfolding closed_volume with_entries
+  used_before i h = closing.used_before d v.entries v.reserved user x user_ok sound.well_formed sound.kept i h
+
   pub plain : has_wildcard x.name ≡ false
   plain = sound.kept.plain
 
-  -- ---- with an entry of the group
-  module _ (there : first_of d closed_volume.entries user x.name (group_of d number) < length closed_volume.entries) where
-    index : ℕ
-    index = first_of d closed_volume.entries user x.name (group_of d number)
+  pub others_closed : OthersStay d user x.name v closed_volume
+  unfolding directory_file
+  others_closed = record { stay = λ other name m ok apart. rw (same_others other name m apart, same_records) refl }
 
-    matched : is_of d user x.name (group_of d number) (entry_at closed_volume.entries index) ≡ true
-    unfolding index
-    matched = first_of_passes d closed_volume.entries user x.name (group_of d number) there
+  pub file_closed : FileStays d user v x closed_volume x
+  unfolding open_file
+  file_closed = record { stay = λ m. rw (same_open m, same_records) refl }
 
-    next : Extent
-    next = opened (entry_at closed_volume.entries index).extent number
-
-    opens : open_extent d closed_volume.entries user x.name number ≡ Some next
-    unfolding next
-    opens = opening.open_answer d closed_volume.entries closed_volume.reserved user x.name number index user_ok plain small sound_closed.well_formed matched
-
-    opened_moves : MovesOn d user v x number closed_volume next
-    unfolding next
-    opened_moves = record {
-      number_is = opening.opened_number (entry_at closed_volume.entries index).extent number small;
-      name_is = opening.opened_name_same d closed_volume.entries closed_volume.reserved user x.name number index user_ok plain small sound_closed.well_formed matched;
-      records = same_records;
-      file = λ n h. opening.open_more d closed_volume.entries closed_volume.reserved user x.name number index user_ok plain small sound_closed.well_formed matched n (λ z. h (sym (same_file n) ∙ z)) ∙ same_file n;
-      others = λ other name n ok apart. same_others other name n apart;
-      sound = record {
-        volume = sound_closed.volume;
-        well_formed = sound_closed.well_formed;
-        kept = opening.open_kept d closed_volume.entries closed_volume.reserved user x.name number index user_ok plain small sound_closed.well_formed matched;
-        map = rw (opening.opened_map (entry_at closed_volume.entries index).extent number) (sound_closed.volume.maps index (opening.there_used d closed_volume.entries closed_volume.reserved user x.name number index user_ok plain small sound_closed.well_formed matched));
-      };
-    }
-
-    opened_answer : open_or_make d closed_volume user x number ≡ moved closed_volume next
-    unfolding open_or_make opened_in
-    opened_answer = rw opens refl
-
-  -- ---- without one, at a free entry
-  module _ (past : length closed_volume.entries ≤ first_of d closed_volume.entries user x.name (group_of d number)) (free : first_free closed_volume.entries < length closed_volume.entries) where
-    none : (j : ℕ) → is_of d user x.name (group_of d number) (entry_at closed_volume.entries j) ≡ false
-    none = none_of d closed_volume.entries user x.name (group_of d number) user_ok past
-
-    last_volume : Volume
-    last_volume = with_entries closed_volume (making.after d closed_volume.entries closed_volume.reserved user x number user_ok plain small sound_closed.well_formed none free)
-
-    made_moves : MovesOn d user v x number last_volume (made x number)
-    unfolding last_volume with_entries
-    made_moves = record {
-      number_is = making.made_number x number small;
-      name_is = rw (making.made_name x number) (same_name-refl x.name);
-      records = same_records;
-      file = λ n h. making.make_file d closed_volume.entries closed_volume.reserved user x number user_ok plain small sound_closed.well_formed none free n ∙ same_file n;
-      others = λ other name n ok apart. making.make_files d closed_volume.entries closed_volume.reserved user x number user_ok plain small sound_closed.well_formed none free other name n ok ∙ same_others other name n apart;
-      sound = record {
-        volume = record { blocks = sound_closed.volume.blocks; space = sound_closed.volume.space; maps = making.make_maps d closed_volume.entries closed_volume.reserved user x number user_ok plain small sound_closed.well_formed none free sound_closed.volume.maps };
-        well_formed = making.make_well_formed d closed_volume.entries closed_volume.reserved user x number user_ok plain small sound_closed.well_formed none free;
-        kept = making.make_kept d closed_volume.entries closed_volume.reserved user x number user_ok plain small sound_closed.well_formed none free;
-        map = made_map x number;
-      };
-    }
-
-    made_answer : open_or_make d closed_volume user x number ≡ moved last_volume (made x number)
-    unfolding open_or_make opened_in made_in last_volume
-    made_answer =
-        rw (open_none d closed_volume.entries user x.name number plain past, making.make_answer d closed_volume.entries closed_volume.reserved user x number user_ok plain small sound_closed.well_formed none free) refl
-
-  move_full : length closed_volume.entries ≤ first_of d closed_volume.entries user x.name (group_of d number) → length closed_volume.entries ≤ first_free closed_volume.entries → open_or_make d closed_volume user x number ≡ no_extent
-  unfolding open_or_make opened_in made_in
-  move_full past full =
-      rw (open_none d closed_volume.entries user x.name number plain past, make_none closed_volume.entries user x number full) refl
-
-  pub goes_on : (open_or_make d closed_volume user x number ≡ no_extent) ⊎ ((v' : Volume) × (x' : Extent) × (open_or_make d closed_volume user x number ≡ moved v' x') × MovesOn d user v x number v' x')
-  goes_on =
-      elim (cases_lt (first_of d closed_volume.entries user x.name (group_of d number)) (length closed_volume.entries)) [
-        | inl there ↦ inr (closed_volume, next there, opened_answer there, opened_moves there)
-        | inr past ↦ elim (cases_lt (first_free closed_volume.entries) (length closed_volume.entries)) [
-          | inl free ↦ inr (last_volume past free, made x number, made_answer past free, made_moves past free)
-          | inr full ↦ inl (move_full past full)
-        ]
+  -- what the close leads to
+  pub closes : (purpose : Purpose) (protected : Bool) (t : Target) → (cross d purpose protected v user x t ≡ have_extent d purpose closed_volume user x t) ⊎ ((protected ≡ true) × (cross d purpose protected v user x t ≡ stopped (fault read_only) v x))
+  unfolding cross closed_in closed_volume
+  closes purpose protected t =
+      elim (closing.answer d v.entries v.reserved user x user_ok sound.well_formed sound.kept protected) [
+        | inl a ↦ inl (rw a.0 refl)
+        | inr p ↦ inr (p.0, rw p.1 refl)
       ]
 
-  pub by_close : closed_in d v user number (close_extent d v.entries user x) ≡ open_or_make d closed_volume user x number
-  unfolding closed_in closed_volume
-  by_close = rw closed_first refl
+  pub closes_free : (purpose : Purpose) (t : Target) → cross d purpose false v user x t ≡ have_extent d purpose closed_volume user x t
+  unfolding cross closed_in closed_volume
+  closes_free purpose t = rw (closing.answer_free d v.entries v.reserved user x user_ok sound.well_formed sound.kept) refl
+
+  module _ (t : Target) (small : t.number < 512) where
+    -- ---- without an entry of the group
+    module _ (past : length closed_volume.entries ≤ first_of d closed_volume.entries user x.name (group_of d t.number)) where
+      none : (j : ℕ) → is_of d user x.name (group_of d t.number) (entry_at closed_volume.entries j) ≡ false
+      none = none_of d closed_volume.entries user x.name (group_of d t.number) user_ok past
+
+      pub no_record_there : (n : ℕ) → n / 128 ≡ t.number → open_file d v.entries v.records user x n ≡ None
+      no_record_there n h =
+          no_file d v user x n (sym (same_file n) ∙ none_block d closed_volume.entries user x.name n (rw h none))
+
+      pub lacks : LacksExtent d user v x t.number closed_volume
+      lacks = record { sound = sound_closed; others = others_closed; file = file_closed; none = no_record_there }
+
+    -- ---- with one
+    module _ (there : first_of d closed_volume.entries user x.name (group_of d t.number) < length closed_volume.entries) where
+      index : ℕ
+      index = first_of d closed_volume.entries user x.name (group_of d t.number)
+
+      matched : is_of d user x.name (group_of d t.number) (entry_at closed_volume.entries index) ≡ true
+      unfolding index
+      matched = first_of_passes d closed_volume.entries user x.name (group_of d t.number) there
+
+      next : Extent
+      next = opened (entry_at closed_volume.entries index).extent t.number
+
+      opens : open_extent d closed_volume.entries user x.name t.number ≡ Some next
+      unfolding next
+      opens = opening.open_answer d closed_volume.entries closed_volume.reserved user x.name t.number index user_ok plain small sound_closed.well_formed matched
+
+      opened_moves : MovesOn d user v x t.number closed_volume next
+      unfolding next
+      opened_moves = record {
+        number_is = opening.opened_number (entry_at closed_volume.entries index).extent t.number small;
+        name_is = opening.opened_name_same d closed_volume.entries closed_volume.reserved user x.name t.number index user_ok plain small sound_closed.well_formed matched;
+        records = same_records;
+        reserved = same_reserved;
+        file = λ n h. opening.open_more d closed_volume.entries closed_volume.reserved user x.name t.number index user_ok plain small sound_closed.well_formed matched n (λ z. h (sym (same_file n) ∙ z)) ∙ same_file n;
+        others = λ other name n ok apart. same_others other name n apart;
+        sound = record {
+          volume = sound_closed.volume;
+          well_formed = sound_closed.well_formed;
+          kept = opening.open_kept d closed_volume.entries closed_volume.reserved user x.name t.number index user_ok plain small sound_closed.well_formed matched;
+          map = rw (opening.opened_map (entry_at closed_volume.entries index).extent t.number) (sound_closed.volume.maps index (opening.there_used d closed_volume.entries closed_volume.reserved user x.name t.number index user_ok plain small sound_closed.well_formed matched));
+        };
+      }
+
+      opened_answer : have_extent d writing closed_volume user x t ≡ standing closed_volume next t.current
+      unfolding have_extent opened_or_made
+      opened_answer = rw opens refl
+
+    -- ---- without one, at a free entry
+    module _ (past : length closed_volume.entries ≤ first_of d closed_volume.entries user x.name (group_of d t.number)) (free : first_free closed_volume.entries < length closed_volume.entries) where
+      last_volume : Volume
+      last_volume = with_entries closed_volume (making.after d closed_volume.entries closed_volume.reserved user x t.number user_ok plain small sound_closed.well_formed (none past) free)
+
+      made_moves : MovesOn d user v x t.number last_volume (made x t.number)
+      unfolding last_volume with_entries
+      made_moves = record {
+        number_is = making.made_number x t.number small;
+        name_is = rw (making.made_name x t.number) (same_name-refl x.name);
+        records = same_records;
+        reserved = same_reserved;
+        file = λ n h. making.make_file d closed_volume.entries closed_volume.reserved user x t.number user_ok plain small sound_closed.well_formed (none past) free n ∙ same_file n;
+        others = λ other name n ok apart. making.make_files d closed_volume.entries closed_volume.reserved user x t.number user_ok plain small sound_closed.well_formed (none past) free other name n ok ∙ same_others other name n apart;
+        sound = record {
+          volume = record { blocks = sound_closed.volume.blocks; space = sound_closed.volume.space; maps = making.make_maps d closed_volume.entries closed_volume.reserved user x t.number user_ok plain small sound_closed.well_formed (none past) free sound_closed.volume.maps };
+          well_formed = making.make_well_formed d closed_volume.entries closed_volume.reserved user x t.number user_ok plain small sound_closed.well_formed (none past) free;
+          kept = making.make_kept d closed_volume.entries closed_volume.reserved user x t.number user_ok plain small sound_closed.well_formed (none past) free;
+          map = made_map x t.number;
+        };
+      }
+
+      made_answer : have_extent d writing closed_volume user x t ≡ standing last_volume (made x t.number) t.current
+      unfolding have_extent opened_or_made made_in last_volume
+      made_answer =
+          rw (open_none d closed_volume.entries user x.name t.number plain past, making.make_answer d closed_volume.entries closed_volume.reserved user x t.number user_ok plain small sound_closed.well_formed (none past) free) refl
+
+    move_full : length closed_volume.entries ≤ first_of d closed_volume.entries user x.name (group_of d t.number) → length closed_volume.entries ≤ first_free closed_volume.entries → have_extent d writing closed_volume user x t ≡ stopped t.missing closed_volume x
+    unfolding have_extent opened_or_made made_in
+    move_full past full =
+        rw (open_none d closed_volume.entries user x.name t.number plain past, make_none closed_volume.entries user x t.number full) refl
+
+    was_full : length closed_volume.entries ≤ first_free closed_volume.entries → IsFull v.entries
+    was_full full = record { used = λ i lt. used_before i (all_used closed_volume.entries full i (rw same_length lt)) }
+
+    -- a write goes on in the extent of the number, or the directory is full
+    pub goes_on : ((v' : Volume) × (x' : Extent) × (have_extent d writing closed_volume user x t ≡ standing v' x' t.current) × MovesOn d user v x t.number v' x') ⊎ ((have_extent d writing closed_volume user x t ≡ stopped t.missing closed_volume x) × LacksExtent d user v x t.number closed_volume × IsFull v.entries)
+    goes_on =
+        elim (cases_lt (first_of d closed_volume.entries user x.name (group_of d t.number)) (length closed_volume.entries)) [
+          | inl there ↦ inl (closed_volume, next there, opened_answer there, opened_moves there)
+          | inr past ↦ elim (cases_lt (first_free closed_volume.entries) (length closed_volume.entries)) [
+            | inl free ↦ inl (last_volume past free, made x t.number, made_answer past free, made_moves past free)
+            | inr full ↦ inr (move_full past full, lacks past, was_full full)
+          ]
+        ]
 
 pub number_below : (x : Extent) → extent_number x < 512
 unfolding extent_number
 number_below x = omega arith
-
-pub moves_to_next : (d : Dpb) (user : ℕ) (v : Volume) (x : Extent) → user ≢ deleted → IsSound d v user x → MovesToNext d user v x
-unfolding next_extent
-moves_to_next d user v x user_ok sound =
-    elim (cases_eq (extent_number x) 511) [
-      | inl e ↦ inl (rw (eq-eqb _ _ e) refl)
-      | inr n ↦
-          let small : extent_number x + 1 < 512 = let b = number_below x in omega arith in
-          let step = by_close d user v x (extent_number x + 1) user_ok small sound in
-          elim (goes_on d user v x (extent_number x + 1) user_ok small sound) [
-            | inl e ↦ inl (rw (ne_eqb _ _ n) (step ∙ e))
-            | inr m ↦ inr (m.0, m.1, rw (ne_eqb _ _ n) (step ∙ m.2), m.3)
-          ]
-    ]

@@ -5,7 +5,8 @@ use Rattle.std.proofs.lemmas.Bool.Decides.{nat_tests}
 use Rattle.cpm_geom.specs.declared.dpb.Dpb.{Dpb}
 use Rattle.cpm_files.specs.declared.extent.Extent.{Extent}
 use Rattle.cpm_files.specs.declared.extent.Entry.{Entry}
-use Rattle.cpm_files.specs.Files.{extent_number, group_of, map_place, same_name, has_wildcard, deleted, entry_at, InUse, is_of, first_of, first_match, record_count_of, open_record_count, block_number, block_if, entry_block, file_block, open_block, open_file_block, IsWellFormed, IsKept, opened, open_extent}
+use Rattle.cpm_files.specs.Files.{extent_number, group_of, map_place, same_name, has_wildcard, deleted, entry_at, InUse, is_of, first_of, first_match, record_count_of, open_record_count, block_number, block_if, entry_block, file_block, open_block, open_file_block, IsWellFormed, IsKept}
+use Rattle.cpm_files.specs.Operations.{opened, open_extent}
 use Rattle.cpm_files.proofs.Entries.{in_use_within, is_of_parts, is_of_from, first_of_is}
 use Rattle.cpm_files.proofs.NameLemmas.{first_match_plain, same_name-trans, same_name-sym, same_name-refl, same_wildcard, first_of_same, file_block_same}
 

@@ -1,15 +1,17 @@
--- The law of a sequential read.
-use Rattle.std.proofs.Common.{◌≡◌, ◌≢◌, ◌⊎◌, ℕ, ◌/◌, ◌%◌, ◌*◌, ◌+◌, ◌<◌, ◌≤◌, true, List, [], Some, None, length, get_or, sym, refl, ap, ◌∙◌, inl, inr, arith}
+-- The laws of reads.
+use Rattle.std.proofs.Common.{◌≡◌, ◌≢◌, ◌⊎◌, ℕ, ◌/◌, ◌%◌, ◌*◌, ◌+◌, ◌<◌, ◌≤◌, Bool, true, List, [], Some, None, length, get_or, sym, refl, ap, ◌∙◌, inl, inr, arith}
 use Rattle.std.proofs.lemmas.Bool.{eq-eqb, ne_eqb, cases_eq, cases_lt, lt-ltb, le-ltb}
 use Rattle.std.proofs.lemmas.Bool.Decides.{nat_tests}
 use Rattle.cpm_geom.specs.declared.dpb.Dpb.{Dpb}
 use Rattle.cpm_files.specs.declared.extent.Extent.{Extent}
 use Rattle.cpm_files.specs.declared.extent.Entry.{Entry}
-use Rattle.cpm_files.specs.Files.{extent_number, group_of, map_place, deleted, entry_at, first_of, block_number, block_if, open_record_count, open_block, file_block, open_file_block, drive_record, record_in, open_file, Volume, IsSound, get_record, no_record, read, read_next, read_at, staying, ReadsAt, read_opened, read_closed, open_to_read, ReadsNext, is_of, record_count_of, entry_block, opened, close_extent, with_entries}
+use Rattle.cpm_files.specs.Files.{extent_number, group_of, map_place, deleted, entry_at, is_of, first_of, record_count_of, block_number, block_if, open_record_count, open_block, entry_block, file_block, open_file_block, drive_record, record_in, open_file, Volume, IsSound}
+use Rattle.cpm_files.specs.Operations.{Answer, done, no_record, no_extent, read_only, fault, Outcome, ends, gives, opened, open_to_read, reading, Target, stopped, standing, opened_in, have_extent, cross, next_target, target_of, next_place, place_at, get_record, read_in, read_next, read_at}
+use Rattle.cpm_files.specs.Laws.{OthersStay, FileStays, position, StaysSound, HasRead, HasNone, IsProtected, ReadsNext, ReadsAt}
 use Rattle.cpm_files.proofs.Entries.{first_of_passes}
 use Rattle.cpm_files.proofs.NameLemmas.{first_match_plain}
-use Rattle.cpm_files.proofs.Making.{none_block}
-use Rattle.cpm_files.proofs.Moving.{none_of, number_below, closed_volume, sound_closed, same_file, same_records, closed_first}
+use Rattle.cpm_files.proofs.Records.{place_back, record_back}
+use Rattle.cpm_files.proofs.Moving.{LacksExtent, no_file, number_below, closed_volume, sound_closed, same_file, same_records, others_closed, file_closed, lacks, closes}
 use Rattle.cpm_files.proofs.Opening as opening
 
 own_count : (number : ℕ) (x stored : Extent) → number ≡ extent_number x → open_record_count number x stored ≡ x.record_count
@@ -17,26 +19,10 @@ unfolding open_record_count
 own_count number x stored h = grind (arith, nat_tests)
 
 -- the block of a record of the extent itself
-own_block : (d : Dpb) (es : List Entry) (user : ℕ) (x : Extent) (n : ℕ) → n / 128 ≡ extent_number x → open_file_block d es user x n ≡ block_if x.record_count (n % 128) x (map_place d n)
+pub own_block : (d : Dpb) (es : List Entry) (user : ℕ) (x : Extent) (n : ℕ) → n / 128 ≡ extent_number x → open_file_block d es user x n ≡ block_if x.record_count (n % 128) x (map_place d n)
 unfolding open_file_block open_block
 own_block d es user x n h =
     rw (eq-eqb _ _ (ap (group_of d) h), own_count (n / 128) x _ h) refl
-
--- a read in the extent answers the file's record
-abbrev ReadsRecord : Dpb → ℕ → Volume → Extent → ℕ → ℕ → Type 0
-ReadsRecord d user v x n current =
-    ((get_record d v x n current ≡ no_record) × (open_file d v.entries v.records user x n ≡ None)) ⊎ ((bytes : List ℕ) × (get_record d v x n current ≡ read v x (current + 1) bytes) × (open_file d v.entries v.records user x n ≡ Some bytes))
-
-reads_record : (d : Dpb) (user : ℕ) (v : Volume) (x : Extent) (n current : ℕ) → IsSound d v user x → n / 128 ≡ extent_number x → n % 128 ≡ current → ReadsRecord d user v x n current
-unfolding get_record open_file record_in block_if
-reads_record d user v x n current sound h k =
-    rw (own_block d v.entries user x n h, k) (elim (cases_lt current x.record_count) [
-      | inr ge ↦ inl (rw (le-ltb _ _ ge) refl, rw (le-ltb _ _ ge) refl)
-      | inl lt ↦ elim (cases_eq (block_number x (map_place d n)) 0) [
-        | inl z ↦ inl (rw (lt-ltb _ _ lt, z, le-ltb d.last_block 0 (omega arith)) refl, rw (lt-ltb _ _ lt, z) refl)
-        | inr there ↦ inr (get_or v.records (drive_record d (block_number x (map_place d n)) n) [], rw (lt-ltb _ _ lt, le-ltb _ _ (sound.kept.stored (map_place d n) there).within, ne_eqb _ _ there) refl, rw (lt-ltb _ _ lt, ne_eqb _ _ there) refl)
-      ]
-    ])
 
 -- ---- the count is 0 past the entry's number
 no_count : (number own count k : ℕ) → own < number → k < record_count_of number own count → ⊥
@@ -61,7 +47,7 @@ past_count : (number k : ℕ) (x stored : Extent) → extent_number x < number �
 unfolding open_record_count record_count_of
 past_count number k x stored a b l = grind (arith, nat_tests)
 
-past_file : (d : Dpb) (es : List Entry) (user : ℕ) (x : Extent) (n : ℕ) → 511 < n / 128 → open_file_block d es user x n ≡ 0
+pub past_file : (d : Dpb) (es : List Entry) (user : ℕ) (x : Extent) (n : ℕ) → 511 < n / 128 → open_file_block d es user x n ≡ 0
 unfolding open_file_block open_block
 past_file d es user x n h =
     elim (cases_eq (group_of d (n / 128)) (group_of d (extent_number x))) [
@@ -71,136 +57,269 @@ past_file d es user x n h =
       | inr g ↦ rw (ne_eqb _ _ g) (past_directory d es user x.name n h)
     ]
 
-no_file : (d : Dpb) (v : Volume) (user : ℕ) (x : Extent) (n : ℕ) → open_file_block d v.entries user x n ≡ 0 → open_file d v.entries v.records user x n ≡ None
-unfolding open_file record_in
-no_file d v user x n h = rw h refl
+-- ---- the record of the extent
+abbrev ReadsRecord : Dpb → ℕ → Volume → Extent → ℕ → ℕ → Type 0
+ReadsRecord d user v x n next =
+    ((get_record d v x (n % 128) next ≡ ends no_record v x (n % 128)) × (open_file d v.entries v.records user x n ≡ None)) ⊎ ((bytes : List ℕ) × (get_record d v x (n % 128) next ≡ gives v x next bytes) × (open_file d v.entries v.records user x n ≡ Some bytes))
 
--- ---- the read in the next extent
-module _ (d : Dpb) (user : ℕ) (v : Volume) (x : Extent) (number : ℕ) (user_ok : user ≢ deleted) (small : number < 512) (sound : IsSound d v user x) where
+reads_record : (d : Dpb) (user : ℕ) (v : Volume) (x : Extent) (n next : ℕ) → IsSound d v user x → n / 128 ≡ extent_number x → ReadsRecord d user v x n next
+unfolding get_record open_file record_in block_if
+reads_record d user v x n next sound h =
+    rw (own_block d v.entries user x n h, place_back d x n h, record_back d (block_number x (map_place d n)) n) (elim (cases_lt (n % 128) x.record_count) [
+      | inr ge ↦ inl (rw (le-ltb _ _ ge) refl, rw (le-ltb _ _ ge) refl)
+      | inl lt ↦ elim (cases_eq (block_number x (map_place d n)) 0) [
+        | inl z ↦ inl (rw (lt-ltb _ _ lt, z, le-ltb d.last_block 0 (omega arith)) refl, rw (lt-ltb _ _ lt, z) refl)
+        | inr there ↦ inr (get_or v.records (drive_record d (block_number x (map_place d n)) n) [], rw (lt-ltb _ _ lt, le-ltb _ _ (sound.kept.stored (map_place d n) there).within, ne_eqb _ _ there) refl, rw (lt-ltb _ _ lt, ne_eqb _ _ there) refl)
+      ]
+    ])
+
+-- ---- the file in another extent, every record as it was
+pub record SameFile (d : Dpb) (user : ℕ) (v : Volume) (x : Extent) (number : ℕ) (v1 : Volume) (x1 : Extent) : Type 0 where
+  pub number_is : extent_number x1 ≡ number
+  pub sound : IsSound d v1 user x1
+  pub others : OthersStay d user x.name v v1
+  pub file : FileStays d user v x v1 x1
+
+same_there : (d : Dpb) (user : ℕ) (v : Volume) (x : Extent) (number : ℕ) → IsSound d v user x → extent_number x ≡ number → SameFile d user v x number v x
+same_there d user v x number sound e = record {
+  number_is = e;
+  sound = sound;
+  others = record { stay = λ other name m ok apart. refl };
+  file = record { stay = λ m. refl };
+}
+
+-- what is said of a read that came to its record
+abbrev Reads : Dpb → ℕ → Volume → Extent → ℕ → ℕ → Outcome → Type 0
+Reads d user v x n after o =
+    StaysSound d user v x o × FileStays d user v x o.volume o.extent × (((o.answer ≡ done) × HasRead d user v x n o × (position o.extent o.current ≡ after)) ⊎ ((o.answer ≡ no_record) × HasNone d user v x n o × (position o.extent o.current ≡ n)))
+
+gives_there : (d : Dpb) (user : ℕ) (v : Volume) (x : Extent) (n next after : ℕ) (v1 : Volume) (x1 : Extent) (bytes : List ℕ) → SameFile d user v x (n / 128) v1 x1 → next ≤ 128 → 128 * (n / 128) + next ≡ after → open_file d v1.entries v1.records user x1 n ≡ Some bytes → Reads d user v x n after (gives v1 x1 next bytes)
+unfolding gives position
+gives_there d user v x n next after v1 x1 bytes same small last there = (
+  record { sound = same.sound; current = small; others = same.others },
+  same.file,
+  inl (refl, record { bytes = bytes; there = sym (same.file.stay n) ∙ there; given = refl }, rw same.number_is last),
+)
+
+ends_there : (d : Dpb) (user : ℕ) (v : Volume) (x : Extent) (n after : ℕ) (v1 : Volume) (x1 : Extent) → SameFile d user v x (n / 128) v1 x1 → open_file d v1.entries v1.records user x1 n ≡ None → Reads d user v x n after (ends no_record v1 x1 (n % 128))
+unfolding ends position
+ends_there d user v x n after v1 x1 same none = (
+  record { sound = same.sound; current = omega arith; others = same.others },
+  same.file,
+  inr (refl, record { none = sym (same.file.stay n) ∙ none; given = refl }, rw same.number_is (omega arith)),
+)
+
+reads_there : (d : Dpb) (user : ℕ) (v : Volume) (x : Extent) (n here next after : ℕ) (v1 : Volume) (x1 : Extent) → SameFile d user v x (n / 128) v1 x1 → here ≡ n % 128 → next ≤ 128 → 128 * (n / 128) + next ≡ after → Reads d user v x n after (get_record d v1 x1 here next)
+reads_there d user v x n here next after v1 x1 same at_here small last =
+    elim (reads_record d user v1 x1 n next same.sound (sym same.number_is)) [
+      | inl e ↦ rw (at_here, e.0) (ends_there d user v x n after v1 x1 same e.1)
+      | inr e ↦ rw (at_here, e.1) (gives_there d user v x n next after v1 x1 e.0 same small last e.2)
+    ]
+
+-- ---- after the close, the extent of a number
+module _ (d : Dpb) (user : ℕ) (v : Volume) (x : Extent) (user_ok : user ≢ deleted) (sound : IsSound d v user x) (t : Target) (small : t.number < 512) where
   v1 : Volume
-  v1 = closed_volume d user v x number user_ok small sound
+  v1 = closed_volume d user v x user_ok sound
 
   s1 : IsSound d v1 user x
   unfolding v1
-  s1 = sound_closed d user v x number user_ok small sound
+  s1 = sound_closed d user v x user_ok sound
 
   file1 : (n : ℕ) → file_block d v1.entries user x.name n ≡ open_file_block d v.entries user x n
   unfolding v1
-  file1 = same_file d user v x number user_ok small sound
+  file1 = same_file d user v x user_ok sound
 
   records1 : v1.records ≡ v.records
   unfolding v1
-  records1 = same_records d user v x number user_ok small sound
+  records1 = same_records d user v x user_ok sound
 
-  by_close : (n : ℕ) → read_closed d v user number n (close_extent d v.entries user x) ≡ read_opened d v1 n (open_to_read d v1.entries user x.name number)
-  unfolding read_closed v1 closed_volume with_entries
-  by_close n = rw (closed_first d user v x number user_ok small sound) refl
+  abbrev Answers : Type 0
+  Answers =
+      ((x' : Extent) × (have_extent d reading v1 user x t ≡ standing v1 x' t.current) × SameFile d user v x t.number v1 x') ⊎ ((have_extent d reading v1 user x t ≡ stopped t.missing v1 x) × LacksExtent d user v x t.number v1)
 
-  Answers : ℕ → Type 0
-  Answers n =
-      ((read_opened d v1 n (open_to_read d v1.entries user x.name number) ≡ no_record) × (open_file d v.entries v.records user x n ≡ None)) ⊎ ((x' : Extent) × (bytes : List ℕ) × (read_opened d v1 n (open_to_read d v1.entries user x.name number) ≡ read v1 x' (n % 128 + 1) bytes) × (open_file d v.entries v.records user x n ≡ Some bytes) × IsSound d v1 user x' × ((m : ℕ) → open_file d v1.entries v1.records user x' m ≡ open_file d v.entries v.records user x m))
+  not_there : length v1.entries ≤ first_of d v1.entries user x.name (group_of d t.number) → have_extent d reading v1 user x t ≡ stopped t.missing v1 x
+  unfolding have_extent opened_in open_to_read
+  not_there past =
+      rw (first_match_plain d v1.entries user x.name (group_of d t.number) sound.kept.plain, le-ltb _ _ past) refl
 
-  not_there : (n : ℕ) → n / 128 ≡ number → length v1.entries ≤ first_of d v1.entries user x.name (group_of d number) → Answers n
-  unfolding Answers read_opened open_to_read
-  not_there n h past =
-      inl (rw (first_match_plain d v1.entries user x.name (group_of d number) sound.kept.plain, le-ltb _ _ past) refl, no_file d v user x n (sym (file1 n) ∙ none_block d v1.entries user x.name n (rw h (none_of d v1.entries user x.name (group_of d number) user_ok past))))
+  lacks_it : length v1.entries ≤ first_of d v1.entries user x.name (group_of d t.number) → LacksExtent d user v x t.number v1
+  unfolding v1
+  lacks_it past = lacks d user v x user_ok sound t small past
 
-  module _ (there : first_of d v1.entries user x.name (group_of d number) < length v1.entries) where
+  module _ (there : first_of d v1.entries user x.name (group_of d t.number) < length v1.entries) where
     index : ℕ
-    index = first_of d v1.entries user x.name (group_of d number)
+    index = first_of d v1.entries user x.name (group_of d t.number)
 
-    matched : is_of d user x.name (group_of d number) (entry_at v1.entries index) ≡ true
+    matched : is_of d user x.name (group_of d t.number) (entry_at v1.entries index) ≡ true
     unfolding index
-    matched = first_of_passes d v1.entries user x.name (group_of d number) there
+    matched = first_of_passes d v1.entries user x.name (group_of d t.number) there
 
-    by_entry : (n : ℕ) → n / 128 ≡ number → open_file_block d v.entries user x n ≡ entry_block d (entry_at v1.entries index) n
+    by_entry : (n : ℕ) → n / 128 ≡ t.number → open_file_block d v.entries user x n ≡ entry_block d (entry_at v1.entries index) n
     unfolding file_block index
     by_entry n h = sym (file1 n) ∙ rw h refl
 
-    lesser : (n : ℕ) → n / 128 ≡ number → extent_number (entry_at v1.entries index).extent < number → Answers n
-    unfolding Answers read_opened open_to_read index
-    lesser n h l =
-        inl (rw (first_match_plain d v1.entries user x.name (group_of d number) sound.kept.plain, lt-ltb _ _ there, lt-ltb _ _ l) refl, no_file d v user x n (by_entry n h ∙ past_entry d _ n (rw h l)))
+    lesser_answer : extent_number (entry_at v1.entries index).extent < t.number → have_extent d reading v1 user x t ≡ stopped t.missing v1 x
+    unfolding have_extent opened_in open_to_read index
+    lesser_answer l =
+        rw (first_match_plain d v1.entries user x.name (group_of d t.number) sound.kept.plain, lt-ltb _ _ there, lt-ltb _ _ l) refl
+
+    others1 : OthersStay d user x.name v v1
+    unfolding v1
+    others1 = others_closed d user v x user_ok sound
+
+    closed1 : FileStays d user v x v1 x
+    unfolding v1
+    closed1 = file_closed d user v x user_ok sound
+
+    lesser_lacks : extent_number (entry_at v1.entries index).extent < t.number → LacksExtent d user v x t.number v1
+    lesser_lacks l = record {
+      sound = s1;
+      others = others1;
+      file = closed1;
+      none = λ n h. no_file d v user x n (by_entry n h ∙ past_entry d _ n (rw h l));
+    }
 
     next : Extent
-    next = opened (entry_at v1.entries index).extent number
+    next = opened (entry_at v1.entries index).extent t.number
 
-    module _ (greater : number ≤ extent_number (entry_at v1.entries index).extent) where
+    module _ (greater : t.number ≤ extent_number (entry_at v1.entries index).extent) where
       sound_next : IsSound d v1 user next
       unfolding next
       sound_next = record {
         volume = s1.volume;
         well_formed = s1.well_formed;
-        kept = opening.open_kept d v1.entries v1.reserved user x.name number index user_ok sound.kept.plain small s1.well_formed matched;
-        map = rw (opening.opened_map (entry_at v1.entries index).extent number) (s1.volume.maps index (opening.there_used d v1.entries v1.reserved user x.name number index user_ok sound.kept.plain small s1.well_formed matched));
+        kept = opening.open_kept d v1.entries v1.reserved user x.name t.number index user_ok sound.kept.plain small s1.well_formed matched;
+        map = rw (opening.opened_map (entry_at v1.entries index).extent t.number) (s1.volume.maps index (opening.there_used d v1.entries v1.reserved user x.name t.number index user_ok sound.kept.plain small s1.well_formed matched));
       }
 
       same_next : (m : ℕ) → open_file d v1.entries v1.records user next m ≡ open_file d v.entries v.records user x m
       unfolding open_file next
       same_next m =
-          rw (opening.open_same d v1.entries v1.reserved user x.name number index user_ok sound.kept.plain small s1.well_formed matched greater m ∙ file1 m, records1) refl
+          rw (opening.open_same d v1.entries v1.reserved user x.name t.number index user_ok sound.kept.plain small s1.well_formed matched greater m ∙ file1 m, records1) refl
 
-      number_next : extent_number next ≡ number
+      number_next : extent_number next ≡ t.number
       unfolding next
-      number_next = opening.opened_number (entry_at v1.entries index).extent number small
+      number_next = opening.opened_number (entry_at v1.entries index).extent t.number small
 
-      opens : open_to_read d v1.entries user x.name number ≡ Some next
-      unfolding open_to_read next index
+      opens : have_extent d reading v1 user x t ≡ standing v1 next t.current
+      unfolding have_extent opened_in open_to_read next index
       opens =
-          rw (first_match_plain d v1.entries user x.name (group_of d number) sound.kept.plain, lt-ltb _ _ there, le-ltb _ _ greater) refl
+          rw (first_match_plain d v1.entries user x.name (group_of d t.number) sound.kept.plain, lt-ltb _ _ there, le-ltb _ _ greater) refl
 
-      greater_or_equal : (n : ℕ) → n / 128 ≡ number → Answers n
-      unfolding Answers read_opened
-      greater_or_equal n h =
-          elim (reads_record d user v1 next n (n % 128) sound_next (rw number_next h) refl) [
-            | inl e ↦ inl (rw opens e.0, sym (same_next n) ∙ e.1)
-            | inr e ↦ inr (next, e.0, rw opens e.1, sym (same_next n) ∙ e.2, sound_next, same_next)
-          ]
+      same_file_next : SameFile d user v x t.number v1 next
+      same_file_next = record { number_is = number_next; sound = sound_next; others = others1; file = record { stay = same_next } }
 
-  answers : (n : ℕ) → n / 128 ≡ number → Answers n
-  answers n h =
-      elim (cases_lt (first_of d v1.entries user x.name (group_of d number)) (length v1.entries)) [
-        | inr past ↦ not_there n h past
-        | inl there ↦ elim (cases_lt (extent_number (entry_at v1.entries (index there)).extent) number) [
-          | inl l ↦ lesser there n h l
-          | inr g ↦ greater_or_equal there g n h
+  answers : Answers
+  answers =
+      elim (cases_lt (first_of d v1.entries user x.name (group_of d t.number)) (length v1.entries)) [
+        | inr past ↦ inr (not_there past, lacks_it past)
+        | inl there ↦ elim (cases_lt (extent_number (entry_at v1.entries (index there)).extent) t.number) [
+          | inl l ↦ inr (lesser_answer there l, lesser_lacks there l)
+          | inr g ↦ inl (next there, opens there g, same_file_next there g)
         ]
       ]
 
-pub reads_next : (d : Dpb) (user : ℕ) (v : Volume) (x : Extent) (current : ℕ) → user ≢ deleted → IsSound d v user x → current ≤ 128 → ReadsNext d user v x current
-unfolding read_next Answers
-reads_next d user v x current user_ok sound h =
-    elim (cases_lt current 128) [
-      | inl lt ↦ elim (reads_record d user v x (128 * extent_number x + current) current sound (omega arith) (omega arith)) [
-        | inl e ↦ inl (rw (lt-ltb _ _ lt) e.0, e.1)
-        | inr e ↦ inr (v, x, current + 1, e.0, rw (lt-ltb _ _ lt) e.1, omega arith, e.2, sound, λ m. refl)
+  -- where a read that crosses comes to
+  abbrev Crosses : Bool → Type 0
+  Crosses protected =
+      ((x' : Extent) × (cross d reading protected v user x t ≡ standing v1 x' t.current) × SameFile d user v x t.number v1 x') ⊎ (((cross d reading protected v user x t ≡ stopped t.missing v1 x) × LacksExtent d user v x t.number v1) ⊎ ((protected ≡ true) × (cross d reading protected v user x t ≡ stopped (fault read_only) v x)))
+
+  closes1 : (protected : Bool) → (cross d reading protected v user x t ≡ have_extent d reading v1 user x t) ⊎ ((protected ≡ true) × (cross d reading protected v user x t ≡ stopped (fault read_only) v x))
+  unfolding v1
+  closes1 protected = closes d user v x user_ok sound reading protected t
+
+  crosses : (protected : Bool) → Crosses protected
+  crosses protected =
+      elim (closes1 protected) [
+        | inr p ↦ inr (inr p)
+        | inl e ↦ elim answers [
+          | inl a ↦ inl (a.0, e ∙ a.1, a.2)
+          | inr a ↦ inr (inl (e ∙ a.0, a.1))
+        ]
       ]
-      | inr ge ↦ elim (cases_eq (extent_number x) 511) [
-        | inl last ↦ inl (rw (le-ltb _ _ ge, eq-eqb _ _ last) refl, no_file d v user x _ (past_file d v.entries user x _ (omega arith)))
-        | inr n ↦
-            let small : extent_number x + 1 < 512 = let b = number_below x in omega arith in
-            let same : 128 * extent_number x + current ≡ 128 * (extent_number x + 1) = omega arith in
-            let step = by_close d user v x (extent_number x + 1) user_ok small sound (128 * (extent_number x + 1)) in
-            elim (answers d user v x (extent_number x + 1) user_ok small sound (128 * (extent_number x + 1)) (omega arith)) [
-              | inl e ↦ inl (rw (le-ltb _ _ ge, ne_eqb _ _ n) (step ∙ e.0), rw same e.1)
-              | inr e ↦ inr (v1 d user v x (extent_number x + 1) user_ok small sound, e.0, 128 * (extent_number x + 1) % 128 + 1, e.1, rw (le-ltb _ _ ge, ne_eqb _ _ n) (step ∙ e.2), omega arith, rw same e.3, e.4, e.5)
+
+-- ---- a read that did not come to its record
+abbrev Misses : Dpb → ℕ → Volume → Extent → ℕ → ℕ → Answer → Outcome → Type 0
+Misses d user v x current n answer o =
+    StaysSound d user v x o × FileStays d user v x o.volume o.extent × (o.answer ≡ answer) × HasNone d user v x n o × (o.extent ≡ x) × (o.current ≡ current)
+
+misses : (d : Dpb) (user : ℕ) (v : Volume) (x : Extent) (current n number : ℕ) (answer : Answer) (v1 : Volume) → current ≤ 128 → LacksExtent d user v x number v1 → n / 128 ≡ number → Misses d user v x current n answer (ends answer v1 x current)
+unfolding ends
+misses d user v x current n number answer v1 small lack inside =
+    (record { sound = lack.sound; current = small; others = lack.others }, lack.file, refl, record { none = lack.none n inside; given = refl }, refl, refl)
+
+misses_last : (d : Dpb) (user : ℕ) (v : Volume) (x : Extent) (current n : ℕ) → current ≤ 128 → IsSound d v user x → 511 < n / 128 → Misses d user v x current n no_record (ends no_record v x current)
+unfolding ends
+misses_last d user v x current n small sound past =
+    (record { sound = sound; current = small; others = record { stay = λ other name m ok apart. refl } }, record { stay = λ m. refl }, refl, record { none = no_file d v user x n (past_file d v.entries user x n past); given = refl }, refl, refl)
+
+-- ---- a read that a protected drive refused
+abbrev Refuses : Dpb → ℕ → Bool → Volume → Extent → ℕ → Outcome → Type 0
+Refuses d user protected v x current o =
+    StaysSound d user v x o × FileStays d user v x o.volume o.extent × IsProtected protected v x current o
+
+refuses : (d : Dpb) (user : ℕ) (protected : Bool) (v : Volume) (x : Extent) (current : ℕ) → current ≤ 128 → IsSound d v user x → protected ≡ true → Refuses d user protected v x current (ends (fault read_only) v x current)
+unfolding ends
+refuses d user protected v x current small sound is_protected =
+    (record { sound = sound; current = small; others = record { stay = λ other name m ok apart. refl } }, record { stay = λ m. refl }, record { answer = refl; protected_is = is_protected; untouched = record { volume = refl; extent = refl; current_is = refl; bytes = refl } })
+
+-- ---- a random read
+at_from : (d : Dpb) (user : ℕ) (protected : Bool) (v : Volume) (x : Extent) (current n : ℕ) (o : Outcome) → Reads d user v x n n o → ReadsAt d user protected v x current n o
+at_from d user protected v x current n o r =
+    elim r.2 [ inl h ↦ (r.0, r.1, inl h) | inr h ↦ (r.0, r.1, inr (inl h)) ]
+
+at_miss : (d : Dpb) (user : ℕ) (protected : Bool) (v : Volume) (x : Extent) (current n : ℕ) (o : Outcome) → Misses d user v x current n no_extent o → ReadsAt d user protected v x current n o
+at_miss d user protected v x current n o m = (m.0, m.1, inr (inr (inl (m.2, m.3, m.4, m.5))))
+
+at_refused : (d : Dpb) (user : ℕ) (protected : Bool) (v : Volume) (x : Extent) (current n : ℕ) (o : Outcome) → Refuses d user protected v x current o → ReadsAt d user protected v x current n o
+at_refused d user protected v x current n o r = (r.0, r.1, inr (inr (inr r.2)))
+
+pub reads_at : (d : Dpb) (user : ℕ) (protected : Bool) (v : Volume) (x : Extent) (current n : ℕ) → user ≢ deleted → IsSound d v user x → current ≤ 128 → n < 65536 → ReadsAt d user protected v x current n (read_at d protected v user x current n)
+unfolding read_at read_in place_at target_of
+reads_at d user protected v x current n user_ok sound small h =
+    elim (cases_eq (n / 128) (extent_number x)) [
+      | inl same ↦ rw (eq-eqb _ _ same) (at_from d user protected v x current n _ (reads_there d user v x n (n % 128) (n % 128 + 0) n v x (same_there d user v x (n / 128) sound (sym same)) refl (omega arith) (omega arith)))
+      | inr other ↦
+          let inside : n / 128 < 512 = omega arith in
+          elim (crosses d user v x user_ok sound (target_of no_extent n) inside protected) [
+            | inl m ↦ rw (ne_eqb _ _ other, m.1) (at_from d user protected v x current n _ (reads_there d user v x n (n % 128) (n % 128 + 0) n (v1 d user v x user_ok sound (target_of no_extent n) inside) m.0 m.2 refl (omega arith) (omega arith)))
+            | inr e ↦ elim e [
+              | inl s ↦ rw (ne_eqb _ _ other, s.0) (at_miss d user protected v x current n _ (misses d user v x current n (n / 128) no_extent _ small s.1 refl))
+              | inr p ↦ rw (ne_eqb _ _ other, p.1) (at_refused d user protected v x current n _ (refuses d user protected v x current small sound p.0))
             ]
-      ]
+          ]
     ]
 
-pub reads_at : (d : Dpb) (user : ℕ) (v : Volume) (x : Extent) (n : ℕ) → user ≢ deleted → IsSound d v user x → n < 65536 → ReadsAt d user v x n
-unfolding read_at staying Answers
-reads_at d user v x n user_ok sound h =
-    elim (cases_eq (n / 128) (extent_number x)) [
-      | inl same ↦ elim (reads_record d user v x n (n % 128) sound same refl) [
-        | inl e ↦ inl (rw (eq-eqb _ _ same, e.0) refl, e.1)
-        | inr e ↦ inr (v, x, e.0, rw (eq-eqb _ _ same, e.1) refl, e.2, sound, λ m. refl)
+-- ---- a sequential read
+next_from : (d : Dpb) (user : ℕ) (protected : Bool) (v : Volume) (x : Extent) (current : ℕ) (o : Outcome) → Reads d user v x (position x current) (position x current + 1) o → ReadsNext d user protected v x current o
+next_from d user protected v x current o r =
+    elim r.2 [ inl h ↦ (r.0, r.1, inl h) | inr h ↦ (r.0, r.1, inr (inl h)) ]
+
+next_miss : (d : Dpb) (user : ℕ) (protected : Bool) (v : Volume) (x : Extent) (current : ℕ) (o : Outcome) → Misses d user v x current (position x current) no_record o → ReadsNext d user protected v x current o
+next_miss d user protected v x current o m =
+    (m.0, m.1, inr (inl (m.2, m.3, rw (m.4, m.5) refl)))
+
+next_refused : (d : Dpb) (user : ℕ) (protected : Bool) (v : Volume) (x : Extent) (current : ℕ) (o : Outcome) → Refuses d user protected v x current o → ReadsNext d user protected v x current o
+next_refused d user protected v x current o r = (r.0, r.1, inr (inr r.2))
+
+pub reads_next : (d : Dpb) (user : ℕ) (protected : Bool) (v : Volume) (x : Extent) (current : ℕ) → user ≢ deleted → IsSound d v user x → current ≤ 128 → ReadsNext d user protected v x current (read_next d protected v user x current)
+unfolding read_next read_in next_place next_target position
+reads_next d user protected v x current user_ok sound small =
+    elim (cases_lt current 128) [
+      | inl lt ↦
+          let number : extent_number x ≡ (128 * extent_number x + current) / 128 = omega arith in
+          rw (lt-ltb _ _ lt) (next_from d user protected v x current _ (reads_there d user v x (128 * extent_number x + current) current (current + 1) (128 * extent_number x + current + 1) v x (same_there d user v x _ sound number) (omega arith) (omega arith) (omega arith)))
+      | inr ge ↦ elim (cases_eq (extent_number x) 511) [
+        | inl last ↦ rw (le-ltb _ _ ge, eq-eqb _ _ last) (next_miss d user protected v x current _ (misses_last d user v x current (128 * extent_number x + current) small sound (omega arith)))
+        | inr more ↦
+            let inside : extent_number x + 1 < 512 = let b = number_below x in omega arith in
+            let number : (128 * extent_number x + current) / 128 ≡ extent_number x + 1 = omega arith in
+            elim (crosses d user v x user_ok sound (next_target x) inside protected) [
+              | inl m ↦ rw (le-ltb _ _ ge, ne_eqb _ _ more, m.1) (next_from d user protected v x current _ (reads_there d user v x (128 * extent_number x + current) 0 1 (128 * extent_number x + current + 1) (v1 d user v x user_ok sound (next_target x) inside) m.0 (rw number m.2) (omega arith) (omega arith) (omega arith)))
+              | inr e ↦ elim e [
+                | inl s ↦ rw (le-ltb _ _ ge, ne_eqb _ _ more, s.0) (next_miss d user protected v x current _ (misses d user v x current (128 * extent_number x + current) (extent_number x + 1) no_record _ small s.1 number))
+                | inr p ↦ rw (le-ltb _ _ ge, ne_eqb _ _ more, p.1) (next_refused d user protected v x current _ (refuses d user protected v x current small sound p.0))
+              ]
+            ]
       ]
-      | inr other ↦
-          let small : n / 128 < 512 = omega arith in
-          let step = by_close d user v x (n / 128) user_ok small sound n in
-          elim (answers d user v x (n / 128) user_ok small sound n refl) [
-            | inl e ↦ inl (rw (ne_eqb _ _ other, step, e.0) refl, e.1)
-            | inr e ↦ inr (v1 d user v x (n / 128) user_ok small sound, e.0, e.1, rw (ne_eqb _ _ other, step, e.2) refl, e.3, e.4, e.5)
-          ]
     ]

@@ -6,17 +6,18 @@ use Rattle.std.proofs.lemmas.Bool.{false≢true, eq-eqb, ne_eqb, cases_eq, cases
 use Rattle.cpm_geom.specs.declared.dpb.Dpb.{Dpb}
 use Rattle.cpm_files.specs.declared.extent.Extent.{Extent}
 use Rattle.cpm_files.specs.declared.extent.Entry.{Entry}
-use Rattle.cpm_files.specs.Files.{extent_number, group_of, map_place, entry_at, InUse, first_of, open_record_count, block_number, block_if, open_block, open_file_block, IsStored, IsWellFormed, IsKept, IsFormat, is_reserved, directory_records, least_free, with_block, block_to_write, found}
+use Rattle.cpm_files.specs.Files.{extent_number, group_of, map_place, entry_at, InUse, first_of, open_record_count, block_number, block_if, open_block, open_file_block, IsStored, IsWellFormed, IsKept, IsFormat, is_reserved, directory_records, least_free}
+use Rattle.cpm_files.specs.Operations.{with_block, block_to_write, new_block}
 
 module _ (d : Dpb) (es : List Entry) (reserved : List Bool) (user : ℕ) (x : Extent) (n : ℕ) (format : IsFormat d) (wf : IsWellFormed d es reserved) (kept : IsKept d es reserved user x) (blocks : length reserved ≡ d.last_block + 1) (room : map_place d n < length x.blocks) (none : block_number x (map_place d n) ≡ 0) (free : least_free reserved < length reserved) where
   unfoldable pub taken : Extent
-  taken = with_block d x n (least_free reserved)
+  taken = with_block x (map_place d n) (least_free reserved)
 
   unfoldable pub now_reserved : List Bool
   now_reserved = set reserved (least_free reserved) true
 
-  pub take_answer : block_to_write d reserved x n ≡ found (least_free reserved) now_reserved taken
-  unfolding block_to_write now_reserved taken
+  pub take_answer : block_to_write d reserved (block_number x (map_place d n)) ≡ new_block (least_free reserved)
+  unfolding block_to_write
   take_answer = rw (none, le-ltb d.last_block 0 (omega arith), lt-ltb _ _ free) refl
 
   pub was_free : is_reserved reserved (least_free reserved) ≡ false
@@ -46,8 +47,8 @@ module _ (d : Dpb) (es : List Entry) (reserved : List Bool) (user : ℕ) (x : Ex
     kept = get_or-set_same reserved _ true true free;
   }
 
-  pub new_block : least_free reserved ≢ 0
-  new_block e = absurd (false≢true (sym was_free ∙ wf.directory _ (rw e (let h = format.has_directory in omega arith))))
+  pub fresh_there : least_free reserved ≢ 0
+  fresh_there e = absurd (false≢true (sym was_free ∙ wf.directory _ (rw e (let h = format.has_directory in omega arith))))
 
   not_new : (b : ℕ) → IsStored d reserved b → b ≢ least_free reserved
   not_new b h e = false≢true (sym was_free ∙ (rw e at h.kept))

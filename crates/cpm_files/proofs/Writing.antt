@@ -6,7 +6,8 @@ use Rattle.std.proofs.lemmas.Bool.Decides.{nat_tests}
 use Rattle.cpm_geom.specs.declared.dpb.Dpb.{Dpb}
 use Rattle.cpm_files.specs.declared.extent.Extent.{Extent}
 use Rattle.cpm_files.specs.declared.extent.Entry.{Entry}
-use Rattle.cpm_files.specs.Files.{extent_number, group_of, map_place, same_name, deleted, no_entry, entry_at, InUse, is_of, first_of, open_record_count, block_number, block_if, entry_block, file_block, open_block, open_file_block, IsStored, IsWellFormed, IsKept, IsFormat, directory_records, counting, drive_record, record_in, directory_file, open_file}
+use Rattle.cpm_files.specs.Files.{extent_number, group_of, map_place, same_name, deleted, no_entry, entry_at, InUse, is_of, first_of, open_record_count, block_number, block_if, entry_block, file_block, open_block, open_file_block, IsStored, IsWellFormed, IsKept, IsFormat, directory_records, drive_record, record_in, directory_file, open_file}
+use Rattle.cpm_files.specs.Operations.{counting}
 use Rattle.cpm_files.proofs.Entries.{is_of_parts, first_of_passes}
 use Rattle.cpm_files.proofs.NameLemmas.{same_name-trans}
 use Rattle.cpm_files.proofs.Making.{no_entry_block}
@@ -67,7 +68,7 @@ open_stored d es reserved user x ok wf kept m h =
     ]
 
 module _ (d : Dpb) (es : List Entry) (reserved : List Bool) (user : ℕ) (x : Extent) (n : ℕ) (user_ok : user ≢ deleted) (format : IsFormat d) (wf : IsWellFormed d es reserved) (kept : IsKept d es reserved user x) (inside : n / 128 ≡ extent_number x) (there : block_number x (map_place d n) ≢ 0) where
-  pub written_kept : IsKept d es reserved user (counting x n)
+  pub written_kept : IsKept d es reserved user (counting x (n % 128))
   unfolding counting extent_number block_number
   written_kept = record {
     index = kept.index;
@@ -80,22 +81,22 @@ module _ (d : Dpb) (es : List Entry) (reserved : List Bool) (user : ℕ) (x : Ex
     agrees = kept.agrees;
   }
 
-  pub counting_blocks : (s : ℕ) → block_number (counting x n) s ≡ block_number x s
+  pub counting_blocks : (s : ℕ) → block_number (counting x (n % 128)) s ≡ block_number x s
   unfolding counting block_number
   counting_blocks s = refl
 
-  pub counting_number : extent_number (counting x n) ≡ extent_number x
+  pub counting_number : extent_number (counting x (n % 128)) ≡ extent_number x
   unfolding counting extent_number
   counting_number = refl
 
-  counting_count : (counting x n).record_count ≡ max x.record_count (n % 128 + 1)
+  counting_count : (counting x (n % 128)).record_count ≡ max x.record_count (n % 128 + 1)
   unfolding counting
   counting_count = refl
 
   stored_entry : ℕ → Extent
   stored_entry m = (entry_at es (first_of d es user x.name (group_of d (m / 128)))).extent
 
-  in_group : (m : ℕ) → group_of d (m / 128) ≡ group_of d (extent_number x) → open_file_block d es user (counting x n) m ≡ block_if (open_record_count (m / 128) (counting x n) (stored_entry m)) (m % 128) (counting x n) (map_place d m)
+  in_group : (m : ℕ) → group_of d (m / 128) ≡ group_of d (extent_number x) → open_file_block d es user (counting x (n % 128)) m ≡ block_if (open_record_count (m / 128) (counting x (n % 128)) (stored_entry m)) (m % 128) (counting x (n % 128)) (map_place d m)
   unfolding open_file_block open_block counting extent_number stored_entry
   in_group m g = rw (eq-eqb _ _ g) refl
 
@@ -103,22 +104,22 @@ module _ (d : Dpb) (es : List Entry) (reserved : List Bool) (user : ℕ) (x : Ex
   unfolding open_file_block open_block stored_entry
   was_in_group m g = rw (eq-eqb _ _ g) refl
 
-  elsewhere : (m : ℕ) → group_of d (m / 128) ≢ group_of d (extent_number x) → open_file_block d es user (counting x n) m ≡ open_file_block d es user x m
+  elsewhere : (m : ℕ) → group_of d (m / 128) ≢ group_of d (extent_number x) → open_file_block d es user (counting x (n % 128)) m ≡ open_file_block d es user x m
   unfolding open_file_block counting extent_number
   elsewhere m g = rw (ne_eqb _ _ g) refl
 
   -- the record itself is there
-  pub written_block : open_file_block d es user (counting x n) n ≡ block_number x (map_place d n)
+  pub written_block : open_file_block d es user (counting x (n % 128)) n ≡ block_number x (map_place d n)
   written_block =
-      in_group n (ap (group_of d) inside) ∙ (block_if_in _ _ _ _ (count_has (n / 128) n x (counting x n) (stored_entry n) counting_number counting_count inside) ∙ counting_blocks _)
+      in_group n (ap (group_of d) inside) ∙ (block_if_in _ _ _ _ (count_has (n / 128) n x (counting x (n % 128)) (stored_entry n) counting_number counting_count inside) ∙ counting_blocks _)
 
   -- the other records stay
-  pub other_blocks : (m : ℕ) → open_file_block d es user x m ≢ 0 → open_file_block d es user (counting x n) m ≡ open_file_block d es user x m
+  pub other_blocks : (m : ℕ) → open_file_block d es user x m ≢ 0 → open_file_block d es user (counting x (n % 128)) m ≡ open_file_block d es user x m
   other_blocks m h =
       elim (cases_eq (group_of d (m / 128)) (group_of d (extent_number x))) [
         | inl g ↦
             let below = block_if_below _ _ _ _ (λ z. h (was_in_group m g ∙ z)) in
-            in_group m g ∙ (block_if_in _ _ _ _ (count_grows (m / 128) n (m % 128) x (counting x n) (stored_entry m) counting_number counting_count below) ∙ (counting_blocks _ ∙ (sym (block_if_in _ _ _ _ below) ∙ sym (was_in_group m g))))
+            in_group m g ∙ (block_if_in _ _ _ _ (count_grows (m / 128) n (m % 128) x (counting x (n % 128)) (stored_entry m) counting_number counting_count below) ∙ (counting_blocks _ ∙ (sym (block_if_in _ _ _ _ below) ∙ sym (was_in_group m g))))
         | inr g ↦ elsewhere m g
       ]
 
@@ -159,12 +160,12 @@ module _ (d : Dpb) (es : List Entry) (reserved : List Bool) (user : ℕ) (x : Ex
   outside_directory = let h = (kept.stored (map_place d n) there).outside in omega arith
 
   -- ---- with the record's bytes on the drive
-  pub written_record : (records : List (List ℕ)) (bytes : List ℕ) → drive_record d (block_number x (map_place d n)) n < length records → open_file d es (set records (drive_record d (block_number x (map_place d n)) n) bytes) user (counting x n) n ≡ Some bytes
+  pub written_record : (records : List (List ℕ)) (bytes : List ℕ) → drive_record d (block_number x (map_place d n)) n < length records → open_file d es (set records (drive_record d (block_number x (map_place d n)) n) bytes) user (counting x (n % 128)) n ≡ Some bytes
   unfolding open_file record_in
   written_record records bytes h =
       rw (written_block, ne_eqb _ _ there) (ap Some (get_or-set_same records _ bytes [] h))
 
-  pub other_records : (records : List (List ℕ)) (bytes : List ℕ) (m : ℕ) → m ≢ n → open_file_block d es user x m ≢ 0 → open_file d es (set records (drive_record d (block_number x (map_place d n)) n) bytes) user (counting x n) m ≡ open_file d es records user x m
+  pub other_records : (records : List (List ℕ)) (bytes : List ℕ) (m : ℕ) → m ≢ n → open_file_block d es user x m ≢ 0 → open_file d es (set records (drive_record d (block_number x (map_place d n)) n) bytes) user (counting x (n % 128)) m ≡ open_file d es records user x m
   unfolding open_file record_in
   other_records records bytes m other h =
       rw (other_blocks m h, ne_eqb _ _ h) (ap Some (get_or-set_other records _ _ bytes [] (distinct m h other)))

@@ -1,6 +1,6 @@
 //! Laws on the definitions that the calls of this crate cite.
 
-ghost use Rattle.cpm_files.specs.Laws.{CloseLaw, WriteLaw, SequentialWriteLaw, SequentialReadLaw, RandomWriteLaw, ClearingWriteLaw, RandomReadLaw, OpenLaw, MakeLaw};
+ghost use Rattle.cpm_files.specs.Laws.{CloseLaw, SequentialWriteLaw, SequentialReadLaw, RandomWriteLaw, ClearingWriteLaw, RandomReadLaw, OpenLaw, MakeLaw};
 ghost use Rattle.cpm_files.specs.Encoding.{EncodingLaw};
 
 /// Entries and file control blocks are their bytes.
@@ -11,11 +11,6 @@ pub fn entries_are_their_bytes()
 /// A close keeps the file.
 pub fn close_keeps_the_file()
     ensures { CloseLaw }
-{}
-
-/// A write changes one record of one file.
-pub fn write_changes_one_record()
-    ensures { WriteLaw }
 {}
 
 /// A write of the next record changes one record of one file.
