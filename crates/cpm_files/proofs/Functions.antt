@@ -5,7 +5,7 @@ use Rattle.std.proofs.lemmas.List.{length-replicate}
 use Rattle.cpm_geom.specs.declared.dpb.Dpb.{Dpb}
 use Rattle.cpm_files.specs.declared.extent.Extent.{Extent}
 use Rattle.cpm_files.specs.Files.{extent_number, group_of, has_wildcard, deleted, entry_at, is_of, first_of, first_free, directory_file, open_file, Volume, IsSoundDrive}
-use Rattle.cpm_files.specs.Operations.{with_entries, opened, made, open_to_read, make_extent, open_function, make_function}
+use Rattle.cpm_files.specs.Operations.{with_entry, opened, made, open_to_read, make_extent, open_function, make_function}
 use Rattle.cpm_files.specs.Laws.{KnowsFile, OpensFile, MakesFile}
 use Rattle.cpm_files.proofs.Entries.{first_of_passes}
 use Rattle.cpm_files.proofs.NameLemmas.{first_match_plain, same_name-refl}
@@ -87,8 +87,8 @@ module _ (d : Dpb) (user : ℕ) (v : Volume) (x : Extent) (user_ok : user ≢ de
       unfolding directory_file
       stays other name m ok = rw (making.make_files d v.entries v.reserved user x (x.ex % 32) user_ok plain small drive.well_formed none free other name m ok) refl
 
-      knows_made : KnowsFile d user x.name v (with_entries v (making.after d v.entries v.reserved user x (x.ex % 32) user_ok plain small drive.well_formed none free)) (made x (x.ex % 32))
-      unfolding open_file directory_file with_entries
+      knows_made : KnowsFile d user x.name v (with_entry v (first_free v.entries) (making.after d v.entries v.reserved user x (x.ex % 32) user_ok plain small drive.well_formed none free)) (made x (x.ex % 32))
+      unfolding open_file directory_file with_entry
       knows_made = record {
         name_is = rw (making.made_name x (x.ex % 32)) (same_name-refl x.name);
         file = λ m. rw (making.make_file d v.entries v.reserved user x (x.ex % 32) user_ok plain small drive.well_formed none free m) refl;

@@ -7,7 +7,7 @@ use Rattle.cpm_geom.specs.declared.dpb.Dpb.{Dpb}
 use Rattle.cpm_files.specs.declared.extent.Extent.{Extent}
 use Rattle.cpm_files.specs.declared.extent.Entry.{Entry}
 use Rattle.cpm_files.specs.Files.{extent_number, group_of, same_name, has_wildcard, deleted, no_entry, entry_at, InUse, is_of, first_of, first_free, file_block, open_file_block, record_in, directory_file, open_file, Volume, IsSound}
-use Rattle.cpm_files.specs.Operations.{read_only, fault, with_entries, opened, made, open_extent, make_extent, Purpose, writing, Target, stopped, standing, made_in, opened_or_made, have_extent, closed_in, cross}
+use Rattle.cpm_files.specs.Operations.{read_only, fault, with_entry, opened, made, open_extent, make_extent, Purpose, writing, Target, stopped, standing, made_in, opened_or_made, have_extent, closed_in, cross}
 use Rattle.cpm_files.specs.Laws.{OthersStay, FileStays, IsFull}
 use Rattle.cpm_files.proofs.Entries.{no_entry_is_of, first_of_passes}
 use Rattle.cpm_files.proofs.NameLemmas.{first_match_plain, same_name-refl}
@@ -80,13 +80,13 @@ all_used es full i lt =
 -- ---- after the close, another extent of the same file
 module _ (d : Dpb) (user : ℕ) (v : Volume) (x : Extent) (user_ok : user ≢ deleted) (sound : IsSound d v user x) where
   unfoldable pub closed_volume : Volume
-  closed_volume = with_entries v (closing.after d v.entries v.reserved user x user_ok sound.well_formed sound.kept)
+  closed_volume = with_entry v sound.kept.index (closing.after d v.entries v.reserved user x user_ok sound.well_formed sound.kept)
 
   maps_closed : (i : ℕ) → InUse (closing.after d v.entries v.reserved user x user_ok sound.well_formed sound.kept) i → length (entry_at (closing.after d v.entries v.reserved user x user_ok sound.well_formed sound.kept) i).extent.blocks ≡ 16
   maps_closed = closing.maps_after d v.entries v.reserved user x user_ok sound.well_formed sound.kept sound.map sound.volume.maps
 
   pub sound_closed : IsSound d closed_volume user x
-  unfolding closed_volume with_entries
+  unfolding closed_volume with_entry
   sound_closed = record {
     volume = record { blocks = sound.volume.blocks; space = sound.volume.space; maps = maps_closed };
     well_formed = closing.well_formed_after d v.entries v.reserved user x user_ok sound.well_formed sound.kept;
@@ -95,31 +95,31 @@ module _ (d : Dpb) (user : ℕ) (v : Volume) (x : Extent) (user_ok : user ≢ de
   }
 
   pub same_file : (n : ℕ) → file_block d closed_volume.entries user x.name n ≡ open_file_block d v.entries user x n
-  unfolding closed_volume with_entries
+  unfolding closed_volume with_entry
   same_file = closing.same_file d v.entries v.reserved user x user_ok sound.well_formed sound.kept
 
   same_open : (n : ℕ) → open_file_block d closed_volume.entries user x n ≡ open_file_block d v.entries user x n
-  unfolding closed_volume with_entries
+  unfolding closed_volume with_entry
   same_open = closing.same_open d v.entries v.reserved user x user_ok sound.well_formed sound.kept
 
   pub same_others : (other : ℕ) (name : List ℕ) (n : ℕ) → (other ≡ user → same_name name x.name ≡ true → ⊥) → file_block d closed_volume.entries other name n ≡ file_block d v.entries other name n
-  unfolding closed_volume with_entries
+  unfolding closed_volume with_entry
   same_others other name n apart = closing.others d v.entries v.reserved user x user_ok sound.well_formed sound.kept other name apart n
 
   pub same_records : closed_volume.records ≡ v.records
-  unfolding closed_volume with_entries
+  unfolding closed_volume with_entry
   same_records = refl
 
   same_reserved : closed_volume.reserved ≡ v.reserved
-  unfolding closed_volume with_entries
+  unfolding closed_volume with_entry
   same_reserved = refl
 
   pub same_length : length closed_volume.entries ≡ length v.entries
-  unfolding closed_volume with_entries
+  unfolding closed_volume with_entry
   same_length = closing.same_length d v.entries v.reserved user x user_ok sound.well_formed sound.kept
 
   used_before : (i : ℕ) → InUse closed_volume.entries i → InUse v.entries i
-  unfolding closed_volume with_entries
+  unfolding closed_volume with_entry
   used_before i h = closing.used_before d v.entries v.reserved user x user_ok sound.well_formed sound.kept i h
 
   pub plain : has_wildcard x.name ≡ false
@@ -199,10 +199,10 @@ module _ (d : Dpb) (user : ℕ) (v : Volume) (x : Extent) (user_ok : user ≢ de
     -- ---- without one, at a free entry
     module _ (past : length closed_volume.entries ≤ first_of d closed_volume.entries user x.name (group_of d t.number)) (free : first_free closed_volume.entries < length closed_volume.entries) where
       last_volume : Volume
-      last_volume = with_entries closed_volume (making.after d closed_volume.entries closed_volume.reserved user x t.number user_ok plain small sound_closed.well_formed (none past) free)
+      last_volume = with_entry closed_volume (first_free closed_volume.entries) (making.after d closed_volume.entries closed_volume.reserved user x t.number user_ok plain small sound_closed.well_formed (none past) free)
 
       made_moves : MovesOn d user v x t.number last_volume (made x t.number)
-      unfolding last_volume with_entries
+      unfolding last_volume with_entry
       made_moves = record {
         number_is = making.made_number x t.number small;
         name_is = rw (making.made_name x t.number) (same_name-refl x.name);

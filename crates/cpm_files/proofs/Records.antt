@@ -1,13 +1,13 @@
 -- The writing of a record in its extent, block and all.
-use Rattle.std.proofs.Common.{◌≡◌, ◌≢◌, ◌⊎◌, ℕ, ◌/◌, ◌%◌, ◌*◌, ◌+◌, ◌<◌, ◌≤◌, Bool, true, false, not, List, [], Some, length, set, replicate, sym, refl, ap, ◌∙◌, inl, inr, arith}
+use Rattle.std.proofs.Common.{◌≡◌, ◌≢◌, ◌⊎◌, ℕ, ◌/◌, ◌%◌, ◌*◌, ◌+◌, ◌<◌, ◌≤◌, Bool, true, false, not, List, [], ◌∷◌, ◌++◌, Some, length, set, replicate, sym, refl, ap, ◌∙◌, inl, inr, arith}
 use Rattle.std.proofs.lemmas.List.{length-set, get_or-set_other, get_or_past}
 use Rattle.std.proofs.lemmas.List.Sums.{fails_before_first}
 use Rattle.std.proofs.lemmas.Nat.{mod_below, div_below, mul-add-lt}
 use Rattle.std.proofs.lemmas.Bool.{false≢true, ne_eqb, not-false, cases_eq, cases_lt, le-ltb}
 use Rattle.cpm_geom.specs.declared.dpb.Dpb.{Dpb}
 use Rattle.cpm_files.specs.declared.extent.Extent.{Extent}
-use Rattle.cpm_files.specs.Files.{extent_number, place_of, map_place, block_offset, deleted, block_number, file_block, open_file_block, is_reserved, IsStored, IsFormat, least_free, drive_record, record_in, directory_file, open_file, Volume, IsSound}
-use Rattle.cpm_files.specs.Operations.{done, no_block, ends, with_block, block_to_write, new_block, counting, record_in_block, put_found, put_record, cleared, taken_records}
+use Rattle.cpm_files.specs.Files.{extent_number, place_of, map_place, block_offset, deleted, block_number, file_block, open_file_block, is_reserved, IsStored, IsFormat, least_free, drive_record, record_in, directory_file, open_file, Volume, record_put, IsSound}
+use Rattle.cpm_files.specs.Operations.{done, no_block, ends, with_block, block_to_write, new_block, counting, record_in_block, put_found, put_record, cleared, taken_records, taken_writes}
 use Rattle.cpm_files.specs.Laws.{HasCleared, OthersStay}
 use Rattle.cpm_files.proofs.Taking as taking
 use Rattle.cpm_files.proofs.Writing as writing
@@ -69,7 +69,8 @@ not_zero d user v x b format sound free e =
 -- ---- the write at a block that is there
 module _ (d : Dpb) (user : ℕ) (v : Volume) (x : Extent) (n : ℕ) (bytes : List ℕ) (user_ok : user ≢ deleted) (format : IsFormat d) (sound : IsSound d v user x) (inside : n / 128 ≡ extent_number x) (there : block_number x (map_place d n) ≢ 0) where
   unfoldable pub volume_after : Volume
-  volume_after = record { entries = v.entries; reserved = v.reserved; records = set v.records (drive_record d (block_number x (map_place d n)) n) bytes }
+  volume_after =
+      record v { records = set v.records (drive_record d (block_number x (map_place d n)) n) bytes; written = v.written ++ record_put (drive_record d (block_number x (map_place d n)) n) bytes ∷ [] }
 
   within : drive_record d (block_number x (map_place d n)) n < length v.records
   within =
@@ -149,7 +150,7 @@ module _ (d : Dpb) (user : ℕ) (v : Volume) (x : Extent) (n : ℕ) (bytes : Lis
   ready = taken_records d clears (least_free v.reserved) v.records
 
   volume_new : Volume
-  volume_new = record { entries = v.entries; reserved = reserved_new; records = ready }
+  volume_new = record v { reserved = reserved_new; records = ready; written = v.written ++ taken_writes d clears (least_free v.reserved) }
 
   sound_new : IsSound d volume_new user with_new
   unfolding volume_new with_new reserved_new taking.taken with_block taking.now_reserved ready
@@ -183,7 +184,7 @@ module _ (d : Dpb) (user : ℕ) (v : Volume) (x : Extent) (n : ℕ) (bytes : Lis
   counted : Extent
   counted = counting with_new (n % 128)
 
-  new_found : (next : ℕ) → ends done (record { entries = v.entries; reserved = reserved_new; records = set ready (record_in_block d (least_free v.reserved) (n % 128)) bytes }) counted next ≡ ends done volume_last counted next
+  new_found : (next : ℕ) → ends done (record v { reserved = reserved_new; records = set ready (record_in_block d (least_free v.reserved) (n % 128)) bytes; written = (v.written ++ taken_writes d clears (least_free v.reserved)) ++ record_put (record_in_block d (least_free v.reserved) (n % 128)) bytes ∷ [] }) counted next ≡ ends done volume_last counted next
   unfolding volume_last volume_after volume_new
   new_found next = rw (own_block, record_back d (least_free v.reserved) n) refl
 

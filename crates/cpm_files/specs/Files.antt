@@ -180,11 +180,17 @@ directory_file d es records user name n = record_in d records (file_block d es u
 unfoldable pub open_file : Dpb → List Entry → List (List ℕ) → ℕ → Extent → ℕ → Option (List ℕ)
 open_file d es records user x n = record_in d records (open_file_block d es user x n) n
 
--- what a drive holds of files: the directory's entries, the reserved blocks and the records
+-- what is written to a disk: an entry of the directory, or a record
+pub data Write : Type 0 where
+  entry_put : (index : ℕ) (entry : Entry) → Write
+  record_put : (number : ℕ) (bytes : List ℕ) → Write
+
+-- what a drive holds of files: the directory's entries, the reserved blocks and the records; and what a call wrote to its disk, in order
 pub record Volume : Type 0 where
   pub entries : List Entry
   pub reserved : List Bool
   pub records : List (List ℕ)
+  pub written : List Write
 
 -- the lists are as long as the format says
 pub record IsVolume (d : Dpb) (v : Volume) : Type 0 where

@@ -3,8 +3,8 @@ use Rattle.std.specs.Prelude.{◌≡◌, ◌≢◌, ◌⊎◌, ℕ, ◌+◌, ◌
 use Rattle.cpm_geom.specs.declared.dpb.Dpb.{Dpb}
 use Rattle.cpm_files.specs.declared.extent.Extent.{Extent}
 use Rattle.cpm_files.specs.declared.extent.Entry.{Entry}
-use Rattle.cpm_files.specs.Files.{extent_number, group_of, is_of, entry_at, InUse, same_name, deleted, is_reserved, file_block, open_file_block, directory_file, open_file, IsWellFormed, IsKept, IsFormat, IsSound, IsSoundDrive, Volume, has_wildcard}
-use Rattle.cpm_files.specs.Operations.{read_only, done, no_record, no_block, no_extent, no_entry_free, fault, Outcome, with_entries, closed, close_fault, close_function, open_function, make_function, read_next, write_next, read_at, write_at, write_at_cleared}
+use Rattle.cpm_files.specs.Files.{extent_number, group_of, is_of, entry_at, InUse, same_name, deleted, is_reserved, first_free, file_block, open_file_block, directory_file, open_file, IsWellFormed, IsKept, IsFormat, IsSound, IsSoundDrive, Volume, has_wildcard}
+use Rattle.cpm_files.specs.Operations.{read_only, done, no_record, no_block, no_extent, no_entry_free, fault, Outcome, with_entry, closed, close_fault, close_function, open_function, make_function, read_next, write_next, read_at, write_at, write_at_cleared}
 
 -- ---- what a call leaves
 
@@ -147,7 +147,7 @@ OpensFile d user v x =
 -- a make answers that the directory is full, or makes an extent of the file and changes no file
 abbrev pub MakesFile : Dpb → ℕ → Volume → Extent → Type 0
 MakesFile d user v x =
-    (make_function v.entries user x ≡ None) ⊎ ((es : List Entry) × (x' : Extent) × (make_function v.entries user x ≡ Some (es, x')) × (extent_number x' ≡ x.ex % 32) × KnowsFile d user x.name v (with_entries v es) x' × ((other : ℕ) (name : List ℕ) (m : ℕ) → other ≢ deleted → directory_file d es v.records other name m ≡ directory_file d v.entries v.records other name m))
+    (make_function v.entries user x ≡ None) ⊎ ((es : List Entry) × (x' : Extent) × (make_function v.entries user x ≡ Some (es, x')) × (extent_number x' ≡ x.ex % 32) × KnowsFile d user x.name v (with_entry v (first_free v.entries) es) x' × ((other : ℕ) (name : List ℕ) (m : ℕ) → other ≢ deleted → directory_file d es v.records other name m ≡ directory_file d v.entries v.records other name m))
 
 -- ---- the laws
 

@@ -1,10 +1,11 @@
 -- What the calls on files do to a drive and to a file control block, in every case.
 -- CP/M 2.2 Operating System Manual, Operating System Call Conventions; own: what the manual leaves open.
-use Rattle.std.specs.Prelude.{ℕ, zero, suc, ◌+◌, ◌*◌, ◌/◌, ◌%◌, Bool, true, false, ◌&&◌, ◌||◌, not, nat_lt, ◌==◌, if◌then◌else◌, List, [], ◌∷◌, Option, Some, None, max, replicate, length, slice_index_or, slice_set}
+use Rattle.std.specs.Prelude.{ℕ, zero, suc, ◌+◌, ◌*◌, ◌/◌, ◌%◌, Bool, true, false, ◌&&◌, ◌||◌, not, nat_lt, ◌==◌, if◌then◌else◌, List, [], ◌∷◌, ◌++◌, map, Option, Some, None, max, replicate, length, slice_index_or, slice_set}
+use Rattle.std.specs.List.{range_with_len}
 use Rattle.cpm_geom.specs.declared.dpb.Dpb.{Dpb}
 use Rattle.cpm_files.specs.declared.extent.Extent.{Extent}
 use Rattle.cpm_files.specs.declared.extent.Entry.{Entry}
-use Rattle.cpm_files.specs.Files.{extent_number, group_of, place_of, block_number, entry_at, first_match, record_count_of, first_free, least_free, Volume}
+use Rattle.cpm_files.specs.Files.{extent_number, group_of, place_of, block_number, entry_at, first_match, record_count_of, first_free, least_free, Volume, Write, entry_put, record_put}
 
 -- CP/M's own messages
 pub data Fault : Type 0 where
@@ -49,8 +50,10 @@ unfoldable pub gives : Volume → Extent → ℕ → List ℕ → Outcome
 gives v x current bytes =
     record { answer = done; volume = v; extent = x; current = current; bytes = Some bytes }
 
-unfoldable pub with_entries : Volume → List Entry → Volume
-with_entries v es = record { entries = es; reserved = v.reserved; records = v.records }
+-- one entry of the directory is another
+unfoldable pub with_entry : Volume → ℕ → List Entry → Volume
+with_entry v index es =
+    record v { entries = es; written = v.written ++ entry_put index (entry_at es index) ∷ [] }
 
 -- ---- close, open, make
 
@@ -178,7 +181,7 @@ opened_in v x t (Some it) = standing v it t.current
 
 unfoldable pub made_in : Volume → Extent → Target → Option (List Entry × Extent) → Place
 made_in v x t None = stopped t.missing v x
-made_in v x t (Some made) = standing (with_entries v made.0) made.1 t.current
+made_in v x t (Some made) = standing (with_entry v (first_free v.entries) made.0) made.1 t.current
 
 unfoldable pub opened_or_made : Volume → ℕ → Extent → Target → Option Extent → Place
 opened_or_made v user x t None = made_in v x t (make_extent v.entries user x t.number)
@@ -192,7 +195,7 @@ have_extent d writing v user x t = opened_or_made v user x t (open_extent d v.en
 unfoldable pub closed_in : Dpb → Purpose → Volume → ℕ → Extent → Target → Close → Place
 closed_in d purpose v user x t refused = stopped t.unclosed v x
 closed_in d purpose v user x t (close_fault which) = stopped (fault which) v x
-closed_in d purpose v user x t (closed i es y) = have_extent d purpose (with_entries v es) user y t
+closed_in d purpose v user x t (closed i es y) = have_extent d purpose (with_entry v i es) user y t
 
 -- close the extent, then have another
 unfoldable pub cross : Dpb → Purpose → Bool → Volume → ℕ → Extent → Target → Place
@@ -269,13 +272,19 @@ unfoldable pub taken_records : Dpb → Bool → ℕ → List (List ℕ) → List
 taken_records d false b records = records
 taken_records d true b records = cleared (b * (d.block_mask + 1)) (d.block_mask + 1) records
 
+-- and what is written then
+unfoldable pub taken_writes : Dpb → Bool → ℕ → List Write
+taken_writes d false b = []
+taken_writes d true b =
+    map (λ place. record_put (b * (d.block_mask + 1) + place) (replicate 128 0)) (range_with_len 0 (d.block_mask + 1))
+
 unfoldable pub put_found : Dpb → Bool → Volume → Extent → ℕ → ℕ → List ℕ → Found → Outcome
 put_found d clears v x current next bytes no_such_block = ends (fault bad_sector) v x current
 put_found d clears v x current next bytes none_free = ends no_block v x current
 put_found d clears v x current next bytes (old_block b) =
-    ends done (record { entries = v.entries; reserved = v.reserved; records = slice_set v.records (record_in_block d b current) bytes }) (counting x current) next
+    ends done (record v { records = slice_set v.records (record_in_block d b current) bytes; written = v.written ++ record_put (record_in_block d b current) bytes ∷ [] }) (counting x current) next
 put_found d clears v x current next bytes (new_block b) =
-    ends done (record { entries = v.entries; reserved = slice_set v.reserved b true; records = slice_set (taken_records d clears b v.records) (record_in_block d b current) bytes }) (counting (with_block x (place_of d x current) b) current) next
+    ends done (record v { reserved = slice_set v.reserved b true; records = slice_set (taken_records d clears b v.records) (record_in_block d b current) bytes; written = (v.written ++ taken_writes d clears b) ++ record_put (record_in_block d b current) bytes ∷ [] }) (counting (with_block x (place_of d x current) b) current) next
 
 -- write the current record; the next is then current
 unfoldable pub put_record : Dpb → Bool → Volume → Extent → ℕ → ℕ → List ℕ → Outcome
