@@ -5,22 +5,11 @@ use Rattle.std.specs.List.{range_with_len}
 use Rattle.cpm_geom.specs.declared.dpb.Dpb.{Dpb}
 use Rattle.cpm_files.specs.declared.extent.Extent.{Extent}
 use Rattle.cpm_files.specs.declared.extent.Entry.{Entry}
+pub use Rattle.cpm_files.specs.declared.answer.Fault.{Fault}
+pub use Rattle.cpm_files.specs.declared.answer.Fault.TheVariants.{BadSector as bad_sector, ReadOnly as read_only}
+pub use Rattle.cpm_files.specs.declared.answer.Answer.{Answer}
+pub use Rattle.cpm_files.specs.declared.answer.Answer.TheVariants.{Done as done, NoRecord as no_record, NoBlock as no_block, CannotClose as cannot_close, NoExtent as no_extent, NoEntryFree as no_entry_free, Fault as fault}
 use Rattle.cpm_files.specs.Files.{extent_number, group_of, place_of, block_number, entry_at, first_match, record_count_of, first_free, least_free, Volume, Write, entry_put, record_put}
-
--- CP/M's own messages
-pub data Fault : Type 0 where
-  bad_sector : Fault
-  read_only : Fault
-
--- what a call answers: a code, or a fault
-pub data Answer : Type 0 where
-  done : Answer
-  no_record : Answer
-  no_block : Answer
-  cannot_close : Answer
-  no_extent : Answer
-  no_entry_free : Answer
-  fault : (which : Fault) → Answer
 
 -- the code that a call gives back, if it gives one
 unfoldable pub code_of : Answer → Option ℕ

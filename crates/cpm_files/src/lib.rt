@@ -2,10 +2,12 @@
 //! consist, and their laws.
 #![tactic(auto)]
 
+pub mod answer;
 mod encoding;
 pub mod extent;
 pub mod fcb;
 pub mod laws;
 
+pub use answer::{Answer, Fault};
 pub use extent::{Entry, Extent};
 pub use fcb::Fcb;
