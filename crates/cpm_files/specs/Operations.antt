@@ -124,7 +124,7 @@ open_to_read d es user name number =
 -- bytes 1 to 31 of a new extent
 unfoldable pub made : Extent → ℕ → Extent
 made x number =
-    record x { ex = number % 32; s2 = number / 32; record_count = 0; blocks = replicate 16 0 }
+    record x { ex = number % 32; s1 = 0; s2 = number / 32; record_count = 0; blocks = replicate 16 0 }
 
 -- make the extent of a number: the first entry that is not in use, if any
 unfoldable pub make_extent : List Entry → ℕ → Extent → ℕ → Option (List Entry × Extent)
