@@ -2,7 +2,7 @@
 use Rattle.std.proofs.Common.{◌≡◌, ℕ, ◌+◌, ◌≤◌, Bool, true, false, [], ◌∷◌, refl, ◌∙◌, arith}
 use Rattle.std.specs.Prelude.{if◌then◌else◌, ◌==◌}
 use Rattle.cpm_console.specs.Terminal.{expanded, IsWithin}
-use Rattle.cpm_console.proofs.Growth.{IsWithin-shown, IsWithin-same, length-expanded}
+use Rattle.cpm_console.proofs.Growth.{IsWithin-said, IsWithin-same, length-expanded}
 use Rattle.cpm_memory.specs.Contents.{Contents, byte_at, next, touched_of, after_run}
 use Rattle.cpm_memory.proofs.Runs.{touched_of-run, limit-run}
 use Rattle.cpm_bdos.specs.Registers.{de_of}
@@ -31,14 +31,14 @@ bounded_rebooted : (s : Session) (m n : Contents) → touched_of n ≤ touched_o
 bounded_rebooted s m n more same =
     let first : touched_of (after_run n 0 (195 ∷ 3 ∷ 250 ∷ [])) ≤ touched_of n + 1 = touched_of-run n 0 (195 ∷ 3 ∷ 250 ∷ []) (omega arith) (omega arith) in
     let second : touched_of (after_run (after_run n 0 (195 ∷ 3 ∷ 250 ∷ [])) 5 (195 ∷ 6 ∷ 236 ∷ [])) ≤ touched_of (after_run n 0 (195 ∷ 3 ∷ 250 ∷ [])) + 1 = touched_of-run (after_run n 0 (195 ∷ 3 ∷ 250 ∷ [])) 5 (195 ∷ 6 ∷ 236 ∷ []) (omega arith) (omega arith) in
-    record { pages = omega (arith, first, second, more); limit = limit-run (after_run n 0 (195 ∷ 3 ∷ 250 ∷ [])) 5 (195 ∷ 6 ∷ 236 ∷ []) ∙ limit-run n 0 (195 ∷ 3 ∷ 250 ∷ []) ∙ same; output = IsWithin-same 4096 s.console }
+    record { pages = omega (arith, first, second, more); limit = limit-run (after_run n 0 (195 ∷ 3 ∷ 250 ∷ [])) 5 (195 ∷ 6 ∷ 236 ∷ []) ∙ limit-run n 0 (195 ∷ 3 ∷ 250 ∷ []) ∙ same; output = record { screen = omega arith; printer = omega arith } }
 
 bounded_booted : (s : Session) (m : Contents) → IsBounded s m (booted s m)
 bounded_booted s m =
     bounded_rebooted s m (after_run m 3 (0 ∷ 0 ∷ [])) (touched_of-run m 3 (0 ∷ 0 ∷ []) (omega arith) (omega arith)) (limit-run m 3 (0 ∷ 0 ∷ []))
 
 within_wrote : (s : Session) (byte : ℕ) → IsWithin 4096 s.console (wrote s byte).console
-within_wrote s byte = IsWithin-shown 4096 s.console (expanded s.console.column byte) (omega (arith, length-expanded s.console.column byte))
+within_wrote s byte = IsWithin-said 4096 s.console (expanded s.console.column byte) (omega (arith, length-expanded s.console.column byte))
 
 bounded_write_byte : (s : Session) (m : Contents) → IsBounded s m (write_byte s m)
 bounded_write_byte s m = record { pages = omega arith; limit = refl; output = within_wrote s s.regs.e }

@@ -2,7 +2,7 @@
 use Rattle.std.proofs.Common.{◌≡◌, ℕ, Bool, true, false, List, refl, ap}
 use Rattle.std.proofs.lemmas.List.{append_assoc}
 use Rattle.std.specs.Prelude.{if◌then◌else◌, ◌==◌}
-use Rattle.cpm_console.specs.Terminal.{Terminal, shown, expanded}
+use Rattle.cpm_console.specs.Terminal.{Terminal, said, expanded}
 use Rattle.cpm_memory.specs.Contents.{Contents, byte_at, next}
 use Rattle.cpm_bdos.specs.Registers.{de_of}
 use Rattle.cpm_bdos.specs.Function.{function_of, bios_call_of}
@@ -19,17 +19,21 @@ use Rattle.cpm_bdos.specs.declared.session.Mode.TheVariants.{Program, Text}
 use Rattle.cpm_bdos.specs.declared.session.Went.TheVariants.{GoesOn}
 
 module _ (p q : List ℕ) where
-  -- what is shown stands behind what waits
-  shown-behind : (t : Terminal) (xs : List ℕ) → shown (behind p q t) xs ≡ behind p q (shown t xs)
-  unfolding shown
-  shown-behind t xs = rw (append_assoc p t.screen xs) refl
+  -- what is said stands behind what waits
+  said-behind : (t : Terminal) (xs : List ℕ) → said (behind p q t) xs ≡ behind p q (said t xs)
+  unfolding said
+  said-behind t xs = by_echo t.list_echo
+    where
+      by_echo : (echoes : Bool) → said (behind p q (record t { list_echo = echoes })) xs ≡ behind p q (said (record t { list_echo = echoes }) xs)
+      by_echo true = rw (append_assoc p t.screen xs, append_assoc q t.printer xs) refl
+      by_echo false = rw (append_assoc p t.screen xs) refl
 
   did-if : (b : Bool) (x y x' y' : Did) → x' ≡ did_behind p q x → y' ≡ did_behind p q y → (if b then x' else y') ≡ did_behind p q (if b then x else y)
   did-if true x y x' y' ex ey = ex
   did-if false x y x' y' ex ey = ey
 
   wrote-behind : (s : Session) (byte : ℕ) → wrote (session_behind p q s) byte ≡ session_behind p q (wrote s byte)
-  wrote-behind s byte = ap (λ (t : Terminal). record s { console = t }) (shown-behind s.console (expanded s.console.column byte))
+  wrote-behind s byte = ap (λ (t : Terminal). record s { console = t }) (said-behind s.console (expanded s.console.column byte))
 
   write_byte-behind : (s : Session) (m : Contents) → write_byte (session_behind p q s) m ≡ did_behind p q (write_byte s m)
   write_byte-behind s m = ap (λ (t : Session). answered t m 0) (wrote-behind s s.regs.e)

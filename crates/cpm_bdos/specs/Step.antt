@@ -1,6 +1,6 @@
 -- One step of a call of the BDOS or the BIOS, as a function of the session and the memory.
 use Rattle.std.specs.Prelude.{ℕ, ◌==◌, if◌then◌else◌, [], ◌∷◌}
-use Rattle.cpm_console.specs.Terminal.{Terminal, shown, expanded}
+use Rattle.cpm_console.specs.Terminal.{Terminal, said, expanded}
 use Rattle.cpm_memory.specs.Contents.{Contents, byte_at, next, after_run}
 use Rattle.cpm_bdos.specs.Registers.{at_opening, de_of}
 use Rattle.cpm_bdos.specs.Function.{function_of, bios_call_of}
@@ -18,9 +18,9 @@ use Rattle.cpm_bdos.specs.declared.session.Went.TheVariants.{GoesOn}
 abbrev pub opened : Terminal → Session
 opened console = record { regs = at_opening; console = console; mode = Program }
 
--- a byte shown, a tab as spaces
+-- a byte said, a tab as spaces
 abbrev pub wrote : Session → ℕ → Session
-wrote s byte = record s { console = shown s.console (expanded s.console.column byte) }
+wrote s byte = record s { console = said s.console (expanded s.console.column byte) }
 
 -- function 2: the byte in E is shown
 abbrev pub write_byte : Session → Contents → Did

@@ -68,7 +68,8 @@ impl Session {
 
     /// Shows the byte in E.
     fn write_byte<M: Memory>(&mut self, memory: &M) -> Went
-        requires { length self.old.console.screen ≤ 4096 }
+        requires screen { length self.old.console.screen ≤ 4096 }
+        requires printer { length self.old.console.printer ≤ 4096 }
         ensures { did self.new (M.contents memory.now) result ≡ write_byte self.old (M.contents memory.now) }
     {
         self.console.write(self.regs.e);
@@ -77,7 +78,8 @@ impl Session {
 
     /// Shows a character of a text, or ends at `$`.
     fn write_text<M: Memory>(&mut self, memory: &M, next: u16) -> Went
-        requires { length self.old.console.screen ≤ 4096 }
+        requires screen { length self.old.console.screen ≤ 4096 }
+        requires printer { length self.old.console.printer ≤ 4096 }
         ensures { did self.new (M.contents memory.now) result ≡ write_text self.old (M.contents memory.now) next }
     {
         let byte = memory.get(next);

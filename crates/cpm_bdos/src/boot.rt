@@ -38,6 +38,7 @@ impl Session {
         change_run(memory, 0x0005, &[0xC3, 0x06, 0xEC]);
         self.regs.sp = 0xEBFE;
         self.regs.pc = 0xE406;
+        self.console.set_list_echo(false);
         self.mode = Mode::Program;
         Went::Reboot
     }

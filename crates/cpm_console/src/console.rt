@@ -1,11 +1,14 @@
-//! Bytes that wait to be taken, and the column of the cursor.
+//! Keys that wait to be read, bytes that wait to be taken, and the column of the cursor.
 
-ghost use Rattle.std.specs.Prelude.{◌≡◌, ◌<◌, ◌≤◌, ◌+◌, ◌-◌, ◌%◌, ◌++◌, ◌∷◌, [], length, take, drop, min, IfOk, if◌then◌else◌};
-ghost use Rattle.cpm_console.specs.Terminal.{blank, has_room, shown, printed, expanded, column_after, column_past};
+ghost use Rattle.std.specs.Prelude.{◌≡◌, ◌<◌, ◌≤◌, ◌+◌, ◌-◌, ◌%◌, ◌↔◌, ◌++◌, ◌∷◌, [], length, take, drop, min, slice_get, IsTrue, IfNone, IfOk, if◌then◌else◌};
+ghost use Rattle.cpm_console.specs.Terminal.{blank, pressed, key_read, has_room, shown, printed, said, expanded, column_after, column_past};
 
 use circular_buffer::HeapCircularBuffer;
 use std::alloc::{AllocError, Global};
 use std::marker::Model;
+
+/// How many keys may be pending.
+pub const KEYS: usize = 4096;
 
 /// How many bytes of output may wait on each device.
 pub const RING: usize = 8192;
@@ -13,12 +16,15 @@ pub const RING: usize = 8192;
 /// How many bytes a step may put on each device, at most.
 pub const STEP_OUTPUT: usize = 4096;
 
-/// The console and the list device of a session. Each holds up to 8,192 bytes that were put and not yet taken.
+/// The console and the list device of a session: up to 4,096 keys that were pressed and not yet read, and on each device
+/// up to 8,192 bytes that were put and not yet taken.
 #[derive(Drop)]
 pub struct Console {
+    pending: HeapCircularBuffer<u8>,
     screen: HeapCircularBuffer<u8>,
     printer: HeapCircularBuffer<u8>,
     column: u8,
+    list_echo: bool,
 }
 
 impl Model for Console {
@@ -27,23 +33,58 @@ impl Model for Console {
 
     ghost Value = { Terminal };
 
-    ghost view = { λ c. record { screen = c.screen.items; printer = c.printer.items; column = c.column } };
+    ghost view = { λ c. record { keys = c.pending.items; screen = c.screen.items; printer = c.printer.items; column = c.column; list_echo = c.list_echo } };
 
-    ghost invariant = { λ c. (c.screen.capacity ≡ 8192) × (c.printer.capacity ≡ 8192) };
+    ghost invariant = { λ c. (c.pending.capacity ≡ 4096) × (c.screen.capacity ≡ 8192) × (c.printer.capacity ≡ 8192) };
 }
 
 impl Console {
-    /// A console on which nothing was shown. All the memory that it ever takes is taken here.
+    /// A console on which nothing was done. All the memory that it ever takes is taken here; refused for want of it.
     pub fn new(alloc: Global) -> Result<Self, AllocError>
         ensures { IfOk result (λ c. c ≡ blank) }
     {
+        let pending = HeapCircularBuffer::with_capacity(alloc, KEYS)?;
         let screen = HeapCircularBuffer::with_capacity(alloc, RING)?;
         let printer = HeapCircularBuffer::with_capacity(alloc, RING)?;
         Ok(Console {
+            pending,
             screen,
             printer,
             column: 0,
+            list_echo: false,
         })
+    }
+
+    /// Adds a key, unless 4,096 are pending: then nothing changes, and the answer is false.
+    pub fn give(&mut self, key: u8) -> bool
+        ensures taken { IsTrue result ↔ (length self.old.keys < 4096) }
+        ensures after { self.new ≡ (if result then pressed self.old key else self.old) }
+    {
+        self.pending.try_push_back(key).is_ok()
+    }
+
+    /// The key that is read next, if one is pending.
+    pub fn first_key(&self) -> Option<u8>
+        ensures { result ≡ slice_get self.now.keys 0 }
+    {
+        self.pending.front().copied()
+    }
+
+    /// Reads a key, if one is pending.
+    pub fn next_key(&mut self) -> Option<u8>
+        ensures key { result ≡ slice_get self.old.keys 0 }
+        ensures after { self.new ≡ key_read self.old }
+        ensures none { IfNone result (self.new ≡ self.old) }
+    {
+        self.pending.pop_front()
+    }
+
+    /// How many keys are pending.
+    pub fn pending(&self) -> usize
+        ensures value { result ≡ length self.now.keys }
+        ensures fits { result ≤ 4096 }
+    {
+        self.pending.len()
     }
 
     /// How many console bytes wait to be taken.
@@ -60,6 +101,28 @@ impl Console {
         ensures fits { result ≤ 8192 }
     {
         self.printer.len()
+    }
+
+    /// The column of the cursor.
+    pub fn column(&self) -> u8
+        ensures value { result ≡ self.now.column }
+        ensures fits { self.now.column ≤ 255 }
+    {
+        self.column
+    }
+
+    /// Whether what is said on the console goes to the list device too.
+    pub fn list_echo(&self) -> bool
+        ensures { result ≡ self.now.list_echo }
+    {
+        self.list_echo
+    }
+
+    /// Turns the echo to the list device on or off.
+    pub fn set_list_echo(&mut self, on: bool)
+        ensures { self.new ≡ record self.old { list_echo = on } }
+    {
+        self.list_echo = on;
     }
 
     /// Whether both devices have room for all that a step may put.
@@ -88,28 +151,47 @@ impl Console {
         self.printer.push_back(byte);
     }
 
-    /// Shows a byte on the console, a tab as spaces up to the next column that is a multiple of 8. There must be room for 8 bytes.
-    #[tactic(auto, unfolding(crate::specs::Terminal::expanded, crate::specs::Terminal::shown))]
-    pub fn write(&mut self, byte: u8)
-        requires { length self.old.screen + 8 ≤ 8192 }
-        ensures { self.new ≡ shown self.old (expanded self.old.column byte) }
+    /// Shows a byte on the console as it is, and on the list device too while it echoes. There must be room for it.
+    #[tactic(auto, unfolding(crate::specs::Terminal::said, crate::specs::Terminal::shown, crate::specs::Terminal::printed))]
+    pub fn say(&mut self, byte: u8)
+        requires screen { length self.old.screen < 8192 }
+        requires printer { length self.old.printer < 8192 }
+        ensures { self.new ≡ said self.old (byte ∷ []) }
     {
-        if byte == b'\t' {
-            let spaces = usize::from(8 - self.column % 8);
-            self.put_all(&[b' '; 8][..spaces]);
-        } else {
-            self.put(byte);
+        self.put(byte);
+        if self.list_echo {
+            self.put_list(byte);
         }
     }
 
-    /// Shows bytes as they are.
-    #[tactic(auto, unfolding(crate::specs::Terminal::shown))]
-    fn put_all(&mut self, bytes: &[u8])
-        requires { length self.old.screen + length bytes.now ≤ 8192 }
-        ensures { self.new ≡ shown self.old bytes.now }
+    /// Shows bytes as they are, and on the list device too while it echoes. There must be room for them.
+    #[tactic(auto, unfolding(crate::specs::Terminal::said))]
+    pub fn say_all(&mut self, bytes: &[u8])
+        requires screen { length self.old.screen + length bytes.now ≤ 8192 }
+        requires printer { length self.old.printer + length bytes.now ≤ 8192 }
+        ensures { self.new ≡ said self.old bytes.now }
     {
         self.screen.fill_from_slice(bytes);
+        if self.list_echo {
+            self.printer.fill_from_slice(bytes);
+        }
         self.column = column_past(self.column, bytes);
+    }
+
+    /// Shows a byte, a tab as spaces up to the next column that is a multiple of 8, and on the list device too while it
+    /// echoes. There must be room for 8 bytes.
+    #[tactic(auto, unfolding(crate::specs::Terminal::expanded))]
+    pub fn write(&mut self, byte: u8)
+        requires screen { length self.old.screen + 8 ≤ 8192 }
+        requires printer { length self.old.printer + 8 ≤ 8192 }
+        ensures { self.new ≡ said self.old (expanded self.old.column byte) }
+    {
+        if byte == b'\t' {
+            let spaces = usize::from(8 - self.column % 8);
+            self.say_all(&[b' '; 8][..spaces]);
+        } else {
+            self.say(byte);
+        }
     }
 
     /// Moves out the first console bytes, as many as fit, and says how many.

@@ -1,6 +1,8 @@
-//! The console and the list device of a session: what a program shows, held until it is taken.
+//! The console and the list device of a session: pending keys, what a program shows, held until it is taken, and the editing of a line.
 #![tactic(auto)]
 
 pub mod console;
+pub mod line;
 
-pub use console::{Console, RING, STEP_OUTPUT};
+pub use console::{Console, KEYS, RING, STEP_OUTPUT};
+pub use line::{Keystroke, Line, Progress};
