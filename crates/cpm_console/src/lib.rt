@@ -6,3 +6,6 @@ pub mod line;
 
 pub use console::{Console, KEYS, RING, STEP_OUTPUT};
 pub use line::{Keystroke, Line, Progress};
+
+#[cfg(test)]
+mod tests;
