@@ -2,9 +2,11 @@
 #![tactic(auto)]
 
 pub mod console;
+pub mod laws;
 pub mod line;
 
 pub use console::{Console, KEYS, RING, STEP_OUTPUT};
+pub use laws::erased_as_typed;
 pub use line::{Keystroke, Line, Progress};
 
 #[cfg(test)]

@@ -1,5 +1,7 @@
 //! Pending keys, held output, the column and tabs.
 
+ghost use Rattle.std.specs.Prelude.{◌≤◌, length};
+
 use crate::{Console, KEYS};
 use std::process::Abort;
 use std::test::Fail;
@@ -8,6 +10,15 @@ use std::test::Fail;
 fn put(rt: &impl Abort, console: &mut Console, byte: u8) {
     assert!(rt; console.held() < 8192);
     console.put(byte);
+}
+
+/// Stops where a device holds more than 4,096 bytes.
+fn check_room(rt: &impl Abort, console: &Console)
+    ensures screen { length console.now.screen ≤ 4096 }
+    ensures printer { length console.now.printer ≤ 4096 }
+{
+    assert!(rt; console.held() <= 4096);
+    assert!(rt; console.held_list() <= 4096);
 }
 
 /// Shows spaces up to a column, from a column to the left of it.
@@ -117,8 +128,7 @@ fn tabs_stop_every_eight_columns(rt: HostRuntime) -> Result<(), Fail> {
         go_to(&rt, &mut console, from);
         console.take(&mut out);
         console.set_list_echo(true);
-        assert!(rt; console.held() <= 4096);
-        assert!(rt; console.held_list() <= 4096);
+        check_room(&rt, &console);
         console.write(b'\t');
         assert_eq!(rt; console.column(), column, "a tab at column {from}");
         assert_eq!(rt; console.held(), spaces);
@@ -137,15 +147,22 @@ fn tabs_stop_every_eight_columns(rt: HostRuntime) -> Result<(), Fail> {
 fn list_device_gets_what_is_said(rt: HostRuntime) -> Result<(), Fail> {
     let mut console = Console::new(rt.alloc())?;
     assert!(rt; !console.list_echo());
+    check_room(&rt, &console);
     console.say_all(b"AB");
     console.set_list_echo(true);
     assert!(rt; console.list_echo());
+    check_room(&rt, &console);
     console.say(b'C');
+    check_room(&rt, &console);
     console.say_all(b"DE");
+    check_room(&rt, &console);
     console.write(b'F');
+    check_room(&rt, &console);
     console.put(b'G');
+    check_room(&rt, &console);
     console.put_list(b'H');
     console.set_list_echo(false);
+    check_room(&rt, &console);
     console.say(b'I');
     assert_eq!(rt; console.column(), 8);
     assert_eq!(rt; console.held(), 8);

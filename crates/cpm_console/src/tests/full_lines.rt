@@ -3,7 +3,7 @@
 use super::session::Bytes::{Erased, Filled, Text};
 use super::session::Press::{Once, Times};
 use super::session::{Session, type_all};
-use crate::Progress;
+use crate::{Progress, erased_as_typed};
 use std::test::Fail;
 
 const FULL: [Session; 9] = [
@@ -119,5 +119,6 @@ const FULL: [Session; 9] = [
 
 #[test]
 fn full_lines_end(rt: HostRuntime) -> Result<(), Fail> {
+    erased_as_typed();
     type_all(&rt, rt.alloc(), &FULL)
 }
