@@ -220,12 +220,14 @@ impl Line {
         }
     }
 
-    /// Shows the line again on a fresh line, from the column where it began. There must be room for all that a step may put.
+    /// Shows the line again on a fresh line, from the column where it began, in 1,024 bytes at most. There must be room for
+    /// all that a step may put.
     #[tactic(auto, using(crate::proofs::Said::saying))]
     pub fn retype(&self, console: &mut Console)
         requires screen { length console.old.screen ≤ 4096 }
         requires printer { length console.old.printer ≤ 4096 }
-        ensures { console.new ≡ said console.old (fresh_line self.now ++ echo self.now.start self.now.characters) }
+        ensures shown { console.new ≡ said console.old (fresh_line self.now ++ echo self.now.start self.now.characters) }
+        ensures output { IsWithin 1024 console.old console.new }
     {
         self.begin_again(console);
         say_echoes(console, self.start, self.characters());
