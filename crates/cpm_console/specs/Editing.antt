@@ -23,9 +23,8 @@ keystroke is_empty key =
     else (if key == 24 then EraseAll  -- ^X
     else Character))))))))
 
--- CP/M 2.2 Operating System Manual, section 5, functions 1 and 10: the echo of a character that is typed at a column.
--- A tab is the spaces up to the next multiple of eight, a control character `^` and a letter (rubout `^?`: own), and any
--- other is itself.
+-- own: the echo of a character that is typed at a column. A tab is the spaces up to the next multiple of eight (CP/M 2.2
+-- Operating System Manual, section 5, function 2), a control character and rubout `^` and a letter or sign, any other itself.
 unfoldable pub echo_at : ℕ → ℕ → List ℕ
 echo_at column character =
     if character == 9 then replicate (8 - column % 8) 32
@@ -93,8 +92,8 @@ put_in t l c =
     if length l.characters + 1 == l.limit then edited (said t (typed_echo l c ++ 13 ∷ [])) (with_character l c) Ended
     else edited (said t (typed_echo l c)) (with_character l c) GoesOn
 
--- CP/M 2.2 Operating System Manual, section 1.5 and section 5, function 10: what each key shows and leaves. Which bytes
--- move the cursor, and that ^E keeps the column where the line began, is own.
+-- CP/M 2.2 Operating System Manual, section 1.5 and section 5, function 10: what each key shows and leaves. The bytes that
+-- it shows, and that ^E keeps the column where the line began, are own.
 abbrev pub edit : Keystroke → Terminal → Draft → ℕ → Edited
 edit Interrupt t l key = edited (said t (94 ∷ 67 ∷ [])) l Interrupted  -- `^C`
 edit NewLine t l key = edited (said t (13 ∷ 10 ∷ [])) l GoesOn

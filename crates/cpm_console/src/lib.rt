@@ -1,4 +1,5 @@
-//! The console and the list device of a session: pending keys, what a program shows, held until it is taken, and the editing of a line.
+//! The console and the list device of a session: pending keys, what a program shows, held until it is taken, and the
+//! editing of a line.
 #![tactic(auto)]
 
 pub mod console;

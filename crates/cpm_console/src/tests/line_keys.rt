@@ -119,7 +119,7 @@ const ENDS: [Session; 4] = [
     },
 ];
 
-const NEW_LINES: [Session; 3] = [
+const NEW_LINES: [Session; 4] = [
     // ^E stores nothing
     Session {
         start: 0,
@@ -162,6 +162,23 @@ const NEW_LINES: [Session; 3] = [
             Once(0x08, Erased(1)),
         ],
         line: Text(b""),
+        progress: Progress::GoesOn,
+        column: 0,
+        list: b"",
+    },
+    // nor where the count is 255
+    Session {
+        start: 254,
+        limit: 255,
+        keys: &[
+            Once(b'A', Text(b"A")),
+            Once(0x05, Text(b"\r\n")),
+            Once(0x01, Text(b"^A")),
+            Once(0x09, Text(b" ")),
+            Once(0x08, Erased(1)),
+            Once(0x08, Erased(2)),
+        ],
+        line: Text(b"A"),
         progress: Progress::GoesOn,
         column: 0,
         list: b"",

@@ -193,7 +193,7 @@ const BACKSPACES: [Session; 9] = [
     },
 ];
 
-const RUBOUTS: [Session; 4] = [
+const RUBOUTS: [Session; 5] = [
     // nothing to remove
     Session {
         start: 255,
@@ -243,6 +243,21 @@ const RUBOUTS: [Session; 4] = [
         line: Text(b"\t"),
         progress: Progress::GoesOn,
         column: 26,
+        list: b"",
+    },
+    Session {
+        start: 254,
+        limit: 128,
+        keys: &[
+            Once(0xFF, Text(b"\xFF")),
+            Once(0x01, Text(b"^A")),
+            Once(0x7F, Text(b"^A")),
+            Once(0x7F, Text(b"\xFF")),
+            Once(0x09, Text(b"  ")),
+        ],
+        line: Text(b"\t"),
+        progress: Progress::GoesOn,
+        column: 255,
         list: b"",
     },
 ];
