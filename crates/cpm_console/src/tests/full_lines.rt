@@ -101,7 +101,7 @@ const FULL: [Session; 9] = [
         column: 0,
         list: b"",
     },
-    // no key shows more: 256 columns of tabs, then 222 characters of two columns each
+    // the most that a key shows, by hand: 256 columns of tabs and 222 characters of two columns each, erased at once
     Session {
         start: 0,
         limit: 255,
