@@ -152,16 +152,12 @@ impl Console {
     }
 
     /// Shows a byte on the console as it is, and on the list device too while it echoes. There must be room for it.
-    #[tactic(auto, unfolding(crate::specs::Terminal::said, crate::specs::Terminal::shown, crate::specs::Terminal::printed))]
     pub fn say(&mut self, byte: u8)
         requires screen { length self.old.screen < 8192 }
         requires printer { length self.old.printer < 8192 }
         ensures { self.new ≡ said self.old (byte ∷ []) }
     {
-        self.put(byte);
-        if self.list_echo {
-            self.put_list(byte);
-        }
+        self.say_all(&[byte]);
     }
 
     /// Shows bytes as they are, and on the list device too while it echoes. There must be room for them.

@@ -45,6 +45,27 @@ pub enum Keystroke {
     Character,
 }
 
+impl Keystroke {
+    /// What a key means in a line that is empty or not.
+    #[tactic(auto, unfolding(crate::specs::Editing::keystroke))]
+    fn of(key: u8, is_empty: bool) -> Keystroke
+        ensures { result ≡ keystroke is_empty key }
+    {
+        match key {
+            0x03 if is_empty => Keystroke::Interrupt,
+            0x05 => Keystroke::NewLine,
+            0x08 => Keystroke::Erase,
+            0x7F => Keystroke::Repeat,
+            0x0A | 0x0D => Keystroke::End,
+            0x10 => Keystroke::ListEcho,
+            0x12 => Keystroke::Retype,
+            0x15 => Keystroke::Restart,
+            0x18 => Keystroke::EraseAll,
+            _ => Keystroke::Character,
+        }
+    }
+}
+
 /// A line that is being edited.
 #[derive(Drop)]
 pub struct Line {
@@ -113,6 +134,13 @@ impl Line {
         self.by_keystroke(console, key)
     }
 
+    /// The column count of the characters now in the line.
+    fn column_count(&self) -> u8
+        ensures { result ≡ columns self.now.start self.now.characters }
+    {
+        columns(self.start, self.characters())
+    }
+
     /// Does what the key means in the line.
     #[tactic(auto, using(crate::proofs::Said::saying))]
     fn by_keystroke(&mut self, console: &mut Console, key: u8) -> Progress
@@ -156,7 +184,7 @@ impl Line {
                 Progress::GoesOn
             }
             Keystroke::EraseAll => {
-                erase(console, echo_width(self.start, self.characters.as_slice()));
+                erase(console, echo_width(self.start, self.characters()));
                 self.characters.clear();
                 Progress::GoesOn
             }
@@ -173,7 +201,7 @@ impl Line {
         ensures console { console.new ≡ said console.old (erasure (length (last_echo self.old))) }
     {
         if let Some(character) = self.characters.pop() {
-            let at = columns(self.start, self.characters.as_slice());
+            let at = self.column_count();
             erase(console, usize::from(width(at, character)));
         }
     }
@@ -187,20 +215,22 @@ impl Line {
         ensures console { console.new ≡ said console.old (last_echo self.old) }
     {
         if let Some(character) = self.characters.pop() {
-            let at = columns(self.start, self.characters.as_slice());
+            let at = self.column_count();
             say_echo(console, at, character);
         }
     }
 
-    /// Shows the line again on a fresh line, from the column where it began. There must be room for all that a step may put.
+    /// Shows the line again on a fresh line, from the column where it began, in 1,024 bytes at most. There must be room for
+    /// all that a step may put.
     #[tactic(auto, using(crate::proofs::Said::saying))]
     pub fn retype(&self, console: &mut Console)
         requires screen { length console.old.screen ≤ 4096 }
         requires printer { length console.old.printer ≤ 4096 }
-        ensures { console.new ≡ said console.old (fresh_line self.now ++ echo self.now.start self.now.characters) }
+        ensures shown { console.new ≡ said console.old (fresh_line self.now ++ echo self.now.start self.now.characters) }
+        ensures output { IsWithin 1024 console.old console.new }
     {
         self.begin_again(console);
-        say_echoes(console, self.start, self.characters.as_slice());
+        say_echoes(console, self.start, self.characters());
     }
 
     /// Goes to a fresh line, and to the column where this one began.
@@ -223,7 +253,7 @@ impl Line {
         ensures { edited console.new self.new result ≡ put_in console.old self.old character }
     {
         let limit = usize::from(self.limit);
-        let at = columns(self.start, self.characters.as_slice());
+        let at = self.column_count();
         say_echo(console, at, character);
         self.characters.push(character);
         if self.characters.len() == limit {
@@ -248,27 +278,6 @@ fn echo_width(column: u8, characters: &[u8]) -> usize
         at = next_column(at, *character);
     }
     total
-}
-
-impl Keystroke {
-    /// What a key means in a line that is empty or not.
-    #[tactic(auto, unfolding(crate::specs::Editing::keystroke))]
-    fn of(key: u8, is_empty: bool) -> Keystroke
-        ensures { result ≡ keystroke is_empty key }
-    {
-        match key {
-            0x03 if is_empty => Keystroke::Interrupt,
-            0x05 => Keystroke::NewLine,
-            0x08 => Keystroke::Erase,
-            0x7F => Keystroke::Repeat,
-            0x0A | 0x0D => Keystroke::End,
-            0x10 => Keystroke::ListEcho,
-            0x12 => Keystroke::Retype,
-            0x15 => Keystroke::Restart,
-            0x18 => Keystroke::EraseAll,
-            _ => Keystroke::Character,
-        }
-    }
 }
 
 /// How many columns the echo of a character takes.
