@@ -13,9 +13,10 @@ use Rattle.cpm_slots.specs.declared.trap.Trap.TheVariants.{CommandProcessor, Bdo
 use Rattle.cpm_slots.specs.Trap.{trap_at}
 use Rattle.cpm_slots.specs.MachineState.{MachineState}
 use Rattle.cpm_slots.specs.Step.{Part, part, part_in, at_trap, by_call, after_part, step_if, is_running, step, after}
-use Rattle.cpm_slots.specs.Serve.{executed, taken, taken_list}
-use Rattle.cpm_slots.specs.Calls.{Call, Grant, Take, TakeList, LookAt, Peek, Account, serve, entered, state_after, account_after, state_behind}
-use Rattle.cpm_slots.proofs.GrantLaws.{after-add}
+use Rattle.cpm_slots.specs.Serve.{executed, taken, taken_list, takes_key, keyed}
+use Rattle.cpm_slots.specs.Alone.{alone}
+use Rattle.cpm_slots.specs.Calls.{Call, Key, Grant, Take, TakeList, LookAt, Peek, Account, no_account, served_key, serve, entered, state_after, account_after, state_behind}
+use Rattle.cpm_slots.proofs.PressLaws.{AllCame, with_keys-nil, alone-add, alone-pressed, AllCame-pressed, AllCame-later}
 
 module _ (p q : List ℕ) where
   part_behind : Part → Part
@@ -62,17 +63,37 @@ pub taken_list-behind : (p q : List ℕ) (room : ℕ) (s : MachineState) → sta
 taken_list-behind p q room s =
     ap (λ xs. record s { session = record s.session { console = record s.session.console { screen = p ++ s.session.console.screen; printer = xs } } }) (moved q s.session.console.printer (min room (length s.session.console.printer)))
 
+-- by this account the state, with the bytes that were taken put back in front, is that of the machine run alone
+record IsAlone (a : Account) (s start : MachineState) : Type 0 where
+  state : state_behind a.screen a.printer s ≡ alone a.presses a.executed start
+  came : AllCame a.presses a.executed
+
+-- a key more
+after-key : (b : Bool) (key : ℕ) (a : Account) (s start : MachineState) → IsAlone a s start → let r = served_key b key s in IsAlone (entered a (Key key) r.answer) r.state start
+after-key true key a s start h = record {
+  state = ap (keyed key) h.state ∙ sym (alone-pressed a.presses a.executed key start);
+  came = AllCame-pressed a.presses a.executed key h.came;
+}
+after-key false key a s start h = h
+
 -- one call more
-after-call : (call : Call) (a : Account) (s start : MachineState) → state_behind a.screen a.printer s ≡ after a.executed start → let b = entered a call (serve call s).answer in state_behind b.screen b.printer (serve call s).state ≡ after b.executed start
+after-call : (call : Call) (a : Account) (s start : MachineState) → IsAlone a s start → IsAlone (entered a call (serve call s).answer) (serve call s).state start
 unfolding serve
-after-call (Grant steps) a s start h =
-    sym (after-behind a.screen a.printer (executed steps s) s) ∙ ap (after (executed steps s)) h ∙ sym (after-add a.executed (executed steps s) start)
-after-call (Take room) a s start h = taken-behind a.screen a.printer room s ∙ h
-after-call (TakeList room) a s start h = taken_list-behind a.screen a.printer room s ∙ h
+after-call (Key key) a s start h = after-key (takes_key s) key a s start h
+after-call (Grant steps) a s start h = record {
+  state = sym (after-behind a.screen a.printer (executed steps s) s) ∙ ap (after (executed steps s)) h.state ∙ sym (alone-add a.presses a.executed (executed steps s) start h.came);
+  came = AllCame-later a.presses a.executed (executed steps s) h.came;
+}
+after-call (Take room) a s start h = record { state = taken-behind a.screen a.printer room s ∙ h.state; came = h.came }
+after-call (TakeList room) a s start h = record { state = taken_list-behind a.screen a.printer room s ∙ h.state; came = h.came }
 after-call LookAt a s start h = h
 after-call (Peek address) a s start h = h
 
-pub alone-after : (calls : List Call) (a : Account) (s start : MachineState) → state_behind a.screen a.printer s ≡ after a.executed start → let b = account_after calls a s in state_behind b.screen b.printer (state_after calls s) ≡ after b.executed start
-alone-after [] a s start h = h
-alone-after (call ∷ calls) a s start h =
-    alone-after calls (entered a call (serve call s).answer) (serve call s).state start (after-call call a s start h)
+after-calls : (calls : List Call) (a : Account) (s start : MachineState) → IsAlone a s start → IsAlone (account_after calls a s) (state_after calls s) start
+after-calls [] a s start h = h
+after-calls (call ∷ calls) a s start h =
+    after-calls calls (entered a call (serve call s).answer) (serve call s).state start (after-call call a s start h)
+
+pub alone-after : (calls : List Call) (start : MachineState) → let a = account_after calls no_account start in state_behind a.screen a.printer (state_after calls start) ≡ alone a.presses a.executed start
+alone-after calls start =
+    (after-calls calls no_account start start (record { state = sym (with_keys-nil start); came = λ i past. refl })).state

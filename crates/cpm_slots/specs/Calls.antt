@@ -1,15 +1,17 @@
 -- The calls to a machine, what they are answered, and what they leave.
-use Rattle.std.specs.Prelude.{ℕ, ◌+◌, List, [], ◌∷◌, ◌++◌, length, take, min}
+use Rattle.std.specs.Prelude.{ℕ, ◌+◌, List, [], ◌∷◌, ◌++◌, length, take, min, Bool, true, false}
 use Rattle.cpm_memory.specs.Contents.{byte_at}
 use Rattle.cpm_bdos.specs.Behind.{session_behind}
 use Rattle.cpm_slots.specs.declared.reply.Granted.{Granted}
 use Rattle.cpm_slots.specs.declared.reply.Look.{Look}
 use Rattle.cpm_slots.specs.MachineState.{MachineState}
 use Rattle.cpm_slots.specs.Step.{after}
-use Rattle.cpm_slots.specs.Serve.{executed, why, look_of, taken, taken_list}
+use Rattle.cpm_slots.specs.Serve.{executed, why, look_of, taken, taken_list, takes_key, keyed}
+use Rattle.cpm_slots.specs.Alone.{Press}
 
--- a call: steps granted, bytes taken into so much room, a look, a byte of the memory
+-- a call: a key pressed, steps granted, bytes taken into so much room, a look, a byte of the memory
 pub data Call : Type 0 where
+  Key : (key : ℕ) → Call
   Grant : (steps : ℕ) → Call
   Take : (room : ℕ) → Call
   TakeList : (room : ℕ) → Call
@@ -17,6 +19,8 @@ pub data Call : Type 0 where
   Peek : (address : ℕ) → Call
 
 pub data Answer : Type 0 where
+  Accepted : Answer
+  KeysFull : Answer
   Grants : (granted : Granted) → Answer
   Bytes : (bytes : List ℕ) → Answer
   Looked : (look : Look) → Answer
@@ -29,25 +33,33 @@ pub record Served : Type 0 where
 abbrev pub granted : ℕ → MachineState → Granted
 granted n s = let k = executed n s in record { executed = k; why = why n k (after k s) }
 
+-- a key is accepted, or refused with nothing changed
+abbrev pub served_key : Bool → ℕ → MachineState → Served
+served_key true key s = record { answer = Accepted; state = keyed key s }
+served_key false key s = record { answer = KeysFull; state = s }
+
 -- what a call is answered, and the state after it
 unfoldable pub serve : Call → MachineState → Served
+serve (Key key) s = served_key (takes_key s) key s
 serve (Grant steps) s = record { answer = Grants (granted steps s); state = after (executed steps s) s }
 serve (Take room) s = record { answer = Bytes (take (min room (length s.session.console.screen)) s.session.console.screen); state = taken room s }
 serve (TakeList room) s = record { answer = Bytes (take (min room (length s.session.console.printer)) s.session.console.printer); state = taken_list room s }
 serve LookAt s = record { answer = Looked (look_of s); state = s }
 serve (Peek address) s = record { answer = Peeked (byte_at s.memory address); state = s }
 
--- the steps executed, and the console and list bytes taken
+-- the keys accepted, each with the number of steps executed before it, the steps executed, and the console and list bytes taken
 pub record Account : Type 0 where
+  pub presses : List Press
   pub executed : ℕ
   pub screen : List ℕ
   pub printer : List ℕ
 
 abbrev pub no_account : Account
-no_account = record { executed = 0; screen = []; printer = [] }
+no_account = record { presses = []; executed = 0; screen = []; printer = [] }
 
 -- an account goes on by the answers alone
 abbrev pub entered : Account → Call → Answer → Account
+entered a (Key key) Accepted = record a { presses = a.presses ++ record { after = a.executed; key = key } ∷ [] }
 entered a (Grant steps) (Grants granted) = record a { executed = a.executed + granted.executed }
 entered a (Take room) (Bytes bytes) = record a { screen = a.screen ++ bytes }
 entered a (TakeList room) (Bytes bytes) = record a { printer = a.printer ++ bytes }

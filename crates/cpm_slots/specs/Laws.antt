@@ -1,10 +1,11 @@
 -- Laws over the step.
-use Rattle.std.specs.Prelude.{◌≡◌, ℕ, ◌+◌, ◌<◌, ◌≤◌, List, Bool, true, false}
+use Rattle.std.specs.Prelude.{◌≡◌, ℕ, ◌+◌, ◌<◌, ◌≤◌, List, [], ◌++◌, Bool, true, false}
 use Rattle.cpm_memory.specs.Contents.{touched_of}
 use Rattle.cpm_console.specs.Terminal.{IsWithin}
 use Rattle.cpm_slots.specs.MachineState.{MachineState}
 use Rattle.cpm_slots.specs.Step.{step, after, can_step}
 use Rattle.cpm_slots.specs.Serve.{executed}
+use Rattle.cpm_slots.specs.Alone.{Press, due, alone}
 use Rattle.cpm_slots.specs.Calls.{Call, no_account, account_after, state_after, state_behind}
 
 -- the number is the greatest up to n below which the test holds everywhere
@@ -32,8 +33,12 @@ pub record IsBounded (old new : MachineState) : Type 0 where
 abbrev pub Bounded : Type 0
 Bounded = (s : MachineState) → IsBounded s (step s)
 
--- After any calls the state, with the bytes that were taken put back in front, is the start's after the steps that were executed: whatever was taken and looked at, and however the grants were cut.
+-- After any calls the state, with the bytes that were taken put back in front, is that of the machine run alone from the start, for the keys that were accepted and the steps that were executed: whatever was taken and looked at, however the grants were cut, and as if the keys had been known beforehand.
 abbrev pub Alone : Type 0
 Alone = (calls : List Call) (start : MachineState) →
     let a = account_after calls no_account start in
-    state_behind a.screen a.printer (state_after calls start) ≡ after a.executed start
+    state_behind a.screen a.printer (state_after calls start) ≡ alone a.presses a.executed start
+
+-- keys that come later make no difference
+abbrev pub LateKeys : Type 0
+LateKeys = (presses later : List Press) (n : ℕ) (start : MachineState) → ((i : ℕ) → i ≤ n → due i later ≡ []) → alone (presses ++ later) n start ≡ alone presses n start

@@ -3,6 +3,7 @@ pub mod Trap
 pub mod MachineState
 pub mod Step
 pub mod Serve
+pub mod Alone
 pub mod Runner
 pub mod Laws
 pub mod Opening

@@ -1,6 +1,7 @@
 -- What a machine answers, and what it is afterwards.
-use Rattle.std.specs.Prelude.{ℕ, zero, suc, length, drop, min, ◌&&◌, ◌==◌, not, Bool, if◌then◌else◌}
+use Rattle.std.specs.Prelude.{ℕ, zero, suc, length, drop, min, ◌&&◌, ◌==◌, not, nat_lt, Bool, if◌then◌else◌}
 use Rattle.cpm_memory.specs.Contents.{touched_of}
+use Rattle.cpm_console.specs.Terminal.{pressed}
 use Rattle.cpm_slots.specs.declared.reply.Why.{Why}
 use Rattle.cpm_slots.specs.declared.reply.Why.TheVariants.{All, Stopped, Blocked}
 use Rattle.cpm_slots.specs.declared.reply.Look.{Look}
@@ -20,6 +21,14 @@ executed n s = longest (λ k. can_step (after k s)) n
 abbrev pub why : ℕ → ℕ → MachineState → Why
 why n k s = if k == n then All else if not (is_running s.ended) then Stopped else Blocked
 
+-- own: 4,096 keys may be pending
+abbrev pub takes_key : MachineState → Bool
+takes_key s = nat_lt (length s.session.console.keys) 4096
+
+-- the state after a key was pressed, which the next step can read
+abbrev pub keyed : ℕ → MachineState → MachineState
+keyed key s = record s { session = record s.session { console = pressed s.session.console key } }
+
 -- what is seen of a state
 unfoldable pub look_of : MachineState → Look
 look_of s = record {
@@ -27,6 +36,7 @@ look_of s = record {
   count = s.count;
   ended = s.ended;
   pages = touched_of s.memory;
+  keys = length s.session.console.keys;
   console = length s.session.console.screen;
   list = length s.session.console.printer;
 }

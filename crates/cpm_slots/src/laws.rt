@@ -1,6 +1,6 @@
 //! Laws of machines, as contracts.
 
-ghost use Rattle.cpm_slots.specs.Laws.{Greatest, Cutting, Bounded, Alone};
+ghost use Rattle.cpm_slots.specs.Laws.{Greatest, Cutting, Bounded, Alone, LateKeys};
 
 /// A grant executes the greatest number of steps that can be made.
 pub fn greatest()
@@ -17,7 +17,13 @@ pub fn bounded()
     ensures { Bounded }
 {}
 
-/// After any calls a machine is the machine run alone, but for the bytes that were taken.
+/// After any calls a machine is the machine run alone by its accepted keys and executed steps, but for the bytes that
+/// were taken.
 pub fn alone()
     ensures { Alone }
+{}
+
+/// Keys that come later make no difference to the machine run alone.
+pub fn late_keys()
+    ensures { LateKeys }
 {}

@@ -8,4 +8,4 @@ mod steps;
 mod trap;
 
 pub use machine::{MOST_PROGRAM, Machine, OpenError};
-pub use reply::{Closed, End, Granted, Look, Why};
+pub use reply::{Closed, End, Granted, KeysFull, Look, Why};

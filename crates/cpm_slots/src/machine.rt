@@ -1,13 +1,13 @@
 //! One machine with a memory of its own.
 
-ghost use Rattle.std.specs.Prelude.{◌≡◌, ◌++◌, ◌≤◌, length, take, drop, min, IfOk, IfErr, None, if◌then◌else◌};
+ghost use Rattle.std.specs.Prelude.{◌≡◌, true, false, ◌++◌, ◌≤◌, length, take, drop, min, IfOk, IfErr, None, if◌then◌else◌};
 ghost use Rattle.cpm_memory.specs.Contents.{byte_at};
 ghost use Rattle.cpm_slots.specs.MachineState.{opened_with};
 ghost use Rattle.cpm_slots.specs.Step.{can_step, step, after};
-ghost use Rattle.cpm_slots.specs.Serve.{executed, why, look_of, taken, taken_list};
+ghost use Rattle.cpm_slots.specs.Serve.{executed, why, look_of, taken, taken_list, takes_key, keyed};
 ghost use Rattle.cpm_slots.specs.Opening.{program_fault, IsRefusal};
 
-use crate::reply::{Closed, End, Granted, Look};
+use crate::reply::{Closed, End, Granted, KeysFull, Look};
 use crate::steps::{self, Runner};
 use cpm_bdos::Session;
 use cpm_console::Console;
@@ -106,6 +106,18 @@ impl Machine {
         ensures within { result.executed ≤ steps }
     {
         steps::grant(&mut self.runner, &mut self.memory, steps)
+    }
+
+    /// Presses a key, which the next step can read. Refused, with nothing changed, where 4,096 keys are pending.
+    pub fn key(&mut self, key: u8) -> Result<(), KeysFull>
+        ensures accepted { IfOk result (λ _. takes_key self.old ≡ true × self.new ≡ keyed key self.old) }
+        ensures refused { IfErr result (λ _. takes_key self.old ≡ false × self.new ≡ self.old) }
+    {
+        if self.runner.session.console.give(key) {
+            Ok(())
+        } else {
+            Err(KeysFull)
+        }
     }
 
     /// Moves out the first console bytes, as many as fit, and says how many.

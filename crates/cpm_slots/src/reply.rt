@@ -1,6 +1,7 @@
 //! What a machine answers.
 
 use cpm_flags::Regs;
+use thiserror::Error;
 
 /// Whether a session still runs, and else how it ended.
 #[derive(Clone, Copy, Debug, PartialEq, Eq, Drop)]
@@ -29,6 +30,11 @@ pub enum Why {
     Blocked,
 }
 
+/// A key was refused: 4,096 keys are pending.
+#[derive(Clone, Copy, Debug, PartialEq, Eq, Drop, Error)]
+#[error("4096 keys are pending")]
+pub struct KeysFull;
+
 /// What became of a grant.
 #[derive(Clone, Copy, Debug, PartialEq, Eq, Drop)]
 pub struct Granted {
@@ -46,6 +52,8 @@ pub struct Look {
     pub ended: End,
     /// How many pages of 256 bytes were written.
     pub pages: u16,
+    /// How many keys are pending.
+    pub keys: usize,
     /// How many console bytes wait to be taken.
     pub console: usize,
     /// How many list bytes wait to be taken.

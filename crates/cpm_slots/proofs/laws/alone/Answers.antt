@@ -1,7 +1,5 @@
-use Rattle.std.proofs.Common.{refl}
-use Rattle.cpm_slots.specs.Calls.{no_account}
 use Rattle.cpm_slots.proofs.AloneLaws.{alone-after}
 use Rattle.cpm_slots.proofs.laws.alone.Goals as goal
 
 pub returns : goal.returns
-returns c calls start = alone-after calls no_account start start refl
+returns c calls start = alone-after calls start
