@@ -1,5 +1,7 @@
 //! Runs a program of the 8080 over a memory by itself or over a view of a store of frames, to compare their speed:
-//! `flat FILE STEPS` or `view FILE STEPS`. It prints how many instructions were done.
+//! `flat FILE STEPS` or `view FILE STEPS`. It prints how many instructions were done. Or makes memories to see what room
+//! they take: `sessions NUMBER` in one store, each with one written page, or `flats NUMBER` of their own. It prints what
+//! Linux says of its own memory then.
 #![tactic(auto)]
 
 use cpm_decode::Ran;
@@ -96,10 +98,61 @@ fn run_over(rt: &HostRuntime, kind: &str, program: &[u8], steps: u64) -> Option<
     }
 }
 
+/// The greatest resident memory of this process so far, in KiB, as Linux counts it.
+fn resident(rt: &HostRuntime) -> Option<u64> {
+    let status = fs::read_to_string(rt, "/proc/self/status").ok()?;
+    let line = status
+        .as_str()
+        .lines()
+        .find(|line| line.starts_with("VmHWM:"))?;
+    line.split_whitespace().nth(1)?.parse().ok()
+}
+
+/// Makes so many memories in one store, each with a quota of 16 pages and one page written, and keeps them to the end.
+fn share(rt: &HostRuntime, number: u16) -> Option<u64> {
+    if number > 64 {
+        return None;
+    }
+    let mut store = FrameStore::new(rt.alloc(), 16 * number).ok()?;
+    for _ in 0..number {
+        if store.taken() >= 64 {
+            return None;
+        }
+        let table = store.reserve(16).ok()?;
+        if !store.is_taken(table) {
+            return None;
+        }
+        let mut view = store.view(table);
+        if !has_room(&view) {
+            return None;
+        }
+        cpm_memory::set_byte(&mut view, 0x2000, 1);
+    }
+    resident(rt)
+}
+
+/// Makes so many memories of their own, each with one page written, and keeps them to the end.
+fn own(rt: &HostRuntime, number: u16) -> Option<u64> {
+    let mut memories = Vec::new(rt.alloc());
+    for _ in 0..number {
+        let mut memory = FlatMemory::new(rt.alloc()).ok()?;
+        if has_room(&memory) {
+            cpm_memory::set_byte(&mut memory, 0x2000, 1);
+        }
+        memories.push(memory).ok()?;
+    }
+    resident(rt)
+}
+
 fn compare(rt: &HostRuntime) -> Option<u64> {
     let mut words = env::args(rt).ok()?;
     let _name = words.next()?;
     let kind = words.next()?;
+    match kind.as_str() {
+        "sessions" => return share(rt, words.next()?.as_str().parse().ok()?),
+        "flats" => return own(rt, words.next()?.as_str().parse().ok()?),
+        _ => {}
+    }
     let program = fs::read(rt, words.next()?.as_str()).ok()?;
     let steps = words.next()?.as_str().parse::<u64>().ok()?;
     run_over(rt, kind.as_str(), program.as_slice(), steps)

@@ -215,8 +215,9 @@ fn cuts_a_long_word(rt: HostRuntime) {
     }
     let text = refusal(&rt, &["cpmhost", long.as_str()]);
     let wanted = 97;
-    assert_eq!(rt; text.matches('é').count(), wanted);
-    assert!(rt; text.ends_with("é...'; try 'cpmhost --help'"));
+    let count = text.matches('é').count();
+    assert_eq!(rt; count, wanted, "in {text}");
+    assert!(rt; text.ends_with("é...'; try 'cpmhost --help'"), "{text}");
 }
 
 #[test]

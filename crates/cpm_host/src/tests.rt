@@ -130,9 +130,10 @@ fn stops_where_the_writer_fails(rt: HostRuntime) {
     out.most = 1000;
     out.fails_at = Some(5000);
     let error = refusal(&rt, LETTERS, &mut out);
-    assert!(rt;
-        matches!(&error, HostError::OutputUnwritable(reason) if reason.kind() == ErrorKind::StorageFull)
-    );
+    let HostError::OutputUnwritable(reason) = error else {
+        panic!(&rt; "refused otherwise: {error}");
+    };
+    assert_eq!(rt; reason.kind(), ErrorKind::StorageFull);
     assert_eq!(rt; out.bytes.len(), 5000);
 
     // Where there is no text the writer is not asked.
