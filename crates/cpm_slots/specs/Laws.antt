@@ -2,6 +2,7 @@
 use Rattle.std.specs.Prelude.{◌≡◌, ℕ, ◌+◌, ◌<◌, ◌≤◌, List, Bool, true, false}
 use Rattle.cpm_memory.specs.Contents.{touched_of}
 use Rattle.cpm_console.specs.Terminal.{IsWithin}
+use Rattle.cpm_bdos.specs.Bounds.{IsFit}
 use Rattle.cpm_slots.specs.MachineState.{MachineState}
 use Rattle.cpm_slots.specs.Step.{step, after, can_step}
 use Rattle.cpm_slots.specs.Serve.{executed}
@@ -30,7 +31,7 @@ pub record IsBounded (old new : MachineState) : Type 0 where
   pub output : IsWithin 4096 old.session.console new.session.console
 
 abbrev pub Bounded : Type 0
-Bounded = (s : MachineState) → IsBounded s (step s)
+Bounded = (s : MachineState) → IsFit s.session → IsBounded s (step s)
 
 -- After any calls the state, with the bytes that were taken put back in front, is the start's after the steps that were executed: whatever was taken and looked at, and however the grants were cut.
 abbrev pub Alone : Type 0
