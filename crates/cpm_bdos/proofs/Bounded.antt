@@ -1,70 +1,214 @@
 -- Every step is bounded.
-use Rattle.std.proofs.Common.{◌≡◌, ℕ, ◌+◌, ◌≤◌, Bool, true, false, [], ◌∷◌, refl, ◌∙◌, arith}
-use Rattle.std.specs.Prelude.{if◌then◌else◌, ◌==◌}
-use Rattle.cpm_console.specs.Terminal.{expanded, IsWithin}
-use Rattle.cpm_console.proofs.Growth.{IsWithin-said, IsWithin-same, length-expanded}
+use Rattle.std.proofs.Common.{◌≡◌, ℕ, ◌+◌, ◌%◌, ◌≤◌, Bool, true, false, cond, List, [], ◌∷◌, length, refl, ◌∙◌, arith, Option, Some, None}
+use Rattle.std.specs.Prelude.{if◌then◌else◌, ◌==◌, nat_le}
+use Rattle.std.proofs.lemmas.List.{length-append}
+use Rattle.cpm_console.specs.Terminal.{Terminal, expanded, printed, key_read, said, shown, IsWithin}
+use Rattle.cpm_console.specs.Draft.{Draft}
+use Rattle.cpm_console.specs.Editing.{Edited, begun, key_into_line}
+use Rattle.cpm_console.specs.declared.line.Progress.{Progress}
+use Rattle.cpm_console.specs.declared.line.Progress.TheVariants as line
+use Rattle.cpm_console.proofs.Growth.{IsWithin-said, IsWithin-shown, IsWithin-same, length-expanded, IsWithin-key_into_line, length-key_into_line}
 use Rattle.cpm_memory.specs.Contents.{Contents, byte_at, next, touched_of, after_run}
+use Rattle.cpm_memory.specs.Room.{pages_of_run}
 use Rattle.cpm_memory.proofs.Runs.{touched_of-run, limit-run}
+use Rattle.cpm_bdos.proofs.Limits.{limit-rebooted, limit-line_ended}
 use Rattle.cpm_bdos.specs.Registers.{de_of}
 use Rattle.cpm_bdos.specs.Function.{function_of, bios_call_of}
-use Rattle.cpm_bdos.specs.Did.{Did, did, returned, answered, rebooted}
-use Rattle.cpm_bdos.specs.Step.{wrote, write_byte, write_text, called, in_mode, bdos, booted, bios_called, bios}
-use Rattle.cpm_bdos.specs.Bounds.{IsBounded}
+use Rattle.cpm_bdos.specs.Did.{Did, did, answered, rebooted}
+use Rattle.cpm_bdos.specs.Keys.{first_key, took_key}
+use Rattle.cpm_bdos.specs.Hold.{is_stop, held_at, resumed, release}
+use Rattle.cpm_bdos.specs.Output.{wrote, listed, showed, write_byte, write_text}
+use Rattle.cpm_bdos.specs.Input.{is_echoed, read_key, direct_console}
+use Rattle.cpm_bdos.specs.ReadLine.{is_open, line_ended, after_key, with_edited, take_key, no_more, edit_line}
+use Rattle.cpm_bdos.specs.Faults.{after_fault}
+use Rattle.cpm_bdos.specs.Step.{called, in_mode, bdos, booted, console_input, bios_called, bios}
+use Rattle.cpm_bdos.specs.Bounds.{IsFit, IsBounded}
 use Rattle.cpm_bdos.specs.declared.function.Function.{Function}
-use Rattle.cpm_bdos.specs.declared.function.Function.TheVariants.{WarmBoot, WriteByte, WriteText, Other}
+use Rattle.cpm_bdos.specs.declared.function.Function.TheVariants.{WarmBoot, ReadKey, WriteByte, ReaderInput, PunchOutput, ListOutput, DirectConsole, GetIoByte, SetIoByte, WriteText, ReadLine, ConsoleStatus, Version, Other}
 use Rattle.cpm_bdos.specs.declared.function.BiosCall.{BiosCall}
 use Rattle.cpm_bdos.specs.declared.function.BiosCall.TheVariants as entry
 use Rattle.cpm_bdos.specs.declared.session.Session.{Session}
+use Rattle.cpm_bdos.specs.declared.session.Held.{Held}
+use Rattle.cpm_bdos.specs.declared.session.Held.TheVariants as held
 use Rattle.cpm_bdos.specs.declared.session.Mode.{Mode}
-use Rattle.cpm_bdos.specs.declared.session.Mode.TheVariants.{Program, Text}
+use Rattle.cpm_bdos.specs.declared.session.Mode.TheVariants.{Program, Text, Line, Hold, Fault}
 use Rattle.cpm_bdos.specs.declared.session.Went.TheVariants.{GoesOn}
 
 bounded_if : (b : Bool) (s : Session) (m : Contents) (x y : Did) → IsBounded s m x → IsBounded s m y → IsBounded s m (if b then x else y)
 bounded_if true s m x y hx hy = hx
 bounded_if false s m x y hx hy = hy
 
-bounded_returned : (s : Session) (m : Contents) → IsBounded s m (returned s m)
-bounded_returned s m = record { pages = omega arith; limit = refl; output = IsWithin-same 4096 s.console }
+-- a step that leaves the memory
+bounded_kept : (s : Session) (m : Contents) (d : Did) → d.memory ≡ m → IsWithin 4096 s.console d.session.console → IsBounded s m d
+bounded_kept s m d same output = rw same (record { pages = omega arith; limit = refl; output = output })
 
--- a warm boot, from a memory with one page more
-bounded_rebooted : (s : Session) (m n : Contents) → touched_of n ≤ touched_of m + 1 → n.limit ≡ m.limit → IsBounded s m (rebooted s n)
-bounded_rebooted s m n more same =
-    let first : touched_of (after_run n 0 (195 ∷ 3 ∷ 250 ∷ [])) ≤ touched_of n + 1 = touched_of-run n 0 (195 ∷ 3 ∷ 250 ∷ []) (omega arith) (omega arith) in
-    let second : touched_of (after_run (after_run n 0 (195 ∷ 3 ∷ 250 ∷ [])) 5 (195 ∷ 6 ∷ 236 ∷ [])) ≤ touched_of (after_run n 0 (195 ∷ 3 ∷ 250 ∷ [])) + 1 = touched_of-run (after_run n 0 (195 ∷ 3 ∷ 250 ∷ [])) 5 (195 ∷ 6 ∷ 236 ∷ []) (omega arith) (omega arith) in
-    record { pages = omega (arith, first, second, more); limit = limit-run (after_run n 0 (195 ∷ 3 ∷ 250 ∷ [])) 5 (195 ∷ 6 ∷ 236 ∷ []) ∙ limit-run n 0 (195 ∷ 3 ∷ 250 ∷ []) ∙ same; output = record { screen = omega arith; printer = omega arith } }
+-- ---- what is put on the devices
 
-bounded_booted : (s : Session) (m : Contents) → IsBounded s m (booted s m)
-bounded_booted s m =
-    bounded_rebooted s m (after_run m 3 (0 ∷ 0 ∷ [])) (touched_of-run m 3 (0 ∷ 0 ∷ []) (omega arith) (omega arith)) (limit-run m 3 (0 ∷ 0 ∷ []))
+within_key : (t : Terminal) → IsWithin 4096 t (key_read t)
+within_key t = record { screen = omega arith; printer = omega arith }
+
+-- from a console on which a key was read
+within_after_key : (t u : Terminal) → IsWithin 4096 (key_read t) u → IsWithin 4096 t u
+within_after_key t u h = record { screen = h.screen; printer = h.printer }
 
 within_wrote : (s : Session) (byte : ℕ) → IsWithin 4096 s.console (wrote s byte).console
 within_wrote s byte = IsWithin-said 4096 s.console (expanded s.console.column byte) (omega (arith, length-expanded s.console.column byte))
 
+within_showed : (s : Session) (byte : ℕ) → IsWithin 4096 s.console (showed s byte).console
+within_showed s byte = IsWithin-shown 4096 s.console (byte ∷ []) (omega arith)
+
+within_listed : (s : Session) (byte : ℕ) → IsWithin 4096 s.console (listed s byte).console
+unfolding printed
+within_listed s byte = record { screen = omega arith; printer = omega (arith, length-append s.console.printer (byte ∷ [])) }
+
+-- ---- warm boots, from a memory with one page more
+
+bounded_rebooted : (s t : Session) (m n : Contents) → touched_of n ≤ touched_of m + 1 → n.limit ≡ m.limit → IsWithin 4096 s.console t.console → IsBounded s m (rebooted t n)
+bounded_rebooted s t m n more same output =
+    let first : touched_of (after_run n 0 (195 ∷ 3 ∷ 250 ∷ [])) ≤ touched_of n + 1 = touched_of-run n 0 (195 ∷ 3 ∷ 250 ∷ []) (omega arith) (omega arith) in
+    let second : touched_of (after_run (after_run n 0 (195 ∷ 3 ∷ 250 ∷ [])) 5 (195 ∷ 6 ∷ 236 ∷ [])) ≤ touched_of (after_run n 0 (195 ∷ 3 ∷ 250 ∷ [])) + 1 = touched_of-run (after_run n 0 (195 ∷ 3 ∷ 250 ∷ [])) 5 (195 ∷ 6 ∷ 236 ∷ []) (omega arith) (omega arith) in
+    record { pages = omega (arith, first, second, more); limit = limit-rebooted t n ∙ same; output = record { screen = output.screen; printer = output.printer } }
+
+bounded_booted : (s : Session) (m : Contents) → IsBounded s m (booted s m)
+bounded_booted s m =
+    bounded_rebooted s s m (after_run m 3 (0 ∷ 0 ∷ [])) (touched_of-run m 3 (0 ∷ 0 ∷ []) (omega arith) (omega arith)) (limit-run m 3 (0 ∷ 0 ∷ [])) (IsWithin-same 4096 s.console)
+
+-- a warm boot after a key was read
+bounded_break : (s : Session) (m : Contents) → IsBounded s m (rebooted (took_key s) m)
+bounded_break s m = bounded_rebooted s (took_key s) m m (omega arith) refl (within_key s.console)
+
+-- ---- output and input
+
+bounded_held : (h : Held) (s : Session) (m : Contents) → IsBounded s m (held_at h s m)
+bounded_held h s m = bounded_kept s m _ refl (within_key s.console)
+
 bounded_write_byte : (s : Session) (m : Contents) → IsBounded s m (write_byte s m)
-bounded_write_byte s m = record { pages = omega arith; limit = refl; output = within_wrote s s.regs.e }
+bounded_write_byte s m =
+    bounded_if (is_stop (first_key s)) s m _ _ (bounded_held held.Call s m) (bounded_kept s m (answered (wrote s s.regs.e) m 0) refl (within_wrote s s.regs.e))
 
-bounded_write_text : (s : Session) (m : Contents) (address : ℕ) → IsBounded s m (write_text s m address)
-bounded_write_text s m address =
-    bounded_if (byte_at m address == 36) s m (answered s m 0) (did (record (wrote s (byte_at m address)) { mode = Text (next address) }) m GoesOn) (record { pages = omega arith; limit = refl; output = IsWithin-same 4096 s.console }) (record { pages = omega arith; limit = refl; output = within_wrote s (byte_at m address) })
+bounded_write_text : (h : Held) (s : Session) (m : Contents) (address : ℕ) → IsBounded s m (write_text h s m address)
+bounded_write_text h s m address =
+    bounded_if (byte_at m address == 36) s m _ _ (bounded_kept s m (answered s m 0) refl (IsWithin-same 4096 s.console))
+    (bounded_if (is_stop (first_key s)) s m _ _ (bounded_held h s m) (bounded_kept s m (did (record (wrote s (byte_at m address)) { mode = Text (next address) }) m GoesOn) refl (within_wrote s (byte_at m address))))
 
-bounded_called : (f : Function) (s : Session) (m : Contents) → IsBounded s m (called f s m)
-bounded_called WarmBoot s m = bounded_rebooted s m m (omega arith) refl
-bounded_called WriteByte s m = bounded_write_byte s m
-bounded_called WriteText s m = bounded_write_text s m (de_of s.regs)
-bounded_called Other s m = record { pages = omega arith; limit = refl; output = IsWithin-same 4096 s.console }
+bounded_read_key : (k : Option ℕ) (s : Session) (m : Contents) → IsBounded s m (read_key k s m)
+bounded_read_key None s m = bounded_kept s m _ refl (IsWithin-same 4096 s.console)
+bounded_read_key (Some k) s m = by_echo (is_echoed k)
+  where
+    by_echo : (echoes : Bool) → IsBounded s m (answered (if echoes then wrote (took_key s) k else took_key s) m k)
+    by_echo true = bounded_kept s m (answered (wrote (took_key s) k) m k) refl (within_after_key s.console _ (within_wrote (took_key s) k))
+    by_echo false = bounded_kept s m (answered (took_key s) m k) refl (within_key s.console)
 
-bounded_in_mode : (mode : Mode) (s : Session) (m : Contents) → IsBounded s m (in_mode mode s m)
-bounded_in_mode Program s m = bounded_called (function_of s.regs.c) s m
-bounded_in_mode (Text address) s m = bounded_write_text s m address
+bounded_direct_console : (e : ℕ) (s : Session) (m : Contents) → IsBounded s m (direct_console e s m)
+bounded_direct_console e s m =
+    bounded_if (e == 255) s m _ _ (bounded_kept s m _ refl (within_key s.console))
+    (bounded_if (e == 254) s m _ _ (bounded_kept s m _ refl (IsWithin-same 4096 s.console)) (bounded_kept s m (answered (showed s e) m 0) refl (within_showed s e)))
+
+bounded_release : (h : Held) (k : Option ℕ) (s : Session) (m : Contents) → IsBounded s m (release h k s m)
+bounded_release h None s m = bounded_kept s m _ refl (IsWithin-same 4096 s.console)
+bounded_release h (Some k) s m =
+    bounded_if (k == 3) s m _ _ (bounded_break s m) (bounded_kept s m (did (record (took_key s) { mode = resumed h }) m GoesOn) refl (within_key s.console))
+
+bounded_after_fault : (k : Option ℕ) (s : Session) (m : Contents) → IsBounded s m (after_fault k s m)
+bounded_after_fault None s m = bounded_kept s m _ refl (IsWithin-same 4096 s.console)
+bounded_after_fault (Some k) s m = bounded_break s m
+
+-- ---- lines
+
+pub pages-le : (a n : ℕ) → pages_of_run a n ≤ 2
+pages-le a n = by_test (nat_le (a % 256 + n) 256)
+  where
+    by_test : (b : Bool) → cond {A = ℕ} b 1 2 ≤ 2
+    by_test true = omega arith
+    by_test false = omega arith
+
+bounded_line_ended : (s t : Session) (m : Contents) → length t.line.characters ≤ 256 → IsWithin 4096 s.console t.console → IsBounded s m (line_ended t m)
+bounded_line_ended s t m few output =
+    let at = next (de_of t.regs) in
+    let n = after_run m at (length t.line.characters ∷ []) in
+    let first = touched_of-run m at (length t.line.characters ∷ []) (omega arith) (omega arith) in
+    let second = touched_of-run n (next at) t.line.characters (omega arith) few in
+    record {
+      pages = omega (arith, first, second, pages-le at 1, pages-le (next at) (length t.line.characters));
+      limit = limit-line_ended t m;
+      output = record { screen = output.screen; printer = output.printer };
+    }
+
+bounded_after_key : (p : Progress) (s : Session) (m : Contents) (e : Edited) → IsWithin 4096 s.console e.terminal → length e.line.characters ≤ 256 → IsBounded s m (after_key p (with_edited s e) m)
+bounded_after_key line.GoesOn s m e output few = bounded_kept s m _ refl output
+bounded_after_key line.Ended s m e output few = bounded_line_ended s (with_edited s e) m few output
+bounded_after_key line.Interrupted s m e output few = bounded_rebooted s (with_edited s e) m m (omega arith) refl output
+
+-- a line whose numbers are bytes
+record IsFitLine (l : Draft) : Type 0 where
+  start : l.start ≤ 255
+  characters : length l.characters ≤ 255
+
+bounded_take_key : (k : Option ℕ) (l : Draft) (s : Session) (m : Contents) → IsFitLine l → IsBounded s m (take_key k l s m)
+bounded_take_key None l s m fit = bounded_kept s m _ refl (IsWithin-same 4096 s.console)
+bounded_take_key (Some k) l s m fit =
+    let e = key_into_line (key_read s.console) l k in
+    let shows = IsWithin-key_into_line (key_read s.console) l k fit.start fit.characters in
+    let more = length-key_into_line (key_read s.console) l k in
+    bounded_after_key e.progress s m e (record { screen = omega (arith, shows.screen); printer = omega (arith, shows.printer) }) (omega (arith, more, fit.characters))
+
+bounded_no_more : (l : Draft) (s : Session) (m : Contents) → IsFitLine l → IsBounded s m (no_more l s m)
+bounded_no_more l s m fit =
+    bounded_line_ended s (record s { console = said s.console (13 ∷ []); line = l }) m (omega (arith, fit.characters)) (IsWithin-said 4096 s.console (13 ∷ []) (omega arith))
+
+bounded_edit_line : (l : Draft) (s : Session) (m : Contents) → IsFitLine l → IsBounded s m (edit_line l s m)
+bounded_edit_line l s m fit =
+    bounded_if (is_open l) s m _ _ (bounded_take_key (first_key s) l s m fit) (bounded_no_more l s m fit)
+
+-- ---- steps
+
+bounded_called : (f : Function) (s : Session) (m : Contents) → IsFit s → IsBounded s m (called f s m)
+bounded_called WarmBoot s m fit = bounded_rebooted s s m m (omega arith) refl (IsWithin-same 4096 s.console)
+bounded_called ReadKey s m fit = bounded_read_key (first_key s) s m
+bounded_called WriteByte s m fit = bounded_write_byte s m
+bounded_called ReaderInput s m fit = bounded_kept s m _ refl (IsWithin-same 4096 s.console)
+bounded_called PunchOutput s m fit = bounded_kept s m _ refl (IsWithin-same 4096 s.console)
+bounded_called ListOutput s m fit = bounded_kept s m (answered (listed s s.regs.e) m 0) refl (within_listed s s.regs.e)
+bounded_called DirectConsole s m fit = bounded_direct_console s.regs.e s m
+bounded_called GetIoByte s m fit = bounded_kept s m _ refl (IsWithin-same 4096 s.console)
+bounded_called SetIoByte s m fit = record {
+  pages = omega (arith, touched_of-run m 3 (s.regs.e ∷ []) (omega arith) (omega arith), pages-le 3 1);
+  limit = limit-run m 3 (s.regs.e ∷ []);
+  output = IsWithin-same 4096 s.console;
+}
+bounded_called WriteText s m fit = bounded_write_text held.Call s m (de_of s.regs)
+bounded_called ReadLine s m fit =
+    bounded_edit_line (begun s.console.column (byte_at m (de_of s.regs))) s m (record { start = fit.column; characters = omega arith })
+bounded_called ConsoleStatus s m fit = bounded_kept s m _ refl (IsWithin-same 4096 s.console)
+bounded_called Version s m fit = bounded_kept s m _ refl (IsWithin-same 4096 s.console)
+bounded_called Other s m fit = bounded_kept s m _ refl (IsWithin-same 4096 s.console)
+
+bounded_in_mode : (mode : Mode) (s : Session) (m : Contents) → IsFit s → IsBounded s m (in_mode mode s m)
+bounded_in_mode Program s m fit = bounded_called (function_of s.regs.c) s m fit
+bounded_in_mode (Text address) s m fit = bounded_write_text (held.Text address) s m address
+bounded_in_mode Line s m fit = bounded_edit_line s.line s m (record { start = fit.start; characters = fit.characters })
+bounded_in_mode (Hold h) s m fit = bounded_release h (first_key s) s m
+bounded_in_mode Fault s m fit = bounded_after_fault (first_key s) s m
 
 -- a step of the BDOS
-pub IsBounded-bdos : (s : Session) (m : Contents) → IsBounded s m (bdos s m)
-IsBounded-bdos s m = bounded_in_mode s.mode s m
+pub IsBounded-bdos : (s : Session) (m : Contents) → IsFit s → IsBounded s m (bdos s m)
+IsBounded-bdos s m fit = bounded_in_mode s.mode s m fit
+
+bounded_console_input : (k : Option ℕ) (s : Session) (m : Contents) → IsBounded s m (console_input k s m)
+bounded_console_input None s m = bounded_kept s m _ refl (IsWithin-same 4096 s.console)
+bounded_console_input (Some k) s m = bounded_kept s m _ refl (within_key s.console)
 
 bounded_bios : (call : BiosCall) (s : Session) (m : Contents) → IsBounded s m (bios_called call s m)
 bounded_bios entry.Boot s m = bounded_booted s m
-bounded_bios entry.WarmBoot s m = bounded_rebooted s m m (omega arith) refl
-bounded_bios entry.Other s m = bounded_returned s m
+bounded_bios entry.WarmBoot s m = bounded_rebooted s s m m (omega arith) refl (IsWithin-same 4096 s.console)
+bounded_bios entry.ConsoleStatus s m = bounded_kept s m _ refl (IsWithin-same 4096 s.console)
+bounded_bios entry.ConsoleInput s m = bounded_console_input (first_key s) s m
+bounded_bios entry.ConsoleOutput s m = bounded_kept s m _ refl (within_showed s s.regs.c)
+bounded_bios entry.List s m = bounded_kept s m _ refl (within_listed s s.regs.c)
+bounded_bios entry.Punch s m = bounded_kept s m _ refl (IsWithin-same 4096 s.console)
+bounded_bios entry.Reader s m = bounded_kept s m _ refl (IsWithin-same 4096 s.console)
+bounded_bios entry.ListStatus s m = bounded_kept s m _ refl (IsWithin-same 4096 s.console)
+bounded_bios entry.Other s m = bounded_kept s m _ refl (IsWithin-same 4096 s.console)
 
 -- a step of the BIOS
 pub IsBounded-bios : (number : ℕ) (s : Session) (m : Contents) → IsBounded s m (bios number s m)

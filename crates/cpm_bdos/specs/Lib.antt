@@ -1,6 +1,13 @@
 pub mod Function
 pub mod Registers
 pub mod Did
+pub mod Keys
+pub mod Hold
+pub mod Output
+pub mod Input
+pub mod ReadLine
+pub mod Faults
 pub mod Step
+pub mod Waiting
 pub mod Bounds
 pub mod Behind

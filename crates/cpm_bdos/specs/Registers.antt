@@ -36,6 +36,10 @@ de_of regs = 256 * regs.d + regs.e
 abbrev pub with_result : Regs → ℕ → Regs
 with_result regs value = record regs { h = value / 256; l = value % 256; a = value % 256; b = value / 256 }
 
+-- a byte left in A
+abbrev pub with_a : Regs → ℕ → Regs
+with_a regs value = record regs { a = value }
+
 -- a return to an address that was popped
 abbrev pub returned_to : Regs → ℕ → Regs
 returned_to regs address = record regs { pc = address; sp = (regs.sp + 2) % 65536 }

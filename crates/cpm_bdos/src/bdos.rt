@@ -1,17 +1,24 @@
 //! One step of a call of the BDOS.
 
-ghost use Rattle.std.specs.Prelude.{◌≡◌, ◌≤◌, List, ℕ, length};
+ghost use Rattle.std.specs.Prelude.{◌≡◌, ◌≤◌, [], ◌∷◌, List, ℕ, length};
+ghost use Rattle.cpm_memory.specs.Contents.{after_run};
 ghost use Rattle.cpm_memory.specs.Room.{HasRoom};
 ghost use Rattle.cpm_bdos.specs.Function.{function_of};
-ghost use Rattle.cpm_bdos.specs.Did.{did};
-ghost use Rattle.cpm_bdos.specs.Step.{write_byte, write_text, called, bdos};
+ghost use Rattle.cpm_bdos.specs.Did.{did, answered};
+ghost use Rattle.cpm_bdos.specs.Step.{called, bdos};
 ghost use Rattle.cpm_bdos.specs.Bounds.{IsBounded};
 ghost use Rattle.cpm_bdos.specs.Behind.{session_behind, did_behind};
 
 use crate::function::Function;
 use crate::registers::pair_de;
-use crate::session::{Mode, Session, Went};
-use cpm_memory::Memory;
+use crate::session::{Held, Mode, Session, Went};
+use cpm_memory::{Memory, change_run};
+
+/// Where the I/O byte lies.
+const IO_BYTE: u16 = 0x0003;
+
+/// What the reader gives: the end of a text.
+pub(crate) const READER_BYTE: u8 = 0x1A;
 
 impl Session {
     /// One step of the call in progress, or the first step of the one that the registers ask for. A call that ends
@@ -28,6 +35,7 @@ impl Session {
         // Output that waits already changes nothing in a step, which shows its own behind it.
         ensures behind { (p q : List ℕ) → bdos (session_behind p q self.old) (M.contents memory.old) ≡ did_behind p q (did self.new (M.contents memory.new) result) }
     {
+        self.numbers_fit();
         self.call_step(memory)
     }
 
@@ -42,7 +50,10 @@ impl Session {
     {
         match self.mode {
             Mode::Program => self.call(memory),
-            Mode::Text { next } => self.write_text(memory, next),
+            Mode::Text { next } => self.write_text(memory, next, Held::Text { next }),
+            Mode::Line => self.edit_line(memory),
+            Mode::Hold(held) => self.release(memory, held),
+            Mode::Fault => self.after_fault(memory),
         }
     }
 
@@ -57,39 +68,38 @@ impl Session {
     {
         match Function::of(self.regs.c) {
             Function::WarmBoot => self.reboot(memory),
+            Function::ReadKey => self.read_key(memory),
             Function::WriteByte => self.write_byte(memory),
+            Function::ReaderInput => self.answer(memory, u16::from(READER_BYTE)),
+            Function::ListOutput => self.list_byte(memory),
+            Function::DirectConsole => self.direct_console(memory),
+            Function::GetIoByte => {
+                let io_byte = memory.get(IO_BYTE);
+                self.answer(memory, u16::from(io_byte))
+            }
+            Function::SetIoByte => self.set_io_byte(memory),
             Function::WriteText => {
                 let next = pair_de(&self.regs);
-                self.write_text(memory, next)
+                self.write_text(memory, next, Held::Call)
             }
-            Function::Other => self.answer(memory, 0),
+            Function::ReadLine => self.read_line(memory),
+            Function::ConsoleStatus => {
+                let status = self.console_status();
+                self.answer(memory, u16::from(status))
+            }
+            Function::Version => self.answer(memory, 0x0022),
+            Function::PunchOutput | Function::Other => self.answer(memory, 0),
         }
     }
 
-    /// Shows the byte in E.
-    fn write_byte<M: Memory>(&mut self, memory: &M) -> Went
-        requires screen { length self.old.console.screen ≤ 4096 }
-        requires printer { length self.old.console.printer ≤ 4096 }
-        ensures { did self.new (M.contents memory.now) result ≡ write_byte self.old (M.contents memory.now) }
+    /// Stores E as the I/O byte.
+    fn set_io_byte<M: Memory>(&mut self, memory: &mut M) -> Went
+        requires { HasRoom (M.contents memory.old) }
+        ensures step { did self.new (M.contents memory.new) result ≡ answered self.old (after_run (M.contents memory.old) 3 (self.old.regs.e ∷ [])) 0 }
+        ensures surroundings { M.surroundings memory.new ≡ M.surroundings memory.old }
+        ensures leads { M.Leads memory.old memory.new }
     {
-        self.console.write(self.regs.e);
+        change_run(memory, IO_BYTE, &[self.regs.e]);
         self.answer(memory, 0)
-    }
-
-    /// Shows a character of a text, or ends at `$`.
-    fn write_text<M: Memory>(&mut self, memory: &M, next: u16) -> Went
-        requires screen { length self.old.console.screen ≤ 4096 }
-        requires printer { length self.old.console.printer ≤ 4096 }
-        ensures { did self.new (M.contents memory.now) result ≡ write_text self.old (M.contents memory.now) next }
-    {
-        let byte = memory.get(next);
-        if byte == b'$' {
-            return self.answer(memory, 0);
-        }
-        self.console.write(byte);
-        self.mode = Mode::Text {
-            next: next.wrapping_add(1),
-        };
-        Went::GoesOn
     }
 }

@@ -1,20 +1,29 @@
 //! One step of a call of the BIOS.
 
-ghost use Rattle.std.specs.Prelude.{◌≡◌, ◌≤◌, List, ℕ};
+ghost use Rattle.std.specs.Prelude.{◌≡◌, ◌≤◌, List, ℕ, length};
 ghost use Rattle.cpm_memory.specs.Room.{HasRoom};
-ghost use Rattle.cpm_bdos.specs.Did.{did};
-ghost use Rattle.cpm_bdos.specs.Step.{booted, bios};
+ghost use Rattle.cpm_bdos.specs.Did.{did, returned};
+ghost use Rattle.cpm_bdos.specs.Keys.{first_key};
+ghost use Rattle.cpm_bdos.specs.Output.{showed, listed};
+ghost use Rattle.cpm_bdos.specs.Step.{booted, returned_a, console_input, bios};
 ghost use Rattle.cpm_bdos.specs.Bounds.{IsBounded};
 ghost use Rattle.cpm_bdos.specs.Behind.{session_behind, did_behind};
 
+use crate::bdos::READER_BYTE;
 use crate::function::BiosCall;
 use crate::session::{Session, Went};
 use cpm_memory::{Memory, change_run};
 
+/// What says that the list device is ready.
+const READY: u8 = 0xFF;
+
 impl Session {
-    /// The call of the BIOS with this number. It returns to the program, or boots the session anew.
+    /// The call of the BIOS with this number. It returns to the program, boots the session anew, or waits for a key.
+    /// Both devices must have room for 4,096 bytes.
     pub fn bios_step<M: Memory>(&mut self, memory: &mut M, number: u8) -> Went
-        requires { HasRoom (M.contents memory.old) }
+        requires screen { length self.old.console.screen ≤ 4096 }
+        requires printer { length self.old.console.printer ≤ 4096 }
+        requires room { HasRoom (M.contents memory.old) }
         ensures step { did self.new (M.contents memory.new) result ≡ bios number self.old (M.contents memory.old) }
         ensures surroundings { M.surroundings memory.new ≡ M.surroundings memory.old }
         ensures leads { M.Leads memory.old memory.new }
@@ -28,7 +37,9 @@ impl Session {
 
     /// A call of the BIOS.
     fn bios_call<M: Memory>(&mut self, memory: &mut M, number: u8) -> Went
-        requires { HasRoom (M.contents memory.old) }
+        requires screen { length self.old.console.screen ≤ 4096 }
+        requires printer { length self.old.console.printer ≤ 4096 }
+        requires room { HasRoom (M.contents memory.old) }
         ensures step { did self.new (M.contents memory.new) result ≡ bios number self.old (M.contents memory.old) }
         ensures surroundings { M.surroundings memory.new ≡ M.surroundings memory.old }
         ensures leads { M.Leads memory.old memory.new }
@@ -36,7 +47,16 @@ impl Session {
         match BiosCall::of(number) {
             BiosCall::Boot => self.boot(memory),
             BiosCall::WarmBoot => self.reboot(memory),
-            BiosCall::Other => self.return_from_call(memory),
+            BiosCall::ConsoleStatus => {
+                let status = self.console_status();
+                self.return_byte(memory, status)
+            }
+            BiosCall::ConsoleInput => self.console_input(memory),
+            BiosCall::ConsoleOutput => self.console_output(memory),
+            BiosCall::List => self.list(memory),
+            BiosCall::Reader => self.return_byte(memory, READER_BYTE),
+            BiosCall::ListStatus => self.return_byte(memory, READY),
+            BiosCall::Punch | BiosCall::Other => self.return_from_call(memory),
         }
     }
 
@@ -49,5 +69,41 @@ impl Session {
     {
         change_run(memory, 0x0003, &[0, 0]);
         self.reboot(memory)
+    }
+
+    /// Returns with a byte in A.
+    fn return_byte<M: Memory>(&mut self, memory: &M, value: u8) -> Went
+        ensures { did self.new (M.contents memory.now) result ≡ returned_a self.old (M.contents memory.now) value }
+    {
+        self.regs.a = value;
+        self.return_from_call(memory)
+    }
+
+    /// Reads a key into A.
+    fn console_input<M: Memory>(&mut self, memory: &M) -> Went
+        ensures { did self.new (M.contents memory.now) result ≡ console_input (first_key self.old) self.old (M.contents memory.now) }
+    {
+        match self.console.next_key() {
+            Some(key) => self.return_byte(memory, key),
+            None => Went::Waits,
+        }
+    }
+
+    /// Shows the byte in C as it is.
+    fn console_output<M: Memory>(&mut self, memory: &M) -> Went
+        requires { length self.old.console.screen ≤ 4096 }
+        ensures { did self.new (M.contents memory.now) result ≡ returned (showed self.old self.old.regs.c) (M.contents memory.now) }
+    {
+        self.console.put(self.regs.c);
+        self.return_from_call(memory)
+    }
+
+    /// Sends the byte in C to the list device.
+    fn list<M: Memory>(&mut self, memory: &M) -> Went
+        requires { length self.old.console.printer ≤ 4096 }
+        ensures { did self.new (M.contents memory.now) result ≡ returned (listed self.old self.old.regs.c) (M.contents memory.now) }
+    {
+        self.console.put_list(self.regs.c);
+        self.return_from_call(memory)
     }
 }

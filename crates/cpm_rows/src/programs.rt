@@ -103,6 +103,25 @@ fn ends_where_it_should(rt: HostRuntime) -> Result<(), Fail> {
     Ok(())
 }
 
+#[test]
+fn calls_whatever_bytes_lie_there(rt: HostRuntime) -> Result<(), Fail> {
+    // HLT is stored at EC06h, and then function 12 is called
+    let ran = run(
+        rt.alloc(),
+        Cpu::I8080,
+        &[
+            0x3E, 0x76, 0x32, 0x06, 0xEC, 0x0E, 0x0C, 0xCD, 0x05, 0x00, 0xC9,
+        ],
+    )?;
+    assert_eq!(rt; ran.granted.executed, 8);
+    let look = ran.machine.look();
+    assert_eq!(rt; look.ended, End::Exited);
+    assert_eq!(rt; look.regs.h, 0x00);
+    assert_eq!(rt; look.regs.l, 0x22);
+    assert_eq!(rt; look.regs.a, 0x22);
+    Ok(())
+}
+
 /// A program that halts, its steps, and the bytes that it leaves.
 #[derive(Drop)]
 struct Left {

@@ -7,7 +7,7 @@ use Rattle.cpm_bdos.specs.Behind.{session_behind}
 use Rattle.cpm_bdos.proofs.Waiting.{bdos-behind, bios-behind}
 use Rattle.cpm_bdos.specs.declared.session.Session.{Session}
 use Rattle.cpm_bdos.specs.declared.session.Mode.{Mode}
-use Rattle.cpm_bdos.specs.declared.session.Mode.TheVariants.{Program, Text}
+use Rattle.cpm_bdos.specs.declared.session.Mode.TheVariants.{Program, Text, Line, Hold, Fault}
 use Rattle.cpm_slots.specs.declared.trap.Trap.{Trap}
 use Rattle.cpm_slots.specs.declared.trap.Trap.TheVariants.{CommandProcessor, Bdos, Bios}
 use Rattle.cpm_slots.specs.Trap.{trap_at}
@@ -33,6 +33,9 @@ module _ (p q : List ℕ) where
   unfolding part_behind
   part_in-behind cpu Program s m = at_trap-behind cpu (trap_at s.regs.pc) s m
   part_in-behind cpu (Text next) s m = ap by_call (bdos-behind p q s m)
+  part_in-behind cpu Line s m = ap by_call (bdos-behind p q s m)
+  part_in-behind cpu (Hold held) s m = ap by_call (bdos-behind p q s m)
+  part_in-behind cpu Fault s m = ap by_call (bdos-behind p q s m)
 
   part-behind : (cpu : Cpu) (s : Session) (m : Contents) → part cpu (session_behind p q s) m ≡ part_behind (part cpu s m)
   unfolding part

@@ -2,4 +2,5 @@ pub mod StepLaws
 pub mod GrantLaws
 pub mod PressLaws
 pub mod AloneLaws
+pub mod WaitLaws
 pub mod StepBounds

@@ -1,5 +1,5 @@
 -- How much a step can change.
-use Rattle.std.proofs.Common.{◌+◌, ◌≤◌, Bool, true, false, Option, Some, None, arith, length}
+use Rattle.std.proofs.Common.{if◌then◌else◌, ◌+◌, ◌≤◌, Bool, true, false, Option, Some, None, arith, length}
 use Rattle.cpm_memory.specs.Contents.{Contents, touched_of}
 use Rattle.cpm_memory.specs.Room.{touched_of-after_sets}
 use Rattle.cpm_console.proofs.Growth.{IsWithin-same}
@@ -11,14 +11,16 @@ use Rattle.cpm_exec8080.proofs.FewStores.{few_stores as few_stores_8080}
 use Rattle.cpm_execz80.proofs.FewStores.{few_step as few_stores_z80}
 use Rattle.cpm_slots.specs.Processor.{effect_at}
 use Rattle.cpm_bdos.proofs.Bounded.{IsBounded-bdos, IsBounded-bios}
+use Rattle.cpm_bdos.specs.Step.{bdos}
+use Rattle.cpm_bdos.specs.Bounds.{IsFit}
 use Rattle.cpm_bdos.specs.declared.session.Session.{Session}
 use Rattle.cpm_bdos.specs.declared.session.Mode.{Mode}
-use Rattle.cpm_bdos.specs.declared.session.Mode.TheVariants.{Program, Text}
+use Rattle.cpm_bdos.specs.declared.session.Mode.TheVariants.{Program, Text, Line, Hold, Fault}
 use Rattle.cpm_slots.specs.declared.trap.Trap.{Trap}
 use Rattle.cpm_slots.specs.declared.trap.Trap.TheVariants.{CommandProcessor, Bdos, Bios}
 use Rattle.cpm_slots.specs.Trap.{trap_at}
 use Rattle.cpm_slots.specs.MachineState.{MachineState}
-use Rattle.cpm_slots.specs.Step.{Part, part, part_in, at_trap, step_if, is_running, step}
+use Rattle.cpm_slots.specs.Step.{Part, part, part_in, at_trap, by_call, step_if, is_running, step}
 use Rattle.cpm_slots.specs.Laws.{IsBounded}
 
 few_stores : (cpu : Cpu) (m : Contents) (regs : Regs) → length (effect_at cpu m regs).stores ≤ 2
@@ -29,27 +31,39 @@ record IsBoundedPart (s : Session) (m : Contents) (x : Part) : Type 0 where
   pages : touched_of x.memory ≤ touched_of m + 8
   output : IsWithin 4096 s.console x.session.console
 
-bounded_trap : (cpu : Cpu) (t : Option Trap) (s : Session) (m : Contents) → IsBoundedPart s m (at_trap cpu t s m)
-bounded_trap cpu None s m = record {
+bounded_call : (s : Session) (m : Contents) → IsFit s → IsBoundedPart s m (by_call (bdos s m))
+bounded_call s m fit = let b = IsBounded-bdos s m fit in record { pages = b.pages; output = b.output }
+
+bounded_trap : (cpu : Cpu) (t : Option Trap) (s : Session) (m : Contents) → IsFit s → IsBoundedPart s m (at_trap cpu t s m)
+bounded_trap cpu None s m fit = record {
   pages = omega (arith, few_stores cpu m s.regs, touched_of-after_sets m (effect_at cpu m s.regs).stores);
   output = IsWithin-same 4096 s.console;
 }
-bounded_trap cpu (Some CommandProcessor) s m = record { pages = omega arith; output = IsWithin-same 4096 s.console }
-bounded_trap cpu (Some Bdos) s m = let b = IsBounded-bdos s m in record { pages = b.pages; output = b.output }
-bounded_trap cpu (Some (Bios number)) s m = let b = IsBounded-bios number s m in record { pages = b.pages; output = b.output }
+bounded_trap cpu (Some CommandProcessor) s m fit = record { pages = omega arith; output = IsWithin-same 4096 s.console }
+bounded_trap cpu (Some Bdos) s m fit = bounded_call s m fit
+bounded_trap cpu (Some (Bios number)) s m fit =
+    let b = IsBounded-bios number s m in record { pages = b.pages; output = b.output }
 
-bounded_mode : (cpu : Cpu) (mode : Mode) (s : Session) (m : Contents) → IsBoundedPart s m (part_in cpu mode s m)
-bounded_mode cpu Program s m = bounded_trap cpu (trap_at s.regs.pc) s m
-bounded_mode cpu (Text next) s m = let b = IsBounded-bdos s m in record { pages = b.pages; output = b.output }
+bounded_mode : (cpu : Cpu) (mode : Mode) (s : Session) (m : Contents) → IsFit s → IsBoundedPart s m (part_in cpu mode s m)
+bounded_mode cpu Program s m fit = bounded_trap cpu (trap_at s.regs.pc) s m fit
+bounded_mode cpu (Text next) s m fit = bounded_call s m fit
+bounded_mode cpu Line s m fit = bounded_call s m fit
+bounded_mode cpu (Hold held) s m fit = bounded_call s m fit
+bounded_mode cpu Fault s m fit = bounded_call s m fit
 
-bounded_part : (cpu : Cpu) (s : Session) (m : Contents) → IsBoundedPart s m (part cpu s m)
+bounded_part : (cpu : Cpu) (s : Session) (m : Contents) → IsFit s → IsBoundedPart s m (part cpu s m)
 unfolding part
-bounded_part cpu s m = bounded_mode cpu s.mode s m
+bounded_part cpu s m fit = bounded_mode cpu s.mode s m fit
 
-bounded_if : (b : Bool) (s : MachineState) → IsBounded s (step_if b s)
-bounded_if true s = let x = bounded_part s.cpu s.session s.memory in record { pages = x.pages; output = x.output }
-bounded_if false s = record { pages = omega arith; output = IsWithin-same 4096 s.session.console }
+bounded_if : (b : Bool) (s : MachineState) → IsFit s.session → IsBounded s (step_if b s)
+bounded_if true s fit = let x = bounded_part s.cpu s.session s.memory fit in record { pages = x.pages; output = x.output }
+bounded_if false s fit = record { pages = omega arith; output = IsWithin-same 4096 s.session.console }
 
-pub IsBounded-step : (s : MachineState) → IsBounded s (step s)
+pub IsBounded-step : (s : MachineState) → IsFit s.session → IsBounded s (step s)
 unfolding step
-IsBounded-step s = bounded_if (is_running s.ended) s
+IsBounded-step s fit = bounded_if (is_running s.ended) s fit
+
+-- a step that is made, or not
+pub IsBounded-once : (b : Bool) (s : MachineState) → IsFit s.session → IsBounded s (if b then step s else s)
+IsBounded-once true s fit = IsBounded-step s fit
+IsBounded-once false s fit = record { pages = omega arith; output = IsWithin-same 4096 s.session.console }

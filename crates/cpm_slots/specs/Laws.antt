@@ -2,9 +2,11 @@
 use Rattle.std.specs.Prelude.{◌≡◌, ℕ, ◌+◌, ◌<◌, ◌≤◌, List, [], ◌++◌, Bool, true, false}
 use Rattle.cpm_memory.specs.Contents.{touched_of}
 use Rattle.cpm_console.specs.Terminal.{IsWithin}
+use Rattle.cpm_bdos.specs.Bounds.{IsFit}
+use Rattle.cpm_slots.specs.declared.steps.Outcome.TheVariants as outcome
 use Rattle.cpm_slots.specs.MachineState.{MachineState}
-use Rattle.cpm_slots.specs.Step.{step, after, can_step}
-use Rattle.cpm_slots.specs.Serve.{executed}
+use Rattle.cpm_slots.specs.Step.{step, after, can_step, after_part, made}
+use Rattle.cpm_slots.specs.Serve.{executed, look_of}
 use Rattle.cpm_slots.specs.Alone.{Press, due, alone}
 use Rattle.cpm_slots.specs.Calls.{Call, no_account, account_after, state_after, state_behind}
 
@@ -31,13 +33,17 @@ pub record IsBounded (old new : MachineState) : Type 0 where
   pub output : IsWithin 4096 old.session.console new.session.console
 
 abbrev pub Bounded : Type 0
-Bounded = (s : MachineState) → IsBounded s (step s)
+Bounded = (s : MachineState) → IsFit s.session → IsBounded s (step s)
 
 -- After any calls the state, with the bytes that were taken put back in front, is that of the machine run alone from the start, for the keys that were accepted and the steps that were executed: whatever was taken and looked at, however the grants were cut, and as if the keys had been known beforehand.
 abbrev pub Alone : Type 0
 Alone = (calls : List Call) (start : MachineState) →
     let a = account_after calls no_account start in
     state_behind a.screen a.printer (state_after calls start) ≡ alone a.presses a.executed start
+
+-- a step of a machine that waits for a key changes its count alone, and its end by that
+abbrev pub Waiting : Type 0
+Waiting = (s : MachineState) → (look_of s).waiting ≡ true → step s ≡ after_part s (made s.session s.memory outcome.GoesOn)
 
 -- keys that come later make no difference
 abbrev pub LateKeys : Type 0

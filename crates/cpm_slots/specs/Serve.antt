@@ -2,6 +2,7 @@
 use Rattle.std.specs.Prelude.{ℕ, zero, suc, length, drop, min, ◌&&◌, ◌==◌, not, nat_lt, Bool, if◌then◌else◌}
 use Rattle.cpm_memory.specs.Contents.{touched_of}
 use Rattle.cpm_console.specs.Terminal.{pressed}
+use Rattle.cpm_bdos.specs.Waiting.{is_waiting}
 use Rattle.cpm_slots.specs.declared.reply.Why.{Why}
 use Rattle.cpm_slots.specs.declared.reply.Why.TheVariants.{All, Stopped, Blocked}
 use Rattle.cpm_slots.specs.declared.reply.Look.{Look}
@@ -36,6 +37,7 @@ look_of s = record {
   count = s.count;
   ended = s.ended;
   pages = touched_of s.memory;
+  waiting = is_running s.ended && is_waiting s.session s.memory;
   keys = length s.session.console.keys;
   console = length s.session.console.screen;
   list = length s.session.console.printer;

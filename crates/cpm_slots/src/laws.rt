@@ -1,6 +1,6 @@
 //! Laws of machines, as contracts.
 
-ghost use Rattle.cpm_slots.specs.Laws.{Greatest, Cutting, Bounded, Alone, LateKeys};
+ghost use Rattle.cpm_slots.specs.Laws.{Greatest, Cutting, Bounded, Alone, LateKeys, Waiting};
 
 /// A grant executes the greatest number of steps that can be made.
 pub fn greatest()
@@ -21,6 +21,11 @@ pub fn bounded()
 /// were taken.
 pub fn alone()
     ensures { Alone }
+{}
+
+/// A step of a machine that waits for a key changes its count alone, and its end by that.
+pub fn waiting()
+    ensures { Waiting }
 {}
 
 /// Keys that come later make no difference to the machine run alone.

@@ -4,6 +4,7 @@ ghost use Rattle.std.specs.Prelude.{◌≡◌, true, false, ◌++◌, ◌≤◌,
 ghost use Rattle.cpm_memory.specs.Contents.{byte_at};
 ghost use Rattle.cpm_slots.specs.MachineState.{opened_with};
 ghost use Rattle.cpm_slots.specs.Step.{can_step, step, after};
+ghost use Rattle.cpm_slots.specs.Laws.{IsBounded};
 ghost use Rattle.cpm_slots.specs.Serve.{executed, why, look_of, taken, taken_list, takes_key, keyed};
 ghost use Rattle.cpm_slots.specs.Opening.{program_fault, IsRefusal};
 
@@ -94,7 +95,9 @@ impl Machine {
     pub fn step(&mut self) -> bool
         ensures stepped { result ≡ can_step self.old }
         ensures state { self.new ≡ (if result then step self.old else self.old) }
+        ensures bounds { IsBounded self.old self.new }
     {
+        self.runner.session.numbers_fit();
         self.grant(1).executed == 1
     }
 

@@ -52,6 +52,8 @@ pub struct Look {
     pub ended: End,
     /// How many pages of 256 bytes were written.
     pub pages: u16,
+    /// Whether a step now would find no key where it needs one, and so change the count alone.
+    pub waiting: bool,
     /// How many keys are pending.
     pub keys: usize,
     /// How many console bytes wait to be taken.

@@ -6,7 +6,7 @@ use Rattle.cpm_bdos.proofs.Waiting.{bdos-behind}
 use Rattle.cpm_bdos.proofs.session.Session.bdos_step.Goals as goal
 
 pub returns-clause-bounds : goal.returns-clause-bounds
-returns-clause-bounds g c = rw c.call_step.ensures.step (IsBounded-bdos c.args.self.now (g.M.Memory.contents c.args.memory.now))
+returns-clause-bounds g c = rw c.call_step.ensures.step (IsBounded-bdos c.args.self.now (g.M.Memory.contents c.args.memory.now) c.numbers_fit.ensures)
 
 pub returns-clause-behind : goal.returns-clause-behind
 returns-clause-behind g c p q =

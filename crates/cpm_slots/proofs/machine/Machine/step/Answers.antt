@@ -1,5 +1,8 @@
-use Rattle.std.proofs.Common.{◌∙◌}
+use Rattle.std.proofs.Common.{◌∙◌, ◌==◌, subst}
+use Rattle.cpm_bdos.specs.Bounds.{IsFit}
+use Rattle.cpm_slots.specs.MachineState.{MachineState}
 use Rattle.cpm_slots.proofs.GrantLaws.{one_step}
+use Rattle.cpm_slots.proofs.StepBounds.{IsBounded-once}
 use Rattle.cpm_slots.proofs.machine.Machine.step.Goals as goal
 
 pub returns-clause-stepped : goal.returns-clause-stepped
@@ -8,3 +11,7 @@ returns-clause-stepped c = (one_step c.grant.result.executed c.args.self.now c.g
 pub returns-clause-state : goal.returns-clause-state
 returns-clause-state c =
     c.grant.ensures.state ∙ (one_step c.grant.result.executed c.args.self.now c.grant.ensures.executed).1
+
+pub returns-clause-bounds : goal.returns-clause-bounds
+returns-clause-bounds c =
+    rw (c.grant.ensures.state, (one_step c.grant.result.executed c.args.self.now c.grant.ensures.executed).1) (IsBounded-once (c.grant.result.executed == 1) c.args.self.now (subst (λ (s : MachineState). IsFit s.session) c.self.view_is c.numbers_fit.ensures))

@@ -1,0 +1,35 @@
+-- Output that was stopped, and goes on after a key: CP/M 2.2 Operating System Manual, section 5, function 2 (start/stop scroll by ^S).
+use Rattle.std.specs.Prelude.{ℕ, Bool, false, ◌==◌, if◌then◌else◌, Option, Some, None}
+use Rattle.cpm_console.specs.Terminal.{key_read}
+use Rattle.cpm_memory.specs.Contents.{Contents}
+use Rattle.cpm_bdos.specs.Did.{Did, did, rebooted}
+use Rattle.cpm_bdos.specs.Keys.{took_key}
+use Rattle.cpm_bdos.specs.declared.session.Session.{Session}
+use Rattle.cpm_bdos.specs.declared.session.Held.{Held}
+use Rattle.cpm_bdos.specs.declared.session.Held.TheVariants as held
+use Rattle.cpm_bdos.specs.declared.session.Mode.{Mode}
+use Rattle.cpm_bdos.specs.declared.session.Mode.TheVariants.{Program, Text, Hold}
+use Rattle.cpm_bdos.specs.declared.session.Went.TheVariants.{Waits, GoesOn}
+
+-- ^S is the key that is read next
+abbrev pub is_stop : Option ℕ → Bool
+is_stop None = false
+is_stop (Some key) = key == 19
+
+-- own: the step that finds ^S takes it, and outputs nothing
+abbrev pub stopped : Session → Held → Session
+stopped s held = record s { console = key_read s.console; mode = Hold held }
+
+abbrev pub held_at : Held → Session → Contents → Did
+held_at held s m = did (stopped s held) m GoesOn
+
+-- own: what was held begins anew, its look for ^S included: the call from its registers, or the text from its address
+abbrev pub resumed : Held → Mode
+resumed held.Call = Program
+resumed (held.Text next) = Text next
+
+-- own: the next key ends the hold, ^C with a warm boot
+abbrev pub release : Held → Option ℕ → Session → Contents → Did
+release held None s m = did s m Waits
+release held (Some key) s m =
+    if key == 3 then rebooted (took_key s) m else did (record (took_key s) { mode = resumed held }) m GoesOn
