@@ -1,0 +1,131 @@
+//! Programs that read keys, each on a machine of its own.
+
+use crate::run::machine_of;
+use cpm_flags::Cpu;
+use cpm_slots::{End, KeysFull, Machine, Why};
+use std::process::Abort;
+use std::test::Fail;
+
+/// What a program that finds keys shows, how many steps it makes and how it ends.
+#[derive(Drop)]
+struct Typed {
+    program: &'static [u8],
+    keys: &'static [u8],
+    shown: &'static [u8],
+    executed: u64,
+    bytes: &'static [(u16, u8)],
+}
+
+const TYPED: [Typed; 3] = [
+    // a line of up to ten characters, one of them erased
+    Typed {
+        program: &[
+            0x3E, 0x0A, 0x32, 0x00, 0x80, 0x0E, 0x0A, 0x11, 0x00, 0x80, 0xCD, 0x05, 0x00, 0xC9,
+        ],
+        keys: &[0x41, 0x42, 0x08, 0x43, 0x0D],
+        shown: &[0x41, 0x42, 0x08, 0x20, 0x08, 0x43, 0x0D],
+        executed: 13,
+        bytes: &[(0x8001, 0x02), (0x8002, 0x41), (0x8003, 0x43)],
+    },
+    // a letter that is held, and shown after a key
+    Typed {
+        program: &[0x0E, 0x02, 0x1E, 0x41, 0xCD, 0x05, 0x00, 0xC9],
+        keys: &[0x13, 0x20],
+        shown: b"A",
+        executed: 9,
+        bytes: &[],
+    },
+    // a letter that is held, and a warm boot instead of it
+    Typed {
+        program: &[0x0E, 0x02, 0x1E, 0x41, 0xCD, 0x05, 0x00, 0xC9],
+        keys: &[0x13, 0x03],
+        shown: b"",
+        executed: 7,
+        bytes: &[],
+    },
+];
+
+/// Presses keys, all of which must be accepted.
+fn press(rt: &impl Abort, machine: &mut Machine, keys: &[u8]) {
+    for key in keys {
+        assert_eq!(rt; machine.key(*key), Ok(()));
+    }
+}
+
+#[test]
+fn reads_keys_that_wait(rt: HostRuntime) -> Result<(), Fail> {
+    for row in &TYPED {
+        let mut machine = machine_of(rt.alloc(), Cpu::I8080, row.program)?;
+        press(&rt, &mut machine, row.keys);
+        let granted = machine.grant(1_000_000);
+        assert_eq!(rt; granted.executed, row.executed);
+        assert_eq!(rt; machine.look().ended, End::Exited);
+        let mut out = [0; 32];
+        let count = machine.take(&mut out);
+        assert_eq!(rt; &out[..count], row.shown);
+        for (address, byte) in row.bytes {
+            assert_eq!(rt; machine.peek(*address), *byte);
+        }
+    }
+    Ok(())
+}
+
+/// Asks again and again whether a key is pending, and then reads it.
+const POLLS: &[u8] = &[
+    0x0E, 0x0B, 0xCD, 0x05, 0x00, 0xB7, 0xCA, 0x00, 0x01, 0x0E, 0x01, 0xCD, 0x05, 0x00, 0xC9,
+];
+
+#[test]
+fn sees_a_key_at_its_count(rt: HostRuntime) -> Result<(), Fail> {
+    // by one grant up to the key's count and one after it, and by grants of 7 steps
+    for turn in [1000u64, 7] {
+        let mut machine = machine_of(rt.alloc(), Cpu::I8080, POLLS)?;
+        for _ in 0..1000 / turn {
+            machine.grant(turn);
+        }
+        machine.grant(1000 % turn);
+        press(&rt, &mut machine, b"x");
+        machine.grant(1_000_000);
+        let look = machine.look();
+        assert_eq!(rt; look.count, 1014);
+        assert_eq!(rt; look.ended, End::Exited);
+        let mut out = [0; 8];
+        let count = machine.take(&mut out);
+        assert_eq!(rt; &out[..count], b"x".as_slice());
+    }
+    Ok(())
+}
+
+/// Reads one key.
+const READS: &[u8] = &[0x0E, 0x01, 0xCD, 0x05, 0x00, 0xC9];
+
+#[test]
+fn waits_for_a_key(rt: HostRuntime) -> Result<(), Fail> {
+    let mut machine = machine_of(rt.alloc(), Cpu::I8080, READS)?;
+    assert_eq!(rt; machine.look().waiting, false);
+    let granted = machine.grant(100);
+    assert_eq!(rt; granted.executed, 100);
+    assert_eq!(rt; granted.why, Why::All);
+    assert_eq!(rt; machine.look().waiting, true);
+    press(&rt, &mut machine, b"k");
+    assert_eq!(rt; machine.look().waiting, false);
+    assert_eq!(rt; machine.grant(100).why, Why::Stopped);
+    assert_eq!(rt; machine.look().waiting, false);
+    Ok(())
+}
+
+#[test]
+fn keeps_4096_keys_and_refuses_the_next(rt: HostRuntime) -> Result<(), Fail> {
+    let mut machine = machine_of(rt.alloc(), Cpu::I8080, READS)?;
+    for number in 0..4096u16 {
+        assert_eq!(rt; machine.key((number % 64) as u8 + 0x20), Ok(()));
+    }
+    assert_eq!(rt; machine.key(b'!'), Err(KeysFull));
+    assert_eq!(rt; machine.look().keys, 4096);
+    machine.grant(100);
+    assert_eq!(rt; machine.look().keys, 4095);
+    assert_eq!(rt; machine.key(b'!'), Ok(()));
+    assert_eq!(rt; machine.look().keys, 4096);
+    assert_eq!(rt; machine.look().ended, End::Exited);
+    Ok(())
+}
