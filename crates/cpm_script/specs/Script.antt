@@ -1,6 +1,6 @@
 -- The keys of a script, line by line. All of it is own: this project's form of key scripts.
-use Rattle.std.specs.Prelude.{◌≡◌, ℕ, ◌+◌, ◌-◌, Bool, true, is_some, slice_get, Vec, ◌||◌, ◌==◌, nat_le, if◌then◌else◌, List, [], ◌∷◌, ◌++◌, length, map, slice_index, Option, Some, None, Result, Ok, Err}
-use Rattle.std.specs.List.{list_all, before_first, after_first}
+use Rattle.std.specs.Prelude.{◌≡◌, ℕ, ◌+◌, ◌-◌, Bool, true, not, is_some, slice_get, Vec, ◌&&◌, ◌||◌, ◌==◌, nat_le, if◌then◌else◌, List, [], ◌∷◌, ◌++◌, length, map, slice_index, Option, Some, None, Result, Ok, Err}
+use Rattle.std.specs.List.{list_all, list_any, before_first, after_first}
 use Rattle.std.specs.Option.{option_map_or}
 use Rattle.std.specs.declared.alloc.Global.{Global}
 use Rattle.std.specs.Str.Lines.{lines}
@@ -77,6 +77,13 @@ script_from number keys (line ∷ rest) =
 -- with LF or CR LF
 abbrev pub script : List ℕ → Result (List Key) (ℕ × LineFault)
 script text = script_from 1 [] (lines text)
+
+-- one of the lines has a count, so that its keys may be kept
+abbrev pub is_counted : List ℕ → Bool
+is_counted line = not (is_skipped line) && is_some (count_of (before_first is_space line))
+
+abbrev pub has_count : List (List ℕ) → Bool
+has_count = list_any is_counted
 
 -- what was read of a script, unless memory ran out
 abbrev pub Reads : Result (Vec Key Global) ScriptError → Result (List Key) (ℕ × LineFault) → Type 0

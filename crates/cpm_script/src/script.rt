@@ -1,7 +1,9 @@
 //! Key scripts, line by line.
-ghost use Rattle.std.specs.Prelude.{◌≡◌, ◌==◌, ◌<◌, ◌≤◌, ◌++◌, ◌∷◌, [], length, slice_index, IsErrOf, OnOk};
+ghost use Rattle.std.specs.Prelude.{◌≡◌, ◌==◌, ◌≤◌, ◌++◌, ◌∷◌, [], length, slice_index, IsErrOf, OnOk, is_some, true};
+ghost use Rattle.std.specs.Str.Lines.{lines};
+ghost use Rattle.cpm_script.specs.KeyText.{count_of};
 ghost use Rattle.std.specs.List.{after_first, before_first, list_all};
-ghost use Rattle.cpm_script.specs.Script.{Adds, Reads, fault_past_last_key, is_after, is_space, script, with_counted, with_line, with_text};
+ghost use Rattle.cpm_script.specs.Script.{Adds, Reads, fault_past_last_key, has_count, is_after, is_counted, is_space, script, with_counted, with_line, with_text};
 
 use crate::count::count_of;
 use crate::fault::{LineFault, ScriptError};
@@ -112,6 +114,7 @@ fn add_counted(keys: &mut Vec<Key>, number: &[u8], text: &[u8]) -> Result<(), St
     requires { length keys.old.items ≤ 4096 }
     ensures added { Adds (with_counted keys.old.items number.now text.now) result keys.new.items }
     ensures room { OnOk result (length keys.new.items ≤ 4096) }
+    ensures memory { IsErrOf result Stop.OutOfMemory → is_some (count_of number.now) ≡ true }
 {
     let Some(count) = count_of(number) else {
         return Err(Stop::Fault(LineFault::NoCount));
@@ -128,6 +131,7 @@ fn add_line(keys: &mut Vec<Key>, line: &[u8]) -> Result<(), Stop>
     requires { length keys.old.items ≤ 4096 }
     ensures added { Adds (with_line keys.old.items line.now) result keys.new.items }
     ensures room { OnOk result (length keys.new.items ≤ 4096) }
+    ensures memory { IsErrOf result Stop.OutOfMemory → is_counted line.now ≡ true }
 {
     if is_blank(line) || is_comment(line) {
         return Ok(());
@@ -146,7 +150,8 @@ fn add_line(keys: &mut Vec<Key>, line: &[u8]) -> Result<(), Stop>
 /// memory is refused, whatever is wrong behind that place.
 pub fn read_keys(alloc: Global, text: &[u8]) -> Result<Vec<Key>, ScriptError>
     ensures read { Reads result (script text.now) }
-    ensures memory { IsErrOf result ScriptError.OutOfMemory → 0 < length text.now }
+    // Want of memory is answered only where a line has a count.
+    ensures memory { IsErrOf result ScriptError.OutOfMemory → has_count (lines text.now) ≡ true }
 {
     let mut keys = Vec::new(alloc);
     let mut rest = text;
