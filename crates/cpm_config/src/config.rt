@@ -1,0 +1,117 @@
+//! The configuration of a run, and how it is read.
+ghost use Rattle.std.specs.Prelude.{◌≡◌, Err, None};
+ghost use Rattle.std.specs.Str.{IsUtf8};
+ghost use Rattle.toml.specs.Errors.{IsMemory};
+ghost use Rattle.toml.specs.Parse.{parse_document};
+ghost use Rattle.toml.specs.View.{table_view};
+ghost use Rattle.cpm_config.specs.Rules.{IsJudged, IsRead};
+
+use crate::copies::config_of;
+use crate::draft::draft_of;
+use crate::fault::{ConfigError, Stop};
+use crate::names::twice_fault;
+use crate::ranges::range_fault;
+use cpm_flags::Cpu;
+use std::alloc::Global;
+use toml::Table;
+
+/// A session of a run.
+#[derive(Debug, Drop)]
+pub struct Session {
+    /// 1 to 16 letters, digits, `-` and `_`; no other session has it.
+    pub name: String,
+    pub cpu: Cpu,
+    /// The most pages that the session may write, 16 to 256.
+    pub quota: u16,
+    /// The most steps that it executes, up to 1,000,000,000,000.
+    pub steps: u64,
+    /// The files of the images of its drives, 1 to 4, A first.
+    pub drives: Vec<String>,
+    /// The file for the text of its console.
+    pub console: String,
+    /// The file of its key script.
+    pub keys: Option<String>,
+    /// The file for the text of its list device.
+    pub list: Option<String>,
+    /// The files for the images of its drives after the run, as many as `drives`.
+    pub out: Option<Vec<String>>,
+}
+
+/// The configuration of a run.
+#[derive(Debug, Drop)]
+pub struct Config {
+    /// The frames that all sessions share, 16 to 16,384.
+    pub frames: u16,
+    /// The most steps of one turn, 1 to 1,000,000,000.
+    pub quantum: u64,
+    /// The file of the system drive's image.
+    pub system: String,
+    /// 1 to 64 sessions, in the order of the file.
+    pub sessions: Vec<Session>,
+}
+
+/// The line, from 1, that this place of a text is in.
+fn line_at(text: &[u8], place: usize) -> usize {
+    let mut line: usize = 1;
+    for byte in text.iter().take(place) {
+        if *byte == b'\n' {
+            line = line.saturating_add(1);
+        }
+    }
+    line
+}
+
+/// The refusal for a text that is no TOML.
+fn text_fault(bytes: &[u8], fault: toml::de::Error) -> ConfigError
+    requires { ¬ IsMemory fault → IsUtf8 bytes.now → parse_document bytes.now ≡ None }
+    ensures { IsRead bytes.now (Err result) }
+{
+    match fault.span() {
+        Some(span) => ConfigError::Text {
+            line: line_at(bytes, span.start),
+            fault,
+        },
+        None => ConfigError::OutOfMemory,
+    }
+}
+
+/// Judges the entries of a document.
+fn judged(alloc: Global, table: &Table) -> Result<Config, ConfigError>
+    ensures { IsJudged (table_view table.now) result }
+{
+    let draft = match draft_of(alloc, table) {
+        Ok(draft) => draft,
+        Err(Stop::Fault(fault)) => return Err(ConfigError::Key(fault)),
+        Err(Stop::OutOfMemory) => return Err(ConfigError::OutOfMemory),
+    };
+    if let Some(place) = range_fault(&draft) {
+        return Err(ConfigError::Range(place));
+    }
+    match twice_fault(alloc, &draft) {
+        Ok(Some(place)) => return Err(ConfigError::Twice(place)),
+        Ok(None) => {}
+        Err(_) => return Err(ConfigError::OutOfMemory),
+    }
+    match config_of(alloc, &draft) {
+        Ok(config) => Ok(config),
+        Err(_) => Err(ConfigError::OutOfMemory),
+    }
+}
+
+impl Config {
+    /// The configuration that a TOML text writes.
+    ///
+    /// The first kind of fault in the whole file is answered: `Text`, where the bytes are no TOML (or
+    /// an integer does not fit 64 bits); `Key`, where a key is missing, unknown or of another type;
+    /// `Range`, where a value breaks a rule; `Twice`, where two sessions have one name or one file would
+    /// be written twice. `OutOfMemory` comes only where memory is refused, whatever is wrong behind
+    /// that place.
+    pub fn read(alloc: Global, bytes: &[u8]) -> Result<Config, ConfigError>
+        ensures { IsRead bytes.now result }
+    {
+        match toml::table_from_slice(alloc, bytes) {
+            Ok(table) => judged(alloc, &table),
+            Err(error) => Err(text_fault(bytes, error)),
+        }
+    }
+}

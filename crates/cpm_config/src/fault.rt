@@ -1,0 +1,73 @@
+//! Why a configuration is refused.
+ghost use Rattle.cpm_config.specs.declared.fault.Stop.{Stop};
+ghost use Rattle.cpm_config.specs.declared.fault.Stop.TheVariants.{Fault, OutOfMemory};
+ghost use Rattle.std.specs.Prelude.{◌≡◌};
+
+use crate::field::Place;
+use std::alloc::{AllocError, AllocFailed};
+use thiserror::Error;
+
+/// What is wrong with the keys of a configuration.
+#[derive(Clone, Copy, Debug, PartialEq, Eq, Drop, Error)]
+pub enum KeyFault {
+    /// The top has a key that no configuration has.
+    #[error("the top has a key other than frames, quantum, system and session")]
+    UnknownAtTop,
+    /// The session of this number, from 1, has a key that no session has.
+    #[error("session {0} has a key other than name, cpu, quota, steps, drives, console, keys, list and out")]
+    UnknownInSession(u64),
+    /// The key is missing, or its value is of another type.
+    #[error("{0} is missing or of another type: {wanted} is wanted", wanted = .0.field.wanted())]
+    Wanted(Place),
+}
+
+/// Why a configuration is refused: the first kind of fault in the whole file, in this order.
+#[derive(Clone, Copy, Debug, PartialEq, Eq, Drop, Error)]
+pub enum ConfigError {
+    /// The bytes are no TOML, and were read up to this line, from 1.
+    #[error("configuration, line {line}: {}", .fault.message())]
+    Text { line: usize, fault: toml::de::Error },
+    /// A key is missing, unknown or of another type.
+    #[error("configuration: {0}")]
+    Key(KeyFault),
+    /// A value breaks a rule.
+    #[error("configuration: {0} breaks a rule: {wanted} is wanted", wanted = .0.field.wanted())]
+    Range(Place),
+    /// The name at this place stands before: two sessions have it, or two files.
+    #[error("configuration: a name in {0} was given before")]
+    Twice(Place),
+    /// Memory was refused.
+    #[error("out of memory")]
+    OutOfMemory,
+}
+
+/// Why the entries of a document are not there.
+#[derive(Clone, Copy)]
+pub(crate) enum Stop {
+    Fault(KeyFault),
+    OutOfMemory,
+}
+
+impl From<KeyFault> for Stop {
+    ghost from_gives = { λ fault e. e ≡ Fault fault };
+
+    fn from(fault: KeyFault) -> Stop {
+        Stop::Fault(fault)
+    }
+}
+
+impl From<AllocError> for Stop {
+    ghost from_gives = { λ _ e. e ≡ OutOfMemory };
+
+    fn from(_error: AllocError) -> Stop {
+        Stop::OutOfMemory
+    }
+}
+
+impl<T: Drop> From<AllocFailed<T>> for Stop {
+    ghost from_gives = { λ _ e. e ≡ OutOfMemory };
+
+    fn from(_error: AllocFailed<T>) -> Stop {
+        Stop::OutOfMemory
+    }
+}

@@ -1,0 +1,89 @@
+//! The keys that a configuration has.
+ghost use Rattle.std.specs.Prelude.{◌≡◌};
+ghost use Rattle.cpm_config.specs.Fields.{field_name};
+
+use std::fmt;
+
+/// A key of a configuration.
+#[derive(Clone, Copy, Debug, PartialEq, Eq, Drop)]
+pub enum Field {
+    Frames,
+    Quantum,
+    System,
+    Sessions,
+    Name,
+    Cpu,
+    Quota,
+    Steps,
+    Drives,
+    Console,
+    Keys,
+    List,
+    Out,
+}
+
+impl Field {
+    /// The key as it stands in the file.
+    pub fn name(self) -> &'static str
+        ensures { result.now ≡ field_name self }
+    {
+        match self {
+            Field::Frames => "frames",
+            Field::Quantum => "quantum",
+            Field::System => "system",
+            Field::Sessions => "session",
+            Field::Name => "name",
+            Field::Cpu => "cpu",
+            Field::Quota => "quota",
+            Field::Steps => "steps",
+            Field::Drives => "drives",
+            Field::Console => "console",
+            Field::Keys => "keys",
+            Field::List => "list",
+            Field::Out => "out",
+        }
+    }
+
+    /// What is wanted at the key, as a message says it.
+    pub(crate) fn wanted(self) -> &'static str {
+        match self {
+            Field::Frames => "a number from 16 to 16384",
+            Field::Quantum => "a number from 1 to 1000000000",
+            Field::System => "the name of the system drive's image",
+            Field::Sessions => "1 to 64 tables [[session]]",
+            Field::Name => "a text of 1 to 16 letters, digits, '-' and '_'",
+            Field::Cpu => "\"8080\" or \"z80\"",
+            Field::Quota => "a number from 16 to 256",
+            Field::Steps => "a number from 0 to 1000000000000",
+            Field::Drives => "an array of 1 to 4 names of images",
+            Field::Console => "the name of the file for the console's text",
+            Field::Keys => "the name of a key script, or no such key",
+            Field::List => "the name of the file for the list device's text, or no such key",
+            Field::Out => "an array of as many names as there are drives, or no such key",
+        }
+    }
+}
+
+impl fmt::Display for Field {
+    fn fmt<W: fmt::Write>(&self, f: &mut fmt::Formatter<W>) -> fmt::Result {
+        f.write_str(self.name())
+    }
+}
+
+/// A key at the top of the configuration, or of one session.
+#[derive(Clone, Copy, Debug, PartialEq, Eq, Drop)]
+pub struct Place {
+    /// The session's number in the file, from 1; 0 is the top.
+    pub session: u64,
+    pub field: Field,
+}
+
+impl fmt::Display for Place {
+    fn fmt<W: fmt::Write>(&self, f: &mut fmt::Formatter<W>) -> fmt::Result {
+        let name = self.field.name();
+        match self.session {
+            0 => write!(f, "'{name}'"),
+            session => write!(f, "'{name}' of session {session}"),
+        }
+    }
+}

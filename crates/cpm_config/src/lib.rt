@@ -1,0 +1,18 @@
+//! The configuration of a run: which sessions there are, and with which files.
+#![tactic(auto)]
+
+mod config;
+mod copies;
+mod draft;
+mod fault;
+mod field;
+mod names;
+mod ranges;
+mod values;
+
+pub use config::{Config, Session};
+pub use fault::{ConfigError, KeyFault};
+pub use field::{Field, Place};
+
+#[cfg(test)]
+mod tests;

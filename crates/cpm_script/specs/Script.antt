@@ -1,0 +1,102 @@
+-- The keys of a script, line by line. All of it is own: this project's form of key scripts.
+use Rattle.std.specs.Prelude.{◌≡◌, ℕ, ◌+◌, ◌-◌, Bool, true, not, is_some, slice_get, Vec, ◌&&◌, ◌||◌, ◌==◌, nat_le, if◌then◌else◌, List, [], ◌∷◌, ◌++◌, length, map, slice_index, Option, Some, None, Result, Ok, Err}
+use Rattle.std.specs.List.{list_all, list_any, before_first, after_first}
+use Rattle.std.specs.Option.{option_map_or}
+use Rattle.std.specs.declared.alloc.Global.{Global}
+use Rattle.std.specs.Str.Lines.{lines}
+use Rattle.cpm_script.specs.KeyText.{count_of, keys_of}
+use Rattle.cpm_script.specs.declared.script.Key.{Key}
+use Rattle.cpm_script.specs.declared.script.Stop.{Stop}
+use Rattle.cpm_script.specs.declared.script.Stop.TheVariants as stop
+use Rattle.cpm_script.specs.declared.script.Stop.TheVariants.{Fault}
+use Rattle.cpm_script.specs.declared.fault.LineFault.{LineFault}
+use Rattle.cpm_script.specs.declared.fault.LineFault.TheVariants.{NoCount, CountFalls, NotAKey, NoKey, TooManyKeys}
+use Rattle.cpm_script.specs.declared.fault.ScriptError.{ScriptError}
+use Rattle.cpm_script.specs.declared.fault.ScriptError.TheVariants.{Line, OutOfMemory}
+
+abbrev pub is_space : ℕ → Bool
+is_space b = b == 32
+
+-- a line with nothing but spaces, or one that begins with #
+abbrev pub is_skipped : List ℕ → Bool
+is_skipped line = list_all is_space line || (slice_index line 0 == 35)
+
+-- these bytes as keys, all at one count
+abbrev pub keys_at : ℕ → List ℕ → List Key
+keys_at count = map (λ b. record { count = count; byte = b })
+
+-- the count is not below that of the last key
+abbrev pub is_after : List Key → ℕ → Bool
+is_after keys count =
+    option_map_or (λ k. nat_le k.count count) (slice_get keys (length keys - 1)) true
+
+abbrev pub most_keys : ℕ
+most_keys = 4096
+
+-- the keys with more of them at one count: at least one, and not too many in all
+abbrev pub with_keys : List Key → ℕ → List ℕ → Result (List Key) LineFault
+with_keys keys count [] = Err NoKey
+with_keys keys count (b ∷ bytes) =
+    if nat_le (length keys + length (b ∷ bytes)) most_keys
+    then Ok (keys ++ keys_at count (b ∷ bytes)) else Err TooManyKeys
+
+-- what follows from a value, where it is there
+abbrev pub or_fault : {X Y : Type 0} → LineFault → Option X → (X → Result Y LineFault)
+    → Result Y LineFault
+or_fault fault None next = Err fault
+or_fault fault (Some x) next = next x
+
+-- the keys with those that a text stands for
+abbrev pub with_text : List Key → ℕ → List ℕ → Result (List Key) LineFault
+with_text keys count text = or_fault NotAKey (keys_of text) (with_keys keys count)
+
+-- the keys with those of a text, at the count that a number writes
+abbrev pub with_counted : List Key → List ℕ → List ℕ → Result (List Key) LineFault
+with_counted keys number text = or_fault NoCount (count_of number) (λ count.
+    if is_after keys count then with_text keys count text else Err CountFalls)
+
+-- the keys of the lines so far and of this line: what stands before its first space is the count
+abbrev pub with_line : List Key → List ℕ → Result (List Key) LineFault
+with_line keys line =
+    if is_skipped line then Ok keys
+    else with_counted keys (before_first is_space line) (after_first is_space line)
+
+-- what follows a line that was read, or its number with its fault
+abbrev pub numbered : {X Y : Type 0} → ℕ → Result X LineFault → (X → Result Y (ℕ × LineFault))
+    → Result Y (ℕ × LineFault)
+numbered number (Ok x) next = next x
+numbered number (Err fault) next = Err (number, fault)
+
+-- the keys of the lines, from this line number on, after these keys
+abbrev pub script_from : ℕ → List Key → List (List ℕ) → Result (List Key) (ℕ × LineFault)
+script_from number keys [] = Ok keys
+script_from number keys (line ∷ rest) =
+    numbered number (with_line keys line) (λ more. script_from (number + 1) more rest)
+
+-- the keys of a script, or the number of its first line with a fault, and the fault; a line ends
+-- with LF or CR LF
+abbrev pub script : List ℕ → Result (List Key) (ℕ × LineFault)
+script text = script_from 1 [] (lines text)
+
+-- one of the lines has a count, so that its keys may be kept
+abbrev pub is_counted : List ℕ → Bool
+is_counted line = not (is_skipped line) && is_some (count_of (before_first is_space line))
+
+abbrev pub has_count : List (List ℕ) → Bool
+has_count = list_any is_counted
+
+-- what was read of a script, unless memory ran out
+abbrev pub Reads : Result (Vec Key Global) ScriptError → Result (List Key) (ℕ × LineFault) → Type 0
+Reads (Ok v) read = read ≡ Ok v.items
+Reads (Err (Line number fault)) read = read ≡ Err (number, fault)
+Reads (Err OutOfMemory) read = Unit {0}
+
+-- what was added to the keys, unless memory ran out
+abbrev pub Adds : Result (List Key) LineFault → Result (Unit {0}) Stop → List Key → Type 0
+Adds read (Ok done) new = read ≡ Ok new
+Adds read (Err (Fault fault)) new = read ≡ Err fault
+Adds read (Err stop.OutOfMemory) new = Unit {0}
+
+-- the fault of a line whose text goes on where there is no room for a key
+abbrev pub fault_past_last_key : List ℕ → LineFault
+fault_past_last_key rest = if is_some (keys_of rest) then TooManyKeys else NotAKey

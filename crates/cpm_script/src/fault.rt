@@ -1,0 +1,34 @@
+//! Why a key script is refused.
+
+use thiserror::Error;
+
+/// What is wrong with a line of a key script.
+#[derive(Clone, Copy, Debug, PartialEq, Eq, Drop, Error)]
+pub enum LineFault {
+    /// What stands before the first space is no decimal number of 64 bits.
+    #[error("a count from 0 to 18446744073709551615 is wanted, or '#' before a comment")]
+    NoCount,
+    /// The count is less than that of the key before it.
+    #[error("the count is less than the one before it")]
+    CountFalls,
+    /// A byte after the count is no key, and no key begins with it.
+    #[error("a key is a character from ' ' to '~', or '^' with '@', a letter, '[', '\\', ']', '^', '_', '?' or '~'")]
+    NotAKey,
+    /// Nothing stands after the count.
+    #[error("one space and at least one key are wanted after the count")]
+    NoKey,
+    /// With the keys of this line there are more than 4,096.
+    #[error("a script has at most 4096 keys")]
+    TooManyKeys,
+}
+
+/// Why a key script is refused.
+#[derive(Clone, Copy, Debug, PartialEq, Eq, Drop, Error)]
+pub enum ScriptError {
+    /// The first line with a fault, from 1.
+    #[error("key script, line {number}: {fault}")]
+    Line { number: u64, fault: LineFault },
+    /// Memory was refused.
+    #[error("out of memory")]
+    OutOfMemory,
+}

@@ -1,0 +1,6 @@
+use Rattle.std.proofs.Common.{ap, ◌∙◌}
+use Rattle.cpm_store.specs.Files.{Files, file_at}
+use Rattle.cpm_store.proofs.memory.MemoryStoreStore.write.Goals as goal
+
+pub returns-in-Err-clause-others : goal.returns-in-Err-clause-others
+returns-in-Err-clause-others c = λ other apart. ap (λ (f : Files). f other) c.in-Err.ensures.kept ∙ ap (λ m. file_at m other) c.is_failing.ensures.files

@@ -1,0 +1,28 @@
+use Rattle.std.proofs.Common.{List, ℕ, map, take, drop, suc, subst, sym, arith, ◌∙◌}
+use Rattle.cpm_store.specs.Files.{Told, Writes}
+use Rattle.cpm_store.specs.Writes.{Named, WritesAll, named}
+use Rattle.cpm_store.proofs.WriteLemmas.{named-length, named-more, named-split, told_more, told_stopped}
+use Rattle.cpm_store.proofs.writes.write_all.Goals as goal
+
+pub returns-in-Err-clause-stopped : goal.returns-in-Err-clause-stopped
+returns-in-Err-clause-stopped g c =
+    let os = c.args.outputs.now in
+    let i = c.loop-output.output-index in
+    told_stopped _ (g.S.Store.files c.loop-output.store) _ (map named os) (map named (take i os)) (named c.output-item.result) (map named (drop (suc i) os)) _
+    (named-split os i c.output-item.result c.loop-output-test.true c.output-item.is) (named-length os i c.loop-output-test.true ∙ sym c.loop-output.invariant.place)
+    c.loop-output.invariant.written c.in-Err.ensures.others
+
+pub loop-output-preserved : goal.loop-output-preserved
+loop-output-preserved g c =
+    let os = c.args.outputs.now in
+    let i = c.loop-output.output-index in
+    let o = c.output-item.result in
+    let before = g.S.Store.files c.loop-output.store in
+    let after = g.S.Store.files c.write.new.self in
+    let write : Told before after (Writes (named o).0 (named o).1) = subst (λ (bytes : List ℕ). Told before after (Writes (named o).0 bytes)) c.as_slice.ensures.value c.in-Ok.ensures.written in
+    record {
+      written = subst (λ (ps : List Named). Told (g.S.Store.files c.args.store.now) after (WritesAll ps)) (sym (named-more os i o c.loop-output-test.true c.output-item.is))
+          (told_more _ before after (map named (take i os)) (named o) c.loop-output.invariant.written write);
+      counted = omega (arith, c.loop-output.invariant.counted, c.in-Ok.ensures.counted);
+      place = omega (arith, c.loop-output.invariant.place);
+    }

@@ -1,0 +1,26 @@
+-- A store over memory. All of it is own.
+use Rattle.std.specs.Prelude.{ℕ, zero, suc, Bool, true, false, Option, Some, None}
+use Rattle.cpm_store.specs.Files.{Files, file_at}
+use Rattle.cpm_store.specs.declared.memory.MemoryStore.{MemoryStore}
+
+abbrev pub files_in : MemoryStore → Files
+files_in s = file_at s.files
+
+abbrev pub failures_of : MemoryStore → ℕ
+failures_of s = s.failures
+
+-- how many calls go well before the one that is to fail, where one is
+abbrev pub calls_left : MemoryStore → Option ℕ
+calls_left s = s.calls_left
+
+-- the next call is the one that is to fail
+abbrev pub is_last : Option ℕ → Bool
+is_last None = false
+is_last (Some zero) = true
+is_last (Some (suc n)) = false
+
+-- what is left after a call
+abbrev pub one_less : Option ℕ → Option ℕ
+one_less None = None
+one_less (Some zero) = None
+one_less (Some (suc n)) = Some n

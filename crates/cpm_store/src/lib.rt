@@ -1,0 +1,13 @@
+//! Stores of named files, and the batch of writes with which a run ends.
+#![tactic(auto)]
+
+mod memory;
+mod store;
+mod writes;
+
+pub use memory::MemoryStore;
+pub use store::{Store, StoreError};
+pub use writes::{Output, WriteError, write_all};
+
+#[cfg(test)]
+mod tests;

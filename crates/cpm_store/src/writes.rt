@@ -1,0 +1,44 @@
+//! The writes of a run, one after another.
+ghost use Rattle.std.specs.Prelude.{◌≡◌, ◌<◌, ◌≤◌, IfErr, OnOk, length, map};
+ghost use Rattle.cpm_store.specs.Files.{CountsFailure, Told};
+ghost use Rattle.cpm_store.specs.Writes.{StopsAt, WritesAll, named};
+
+use crate::store::{Store, StoreError};
+use thiserror::Error;
+
+/// A file to be written.
+#[derive(Debug, Drop)]
+pub struct Output<'a> {
+    pub name: &'a str,
+    pub bytes: Vec<u8>,
+}
+
+/// Which write failed, and why.
+#[derive(Clone, Copy, Debug, PartialEq, Eq, Drop, Error)]
+#[error("output {place}, counted from 0: {cause}")]
+pub struct WriteError {
+    /// The place of the file among those to be written, from 0.
+    pub place: usize,
+    pub cause: StoreError,
+}
+
+/// Writes files in order, up to the first write that fails, which is the error.
+pub fn write_all<S: Store>(outputs: &[Output<'_>], store: &mut S) -> Result<(), WriteError>
+    ensures written { OnOk result (Told (S.files store.old) (S.files store.new) (WritesAll (map named outputs.now))) }
+    // Those before the failed one were written, it may hold anything, and nothing else has changed.
+    ensures stopped { IfErr result (λ e.
+        Told (S.files store.old) (S.files store.new) (StopsAt (map named outputs.now) e.place)) }
+    ensures place { IfErr result (λ e. e.place < length outputs.now) }
+    ensures device { IfErr result (λ e.
+        e.cause ≡ StoreError.Device → CountsFailure (S.failed store.old) (S.failed store.new)) }
+    ensures counted { S.failed store.old ≤ S.failed store.new }
+{
+    let mut place = 0;
+    for output in outputs {
+        match store.write(output.name, output.bytes.as_slice()) {
+            Ok(()) => place += 1,
+            Err(cause) => return Err(WriteError { place, cause }),
+        }
+    }
+    Ok(())
+}
