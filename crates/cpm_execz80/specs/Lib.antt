@@ -4,4 +4,5 @@ pub mod Extended
 pub mod Indexed
 pub mod Laws
 pub mod MeaningZ80
+pub mod Plain
 pub mod Registers
