@@ -1,3 +1,4 @@
+pub mod At
 pub mod Bits
 pub mod Blocks
 pub mod Extended
