@@ -13,7 +13,7 @@ use Rattle.cpm_decode.specs.declared.operation.Decoded.{Decoded}
 use Rattle.cpm_decode.specs.Rows8080.{decoded_at}
 use Rattle.cpm_exec8080.specs.Effect.{Effect}
 use Rattle.cpm_exec8080.specs.Operands.{place_stores, holds}
-use Rattle.cpm_exec8080.specs.Meaning8080.{meaning, effect_of, effect_of_row, step8080_of}
+use Rattle.cpm_exec8080.specs.Meaning8080.{meaning, shared_effect, effect_of_row, shared_step, step8080_of}
 
 few_places : (place : Place) (regs : Regs) (value : ℕ) → length (place_stores regs place value) ≤ 2
 few_places places.B regs value = omega arith
@@ -71,12 +71,12 @@ few_meant cpu (op.Output port) memory regs = omega arith
 few_meant cpu op.DisableInterrupts memory regs = omega arith
 few_meant cpu op.EnableInterrupts memory regs = omega arith
 
-few_row : (row : Option Decoded) (memory : Contents) (regs : Regs) → length (effect_of_row row memory regs).stores ≤ 2
-unfolding effect_of
+few_row : (row : Option Decoded) (memory : Contents) (regs : Regs) → length (effect_of_row I8080 row memory regs).stores ≤ 2
+unfolding shared_effect
 few_row None memory regs = omega arith
 few_row (Some decoded) memory regs = few_meant I8080 decoded.op memory _
 
 -- an instruction of the 8080 stores two bytes at most
 pub few_stores : (memory : Contents) (regs : Regs) → length (step8080_of memory regs).stores ≤ 2
-unfolding step8080_of
+unfolding shared_step
 few_stores memory regs = few_row (decoded_at memory regs.pc) memory regs

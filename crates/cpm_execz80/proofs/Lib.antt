@@ -1,2 +1,4 @@
 pub mod BitLemmas
 pub mod FewStores
+pub mod PlainRows
+pub mod ShiftRows

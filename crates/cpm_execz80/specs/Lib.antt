@@ -1,7 +1,9 @@
+pub mod At
 pub mod Bits
 pub mod Blocks
 pub mod Extended
 pub mod Indexed
 pub mod Laws
 pub mod MeaningZ80
+pub mod Plain
 pub mod Registers

@@ -10,6 +10,7 @@ use cpm_flags::{Byte, Flags, Regs, flags_of_shift};
 use cpm_memory::Memory;
 
 /// A byte shifted or rotated.
+#[inline(always)]
 fn shift_byte(shift: Shift, carry: bool, byte: u8) -> u8
     ensures { result ≡ shifted shift carry byte }
 {
@@ -27,6 +28,7 @@ fn shift_byte(shift: Shift, carry: bool, byte: u8) -> u8
 }
 
 /// The bit that falls out.
+#[inline(always)]
 fn falls_out(shift: Shift, byte: u8) -> bool
     ensures { result ≡ shifted_out shift byte }
 {
@@ -40,6 +42,7 @@ fn falls_out(shift: Shift, byte: u8) -> bool
 }
 
 /// Whether a bit of a byte is set.
+#[inline(always)]
 fn has_bit(byte: u8, bit: u8) -> bool
     ensures { result ≡ has_bit_at byte bit }
 {
@@ -47,6 +50,7 @@ fn has_bit(byte: u8, bit: u8) -> bool
 }
 
 /// A byte with a bit set.
+#[inline(always)]
 fn with_bit(byte: u8, bit: u8) -> u8
     ensures { result ≡ bit_or byte (bit_mask bit) }
 {
@@ -54,6 +58,7 @@ fn with_bit(byte: u8, bit: u8) -> u8
 }
 
 /// A byte with a bit cleared.
+#[inline(always)]
 fn without_bit(byte: u8, bit: u8) -> u8
     ensures { result ≡ cleared byte bit }
 {
@@ -61,6 +66,7 @@ fn without_bit(byte: u8, bit: u8) -> u8
 }
 
 /// The flags after a test of a bit.
+#[inline(always)]
 fn flags_of_test(flags: Flags, byte: u8, bit: u8) -> Flags
     ensures { result ≡ tested flags byte bit }
 {
@@ -74,6 +80,7 @@ fn flags_of_test(flags: Flags, byte: u8, bit: u8) -> Flags
 
 /// The byte that a shift, a rotation or an operation on a bit makes of a byte, and the flags.
 /// Zilog Z80 CPU User Manual, "Rotate and Shift Group" and "Bit Set, Reset, and Test Group".
+#[inline(always)]
 pub fn apply(op: BitOp, flags: Flags, byte: u8) -> Byte
     ensures { result ≡ applied op flags byte }
 {
@@ -102,6 +109,7 @@ pub fn apply(op: BitOp, flags: Flags, byte: u8) -> Byte
 
 /// Whether an operation is a test of a bit, which stores nothing.
 /// Zilog Z80 CPU User Manual, "BIT b, r".
+#[inline(always)]
 pub fn is_test_of_bit(op: BitOp) -> bool
     ensures { result ≡ is_test op }
 {
@@ -113,6 +121,7 @@ pub fn is_test_of_bit(op: BitOp) -> bool
 
 /// Does an operation of the prefix CBh with the byte in a register or at HL.
 /// Zilog Z80 CPU User Manual, "Rotate and Shift Group" and "Bit Set, Reset, and Test Group".
+#[inline(always)]
 pub fn perform_bits<M: Memory>(regs: &mut Regs, memory: &mut M, op: BitOp, place: Place)
     requires { HasRoom (M.contents memory.old) }
     ensures regs { regs.new ≡ (meaning_bits op place (M.contents memory.old) regs.old).regs }

@@ -13,6 +13,7 @@ use cpm_memory::{Memory, set_byte};
 
 /// Does an operation with the byte at an address, which IX or IY and a displacement gave.
 /// Zilog Z80 CPU User Manual, "Indexed Addressing".
+#[inline(always)]
 pub fn perform_indexed<M: Memory>(regs: &mut Regs, memory: &mut M, op: IndexedOp, address: u16)
     requires { HasRoom (M.contents memory.old) }
     ensures regs { regs.new ≡ (meaning_indexed op address (M.contents memory.old) regs.old).regs }

@@ -7,9 +7,11 @@ pub mod exec;
 pub mod extended;
 pub mod indexed;
 pub mod laws;
+pub mod quick;
 pub mod registers;
 
 pub use exec::{execz80, stepz80};
+pub use quick::quick_stepz80;
 
 #[cfg(test)]
 mod tests;
