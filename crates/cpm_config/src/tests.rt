@@ -179,6 +179,7 @@ fn refuses_keys(rt: HostRuntime) {
         wanted(at_top(Field::Sessions))
     );
     assert_eq!(rt; refusal(&rt, "frames = 64"), wanted(at_top(Field::Quantum)));
+    assert_eq!(rt; refusal(&rt, "# nothing\n"), wanted(at_top(Field::Frames)));
 }
 
 #[test]
