@@ -1,3 +1,4 @@
+pub mod BlankLemmas
 pub mod EntryLemmas
 pub mod NameLemmas
 pub mod RuleLemmas

@@ -1,14 +1,13 @@
 -- What holds of entries that break no rule.
-use Rattle.std.proofs.Common.{◌≡◌, ◌≤◌, ◌+◌, ◌^◌, ℕ, Bool, true, false, List, [], ◌∷◌, Option, Some, None, map, refl, ap, ◌∙◌, sym, arith}
-use Rattle.std.specs.Prelude.{ℤ, pos, negsuc, int_le, nat_le, not, ◌&&◌, if◌then◌else◌}
+use Rattle.std.proofs.Common.{◌≡◌, ◌≤◌, ◌+◌, ◌^◌, ℕ, Bool, true, false, List, ◌∷◌, Option, Some, None, refl, ap, ◌∙◌, arith}
+use Rattle.std.specs.Prelude.{ℤ, pos, negsuc, not, if◌then◌else◌}
 use Rattle.std.proofs.lemmas.Bool.Decides.{nat_tests}
 use Rattle.std.proofs.lemmas.Int.{to_z-of_z}
 use mir.Syntax.{w64}
 use mir.Val.{SFits, of_z, to_z}
 use Rattle.cpm_config.specs.Entries.{ConfigEntries, SessionEntries}
-use Rattle.cpm_config.specs.Rules.{fault_or, is_between, is_cpu, is_length_between, is_name, is_out, range_fault, session_fault, sessions_fault}
+use Rattle.cpm_config.specs.Rules.{fault_or, is_between, is_cpu, is_length_between, is_name, range_fault, session_fault, sessions_fault}
 use Rattle.cpm_config.specs.declared.field.Field.{Field}
-use Rattle.cpm_config.specs.declared.field.Place.{Place}
 
 kept : {A : Type 0} (good : Bool) (fault : A) (next : Option A) → (if not good then Some fault else next) ≡ None → (good ≡ true) × (next ≡ None)
 kept true fault next none = (refl, none)

@@ -1,8 +1,9 @@
 //! The configuration of a run, and how it is read.
-ghost use Rattle.std.specs.Prelude.{◌≡◌, Err, None};
+ghost use Rattle.std.specs.Prelude.{◌≡◌, IsErrOf, Err, None};
 ghost use Rattle.std.specs.Str.{IsUtf8};
-ghost use Rattle.toml.specs.Errors.{IsMemory};
+ghost use Rattle.toml.specs.Errors.{IsBlank, IsMemory};
 ghost use Rattle.toml.specs.Parse.{parse_document};
+ghost use Rattle.toml.specs.Data.{no_members};
 ghost use Rattle.toml.specs.View.{table_view};
 ghost use Rattle.cpm_config.specs.Rules.{IsJudged, IsRead};
 
@@ -64,7 +65,8 @@ fn line_at(text: &[u8], place: usize) -> usize {
 /// The refusal for a text that is no TOML.
 fn text_fault(bytes: &[u8], fault: toml::de::Error) -> ConfigError
     requires { ¬ IsMemory fault → IsUtf8 bytes.now → parse_document bytes.now ≡ None }
-    ensures { IsRead bytes.now (Err result) }
+    ensures read { IsRead bytes.now (Err result) }
+    ensures memory { result ≡ ConfigError.OutOfMemory → IsMemory fault }
 {
     match fault.span() {
         Some(span) => ConfigError::Text {
@@ -77,7 +79,8 @@ fn text_fault(bytes: &[u8], fault: toml::de::Error) -> ConfigError
 
 /// Judges the entries of a document.
 fn judged(alloc: Global, table: &Table) -> Result<Config, ConfigError>
-    ensures { IsJudged (table_view table.now) result }
+    ensures judged { IsJudged (table_view table.now) result }
+    ensures memory { IsErrOf result ConfigError.OutOfMemory → table_view table.now ≡ no_members → ⊥ }
 {
     let draft = match draft_of(alloc, table) {
         Ok(draft) => draft,
@@ -107,7 +110,8 @@ impl Config {
     /// be written twice. `OutOfMemory` comes only where memory is refused, whatever is wrong behind
     /// that place.
     pub fn read(alloc: Global, bytes: &[u8]) -> Result<Config, ConfigError>
-        ensures { IsRead bytes.now result }
+        ensures read { IsRead bytes.now result }
+        ensures memory { IsErrOf result ConfigError.OutOfMemory → IsBlank bytes.now → ⊥ }
     {
         match toml::table_from_slice(alloc, bytes) {
             Ok(table) => judged(alloc, &table),

@@ -1,5 +1,6 @@
 //! A configuration as its document has it: keys and types are right, and nothing else is judged.
-ghost use Rattle.std.specs.Prelude.{◌≡◌, map};
+ghost use Rattle.std.specs.Prelude.{◌≡◌, IsErrOf, map};
+ghost use Rattle.toml.specs.Data.{no_members};
 ghost use Rattle.toml.specs.View.{items_view, table_view, view};
 ghost use Rattle.cpm_config.specs.Entries.{Reads, config_in, draft_view, known_at_top, known_in_session, session_draft_view, session_in, sessions_at, sessions_of, session_of_table};
 
@@ -120,7 +121,8 @@ fn sessions_of<'a>(alloc: Global, values: &'a [Value]) -> Result<Vec<SessionDraf
 
 /// The entries of the sessions of a document.
 fn sessions_at<'a>(alloc: Global, table: &'a Table) -> Result<Vec<SessionDraft<'a>>, Stop>
-    ensures { Reads (λ v. map session_draft_view v.items) result (sessions_at (table_view table.now)) }
+    ensures read { Reads (λ v. map session_draft_view v.items) result (sessions_at (table_view table.now)) }
+    ensures memory { IsErrOf result Stop.OutOfMemory → table_view table.now ≡ no_members → ⊥ }
 {
     match value_at(table, Field::Sessions) {
         Some(Value::Array(array)) => sessions_of(alloc, array.as_slice()),
@@ -154,7 +156,8 @@ fn check_top_keys(table: &Table) -> Result<(), KeyFault>
 /// The entries of a document.
 #[tactic(auto, unfolding(crate::specs::Entries::config_in))]
 pub(crate) fn draft_of<'a>(alloc: Global, table: &'a Table) -> Result<Draft<'a>, Stop>
-    ensures { Reads draft_view result (config_in (table_view table.now)) }
+    ensures read { Reads draft_view result (config_in (table_view table.now)) }
+    ensures memory { IsErrOf result Stop.OutOfMemory → table_view table.now ≡ no_members → ⊥ }
 {
     check_top_keys(table)?;
     let frames = number_at(table, 0, Field::Frames)?;

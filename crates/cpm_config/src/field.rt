@@ -64,12 +64,6 @@ impl Field {
     }
 }
 
-impl fmt::Display for Field {
-    fn fmt<W: fmt::Write>(&self, f: &mut fmt::Formatter<W>) -> fmt::Result {
-        f.write_str(self.name())
-    }
-}
-
 /// A key at the top of the configuration, or of one session.
 #[derive(Clone, Copy, Debug, PartialEq, Eq, Drop)]
 pub struct Place {

@@ -61,6 +61,11 @@ fn first(field: Field) -> Place {
     Place { session: 1, field }
 }
 
+/// The place of a field of the second session.
+fn second(field: Field) -> Place {
+    Place { session: 2, field }
+}
+
 fn at_top(field: Field) -> Place {
     Place { session: 0, field }
 }
@@ -179,6 +184,7 @@ fn refuses_keys(rt: HostRuntime) {
         wanted(at_top(Field::Sessions))
     );
     assert_eq!(rt; refusal(&rt, "frames = 64"), wanted(at_top(Field::Quantum)));
+    assert_eq!(rt; refusal(&rt, "# nothing\n"), wanted(at_top(Field::Frames)));
 }
 
 #[test]
@@ -283,54 +289,12 @@ fn takes_64_sessions_and_no_more(rt: HostRuntime) {
 #[test]
 fn refuses_names_given_twice(rt: HostRuntime) {
     let edits: [(&str, &str, Place); 6] = [
-        (
-            "two_-2",
-            "one",
-            Place {
-                session: 2,
-                field: Field::Name,
-            },
-        ),
-        (
-            "two.txt",
-            "one.txt",
-            Place {
-                session: 2,
-                field: Field::Console,
-            },
-        ),
-        (
-            "two.lst",
-            "one.txt",
-            Place {
-                session: 2,
-                field: Field::List,
-            },
-        ),
-        (
-            "a.out",
-            "two.txt",
-            Place {
-                session: 2,
-                field: Field::Out,
-            },
-        ),
-        (
-            "b.out",
-            "a.out",
-            Place {
-                session: 2,
-                field: Field::Out,
-            },
-        ),
-        (
-            "b.out",
-            "two.lst",
-            Place {
-                session: 2,
-                field: Field::Out,
-            },
-        ),
+        ("two_-2", "one", second(Field::Name)),
+        ("two.txt", "one.txt", second(Field::Console)),
+        ("two.lst", "one.txt", second(Field::List)),
+        ("a.out", "two.txt", second(Field::Out)),
+        ("b.out", "a.out", second(Field::Out)),
+        ("b.out", "two.lst", second(Field::Out)),
     ];
     for (old, new, place) in edits {
         let text = joined(&rt, &[GOOD, SECOND]);
@@ -348,16 +312,10 @@ fn kinds_of_fault_come_in_order(rt: HostRuntime) {
     let two = joined(&rt, &[GOOD, SECOND]);
     let twice = replaced(&rt, two.as_str(), "two.txt", "one.txt");
     let range = replaced(&rt, twice.as_str(), "quota = 256", "quota = 257");
-    let place = Place {
-        session: 2,
-        field: Field::Quota,
-    };
+    let place = second(Field::Quota);
     assert_eq!(rt; refusal(&rt, range.as_str()), ConfigError::Range(place));
     let key = replaced(&rt, range.as_str(), "a.out", "a.out\", 5, \"");
-    let place = Place {
-        session: 2,
-        field: Field::Out,
-    };
+    let place = second(Field::Out);
     let wanted = ConfigError::Key(KeyFault::Wanted(place));
     assert_eq!(rt; refusal(&rt, key.as_str()), wanted);
     let text = joined(&rt, &[key.as_str(), "x"]);

@@ -1,6 +1,6 @@
 //! A store over memory, and batches of writes that fail at one of their calls.
 
-use crate::{MemoryStore, Output, Store, StoreError, WriteError, write_all};
+use crate::{MemoryStore, Output, Store, StoreError, WriteError, write_all, writes_are_kept};
 use std::process::Abort;
 
 /// A file to be written.
@@ -93,6 +93,7 @@ fn one_call_fails(rt: HostRuntime) {
 #[test]
 fn a_late_fault_leaves_the_files_before_it(rt: HostRuntime) {
     let mut store = filled(&rt);
+    writes_are_kept();
     let outputs = [
         output(&rt, "one.txt", b"A>"),
         output(&rt, "one.lst", b"L"),

@@ -1,4 +1,4 @@
-use Rattle.std.proofs.Common.{rules, ◌≡◌, List, None, map, ap, ◌∙◌, sym}
+use Rattle.std.proofs.Common.{rules, List, map, ap, ◌∙◌}
 use mir.Syntax.{w64}
 use mir.Val.{SFits}
 use Rattle.cpm_config.specs.Entries.{draft_view, session_draft_view}

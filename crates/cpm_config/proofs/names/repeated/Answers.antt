@@ -1,4 +1,4 @@
-use Rattle.std.proofs.Common.{◌≡◌, ℕ, true, false, take, ap, ◌∙◌, sym, arith}
+use Rattle.std.proofs.Common.{ℕ, true, false, take, ap, ◌∙◌, sym, arith}
 use Rattle.std.specs.List.{list_any}
 use Rattle.std.specs.Str.{bytes_eq}
 use Rattle.cpm_config.proofs.NameLemmas.{at, repeated-step}

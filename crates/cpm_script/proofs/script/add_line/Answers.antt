@@ -1,4 +1,4 @@
-use Rattle.std.proofs.Common.{◌≡◌, ℕ, Bool, List, ap, ap₂, ◌∙◌, sym}
+use Rattle.std.proofs.Common.{ℕ, Bool, List, ap, ap₂, ◌∙◌, sym}
 use Rattle.std.specs.Prelude.{◌&&◌, ◌||◌, is_some, not}
 use Rattle.std.specs.List.{before_first}
 use Rattle.cpm_script.specs.KeyText.{count_of}
