@@ -6,7 +6,7 @@ use Rattle.cpm_console.specs.Draft.{Draft}
 use Rattle.cpm_console.specs.Editing.{Edited, begun, key_into_line}
 use Rattle.cpm_console.specs.declared.line.Progress.{Progress}
 use Rattle.cpm_console.specs.declared.line.Progress.TheVariants as line
-use Rattle.cpm_memory.specs.Contents.{Contents, byte_at, next, after_run}
+use Rattle.cpm_memory.specs.Contents.{Contents, byte_at, next}
 use Rattle.cpm_bdos.specs.Registers.{de_of}
 use Rattle.cpm_bdos.specs.Function.{function_of, bios_call_of}
 use Rattle.cpm_bdos.specs.Behind.{session_behind, did_behind}
