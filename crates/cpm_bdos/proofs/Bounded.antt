@@ -1,8 +1,8 @@
 -- Every step is bounded.
-use Rattle.std.proofs.Common.{◌≡◌, ℕ, ◌+◌, ◌%◌, ◌≤◌, Bool, true, false, cond, List, [], ◌∷◌, length, refl, ◌∙◌, arith, Option, Some, None}
+use Rattle.std.proofs.Common.{◌≡◌, ℕ, ◌+◌, ◌%◌, ◌≤◌, Bool, true, false, cond, [], ◌∷◌, length, refl, ◌∙◌, arith, Option, Some, None}
 use Rattle.std.specs.Prelude.{if◌then◌else◌, ◌==◌, nat_le}
 use Rattle.std.proofs.lemmas.List.{length-append}
-use Rattle.cpm_console.specs.Terminal.{Terminal, expanded, printed, key_read, said, shown, IsWithin}
+use Rattle.cpm_console.specs.Terminal.{Terminal, expanded, printed, key_read, said, IsWithin}
 use Rattle.cpm_console.specs.Draft.{Draft}
 use Rattle.cpm_console.specs.Editing.{Edited, begun, key_into_line}
 use Rattle.cpm_console.specs.declared.line.Progress.{Progress}
@@ -20,18 +20,20 @@ use Rattle.cpm_bdos.specs.Hold.{is_stop, held_at, resumed, release}
 use Rattle.cpm_bdos.specs.Output.{wrote, listed, showed, write_byte, write_text}
 use Rattle.cpm_bdos.specs.Input.{is_echoed, read_key, direct_console}
 use Rattle.cpm_bdos.specs.ReadLine.{is_open, line_ended, after_key, with_edited, take_key, no_more, edit_line}
-use Rattle.cpm_bdos.specs.Faults.{after_fault}
+use Rattle.cpm_bdos.specs.Faults.{fault_text, in_fault, faulted, after_fault}
 use Rattle.cpm_bdos.specs.Step.{called, in_mode, bdos, booted, console_input, bios_called, bios}
 use Rattle.cpm_bdos.specs.Bounds.{IsFit, IsBounded}
 use Rattle.cpm_bdos.specs.declared.function.Function.{Function}
 use Rattle.cpm_bdos.specs.declared.function.Function.TheVariants.{WarmBoot, ReadKey, WriteByte, ReaderInput, PunchOutput, ListOutput, DirectConsole, GetIoByte, SetIoByte, WriteText, ReadLine, ConsoleStatus, Version, Other}
 use Rattle.cpm_bdos.specs.declared.function.BiosCall.{BiosCall}
 use Rattle.cpm_bdos.specs.declared.function.BiosCall.TheVariants as entry
+use Rattle.cpm_bdos.specs.declared.fault.Fault.{Fault}
+use Rattle.cpm_bdos.specs.declared.fault.Fault.TheVariants as fault
 use Rattle.cpm_bdos.specs.declared.session.Session.{Session}
 use Rattle.cpm_bdos.specs.declared.session.Held.{Held}
 use Rattle.cpm_bdos.specs.declared.session.Held.TheVariants as held
 use Rattle.cpm_bdos.specs.declared.session.Mode.{Mode}
-use Rattle.cpm_bdos.specs.declared.session.Mode.TheVariants.{Program, Text, Line, Hold, Fault}
+use Rattle.cpm_bdos.specs.declared.session.Mode.TheVariants.{Program, Text, Line, Hold, Fault as FaultMode}
 use Rattle.cpm_bdos.specs.declared.session.Went.TheVariants.{GoesOn}
 
 bounded_if : (b : Bool) (s : Session) (m : Contents) (x y : Did) → IsBounded s m x → IsBounded s m y → IsBounded s m (if b then x else y)
@@ -113,6 +115,20 @@ bounded_after_fault : (k : Option ℕ) (s : Session) (m : Contents) → IsBounde
 bounded_after_fault None s m = bounded_kept s m _ refl (IsWithin-same 4096 s.console)
 bounded_after_fault (Some k) s m = bounded_break s m
 
+-- ---- faults
+
+length-fault_text : (f : Fault) (drive : ℕ) → length (fault_text f drive) ≤ 32
+length-fault_text fault.BadSector drive = omega arith
+length-fault_text fault.Select drive = omega arith
+length-fault_text fault.FileReadOnly drive = omega arith
+length-fault_text fault.ReadOnly drive = omega arith
+
+pub within_fault : (s : Session) (f : Fault) (drive : ℕ) → IsWithin 4096 s.console (in_fault s f drive).console
+within_fault s f drive = IsWithin-shown 4096 s.console (fault_text f drive) (omega (arith, length-fault_text f drive))
+
+pub bounded_faulted : (s : Session) (m : Contents) (f : Fault) (drive : ℕ) → IsBounded s m (faulted s m f drive)
+bounded_faulted s m f drive = bounded_kept s m _ refl (within_fault s f drive)
+
 -- ---- lines
 
 pub pages-le : (a n : ℕ) → pages_of_run a n ≤ 2
@@ -188,7 +204,7 @@ bounded_in_mode Program s m fit = bounded_called (function_of s.regs.c) s m fit
 bounded_in_mode (Text address) s m fit = bounded_write_text (held.Text address) s m address
 bounded_in_mode Line s m fit = bounded_edit_line s.line s m (record { start = fit.start; characters = fit.characters })
 bounded_in_mode (Hold h) s m fit = bounded_release h (first_key s) s m
-bounded_in_mode Fault s m fit = bounded_after_fault (first_key s) s m
+bounded_in_mode FaultMode s m fit = bounded_after_fault (first_key s) s m
 
 -- a step of the BDOS
 pub IsBounded-bdos : (s : Session) (m : Contents) → IsFit s → IsBounded s m (bdos s m)

@@ -17,7 +17,7 @@ use Rattle.cpm_bdos.specs.Output.{write_byte, write_text}
 use Rattle.cpm_bdos.specs.Input.{read_key, direct_console}
 use Rattle.cpm_bdos.specs.ReadLine.{is_open, line_ended, after_key, with_edited, take_key, no_more, edit_line}
 use Rattle.cpm_bdos.specs.Faults.{after_fault}
-use Rattle.cpm_bdos.specs.Step.{called, in_mode, bdos, booted, console_input, bios_called, bios}
+use Rattle.cpm_bdos.specs.Step.{called, in_mode, bdos, console_input, bios_called, bios}
 use Rattle.cpm_bdos.specs.declared.function.Function.{Function}
 use Rattle.cpm_bdos.specs.declared.function.Function.TheVariants.{WarmBoot, ReadKey, WriteByte, ReaderInput, PunchOutput, ListOutput, DirectConsole, GetIoByte, SetIoByte, WriteText, ReadLine, ConsoleStatus, Version, Other}
 use Rattle.cpm_bdos.specs.declared.function.BiosCall.{BiosCall}

@@ -6,7 +6,7 @@ use Rattle.cpm_console.specs.Draft.{Draft}
 use Rattle.cpm_console.specs.Editing.{Edited, begun, key_into_line}
 use Rattle.cpm_console.specs.declared.line.Progress.{Progress}
 use Rattle.cpm_console.specs.declared.line.Progress.TheVariants as line
-use Rattle.cpm_memory.specs.Contents.{Contents, byte_at, next, after_run}
+use Rattle.cpm_memory.specs.Contents.{Contents, byte_at, next}
 use Rattle.cpm_bdos.specs.Registers.{de_of}
 use Rattle.cpm_bdos.specs.Function.{function_of, bios_call_of}
 use Rattle.cpm_bdos.specs.Behind.{session_behind, did_behind}
@@ -16,17 +16,18 @@ use Rattle.cpm_bdos.specs.Hold.{is_stop, release}
 use Rattle.cpm_bdos.specs.Output.{wrote, showed, listed, write_byte, write_text}
 use Rattle.cpm_bdos.specs.Input.{is_echoed, read_key, direct_console}
 use Rattle.cpm_bdos.specs.ReadLine.{is_open, line_ended, after_key, with_edited, edited_with, take_key, no_more, edit_line}
-use Rattle.cpm_bdos.specs.Faults.{after_fault}
+use Rattle.cpm_bdos.specs.Faults.{fault_text, faulted, after_fault}
 use Rattle.cpm_bdos.specs.Step.{called, in_mode, bdos, console_input, bios_called, bios}
 use Rattle.cpm_bdos.specs.declared.function.Function.{Function}
 use Rattle.cpm_bdos.specs.declared.function.Function.TheVariants.{WarmBoot, ReadKey, WriteByte, ReaderInput, PunchOutput, ListOutput, DirectConsole, GetIoByte, SetIoByte, WriteText, ReadLine, ConsoleStatus, Version, Other}
 use Rattle.cpm_bdos.specs.declared.function.BiosCall.{BiosCall}
 use Rattle.cpm_bdos.specs.declared.function.BiosCall.TheVariants as entry
+use Rattle.cpm_bdos.specs.declared.fault.Fault.{Fault}
 use Rattle.cpm_bdos.specs.declared.session.Session.{Session}
 use Rattle.cpm_bdos.specs.declared.session.Held.{Held}
 use Rattle.cpm_bdos.specs.declared.session.Held.TheVariants as held
 use Rattle.cpm_bdos.specs.declared.session.Mode.{Mode}
-use Rattle.cpm_bdos.specs.declared.session.Mode.TheVariants.{Program, Text, Line, Hold, Fault}
+use Rattle.cpm_bdos.specs.declared.session.Mode.TheVariants.{Program, Text, Line, Hold, Fault as FaultMode}
 use Rattle.cpm_bdos.specs.declared.session.Went.TheVariants.{GoesOn}
 use Rattle.cpm_bdos.proofs.ConsoleBehind.{said-behind, shown-behind, printed-behind, key_into_line-behind}
 
@@ -91,6 +92,10 @@ module _ (p q : List ℕ) where
   after_fault-behind None s m = refl
   after_fault-behind (Some k) s m = refl
 
+  pub faulted-behind : (f : Fault) (drive : ℕ) (s : Session) (m : Contents) → faulted (session_behind p q s) m f drive ≡ did_behind p q (faulted s m f drive)
+  faulted-behind f drive s m =
+      ap (λ (t : Terminal). did (record s { console = t; mode = FaultMode }) m GoesOn) (shown-behind p q s.console (fault_text f drive))
+
   called-behind : (f : Function) (s : Session) (m : Contents) → called f (session_behind p q s) m ≡ did_behind p q (called f s m)
   called-behind WarmBoot s m = refl
   called-behind ReadKey s m = read_key-behind (first_key s) s m
@@ -112,7 +117,7 @@ module _ (p q : List ℕ) where
   in_mode-behind (Text address) s m = write_text-behind (held.Text address) s m address
   in_mode-behind Line s m = edit_line-behind s.line s m
   in_mode-behind (Hold h) s m = release-behind h (first_key s) s m
-  in_mode-behind Fault s m = after_fault-behind (first_key s) s m
+  in_mode-behind FaultMode s m = after_fault-behind (first_key s) s m
 
   -- a step of the BDOS does the same whatever output waits, and shows its own behind it
   pub bdos-behind : (s : Session) (m : Contents) → bdos (session_behind p q s) m ≡ did_behind p q (bdos s m)

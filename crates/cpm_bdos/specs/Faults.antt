@@ -1,5 +1,5 @@
 -- Faults of the disk system.
-use Rattle.std.specs.Prelude.{ℕ, ◌+◌, ◌%◌, List, [], ◌∷◌, ◌++◌, codes, Option, Some, None}
+use Rattle.std.specs.Prelude.{ℕ, ◌+◌, ◌%◌, List, ◌∷◌, ◌++◌, codes, Option, Some, None}
 use Rattle.cpm_console.specs.Terminal.{shown}
 use Rattle.cpm_memory.specs.Contents.{Contents}
 use Rattle.cpm_bdos.specs.Did.{Did, did, rebooted}

@@ -2,7 +2,7 @@
 
 ghost use Rattle.std.specs.Prelude.{◌≡◌, ◌≤◌, ◌+◌, length};
 ghost use Rattle.cpm_memory.specs.Room.{HasRoom};
-ghost use Rattle.cpm_console.specs.Terminal.{shown};
+ghost use Rattle.cpm_console.specs.Terminal.{shown, IsWithin};
 ghost use Rattle.cpm_bdos.specs.Did.{did};
 ghost use Rattle.cpm_bdos.specs.Keys.{first_key};
 ghost use Rattle.cpm_bdos.specs.Faults.{fault_name, in_fault, after_fault};
@@ -46,6 +46,7 @@ impl Session {
         requires { length self.old.console.screen ≤ 4096 }
         ensures session { self.new ≡ in_fault self.old fault drive }
         ensures went { result ≡ Went.GoesOn }
+        ensures output { IsWithin 4096 self.old.console self.new.console }
     {
         show_all(&mut self.console, b"\r\nBdos Err On ");
         self.console.put(b'A' + drive % 16);
