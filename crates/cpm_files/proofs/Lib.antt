@@ -12,5 +12,6 @@ pub mod Records
 pub mod Moving
 pub mod Reading
 pub mod Sequential
+pub mod Computed
 pub mod EncodingLemmas
 pub mod Functions

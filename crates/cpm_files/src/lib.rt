@@ -6,6 +6,7 @@ mod encoding;
 pub mod extent;
 pub mod fcb;
 pub mod laws;
+pub mod rows;
 
 pub use extent::{Entry, Extent};
 pub use fcb::Fcb;
