@@ -85,10 +85,29 @@ abbrev pub Row300 : Type 0
 Row300 =
     listed large 3 (writes large 300 (made_on (blank 256 510 []))) ≡ (0 ∷ 1 ∷ 0x80 ∷ 2 ∷ 3 ∷ 4 ∷ 5 ∷ 6 ∷ 7 ∷ 8 ∷ 9 ∷ replicate 8 0) ∷ (0 ∷ 2 ∷ 0x2C ∷ 10 ∷ 11 ∷ replicate 14 0) ∷ seen no_entry ∷ []
 
+-- a file of 300 records there
+unfoldable pub shared : List Entry
+shared =
+    record { user = 0; extent = record t_dat { ex = 1; record_count = 0x80; blocks = 2 ∷ 3 ∷ 4 ∷ 5 ∷ 6 ∷ 7 ∷ 8 ∷ 9 ∷ replicate 8 0 } } ∷ record { user = 0; extent = record t_dat { ex = 2; record_count = 0x2C; blocks = 10 ∷ 11 ∷ replicate 14 0 } } ∷ no_entry ∷ []
+
+unfoldable pub entry_opened : Option Extent → List ℕ
+entry_opened None = []
+entry_opened (Some it) = it.ex ∷ it.s2 ∷ it.record_count ∷ it.blocks
+
+-- opened with EX 0 its first extent has 128 records, with EX 3 there is none
+abbrev pub RowShared : Type 0
+RowShared =
+    (entry_opened (open_function large shared 0 t_dat) ≡ 0 ∷ 0 ∷ 0x80 ∷ 2 ∷ 3 ∷ 4 ∷ 5 ∷ 6 ∷ 7 ∷ 8 ∷ 9 ∷ replicate 8 0) × (entry_opened (open_function large shared 0 (record t_dat { ex = 3 })) ≡ [])
+
 -- 1,928 records fit one file, and no more
 abbrev pub Row1928 : Type 0
 Row1928 =
     ((writes standard 1928 (made_on (blank 64 241 []))).answer ≡ done) × ((writes standard 1929 (made_on (blank 64 241 []))).answer ≡ no_block)
+
+-- 16,320 records fit one file on the larger disk, and no more
+abbrev pub Row16320 : Type 0
+Row16320 =
+    ((writes large 16320 (made_on (blank 256 510 []))).answer ≡ done) × ((writes large 16321 (made_on (blank 256 510 []))).answer ≡ no_block)
 
 unfoldable pub one_more : ℕ → Option (List Entry × Extent) → Option (List Entry × Extent)
 one_more count None = None
@@ -107,6 +126,11 @@ is_made (Some made) = true
 abbrev pub Row64 : Type 0
 Row64 =
     (is_made (makes 64 (Some (replicate 64 no_entry, t_dat))) ≡ true) × (is_made (makes 65 (Some (replicate 64 no_entry, t_dat))) ≡ false)
+
+-- 256 on the larger disk, and no more
+abbrev pub Row256 : Type 0
+Row256 =
+    (is_made (makes 256 (Some (replicate 256 no_entry, t_dat))) ≡ true) × (is_made (makes 257 (Some (replicate 256 no_entry, t_dat))) ≡ false)
 
 -- the same file on a drive of four entries, with a number of records and a first block number in the file control block of its second extent
 unfoldable pub second_extent : ℕ → ℕ → Extent

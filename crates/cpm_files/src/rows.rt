@@ -1,6 +1,6 @@
 //! Worked rows of the calls on files, computed from their definitions.
 
-ghost use Rattle.cpm_files.specs.Rows.{Row129, Row300, Row1928, Row64, RowMerge, RowProtected, RowCrowded, RowFill, RowFilledBefore, RowReads, RowBadSector};
+ghost use Rattle.cpm_files.specs.Rows.{Row129, Row300, RowShared, Row1928, Row16320, Row64, Row256, RowMerge, RowProtected, RowCrowded, RowFill, RowFilledBefore, RowReads, RowBadSector};
 
 /// 129 records fill one entry of the standard disk and begin another.
 pub fn a_full_extent_is_closed_and_the_next_made()
@@ -12,14 +12,29 @@ pub fn two_extents_share_an_entry()
     ensures { Row300 }
 {}
 
+/// The extents of a shared entry, opened.
+pub fn a_shared_entry_is_opened_for_each_extent()
+    ensures { RowShared }
+{}
+
 /// 1,928 records fit one file on the standard disk.
 pub fn the_last_block_is_taken()
     ensures { Row1928 }
 {}
 
+/// 16,320 records fit one file on the larger disk.
+pub fn the_larger_disks_last_block_is_taken()
+    ensures { Row16320 }
+{}
+
 /// 64 files fit the standard disk's directory.
 pub fn the_last_entry_is_taken()
     ensures { Row64 }
+{}
+
+/// 256 files fit the larger disk's directory.
+pub fn the_larger_disks_last_entry_is_taken()
+    ensures { Row256 }
 {}
 
 /// A close merges the two maps, and refuses unlike numbers.
