@@ -13,5 +13,8 @@ pub mod Moving
 pub mod Reading
 pub mod Sequential
 pub mod Computed
+pub mod ComputedNames
+pub mod Formats
 pub mod EncodingLemmas
 pub mod Functions
+pub mod Erasing

@@ -29,6 +29,7 @@ pub record MovesOn (d : Dpb) (user : ℕ) (v : Volume) (x : Extent) (number : �
 -- there is no extent of the number, and no entry for it
 pub record LacksExtent (d : Dpb) (user : ℕ) (v : Volume) (x : Extent) (number : ℕ) (v' : Volume) : Type 0 where
   pub sound : IsSound d v' user x
+  pub reserved : v'.reserved ≡ v.reserved
   pub others : OthersStay d user x.name v v'
   pub file : FileStays d user v x v' x
   pub none : (n : ℕ) → n / 128 ≡ number → open_file d v.entries v.records user x n ≡ None
@@ -110,7 +111,7 @@ module _ (d : Dpb) (user : ℕ) (v : Volume) (x : Extent) (user_ok : user ≢ de
   unfolding closed_volume with_entries
   same_records = refl
 
-  same_reserved : closed_volume.reserved ≡ v.reserved
+  pub same_reserved : closed_volume.reserved ≡ v.reserved
   unfolding closed_volume with_entries
   same_reserved = refl
 
@@ -157,7 +158,7 @@ module _ (d : Dpb) (user : ℕ) (v : Volume) (x : Extent) (user_ok : user ≢ de
           no_file d v user x n (sym (same_file n) ∙ none_block d closed_volume.entries user x.name n (rw h none))
 
       pub lacks : LacksExtent d user v x t.number closed_volume
-      lacks = record { sound = sound_closed; others = others_closed; file = file_closed; none = no_record_there }
+      lacks = record { sound = sound_closed; reserved = same_reserved; others = others_closed; file = file_closed; none = no_record_there }
 
     -- ---- with one
     module _ (there : first_of d closed_volume.entries user x.name (group_of d t.number) < length closed_volume.entries) where

@@ -1,6 +1,7 @@
 //! Worked rows of the calls on files, computed from their definitions.
 
 ghost use Rattle.cpm_files.specs.Rows.{Row129, Row300, RowShared, Row1928, Row16320, Row64, Row256, RowMerge, RowProtected, RowCrowded, RowFill, RowFilledBefore, RowReads, RowBadSector};
+ghost use Rattle.cpm_files.specs.NameRows.{RowErase, RowRename, RowAttributes};
 
 /// 129 records fill one entry of the standard disk and begin another.
 pub fn a_full_extent_is_closed_and_the_next_made()
@@ -70,4 +71,19 @@ pub fn reads_end_with_the_file()
 /// A forged block number is a Bad Sector.
 pub fn a_forged_number_is_a_bad_sector()
     ensures { RowBadSector }
+{}
+
+/// An erase frees the entries and the blocks of a file.
+pub fn an_erased_file_frees_its_entries_and_blocks()
+    ensures { RowErase }
+{}
+
+/// A rename changes each entry of a file.
+pub fn a_rename_changes_each_entry()
+    ensures { RowRename }
+{}
+
+/// Attributes are set in each entry; a read-only file is neither erased nor renamed.
+pub fn attributes_are_set_in_each_entry()
+    ensures { RowAttributes }
 {}
