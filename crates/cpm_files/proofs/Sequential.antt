@@ -5,7 +5,7 @@ use Rattle.cpm_geom.specs.declared.dpb.Dpb.{Dpb}
 use Rattle.cpm_files.specs.declared.extent.Extent.{Extent}
 use Rattle.cpm_files.specs.Files.{extent_number, same_name, deleted, open_file_block, open_file, directory_file, IsFormat, Volume, IsSound}
 use Rattle.cpm_files.specs.Operations.{Answer, done, no_block, no_record, cannot_close, no_extent, no_entry_free, fault, Outcome, ends, writing, next_target, target_of, next_place, place_at, put_record, write_in, write_next, write_at, write_at_cleared}
-use Rattle.cpm_files.specs.Laws.{OthersStay, LosesNone, HasWritten, HasCleared, position, StaysSound, IsFull, HasNoExtent, HasNoBlock, HasDone, WritesNext, WritesAt, ClearsBlock}
+use Rattle.cpm_files.specs.Laws.{OthersStay, FileStays, LosesNone, HasWritten, HasCleared, position, StaysSound, IsFull, HasNoExtent, HasNoBlock, HasDone, WritesNext, WritesAt, ClearsBlock}
 use Rattle.cpm_files.proofs.NameLemmas.{same_name-trans, same_name-sym}
 use Rattle.cpm_files.proofs.Records.{Written, Puts, LacksBlock, puts}
 use Rattle.cpm_files.proofs.Moving.{MovesOn, LacksExtent, stays_there, no_file, closed_volume, closes_free, goes_on, number_below}
@@ -21,6 +21,10 @@ module _ (d : Dpb) (user : ℕ) (v : Volume) (x : Extent) (number : ℕ) (v1 : V
   same_bytes : (m : ℕ) → open_file_block d v.entries user x m ≢ 0 → open_file d v1.entries v1.records user x1 m ≡ open_file d v.entries v.records user x m
   unfolding open_file
   same_bytes m h = rw (move.file m h, move.records) refl
+
+  exact_file : d.extent_mask ≡ 0 → FileStays d user v x v1 x1
+  unfolding open_file
+  exact_file e = record { stay = λ m. rw (move.exact e m, move.records) refl }
 
   loses_none : LosesNone d user v x v1 x1
   loses_none = record { stay = λ m h. same_bytes m (has_block d v user x m h) }
@@ -78,6 +82,7 @@ lacks_there d user v x n bytes clears next after v1 x1 move lack =
         refl,
         record {
           file = loses_none d user v x (n / 128) v1 x1 move;
+          exact = exact_file d user v x (n / 128) v1 x1 move;
           position_is = rw move.number_is (omega arith);
           bytes = refl;
           none = elim (cases_eq (open_file_block d v.entries user x n) 0) [

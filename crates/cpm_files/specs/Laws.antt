@@ -93,9 +93,10 @@ pub record HasNoExtent (d : Dpb) (user : ℕ) (v : Volume) (x : Extent) (current
   pub bytes : o.bytes ≡ None
   pub none : open_file d v.entries v.records user x n ≡ None
 
--- 02: all blocks are reserved, and the file has no record n
+-- 02: all blocks are reserved, and the file has no record n; where extents share no entry the file is as it was
 pub record HasNoBlock (d : Dpb) (user : ℕ) (v : Volume) (x : Extent) (n : ℕ) (o : Outcome) : Type 0 where
   pub file : LosesNone d user v x o.volume o.extent
+  pub exact : d.extent_mask ≡ 0 → FileStays d user v x o.volume o.extent
   pub position_is : position o.extent o.current ≡ n
   pub bytes : o.bytes ≡ None
   pub none : open_file d v.entries v.records user x n ≡ None
