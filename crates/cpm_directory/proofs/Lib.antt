@@ -5,3 +5,4 @@ pub mod DirectoryLemmas
 pub mod LoginLemmas
 pub mod ReservedLemmas
 pub mod TextLemmas
+pub mod LawLemmas

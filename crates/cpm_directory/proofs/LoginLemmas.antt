@@ -9,7 +9,8 @@ use Rattle.std.proofs.lemmas.List.{length-take-le, get_or-take}
 use Rattle.std.proofs.lemmas.List.FromFn.{fill_by_all}
 use Rattle.std.proofs.lemmas.Bool.{cases_eq, lt-ltb}
 use Rattle.cpm_geom.specs.declared.dpb.Dpb.{Dpb}
-use Rattle.cpm_directory.specs.Login.{has_block, is_directory_block, reserved_at_login}
+use Rattle.cpm_files.specs.Reserved.{is_directory_block}
+use Rattle.cpm_directory.specs.Login.{has_block, reserved_at_login}
 
 or_assoc : (a b c : Bool) → ((a || b) || c) ≡ (a || (b || c))
 or_assoc true b c = refl

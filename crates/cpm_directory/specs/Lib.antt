@@ -2,3 +2,4 @@ pub mod Matching
 pub mod Directory
 pub mod Login
 pub mod CommandLine
+pub mod Laws

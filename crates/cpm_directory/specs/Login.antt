@@ -1,13 +1,9 @@
 -- The blocks that are reserved where a drive is logged in.
-use Rattle.std.specs.Prelude.{ℕ, ◌+◌, ◌-◌, ◌/◌, ◌%◌, ◌^◌, ◌==◌, ◌&&◌, ◌||◌, nat_lt, Bool, not, List, map}
+use Rattle.std.specs.Prelude.{ℕ, ◌+◌, ◌==◌, ◌&&◌, ◌||◌, nat_lt, Bool, not, List, map}
 use Rattle.std.specs.List.{list_any, range_with_len}
 use Rattle.cpm_geom.specs.declared.dpb.Dpb.{Dpb}
 use Rattle.cpm_files.specs.declared.extent.Entry.{Entry}
-use Rattle.cpm_files.specs.Files.{deleted}
-
--- CP/M 2.2 Operating System Manual, Disk Parameter Tables: AL0 and AL1 reserve the directory's blocks, the highest bit being block 0
-unfoldable pub is_directory_block : Dpb → ℕ → Bool
-is_directory_block d b = nat_lt b 16 && (d.directory_bits / 2 ^ (15 - b) % 2 == 1)
+use Rattle.cpm_files.specs.Files.{deleted, is_directory_block}
 
 -- the entry is in use and has the block's number
 unfoldable pub has_block : ℕ → Entry → Bool

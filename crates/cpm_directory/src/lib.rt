@@ -4,6 +4,7 @@
 pub mod block;
 pub mod command_line;
 pub mod directory;
+pub mod laws;
 pub mod pattern;
 pub mod reserved;
 

@@ -3,9 +3,9 @@
 ghost use Rattle.std.specs.Prelude.{◌≡◌, ◌<◌, ◌≤◌, ◌==◌, ◌||◌, ℕ, length, MatchResult, not, slice_set, slice_index_or, true};
 ghost use Rattle.std.specs.List.{position, list_any};
 ghost use Rattle.cpm_geom.specs.Geometry.{dpb_of};
-ghost use Rattle.cpm_files.specs.Reserved.{least_free, is_reserved};
+ghost use Rattle.cpm_files.specs.Reserved.{least_free, is_reserved, is_directory_block};
 ghost use Rattle.cpm_directory.specs.Directory.{entries_of};
-ghost use Rattle.cpm_directory.specs.Login.{reserved_at_login, is_directory_block};
+ghost use Rattle.cpm_directory.specs.Login.{reserved_at_login};
 
 use crate::directory::{DELETED, DirectoryError, entry};
 use cpm_geom::{Dpb, Image};
@@ -90,7 +90,7 @@ fn directory_blocks(dpb: &Dpb) -> [bool; 512]
 }
 
 /// Whether AL0 or AL1 has the block's bit.
-#[tactic(auto, unfolding(crate::specs::Login::is_directory_block))]
+#[tactic(auto, unfolding(cpm_files::specs::Reserved::is_directory_block))]
 fn is_directory_block(dpb: &Dpb, block: u16) -> bool
     ensures { result ≡ is_directory_block dpb.now block }
 {

@@ -1,9 +1,10 @@
 -- Entries by index, and the first of a file's group.
-use Rattle.std.proofs.Common.{◌≡◌, ◌≢◌, ℕ, ◌<◌, true, false, List, length, set, sym, refl, ap, ◌∙◌, inl, inr, arith}
+use Rattle.std.proofs.Common.{◌≡◌, ◌≢◌, ℕ, suc, ◌<◌, Bool, true, false, List, [], ◌∷◌, length, get_or, set, sym, refl, ap, ◌∙◌, inl, inr, arith}
 use Rattle.std.proofs.lemmas.List.{get_or-set_same, get_or-set_other, get_or_past}
 use Rattle.std.proofs.lemmas.List.Folds.{position_or_len-set}
 use Rattle.std.proofs.lemmas.List.Sums.{position_or_len_is, passes_at_first}
-use Rattle.std.proofs.lemmas.Bool.{false≢true, eqb-true, eq-eqb, ne_eqb, and_parts, and_from, and_left, cases_lt, false_from_ne_true}
+use Rattle.std.specs.List.{list_any}
+use Rattle.std.proofs.lemmas.Bool.{false≢true, eqb-true, eq-eqb, ne_eqb, and_parts, and_from, and_left, cases_lt, cases_Bool, false_from_ne_true}
 use Rattle.cpm_geom.specs.declared.dpb.Dpb.{Dpb}
 use Rattle.cpm_files.specs.declared.extent.Entry.{Entry}
 use Rattle.cpm_files.specs.Files.{extent_number, group_of, same_name, deleted, no_entry, entry_at, is_of, first_of}
@@ -71,3 +72,12 @@ first_of_other d es user name group i lt h e =
 pub first_of-set : (d : Dpb) (es : List Entry) (user : ℕ) (name : List ℕ) (group i : ℕ) (e : Entry) → is_of d user name group e ≡ is_of d user name group (entry_at es i) → first_of d (set es i e) user name group ≡ first_of d es user name group
 unfolding first_of entry_at
 first_of-set d es user name group i e h = position_or_len-set (is_of d user name group) es i e no_entry h
+
+-- where a test passes somewhere, a place where it does
+pub any_index : {X : Type 0} (p : X → Bool) (xs : List X) (other : X) → list_any p xs ≡ true → (i : ℕ) × (i < length xs) × (p (get_or xs i other) ≡ true)
+any_index p [] other h = absurd (false≢true h)
+any_index p (x ∷ xs) other h =
+    elim (cases_Bool (p x)) [
+      | inl t ↦ (0, omega arith, t)
+      | inr f ↦ let r = any_index p xs other (rw f at h) in (suc r.0, let l = r.1 in omega arith, r.2)
+    ]

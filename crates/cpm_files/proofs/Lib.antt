@@ -12,5 +12,9 @@ pub mod Records
 pub mod Moving
 pub mod Reading
 pub mod Sequential
+pub mod Computed
+pub mod ComputedNames
+pub mod Formats
 pub mod EncodingLemmas
 pub mod Functions
+pub mod Erasing

@@ -9,7 +9,7 @@ use Rattle.cpm_files.specs.declared.extent.Entry.{Entry}
 use Rattle.cpm_files.specs.Files.{extent_number, group_of, same_name, has_wildcard, deleted, no_entry, entry_at, InUse, is_of, first_of, first_free, file_block, open_file_block, record_in, directory_file, open_file, Volume, IsSound}
 use Rattle.cpm_files.specs.Operations.{read_only, fault, with_entry, opened, made, open_extent, make_extent, Purpose, writing, Target, stopped, standing, made_in, opened_or_made, have_extent, closed_in, cross}
 use Rattle.cpm_files.specs.Laws.{OthersStay, FileStays, IsFull}
-use Rattle.cpm_files.proofs.Entries.{no_entry_is_of, first_of_passes}
+use Rattle.cpm_files.proofs.Entries.{no_entry_is_of, is_of_parts, first_of_passes}
 use Rattle.cpm_files.proofs.NameLemmas.{first_match_plain, same_name-refl}
 use Rattle.cpm_files.proofs.Making.{none_block}
 use Rattle.cpm_files.proofs.Closing as closing
@@ -23,15 +23,22 @@ pub record MovesOn (d : Dpb) (user : ℕ) (v : Volume) (x : Extent) (number : �
   pub records : v'.records ≡ v.records
   pub reserved : v'.reserved ≡ v.reserved
   pub file : (n : ℕ) → open_file_block d v.entries user x n ≢ 0 → open_file_block d v'.entries user x' n ≡ open_file_block d v.entries user x n
+  pub exact : d.extent_mask ≡ 0 → (n : ℕ) → open_file_block d v'.entries user x' n ≡ open_file_block d v.entries user x n
   pub others : (other : ℕ) (name : List ℕ) (n : ℕ) → other ≢ deleted → (other ≡ user → same_name name x.name ≡ true → ⊥) → file_block d v'.entries other name n ≡ file_block d v.entries other name n
   pub sound : IsSound d v' user x'
 
 -- there is no extent of the number, and no entry for it
 pub record LacksExtent (d : Dpb) (user : ℕ) (v : Volume) (x : Extent) (number : ℕ) (v' : Volume) : Type 0 where
   pub sound : IsSound d v' user x
+  pub reserved : v'.reserved ≡ v.reserved
   pub others : OthersStay d user x.name v v'
   pub file : FileStays d user v x v' x
   pub none : (n : ℕ) → n / 128 ≡ number → open_file d v.entries v.records user x n ≡ None
+
+-- two extents in one group are one, where an entry has one extent
+alone_in_group : (d : Dpb) (a b : ℕ) → d.extent_mask ≡ 0 → group_of d a ≡ group_of d b → a ≡ b
+unfolding group_of
+alone_in_group d a b e h = let h' = rw e at h in omega arith
 
 -- no move at all
 pub stays_there : (d : Dpb) (user : ℕ) (v : Volume) (x : Extent) (number : ℕ) → IsSound d v user x → extent_number x ≡ number → MovesOn d user v x number v x
@@ -41,6 +48,7 @@ stays_there d user v x number sound e = record {
   records = refl;
   reserved = refl;
   file = λ n h. refl;
+  exact = λ e n. refl;
   others = λ other name n ok apart. refl;
   sound = sound;
 }
@@ -110,7 +118,7 @@ module _ (d : Dpb) (user : ℕ) (v : Volume) (x : Extent) (user_ok : user ≢ de
   unfolding closed_volume with_entry
   same_records = refl
 
-  same_reserved : closed_volume.reserved ≡ v.reserved
+  pub same_reserved : closed_volume.reserved ≡ v.reserved
   unfolding closed_volume with_entry
   same_reserved = refl
 
@@ -157,7 +165,7 @@ module _ (d : Dpb) (user : ℕ) (v : Volume) (x : Extent) (user_ok : user ≢ de
           no_file d v user x n (sym (same_file n) ∙ none_block d closed_volume.entries user x.name n (rw h none))
 
       pub lacks : LacksExtent d user v x t.number closed_volume
-      lacks = record { sound = sound_closed; others = others_closed; file = file_closed; none = no_record_there }
+      lacks = record { sound = sound_closed; reserved = same_reserved; others = others_closed; file = file_closed; none = no_record_there }
 
     -- ---- with one
     module _ (there : first_of d closed_volume.entries user x.name (group_of d t.number) < length closed_volume.entries) where
@@ -175,6 +183,12 @@ module _ (d : Dpb) (user : ℕ) (v : Volume) (x : Extent) (user_ok : user ≢ de
       unfolding next
       opens = opening.open_answer d closed_volume.entries closed_volume.reserved user x.name t.number index user_ok plain small sound_closed.well_formed matched
 
+      -- where extents share no entry it is the extent's own
+      own_extent : d.extent_mask ≡ 0 → t.number ≤ extent_number (entry_at closed_volume.entries index).extent
+      own_extent e =
+          let same = alone_in_group d _ _ e (is_of_parts d user x.name (group_of d t.number) (entry_at closed_volume.entries index) matched).2 in
+          omega arith
+
       opened_moves : MovesOn d user v x t.number closed_volume next
       unfolding next
       opened_moves = record {
@@ -183,6 +197,7 @@ module _ (d : Dpb) (user : ℕ) (v : Volume) (x : Extent) (user_ok : user ≢ de
         records = same_records;
         reserved = same_reserved;
         file = λ n h. opening.open_more d closed_volume.entries closed_volume.reserved user x.name t.number index user_ok plain small sound_closed.well_formed matched n (λ z. h (sym (same_file n) ∙ z)) ∙ same_file n;
+        exact = λ e n. opening.open_same d closed_volume.entries closed_volume.reserved user x.name t.number index user_ok plain small sound_closed.well_formed matched (own_extent e) n ∙ same_file n;
         others = λ other name n ok apart. same_others other name n apart;
         sound = record {
           volume = sound_closed.volume;
@@ -209,6 +224,7 @@ module _ (d : Dpb) (user : ℕ) (v : Volume) (x : Extent) (user_ok : user ≢ de
         records = same_records;
         reserved = same_reserved;
         file = λ n h. making.make_file d closed_volume.entries closed_volume.reserved user x t.number user_ok plain small sound_closed.well_formed (none past) free n ∙ same_file n;
+        exact = λ e n. making.make_file d closed_volume.entries closed_volume.reserved user x t.number user_ok plain small sound_closed.well_formed (none past) free n ∙ same_file n;
         others = λ other name n ok apart. making.make_files d closed_volume.entries closed_volume.reserved user x t.number user_ok plain small sound_closed.well_formed (none past) free other name n ok ∙ same_others other name n apart;
         sound = record {
           volume = record { blocks = sound_closed.volume.blocks; space = sound_closed.volume.space; maps = making.make_maps d closed_volume.entries closed_volume.reserved user x t.number user_ok plain small sound_closed.well_formed (none past) free sound_closed.volume.maps };

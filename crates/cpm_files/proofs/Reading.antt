@@ -11,7 +11,7 @@ use Rattle.cpm_files.specs.Laws.{OthersStay, FileStays, position, StaysSound, Ha
 use Rattle.cpm_files.proofs.Entries.{first_of_passes}
 use Rattle.cpm_files.proofs.NameLemmas.{first_match_plain}
 use Rattle.cpm_files.proofs.Records.{place_back, record_back}
-use Rattle.cpm_files.proofs.Moving.{LacksExtent, no_file, number_below, closed_volume, sound_closed, same_file, same_records, others_closed, file_closed, lacks, closes}
+use Rattle.cpm_files.proofs.Moving.{LacksExtent, no_file, number_below, closed_volume, sound_closed, same_file, same_records, same_reserved, others_closed, file_closed, lacks, closes}
 use Rattle.cpm_files.proofs.Opening as opening
 
 own_count : (number : ℕ) (x stored : Extent) → number ≡ extent_number x → open_record_count number x stored ≡ x.record_count
@@ -77,6 +77,7 @@ reads_record d user v x n next sound h =
 pub record SameFile (d : Dpb) (user : ℕ) (v : Volume) (x : Extent) (number : ℕ) (v1 : Volume) (x1 : Extent) : Type 0 where
   pub number_is : extent_number x1 ≡ number
   pub sound : IsSound d v1 user x1
+  pub reserved : v1.reserved ≡ v.reserved
   pub others : OthersStay d user x.name v v1
   pub file : FileStays d user v x v1 x1
 
@@ -84,6 +85,7 @@ same_there : (d : Dpb) (user : ℕ) (v : Volume) (x : Extent) (number : ℕ) →
 same_there d user v x number sound e = record {
   number_is = e;
   sound = sound;
+  reserved = refl;
   others = record { stay = λ other name m ok apart. refl };
   file = record { stay = λ m. refl };
 }
@@ -96,7 +98,7 @@ Reads d user v x n after o =
 gives_there : (d : Dpb) (user : ℕ) (v : Volume) (x : Extent) (n next after : ℕ) (v1 : Volume) (x1 : Extent) (bytes : List ℕ) → SameFile d user v x (n / 128) v1 x1 → next ≤ 128 → 128 * (n / 128) + next ≡ after → open_file d v1.entries v1.records user x1 n ≡ Some bytes → Reads d user v x n after (gives v1 x1 next bytes)
 unfolding gives position
 gives_there d user v x n next after v1 x1 bytes same small last there = (
-  record { sound = same.sound; current = small; others = same.others },
+  record { sound = same.sound; current = small; reserved = λ b h. rw same.reserved h; others = same.others },
   same.file,
   inl (refl, record { bytes = bytes; there = sym (same.file.stay n) ∙ there; given = refl }, rw same.number_is last),
 )
@@ -104,7 +106,7 @@ gives_there d user v x n next after v1 x1 bytes same small last there = (
 ends_there : (d : Dpb) (user : ℕ) (v : Volume) (x : Extent) (n after : ℕ) (v1 : Volume) (x1 : Extent) → SameFile d user v x (n / 128) v1 x1 → open_file d v1.entries v1.records user x1 n ≡ None → Reads d user v x n after (ends no_record v1 x1 (n % 128))
 unfolding ends position
 ends_there d user v x n after v1 x1 same none = (
-  record { sound = same.sound; current = omega arith; others = same.others },
+  record { sound = same.sound; current = omega arith; reserved = λ b h. rw same.reserved h; others = same.others },
   same.file,
   inr (refl, record { none = sym (same.file.stay n) ∙ none; given = refl }, rw same.number_is (omega arith)),
 )
@@ -128,6 +130,10 @@ module _ (d : Dpb) (user : ℕ) (v : Volume) (x : Extent) (user_ok : user ≢ de
   file1 : (n : ℕ) → file_block d v1.entries user x.name n ≡ open_file_block d v.entries user x n
   unfolding v1
   file1 = same_file d user v x user_ok sound
+
+  reserved1 : v1.reserved ≡ v.reserved
+  unfolding v1
+  reserved1 = same_reserved d user v x user_ok sound
 
   records1 : v1.records ≡ v.records
   unfolding v1
@@ -174,6 +180,7 @@ module _ (d : Dpb) (user : ℕ) (v : Volume) (x : Extent) (user_ok : user ≢ de
     lesser_lacks : extent_number (entry_at v1.entries index).extent < t.number → LacksExtent d user v x t.number v1
     lesser_lacks l = record {
       sound = s1;
+      reserved = reserved1;
       others = others1;
       file = closed1;
       none = λ n h. no_file d v user x n (by_entry n h ∙ past_entry d _ n (rw h l));
@@ -207,7 +214,7 @@ module _ (d : Dpb) (user : ℕ) (v : Volume) (x : Extent) (user_ok : user ≢ de
           rw (first_match_plain d v1.entries user x.name (group_of d t.number) sound.kept.plain, lt-ltb _ _ there, le-ltb _ _ greater) refl
 
       same_file_next : SameFile d user v x t.number v1 next
-      same_file_next = record { number_is = number_next; sound = sound_next; others = others1; file = record { stay = same_next } }
+      same_file_next = record { number_is = number_next; sound = sound_next; reserved = reserved1; others = others1; file = record { stay = same_next } }
 
   answers : Answers
   answers =
@@ -243,15 +250,15 @@ abbrev Misses : Dpb → ℕ → Volume → Extent → ℕ → ℕ → Answer →
 Misses d user v x current n answer o =
     StaysSound d user v x o × FileStays d user v x o.volume o.extent × (o.answer ≡ answer) × HasNone d user v x n o × (o.extent ≡ x) × (o.current ≡ current)
 
-misses : (d : Dpb) (user : ℕ) (v : Volume) (x : Extent) (current n number : ℕ) (answer : Answer) (v1 : Volume) → current ≤ 128 → LacksExtent d user v x number v1 → n / 128 ≡ number → Misses d user v x current n answer (ends answer v1 x current)
+misses : (d : Dpb) (user : ℕ) (v : Volume) (x : Extent) (current n number : ℕ) (answer : Answer) (left : Volume) → current ≤ 128 → LacksExtent d user v x number left → n / 128 ≡ number → Misses d user v x current n answer (ends answer left x current)
 unfolding ends
-misses d user v x current n number answer v1 small lack inside =
-    (record { sound = lack.sound; current = small; others = lack.others }, lack.file, refl, record { none = lack.none n inside; given = refl }, refl, refl)
+misses d user v x current n number answer left small lack inside =
+    (record { sound = lack.sound; current = small; reserved = λ b h. rw lack.reserved h; others = lack.others }, lack.file, refl, record { none = lack.none n inside; given = refl }, refl, refl)
 
 misses_last : (d : Dpb) (user : ℕ) (v : Volume) (x : Extent) (current n : ℕ) → current ≤ 128 → IsSound d v user x → 511 < n / 128 → Misses d user v x current n no_record (ends no_record v x current)
 unfolding ends
 misses_last d user v x current n small sound past =
-    (record { sound = sound; current = small; others = record { stay = λ other name m ok apart. refl } }, record { stay = λ m. refl }, refl, record { none = no_file d v user x n (past_file d v.entries user x n past); given = refl }, refl, refl)
+    (record { sound = sound; current = small; reserved = λ b h. h; others = record { stay = λ other name m ok apart. refl } }, record { stay = λ m. refl }, refl, record { none = no_file d v user x n (past_file d v.entries user x n past); given = refl }, refl, refl)
 
 -- ---- a read that a protected drive refused
 abbrev Refuses : Dpb → ℕ → Bool → Volume → Extent → ℕ → Outcome → Type 0
@@ -261,7 +268,7 @@ Refuses d user protected v x current o =
 refuses : (d : Dpb) (user : ℕ) (protected : Bool) (v : Volume) (x : Extent) (current : ℕ) → current ≤ 128 → IsSound d v user x → protected ≡ true → Refuses d user protected v x current (ends (fault read_only) v x current)
 unfolding ends
 refuses d user protected v x current small sound is_protected =
-    (record { sound = sound; current = small; others = record { stay = λ other name m ok apart. refl } }, record { stay = λ m. refl }, record { answer = refl; protected_is = is_protected; untouched = record { volume = refl; extent = refl; current_is = refl; bytes = refl } })
+    (record { sound = sound; current = small; reserved = λ b h. h; others = record { stay = λ other name m ok apart. refl } }, record { stay = λ m. refl }, record { answer = refl; protected_is = is_protected; untouched = record { volume = refl; extent = refl; current_is = refl; bytes = refl } })
 
 -- ---- a random read
 at_from : (d : Dpb) (user : ℕ) (protected : Bool) (v : Volume) (x : Extent) (current n : ℕ) (o : Outcome) → Reads d user v x n n o → ReadsAt d user protected v x current n o

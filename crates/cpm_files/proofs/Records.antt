@@ -25,6 +25,7 @@ pub record Puts (d : Dpb) (user : ℕ) (v : Volume) (x : Extent) (n : ℕ) (byte
   pub written : Written d user v x n bytes v' x'
   pub others : OthersStay d user x.name v v'
   pub sound : IsSound d v' user x'
+  pub reserved : (b : ℕ) → is_reserved v.reserved b ≡ true → is_reserved v'.reserved b ≡ true
   pub zeros : clears ≡ true → HasCleared d user v n v' x'
 
 -- there is no block for it
@@ -107,6 +108,10 @@ module _ (d : Dpb) (user : ℕ) (v : Volume) (x : Extent) (n : ℕ) (bytes : Lis
   old_reserved m h =
       (writing.open_stored d v.entries v.reserved user (counting x (n % 128)) user_ok sound.well_formed (writing.written_kept d v.entries v.reserved user x n user_ok format sound.well_formed sound.kept inside there) m h).kept
 
+  put_reserved : (b : ℕ) → is_reserved v.reserved b ≡ true → is_reserved volume_after.reserved b ≡ true
+  unfolding volume_after
+  put_reserved b h = h
+
   puts_there : (clears : Bool) (next : ℕ) → Puts d user v x n bytes clears next volume_after (counting x (n % 128))
   puts_there clears next = record {
     answer = put_answer clears next;
@@ -114,6 +119,7 @@ module _ (d : Dpb) (user : ℕ) (v : Volume) (x : Extent) (n : ℕ) (bytes : Lis
     written = put_written;
     others = put_others;
     sound = put_sound;
+    reserved = put_reserved;
     zeros = λ _. record { zeros = λ m other free. absurd (false≢true (sym free ∙ old_reserved m (not_zero d user v x _ format sound free))) };
   }
 
@@ -288,6 +294,11 @@ module _ (d : Dpb) (user : ℕ) (v : Volume) (x : Extent) (n : ℕ) (bytes : Lis
   last_reserved m h =
       (writing.open_stored d volume_last.entries volume_last.reserved user counted user_ok new_sound.well_formed new_sound.kept m h).kept
 
+  new_reserved : (b : ℕ) → is_reserved v.reserved b ≡ true → is_reserved volume_last.reserved b ≡ true
+  unfolding volume_last volume_after volume_new reserved_new
+  new_reserved b h =
+      taking.still_reserved d v.entries v.reserved user x n format sound.well_formed sound.kept sound.volume.blocks room none free b h
+
   puts_new : (next : ℕ) → Puts d user v x n bytes clears next volume_last counted
   puts_new next = record {
     answer = new_answer next;
@@ -295,6 +306,7 @@ module _ (d : Dpb) (user : ℕ) (v : Volume) (x : Extent) (n : ℕ) (bytes : Lis
     written = new_written;
     others = new_others;
     sound = new_sound;
+    reserved = new_reserved;
     zeros = λ clear. record { zeros = λ m other free_before. zero_at clear m other (is_fresh _ (last_reserved m (not_zero d user v x _ format sound free_before)) free_before) };
   }
 

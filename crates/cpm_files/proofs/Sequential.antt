@@ -5,7 +5,7 @@ use Rattle.cpm_geom.specs.declared.dpb.Dpb.{Dpb}
 use Rattle.cpm_files.specs.declared.extent.Extent.{Extent}
 use Rattle.cpm_files.specs.Files.{extent_number, same_name, deleted, open_file_block, open_file, directory_file, IsFormat, Volume, IsSound}
 use Rattle.cpm_files.specs.Operations.{Answer, done, no_block, no_record, cannot_close, no_extent, no_entry_free, fault, Outcome, ends, writing, next_target, target_of, next_place, place_at, put_record, write_in, write_next, write_at, write_at_cleared}
-use Rattle.cpm_files.specs.Laws.{OthersStay, LosesNone, HasWritten, HasCleared, position, StaysSound, IsFull, HasNoExtent, HasNoBlock, HasDone, WritesNext, WritesAt, ClearsBlock}
+use Rattle.cpm_files.specs.Laws.{OthersStay, FileStays, LosesNone, HasWritten, HasCleared, position, StaysSound, IsFull, HasNoExtent, HasNoBlock, HasDone, WritesNext, WritesAt, ClearsBlock}
 use Rattle.cpm_files.proofs.NameLemmas.{same_name-trans, same_name-sym}
 use Rattle.cpm_files.proofs.Records.{Written, Puts, LacksBlock, puts}
 use Rattle.cpm_files.proofs.Moving.{MovesOn, LacksExtent, stays_there, no_file, closed_volume, closes_free, goes_on, number_below}
@@ -21,6 +21,10 @@ module _ (d : Dpb) (user : ℕ) (v : Volume) (x : Extent) (number : ℕ) (v1 : V
   same_bytes : (m : ℕ) → open_file_block d v.entries user x m ≢ 0 → open_file d v1.entries v1.records user x1 m ≡ open_file d v.entries v.records user x m
   unfolding open_file
   same_bytes m h = rw (move.file m h, move.records) refl
+
+  exact_file : d.extent_mask ≡ 0 → FileStays d user v x v1 x1
+  unfolding open_file
+  exact_file e = record { stay = λ m. rw (move.exact e m, move.records) refl }
 
   loses_none : LosesNone d user v x v1 x1
   loses_none = record { stay = λ m h. same_bytes m (has_block d v user x m h) }
@@ -57,7 +61,7 @@ Writes d user v x n bytes clears after o =
 done_there : (d : Dpb) (user : ℕ) (v : Volume) (x : Extent) (n : ℕ) (bytes : List ℕ) (clears : Bool) (next after : ℕ) (v1 : Volume) (x1 : Extent) → MovesOn d user v x (n / 128) v1 x1 → next ≤ 128 → 128 * (n / 128) + next ≡ after → (v' : Volume) (x' : Extent) → Puts d user v1 x1 n bytes clears next v' x' → Writes d user v x n bytes clears after (ends done v' x' next)
 unfolding ends position
 done_there d user v x n bytes clears next after v1 x1 move small last v' x' put = (
-  record { sound = put.sound; current = small; others = others_after d user v x (n / 128) v1 x1 move v' put.others },
+  record { sound = put.sound; current = small; reserved = λ b h. put.reserved b (rw move.reserved h); others = others_after d user v x (n / 128) v1 x1 move v' put.others },
   inl (
     record {
       answer = refl;
@@ -73,11 +77,12 @@ lacks_there : (d : Dpb) (user : ℕ) (v : Volume) (x : Extent) (n : ℕ) (bytes 
 unfolding ends position
 lacks_there d user v x n bytes clears next after v1 x1 move lack =
     let none : open_file_block d v1.entries user x1 n ≡ 0 = own_block d v1.entries user x1 n (sym move.number_is) ∙ no_blocks x1.record_count (n % 128) _ x1 lack.none in (
-      record { sound = move.sound; current = omega arith; others = others_moved d user v x (n / 128) v1 x1 move },
+      record { sound = move.sound; current = omega arith; reserved = λ b h. rw move.reserved h; others = others_moved d user v x (n / 128) v1 x1 move },
       inr (
         refl,
         record {
           file = loses_none d user v x (n / 128) v1 x1 move;
+          exact = exact_file d user v x (n / 128) v1 x1 move;
           position_is = rw move.number_is (omega arith);
           bytes = refl;
           none = elim (cases_eq (open_file_block d v.entries user x n) 0) [
@@ -104,7 +109,7 @@ Misses d user v x current n answer o =
 misses : (d : Dpb) (user : ℕ) (v : Volume) (x : Extent) (current n number : ℕ) (answer : Answer) (v1 : Volume) → current ≤ 128 → LacksExtent d user v x number v1 → n / 128 ≡ number → Misses d user v x current n answer (ends answer v1 x current)
 unfolding ends
 misses d user v x current n number answer v1 small lack inside = (
-  record { sound = lack.sound; current = small; others = lack.others },
+  record { sound = lack.sound; current = small; reserved = λ b h. rw lack.reserved h; others = lack.others },
   refl,
   record { file = lack.file; extent = refl; current_is = refl; bytes = refl; none = lack.none n inside },
 )
@@ -112,7 +117,7 @@ misses d user v x current n number answer v1 small lack inside = (
 misses_last : (d : Dpb) (user : ℕ) (v : Volume) (x : Extent) (current n : ℕ) → current ≤ 128 → IsSound d v user x → 511 < n / 128 → Misses d user v x current n no_record (ends no_record v x current)
 unfolding ends
 misses_last d user v x current n small sound past = (
-  record { sound = sound; current = small; others = record { stay = λ other name m ok apart. refl } },
+  record { sound = sound; current = small; reserved = λ b h. h; others = record { stay = λ other name m ok apart. refl } },
   refl,
   record { file = record { stay = λ m. refl }; extent = refl; current_is = refl; bytes = refl; none = no_file d v user x n (past_file d v.entries user x n past) },
 )

@@ -25,7 +25,7 @@ module _ (d : Dpb) (es : List Entry) (reserved : List Bool) (user : ℕ) (x : Ex
   was_free = not-true _ (passes_at_first not reserved true free)
 
   -- what was reserved still is
-  still_reserved : (b : ℕ) → is_reserved reserved b ≡ true → is_reserved now_reserved b ≡ true
+  pub still_reserved : (b : ℕ) → is_reserved reserved b ≡ true → is_reserved now_reserved b ≡ true
   unfolding is_reserved now_reserved
   still_reserved b h =
       elim (cases_eq b (least_free reserved)) [

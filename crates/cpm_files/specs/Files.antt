@@ -1,10 +1,10 @@
 -- What the directory, a file control block and the reserved blocks say of files.
-use Rattle.std.specs.Prelude.{◌≡◌, ◌≢◌, ℕ, ◌+◌, ◌*◌, ◌/◌, ◌%◌, ◌<◌, ◌≤◌, Bool, true, false, ◌&&◌, ◌||◌, nat_lt, ◌==◌, if◌then◌else◌, List, [], ◌∷◌, Option, Some, None, length, slice_index, slice_index_or}
+use Rattle.std.specs.Prelude.{◌≡◌, ◌≢◌, ◌↔◌, ℕ, ◌+◌, ◌*◌, ◌/◌, ◌%◌, ◌<◌, ◌≤◌, Bool, true, false, ◌&&◌, ◌||◌, nat_lt, ◌==◌, if◌then◌else◌, List, [], ◌∷◌, Option, Some, None, length, slice_index, slice_index_or}
 use Rattle.std.specs.List.{position_or_len}
 use Rattle.cpm_geom.specs.declared.dpb.Dpb.{Dpb}
 use Rattle.cpm_files.specs.declared.extent.Extent.{Extent}
 use Rattle.cpm_files.specs.declared.extent.Entry.{Entry}
-unfoldable pub use Rattle.cpm_files.specs.Reserved.{is_reserved, least_free}
+unfoldable pub use Rattle.cpm_files.specs.Reserved.{is_reserved, least_free, is_directory_block}
 
 -- the number of an extent of 128 records
 unfoldable pub extent_number : Extent → ℕ
@@ -157,9 +157,11 @@ pub record IsKept (d : Dpb) (es : List Entry) (reserved : List Bool) (user : ℕ
 unfoldable pub first_free : List Entry → ℕ
 first_free es = position_or_len (λ e. e.user == deleted) es
 
--- what holds of every format: the directory has a block, and an extent is a whole number of blocks
+-- what holds of every format: the directory has a block and fills its records, AL0 and AL1 reserve its blocks and no others, and an extent is a whole number of blocks
 pub record IsFormat (d : Dpb) : Type 0 where
   pub has_directory : 0 < directory_records d
+  pub whole_records : (d.last_entry + 1) % 4 ≡ 0
+  pub reserves : (b : ℕ) → (is_directory_block d b ≡ true) ↔ (b * (d.block_mask + 1) < directory_records d)
   pub whole_blocks : 128 / (d.block_mask + 1) * (d.block_mask + 1) ≡ 128
   pub places : (d.extent_mask + 1) * (128 / (d.block_mask + 1)) ≤ 16
 

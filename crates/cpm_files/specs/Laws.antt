@@ -1,10 +1,13 @@
 -- The laws of files, over all drives and file control blocks.
 use Rattle.std.specs.Prelude.{◌≡◌, ◌≢◌, ◌⊎◌, ℕ, ◌+◌, ◌*◌, ◌%◌, ◌<◌, ◌≤◌, Bool, false, true, List, Some, None, length, replicate}
 use Rattle.cpm_geom.specs.declared.dpb.Dpb.{Dpb}
+use Rattle.cpm_geom.specs.declared.format.Format.{Format}
+use Rattle.cpm_geom.specs.Geometry.{dpb_of}
 use Rattle.cpm_files.specs.declared.extent.Extent.{Extent}
 use Rattle.cpm_files.specs.declared.extent.Entry.{Entry}
 use Rattle.cpm_files.specs.Files.{extent_number, group_of, is_of, entry_at, InUse, same_name, deleted, is_reserved, first_free, file_block, open_file_block, directory_file, open_file, IsWellFormed, IsKept, IsFormat, IsSound, IsSoundDrive, Volume, has_wildcard}
 use Rattle.cpm_files.specs.Operations.{read_only, done, no_record, no_block, no_extent, no_entry_free, fault, Outcome, with_entry, closed, close_fault, close_function, open_function, make_function, read_next, write_next, read_at, write_at, write_at_cleared}
+use Rattle.cpm_files.specs.Rows.{large}
 
 -- ---- what a call leaves
 
@@ -33,10 +36,11 @@ pub record HasCleared (d : Dpb) (user : ℕ) (v : Volume) (n : ℕ) (v' : Volume
 unfoldable pub position : Extent → ℕ → ℕ
 position x current = 128 * extent_number x + current
 
--- whatever a call answers, the drive and the file control block agree, and the other files are as they were
+-- whatever a call answers, the drive and the file control block agree, no block became free, and the other files are as they were
 pub record StaysSound (d : Dpb) (user : ℕ) (v : Volume) (x : Extent) (o : Outcome) : Type 0 where
   pub sound : IsSound d o.volume user o.extent
   pub current : o.current ≤ 128
+  pub reserved : (b : ℕ) → is_reserved v.reserved b ≡ true → is_reserved o.volume.reserved b ≡ true
   pub others : OthersStay d user x.name v o.volume
 
 -- nothing has changed
@@ -89,9 +93,10 @@ pub record HasNoExtent (d : Dpb) (user : ℕ) (v : Volume) (x : Extent) (current
   pub bytes : o.bytes ≡ None
   pub none : open_file d v.entries v.records user x n ≡ None
 
--- 02: all blocks are reserved, and the file has no record n
+-- 02: all blocks are reserved, and the file has no record n; where extents share no entry the file is as it was
 pub record HasNoBlock (d : Dpb) (user : ℕ) (v : Volume) (x : Extent) (n : ℕ) (o : Outcome) : Type 0 where
   pub file : LosesNone d user v x o.volume o.extent
+  pub exact : d.extent_mask ≡ 0 → FileStays d user v x o.volume o.extent
   pub position_is : position o.extent o.current ≡ n
   pub bytes : o.bytes ≡ None
   pub none : open_file d v.entries v.records user x n ≡ None
@@ -150,6 +155,10 @@ MakesFile d user v x =
     (make_function v.entries user x ≡ None) ⊎ ((es : List Entry) × (x' : Extent) × (make_function v.entries user x ≡ Some (es, x')) × (extent_number x' ≡ x.ex % 32) × KnowsFile d user x.name v (with_entry v (first_free v.entries) es) x' × ((other : ℕ) (name : List ℕ) (m : ℕ) → other ≢ deleted → directory_file d es v.records other name m ≡ directory_file d v.entries v.records other name m))
 
 -- ---- the laws
+
+-- the parameters of both disks serve files
+abbrev pub FormatsLaw : Type 0
+FormatsLaw = ((f : Format) → IsFormat (dpb_of f)) × IsFormat large
 
 abbrev pub CloseLaw : Type 0
 CloseLaw =

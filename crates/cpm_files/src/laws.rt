@@ -1,7 +1,8 @@
 //! Laws on the definitions that the calls of this crate cite.
 
-ghost use Rattle.cpm_files.specs.Laws.{CloseLaw, SequentialWriteLaw, SequentialReadLaw, RandomWriteLaw, ClearingWriteLaw, RandomReadLaw, OpenLaw, MakeLaw};
+ghost use Rattle.cpm_files.specs.Laws.{CloseLaw, SequentialWriteLaw, SequentialReadLaw, RandomWriteLaw, ClearingWriteLaw, RandomReadLaw, OpenLaw, MakeLaw, FormatsLaw};
 ghost use Rattle.cpm_files.specs.Encoding.{EncodingLaw};
+ghost use Rattle.cpm_files.specs.NameLaws.{EraseLaw};
 
 /// Entries and file control blocks are their bytes.
 pub fn entries_are_their_bytes()
@@ -46,4 +47,14 @@ pub fn open_knows_the_file()
 /// A make changes no file.
 pub fn make_changes_no_file()
     ensures { MakeLaw }
+{}
+
+/// The parameters of both disks are those of a drive that serves files.
+pub fn formats_serve_files()
+    ensures { FormatsLaw }
+{}
+
+/// An erase removes the files of a name, frees their blocks and changes no other file.
+pub fn erase_frees_the_file()
+    ensures { EraseLaw }
 {}

@@ -7,6 +7,7 @@ mod encoding;
 pub mod extent;
 pub mod fcb;
 pub mod laws;
+pub mod rows;
 
 pub use answer::{Answer, Fault};
 pub use extent::{Entry, Extent};

@@ -1,0 +1,23 @@
+-- The laws of directories, over all disks.
+use Rattle.std.specs.Prelude.{◌≡◌, ◌≢◌, ◌⊎◌, ℕ, ◌+◌, ◌*◌, ◌<◌, ◌≤◌, Bool, true, List}
+use Rattle.cpm_geom.specs.declared.dpb.Dpb.{Dpb}
+use Rattle.cpm_geom.specs.Geometry.{dpb_of, IsRecord, record_index}
+use Rattle.cpm_geom.specs.Disk.{Disk, IsDisk, with_sector}
+use Rattle.cpm_files.specs.declared.extent.Entry.{Entry}
+use Rattle.cpm_files.specs.Files.{entry_at, InUse, block_number, directory_records, is_reserved, IsFormat}
+use Rattle.cpm_directory.specs.Directory.{entries_of}
+use Rattle.cpm_directory.specs.Login.{reserved_at_login}
+
+-- a record that is written outside the directory leaves the entries
+abbrev pub OutsideLaw : Type 0
+OutsideLaw =
+    (disk : Disk) (n : ℕ) (bytes : List ℕ) → IsDisk disk → IsRecord disk.format n → directory_records (dpb_of disk.format) ≤ n → entries_of (with_sector disk (record_index disk.format n) bytes) ≡ entries_of disk
+
+-- a drive that is logged in has reserved the directory's blocks and those in its entries, and no others
+pub record ReservesAtLogin (d : Dpb) (es : List Entry) : Type 0 where
+  pub directory : (b : ℕ) → b * (d.block_mask + 1) < directory_records d → is_reserved (reserved_at_login d es) b ≡ true
+  pub numbers : (i s : ℕ) → InUse es i → block_number (entry_at es i).extent s ≢ 0 → is_reserved (reserved_at_login d es) (block_number (entry_at es i).extent s) ≡ true
+  pub others : (b : ℕ) → b ≤ d.last_block → is_reserved (reserved_at_login d es) b ≡ true → (b * (d.block_mask + 1) < directory_records d) ⊎ ((i : ℕ) × (s : ℕ) × InUse es i × (block_number (entry_at es i).extent s ≡ b))
+
+abbrev pub LoginLaw : Type 0
+LoginLaw = (d : Dpb) (es : List Entry) → IsFormat d → ReservesAtLogin d es
