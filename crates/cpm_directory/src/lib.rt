@@ -16,3 +16,5 @@ pub use reserved::{Reserved, login};
 
 #[cfg(test)]
 mod tests;
+#[cfg(test)]
+mod written_by_cpmtools;
