@@ -17,3 +17,5 @@ pub use reserved::{Reserved, login};
 
 #[cfg(test)]
 mod tests;
+#[cfg(test)]
+mod written_by_cpmtools;
