@@ -1,1 +1,4 @@
 pub mod Drive
+pub mod Judged
+pub mod Calls
+pub mod Reads

@@ -1,6 +1,12 @@
 //! A drive and its marks.
 
-use cpm_directory::Reserved;
+ghost use Rattle.std.specs.Prelude.{◌≡◌};
+ghost use Rattle.cpm_geom.specs.Geometry.{dpb_of};
+ghost use Rattle.cpm_drive.specs.Drive.{volume_of, drive_after};
+ghost use Rattle.cpm_drive.specs.Judged.{with_change, IsWithin};
+
+use crate::change::Change;
+use cpm_directory::{Reserved, put_entry};
 use cpm_geom::Image;
 
 /// What the system keeps of a drive beside its image.
@@ -18,4 +24,18 @@ pub struct Marks {
 pub struct Drive {
     pub image: Image,
     pub marks: Marks,
+}
+
+impl Drive {
+    /// Writes an entry that a call changes, unless the drive is protected.
+    pub(crate) fn write_change(&mut self, change: Option<Change>)
+        requires { IsWithin (dpb_of self.old.image.format) change }
+        ensures { self.new ≡ drive_after self.old (with_change (volume_of self.old.image self.old.marks.reserved) change) }
+    {
+        if let Some(change) = change {
+            if !self.marks.is_protected {
+                put_entry(&mut self.image, change.index, &change.entry);
+            }
+        }
+    }
 }

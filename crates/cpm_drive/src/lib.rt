@@ -2,6 +2,15 @@
 //! buffer of a record.
 #![tactic(auto)]
 
+pub mod change;
+pub mod closing;
 pub mod drive;
+pub mod opening;
+pub mod place;
+pub mod reading;
 
+pub use change::Change;
+pub use closing::Closing;
 pub use drive::{Drive, Marks};
+pub use opening::open_lent;
+pub use reading::{read_at_protected, read_next_protected};
