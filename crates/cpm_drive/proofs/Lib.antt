@@ -4,5 +4,6 @@ pub mod FileLemmas
 pub mod MapLemmas
 pub mod OpenLemmas
 pub mod PlaceLemmas
+pub mod PutLemmas
 pub mod ReadLemmas
 pub mod WriteLemmas

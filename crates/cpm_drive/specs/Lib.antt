@@ -2,3 +2,4 @@ pub mod Drive
 pub mod Judged
 pub mod Calls
 pub mod Reads
+pub mod Writes

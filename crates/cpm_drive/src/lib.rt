@@ -8,6 +8,7 @@ pub mod drive;
 pub mod opening;
 pub mod place;
 pub mod reading;
+pub mod writing;
 
 pub use change::Change;
 pub use closing::Closing;
