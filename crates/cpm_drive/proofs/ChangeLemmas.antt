@@ -1,18 +1,13 @@
 -- The first entries of a directory that is to change, and what is written of it.
-use Rattle.std.proofs.Common.{◌≡◌, ◌≢◌, ℕ, ◌+◌, ◌<◌, ◌≤◌, Bool, true, false, eqb, List, [], ◌∷◌, ◌++◌, Option, Some, None, length, get_or, set, sym, refl, ap, ◌∙◌, arith}
+use Rattle.std.proofs.Common.{◌≡◌, ◌≢◌, ℕ, ◌<◌, ◌≤◌, true, false, List, Option, Some, None, length, get_or, set, sym, refl, ◌∙◌}
 use Rattle.std.proofs.lemmas.List.{length-set, get_or-set_same, get_or-set_other}
 use Rattle.std.proofs.lemmas.List.Sums.{position_or_len_is}
-use Rattle.std.proofs.lemmas.Bool.{ne_eqb, eq-eqb}
 use Rattle.cpm_geom.specs.declared.dpb.Dpb.{Dpb}
-use Rattle.cpm_geom.specs.Geometry.{dpb_of}
-use Rattle.cpm_geom.specs.Disk.{Disk}
 use Rattle.cpm_files.specs.declared.extent.Entry.{Entry}
-use Rattle.cpm_files.specs.Files.{entry_at, no_entry, deleted, first_match, first_free, matches, Volume}
+use Rattle.cpm_files.specs.Files.{entry_at, no_entry, first_match, matches, Volume}
 use Rattle.cpm_files.specs.Operations.{with_entry}
-use Rattle.cpm_directory.specs.Directory.{entries_of}
 use Rattle.cpm_directory.specs.Matching.{is_match}
 use Rattle.cpm_directory.specs.declared.pattern.Pattern.TheVariants.{Files}
-use Rattle.cpm_directory.proofs.DriveLemmas.{entries_length}
 use Rattle.cpm_drive.specs.declared.change.Change.{Change}
 use Rattle.cpm_drive.specs.Judged.{entries_after, with_change}
 

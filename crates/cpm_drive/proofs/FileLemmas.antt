@@ -1,13 +1,12 @@
 -- What a close, an open and a make of a file leave, case by case.
-use Rattle.std.proofs.Common.{◌≡◌, ℕ, ◌%◌, ◌<◌, ◌≤◌, cond, ltb, Bool, List, Result, Ok, Some, None, Option, Err, length, set, refl, sym, ap, ◌∙◌}
+use Rattle.std.proofs.Common.{◌≡◌, ℕ, ◌%◌, ◌<◌, ◌≤◌, cond, ltb, Bool, List, Ok, Some, None, Err, length, set, refl, sym, ap}
 use Rattle.cpm_geom.specs.declared.dpb.Dpb.{Dpb}
-use Rattle.cpm_geom.specs.Geometry.{dpb_of}
 use Rattle.cpm_files.specs.declared.extent.Extent.{Extent}
 use Rattle.cpm_files.specs.declared.extent.Entry.{Entry}
 use Rattle.cpm_files.specs.declared.fcb.Fcb.{Fcb}
 use Rattle.cpm_files.specs.declared.answer.Fault.{Fault}
 use Rattle.cpm_files.specs.Files.{extent_number, entry_at, first_match, group_of, first_free}
-use Rattle.cpm_files.specs.Operations.{with_entry, Close, refused, close_fault, closed, close_extent, close_function, opened, open_function, make_extent, make_function}
+use Rattle.cpm_files.specs.Operations.{with_entry, refused, close_fault, closed, close_extent, close_function, opened, open_function, make_extent, make_function}
 use Rattle.cpm_directory.specs.Directory.{entries_of}
 use Rattle.cpm_drive.specs.declared.drive.Drive.{Drive}
 use Rattle.cpm_drive.specs.declared.change.Change.{Change}

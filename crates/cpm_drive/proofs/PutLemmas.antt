@@ -1,5 +1,5 @@
 -- A write, case by case.
-use Rattle.std.proofs.Common.{◌≡◌, ◌≢◌, ℕ, ◌+◌, ◌*◌, ◌<◌, map, replicate, ◌≤◌, Bool, true, false, List, [], ◌∷◌, ◌++◌, Result, Ok, Err, Some, None, Option, length, set, append-nil, append_assoc, refl, sym, ap, ◌∙◌, arith}
+use Rattle.std.proofs.Common.{◌≡◌, ◌≢◌, ℕ, ◌+◌, ◌*◌, ◌<◌, map, replicate, ◌≤◌, Bool, true, false, List, [], ◌∷◌, ◌++◌, Some, None, Option, length, set, refl, sym, ap, ◌∙◌, arith}
 use Rattle.std.proofs.lemmas.Bool.{lt-ltb, le-ltb, ne_eqb, eq-eqb}
 use Rattle.std.specs.List.{range_with_len}
 use Rattle.std.proofs.lemmas.Nat.{mod-mul-add}
@@ -15,12 +15,11 @@ use Rattle.cpm_files.specs.declared.answer.Answer.TheVariants.{Fault as fault, D
 use Rattle.cpm_files.specs.declared.answer.Fault.{Fault}
 use Rattle.cpm_files.specs.Files.{Volume, Write, entry_put, record_put, block_number, place_of}
 use Rattle.cpm_files.specs.Reserved.{least_free}
-use Rattle.cpm_files.specs.Operations.{Found, no_such_block, none_free, old_block, new_block, block_to_write, put_found, put_record, taken_writes, taken_records, record_in_block, with_block, counting, ends, write_in}
+use Rattle.cpm_files.specs.Operations.{Found, no_such_block, none_free, old_block, new_block, block_to_write, put_found, put_record, taken_writes, record_in_block, with_block, counting, ends}
 use Rattle.cpm_drive.specs.declared.drive.Drive.{Drive}
 use Rattle.cpm_drive.specs.declared.change.Change.{Change}
-use Rattle.cpm_drive.specs.declared.place.Arrival.{Arrival}
 use Rattle.cpm_drive.specs.Drive.{volume_of, after_write, after_writes, drive_after, called, after_call}
-use Rattle.cpm_drive.specs.Judged.{with_change, place_by, place_of_arrival}
+use Rattle.cpm_drive.specs.Judged.{with_change}
 use Rattle.cpm_drive.specs.Writes.{drive_written, stood_on}
 use Rattle.cpm_drive.proofs.WriteLemmas.{writes_append}
 

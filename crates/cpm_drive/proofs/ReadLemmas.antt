@@ -5,7 +5,7 @@ use Rattle.cpm_geom.specs.declared.dpb.Dpb.{Dpb}
 use Rattle.cpm_geom.specs.declared.format.Format.{Format}
 use Rattle.cpm_geom.specs.declared.format.Format.TheVariants.{Ibm3740}
 use Rattle.cpm_geom.specs.Geometry.{dpb_of, tracks_of, sectors_per_track, track_of, IsRecord}
-use Rattle.cpm_geom.specs.Disk.{Disk, records_of}
+use Rattle.cpm_geom.specs.Disk.{Disk}
 use Rattle.cpm_files.specs.declared.extent.Extent.{Extent}
 use Rattle.cpm_files.specs.declared.fcb.Fcb.{Fcb}
 use Rattle.cpm_files.specs.declared.answer.Answer.{Answer}

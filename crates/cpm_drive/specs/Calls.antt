@@ -1,13 +1,16 @@
 -- What the calls that close, open and make a file leave.
 -- CP/M 2.2 Operating System Manual, Operating System Call Conventions: a directory code is the place of an entry in its record of four.
-use Rattle.std.specs.Prelude.{ℕ, ◌%◌, List, Option, Some, None, Result, Ok, Err}
+use Rattle.std.specs.Prelude.{true, ℕ, ◌%◌, List, Option, Some, None, Result, Ok, Err}
 use Rattle.cpm_geom.specs.declared.dpb.Dpb.{Dpb}
 use Rattle.cpm_files.specs.declared.extent.Extent.{Extent}
 use Rattle.cpm_files.specs.declared.extent.Entry.{Entry}
 use Rattle.cpm_files.specs.declared.fcb.Fcb.{Fcb}
 use Rattle.cpm_files.specs.declared.answer.Fault.{Fault}
-use Rattle.cpm_files.specs.Files.{group_of, first_match, first_free}
+use Rattle.cpm_files.specs.Files.{group_of, first_match}
 use Rattle.cpm_files.specs.Operations.{Close, refused, close_fault, closed, with_entry}
+use Rattle.cpm_geom.specs.Geometry.{dpb_of}
+use Rattle.cpm_directory.specs.Directory.{entries_of}
+use Rattle.cpm_directory.specs.Login.{reserved_at_login}
 use Rattle.cpm_drive.specs.declared.drive.Drive.{Drive}
 use Rattle.cpm_drive.specs.Drive.{volume_of, drive_after}
 
@@ -50,3 +53,8 @@ unfoldable pub after_make : Drive → Fcb → ℕ → Option (List Entry × Exte
 after_make drive fcb index None = made_file None drive fcb
 after_make drive fcb index (Some made) =
     made_file (Some (index % 4)) (drive_after drive (with_entry (volume_of drive.image drive.marks.reserved) index made.0)) (record fcb { extent = made.1 })
+
+-- a drive that is logged in
+abbrev pub logged_in : Drive → Drive
+logged_in drive =
+    record drive { marks = record drive.marks { reserved = reserved_at_login (dpb_of drive.image.format) (entries_of drive.image); is_logged_in = true } }

@@ -1,5 +1,5 @@
 -- A drive with its marks, and what the calls on files leave of it.
-use Rattle.std.specs.Prelude.{ℕ, ◌+◌, ◌/◌, ◌%◌, Bool, if◌then◌else◌, List, [], ◌∷◌, Option, Some, None, unwrap_or}
+use Rattle.std.specs.Prelude.{ℕ, ◌/◌, ◌%◌, Bool, if◌then◌else◌, List, [], ◌∷◌, unwrap_or}
 use Rattle.cpm_geom.specs.Geometry.{dpb_of, record_index}
 use Rattle.cpm_geom.specs.Disk.{Disk, records_of, sector_at, with_sector}
 use Rattle.cpm_files.specs.declared.fcb.Fcb.{Fcb}

@@ -15,3 +15,6 @@ pub use closing::Closing;
 pub use drive::{Drive, Marks};
 pub use opening::open_lent;
 pub use reading::{read_at_protected, read_next_protected};
+
+#[cfg(test)]
+mod tests;

@@ -105,7 +105,15 @@ fn judge_read_at(
     ensures value { after_reading (lent_drive image.now marks.now) result fcb.new buffer.new ≡ after_call (lent_drive image.now marks.now) fcb.old buffer.old (read_at (dpb_of image.now.format) marks.now.is_protected (volume_of image.now marks.now.reserved) user fcb.old.extent fcb.old.current_record number) }
     ensures within { IsWithin (dpb_of image.now.format) result.closed }
 {
-    let arrival = place_at(image, marks, Access::Read, user, &fcb.extent, number, Answer::NoExtent);
+    let arrival = place_at(
+        image,
+        marks,
+        Access::Read,
+        user,
+        &fcb.extent,
+        number,
+        Answer::NoExtent,
+    );
     let answer = read_arrived(image, &arrival, 0, fcb, buffer);
     Reading {
         answer,

@@ -90,13 +90,7 @@ impl Drive {
 
     /// Writes the record that a file control block stands at, which goes `step` records on. Where its map has no block
     /// for it, it takes the lowest that is not reserved, and clears that if it is asked for.
-    fn put_record(
-        &mut self,
-        clears: bool,
-        step: u8,
-        fcb: &mut Fcb,
-        bytes: &[u8; 128],
-    ) -> Answer
+    fn put_record(&mut self, clears: bool, step: u8, fcb: &mut Fcb, bytes: &[u8; 128]) -> Answer
         requires current { fcb.old.current_record < 128 }
         requires step { step ≤ 1 }
         requires writable { self.old.marks.is_protected ≡ false }

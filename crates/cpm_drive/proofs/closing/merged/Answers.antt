@@ -1,4 +1,4 @@
-use Rattle.std.proofs.Common.{◌≡◌, ◌∙◌, sym, arith}
+use Rattle.std.proofs.Common.{◌∙◌, sym, arith}
 use Rattle.cpm_drive.proofs.MapLemmas.{merged_is}
 use Rattle.cpm_drive.proofs.closing.merged.Goals as goal
 

@@ -1,8 +1,7 @@
-use Rattle.std.proofs.Common.{◌≡◌, ◌≢◌, ◌<◌, ◌≤◌, [], get_or, sym, ap, ◌∙◌, arith}
+use Rattle.std.proofs.Common.{◌≡◌, ◌≢◌, [], get_or, sym, ◌∙◌, arith}
 use Rattle.cpm_geom.specs.Geometry.{dpb_of}
 use Rattle.cpm_geom.specs.Disk.{records_of}
 use Rattle.cpm_geom.proofs.RecordLemmas.{are_listed}
-use Rattle.cpm_files.specs.Files.{block_number, place_of}
 use Rattle.cpm_files.specs.Operations.{record_in_block}
 use Rattle.cpm_drive.specs.Drive.{volume_of}
 use Rattle.cpm_drive.proofs.ReadLemmas.{get_past, get_bad, get_none, get_found, in_block_there}

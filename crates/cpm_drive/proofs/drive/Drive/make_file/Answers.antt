@@ -1,6 +1,4 @@
-use Rattle.std.proofs.Common.{◌≡◌, ◌<◌, ◌%◌, Some, None, length, set, sym, arith}
-use Rattle.cpm_files.specs.Operations.{make_extent}
-use Rattle.cpm_directory.specs.Directory.{entries_of}
+use Rattle.std.proofs.Common.{arith}
 use Rattle.cpm_directory.proofs.DriveLemmas.{entries_length}
 use Rattle.cpm_drive.proofs.FileLemmas.{make_refused, make_writes}
 use Rattle.cpm_drive.proofs.drive.Drive.make_file.Goals as goal

@@ -1,4 +1,4 @@
-use Rattle.std.proofs.Common.{[], ◌∷◌, ◌≡◌, ◌≢◌, ◌<◌, ◌≤◌, refl, sym, ap, ◌∙◌, arith}
+use Rattle.std.proofs.Common.{[], ◌∷◌, ◌≡◌, ◌≢◌, ap, ◌∙◌, arith}
 use Rattle.cpm_geom.specs.Geometry.{dpb_of}
 use Rattle.cpm_files.specs.Files.{record_put}
 use Rattle.cpm_files.specs.Operations.{record_in_block}

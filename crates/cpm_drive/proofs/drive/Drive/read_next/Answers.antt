@@ -1,4 +1,3 @@
-use Rattle.std.proofs.Common.{◌≡◌}
 use Rattle.cpm_drive.specs.Reads.{after_reading}
 use Rattle.cpm_drive.proofs.drive.Drive.read_next.Goals as goal
 

@@ -1,10 +1,7 @@
-use Rattle.std.proofs.Common.{◌≡◌, ◌+◌, false, length, Ok, Err, sym, ap, ◌∙◌}
-use Rattle.cpm_geom.specs.declared.format.Format.{Format}
+use Rattle.std.proofs.Common.{◌≡◌, ◌+◌, Ok, Err, ◌∙◌}
 use Rattle.cpm_geom.specs.Geometry.{dpb_of}
 use Rattle.cpm_files.specs.Operations.{write_in}
-use Rattle.cpm_drive.specs.declared.drive.Drive.{Drive}
 use Rattle.cpm_drive.specs.Drive.{volume_of, after_writes}
-use Rattle.cpm_drive.specs.Writes.{drive_written}
 use Rattle.cpm_drive.specs.Judged.{with_change}
 use Rattle.cpm_drive.proofs.PutLemmas.{twice, reserved_kept, writes_format, put_after, stops_after}
 use Rattle.cpm_drive.proofs.drive.Drive.write_arrived.Goals as goal

@@ -1,4 +1,4 @@
-use Rattle.std.proofs.Common.{◌≡◌, refl, ap, ◌∙◌}
+use Rattle.std.proofs.Common.{refl}
 use Rattle.cpm_drive.specs.Drive.{after_writes, after_write}
 use Rattle.cpm_drive.proofs.drive.Drive.write_record.Goals as goal
 
