@@ -1,0 +1,36 @@
+use Rattle.std.proofs.Common.{◌≡◌, ◌≤◌, length, true, Some, sym, ap, arith}
+use Rattle.cpm_geom.specs.Geometry.{dpb_of}
+use Rattle.cpm_geom.specs.declared.dpb.Dpb.{Dpb}
+use Rattle.cpm_files.specs.Files.{entry_at}
+use Rattle.cpm_directory.specs.Directory.{entries_of}
+use Rattle.cpm_directory.specs.Matching.{is_match}
+use Rattle.cpm_directory.specs.declared.pattern.Pattern.TheVariants.{Files}
+use Rattle.cpm_directory.proofs.DriveLemmas.{last_entry_small, entries_length}
+use Rattle.cpm_drive.specs.Judged.{entries_after}
+use Rattle.cpm_drive.proofs.ChangeLemmas.{after_length, match_is}
+use Rattle.cpm_drive.proofs.change.first_match.Goals as goal
+
+pub overflow_add-index-end : goal.overflow_add-index-end
+overflow_add-index-end c =
+    let d : c.dpb-dpb.result ≡ dpb_of c.args.image.now.format = cc in
+    let last = ap (λ (p : Dpb). p.last_entry) d in
+    omega (arith, last_entry_small c.args.image.now.format)
+
+pub returns-then-matches : goal.returns-then-matches
+returns-then-matches c =
+    let d : c.dpb-dpb.result ≡ dpb_of c.args.image.now.format = cc in
+    let last = ap (λ (p : Dpb). p.last_entry) d in
+    let size = entries_length c.args.image.now in
+    let same = after_length (entries_of c.args.image.now) c.args.change in
+    let below : c.loop-index.index ≤ (dpb_of c.args.image.now.format).last_entry = omega arith in
+    let here : is_match (dpb_of c.args.image.now.format) (Files c.args.user c.args.name.now (Some c.args.group)) (entry_at (entries_after (entries_of c.args.image.now) c.args.change) c.loop-index.index) ≡ true = cc in
+    (sym (match_is _ (entries_after (entries_of c.args.image.now) c.args.change) c.args.user c.args.name.now c.args.group c.loop-index.index (omega arith) c.loop-index.invariant (λ _. here)), below)
+
+pub returns : goal.returns
+returns c =
+    let d : c.dpb-dpb.result ≡ dpb_of c.args.image.now.format = cc in
+    let last = ap (λ (p : Dpb). p.last_entry) d in
+    let size = entries_length c.args.image.now in
+    let same = after_length (entries_of c.args.image.now) c.args.change in
+    let first = match_is (dpb_of c.args.image.now.format) (entries_after (entries_of c.args.image.now) c.args.change) c.args.user c.args.name.now c.args.group (length (entries_of c.args.image.now)) (omega arith) (λ k h. c.loop-index.invariant k (omega arith)) (λ h. absurd (omega arith)) in
+    omega arith

@@ -1,0 +1,60 @@
+-- What the calls that close, open and make a file leave.
+-- CP/M 2.2 Operating System Manual, Operating System Call Conventions: a directory code is the place of an entry in its record of four.
+use Rattle.std.specs.Prelude.{true, ℕ, ◌%◌, List, Option, Some, None, Result, Ok, Err}
+use Rattle.cpm_geom.specs.declared.dpb.Dpb.{Dpb}
+use Rattle.cpm_files.specs.declared.extent.Extent.{Extent}
+use Rattle.cpm_files.specs.declared.extent.Entry.{Entry}
+use Rattle.cpm_files.specs.declared.fcb.Fcb.{Fcb}
+use Rattle.cpm_files.specs.declared.answer.Fault.{Fault}
+use Rattle.cpm_files.specs.Files.{group_of, first_match}
+use Rattle.cpm_files.specs.Operations.{Close, refused, close_fault, closed, with_entry}
+use Rattle.cpm_geom.specs.Geometry.{dpb_of}
+use Rattle.cpm_directory.specs.Directory.{entries_of}
+use Rattle.cpm_directory.specs.Login.{reserved_at_login}
+use Rattle.cpm_drive.specs.declared.drive.Drive.{Drive}
+use Rattle.cpm_drive.specs.Drive.{volume_of, drive_after}
+
+-- what a close leaves: its directory code or none, or its fault, the drive and the file control block
+pub record ClosedFile : Type 0 where
+  pub code : Result (Option ℕ) Fault
+  pub drive : Drive
+  pub fcb : Fcb
+
+abbrev pub closed_file : Result (Option ℕ) Fault → Drive → Fcb → ClosedFile
+closed_file code drive fcb = record { code = code; drive = drive; fcb = fcb }
+
+-- CLOSE FILE
+unfoldable pub after_close : Drive → Fcb → Close → ClosedFile
+after_close drive fcb refused = closed_file (Ok None) drive fcb
+after_close drive fcb (close_fault which) = closed_file (Err which) drive fcb
+after_close drive fcb (closed index entries extent) =
+    closed_file (Ok (Some (index % 4))) (drive_after drive (with_entry (volume_of drive.image drive.marks.reserved) index entries)) (record fcb { extent = extent })
+
+-- what an open leaves: its directory code or none, and the file control block
+unfoldable pub after_open : Fcb → ℕ → Option Extent → Option ℕ × Fcb
+after_open fcb index None = (None, fcb)
+after_open fcb index (Some extent) = (Some (index % 4), record fcb { extent = extent })
+
+-- the entry that an open is of
+unfoldable pub open_index : Dpb → List Entry → ℕ → Extent → ℕ
+open_index d es user x = first_match d es user x.name (group_of d (x.ex % 32))
+
+-- what a make leaves: its directory code or none, the drive and the file control block
+pub record MadeFile : Type 0 where
+  pub code : Option ℕ
+  pub drive : Drive
+  pub fcb : Fcb
+
+abbrev pub made_file : Option ℕ → Drive → Fcb → MadeFile
+made_file code drive fcb = record { code = code; drive = drive; fcb = fcb }
+
+-- MAKE FILE, where the first entry that is not in use is at an index
+unfoldable pub after_make : Drive → Fcb → ℕ → Option (List Entry × Extent) → MadeFile
+after_make drive fcb index None = made_file None drive fcb
+after_make drive fcb index (Some made) =
+    made_file (Some (index % 4)) (drive_after drive (with_entry (volume_of drive.image drive.marks.reserved) index made.0)) (record fcb { extent = made.1 })
+
+-- a drive that is logged in
+abbrev pub logged_in : Drive → Drive
+logged_in drive =
+    record drive { marks = record drive.marks { reserved = reserved_at_login (dpb_of drive.image.format) (entries_of drive.image); is_logged_in = true } }

@@ -1,0 +1,20 @@
+//! A drive: an image with its reserved blocks and marks, and the calls on its files over a file control block and a
+//! buffer of a record.
+#![tactic(auto)]
+
+pub mod change;
+pub mod closing;
+pub mod drive;
+pub mod opening;
+pub mod place;
+pub mod reading;
+pub mod writing;
+
+pub use change::Change;
+pub use closing::Closing;
+pub use drive::{Drive, Marks};
+pub use opening::open_lent;
+pub use reading::{read_at_protected, read_next_protected};
+
+#[cfg(test)]
+mod tests;
