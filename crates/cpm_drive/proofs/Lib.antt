@@ -1,6 +1,7 @@
 pub mod ChangeLemmas
 pub mod CloseLemmas
 pub mod FileLemmas
+pub mod KeptLemmas
 pub mod MapLemmas
 pub mod OpenLemmas
 pub mod PlaceLemmas

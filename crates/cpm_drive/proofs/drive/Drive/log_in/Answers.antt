@@ -1,4 +1,4 @@
-use Rattle.std.proofs.Common.{◌≡◌, length, ap, ◌∙◌}
+use Rattle.std.proofs.Common.{length, ap, ◌∙◌}
 use Rattle.std.proofs.lemmas.List.FromFn.{length-map-range_with_len}
 use Rattle.cpm_directory.specs.Login.{reserved_at_login}
 use Rattle.cpm_drive.proofs.drive.Drive.log_in.Goals as goal
