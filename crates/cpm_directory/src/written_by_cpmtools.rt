@@ -43,19 +43,25 @@ const COUNTING: [u8; 128] = [
     0x70, 0x71, 0x72, 0x73, 0x74, 0x75, 0x76, 0x77, 0x78, 0x79, 0x7A, 0x7B, 0x7C, 0x7D, 0x7E, 0x7F,
 ];
 
-/// The disk: each sector lies at 128 times (26 times its track, and its number less one).
+/// The disk: those sectors and the record of ONE.TXT on a blank one.
 fn disk(rt: &impl Abort, alloc: Global) -> Image {
-    let mut bytes = vec![in alloc; 0xE5u8; 256_256].expect(rt, "memory");
-    bytes[6656..6784].copy_from_slice(&FIRST_ENTRIES);
-    bytes[7424..7552].copy_from_slice(&NEXT_ENTRIES);
-    bytes[8576..8704].copy_from_slice(&COUNTING);
-    // track 2, sector 20: the record of ONE.TXT
-    bytes[9088..9216].copy_from_slice(&[0; 128]);
-    bytes[9088] = b'!';
-    match Image::from_bytes(bytes) {
-        Ok(image) => image,
-        Err(_) => panic!(rt; "the image is refused"),
+    let bytes = vec![in alloc; 0xE5u8; 256_256].expect(rt, "memory");
+    let Ok(mut image) = Image::from_bytes(bytes) else {
+        panic!(rt; "the image is refused");
+    };
+    let mut mark = [0; 128];
+    mark[0] = b'!';
+    for (sector, data) in [
+        (1, &FIRST_ENTRIES),
+        (7, &NEXT_ENTRIES),
+        (16, &COUNTING),
+        (20, &mark),
+    ] {
+        if image.put_sector(2, sector, data).is_err() {
+            panic!(rt; "no sector {sector}");
+        }
     }
+    image
 }
 
 fn at(rt: &impl Abort, image: &Image, index: u16) -> Entry {
