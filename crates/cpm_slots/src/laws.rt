@@ -12,7 +12,8 @@ pub fn cutting()
     ensures { Cutting }
 {}
 
-/// A step newly writes at most 8 pages, and puts at most 4,096 bytes on each device.
+/// A step newly writes at most 8 pages, and puts at most 4,096 bytes on each device, where the session's columns and
+/// its line's length are bytes.
 pub fn bounded()
     ensures { Bounded }
 {}
