@@ -1,15 +1,18 @@
 -- Every step is bounded.
-use Rattle.std.proofs.Common.{◌≡◌, ℕ, ◌+◌, ◌%◌, ◌≤◌, Bool, true, false, cond, [], ◌∷◌, length, refl, ◌∙◌, arith, Option, Some, None}
-use Rattle.std.specs.Prelude.{if◌then◌else◌, ◌==◌, nat_le}
+use Rattle.std.proofs.Common.{◌≡◌, ℕ, ◌+◌, ◌≤◌, Bool, true, false, List, [], ◌∷◌, length, refl, ◌∙◌, arith, Option, Some, None, Result, Ok, Err}
+use Rattle.std.specs.Prelude.{if◌then◌else◌, ◌==◌, slice_index}
 use Rattle.std.proofs.lemmas.List.{length-append}
+use Rattle.cpm_geom.specs.Disk.{Disk}
+use Rattle.cpm_geom.specs.Geometry.{dpb_of}
+use Rattle.cpm_geom.specs.declared.format.Format.{Format}
+use Rattle.cpm_geom.specs.declared.format.Format.TheVariants.{Ibm3740}
 use Rattle.cpm_console.specs.Terminal.{Terminal, expanded, printed, key_read, said, IsWithin}
 use Rattle.cpm_console.specs.Draft.{Draft}
 use Rattle.cpm_console.specs.Editing.{Edited, begun, key_into_line}
 use Rattle.cpm_console.specs.declared.line.Progress.{Progress}
 use Rattle.cpm_console.specs.declared.line.Progress.TheVariants as line
 use Rattle.cpm_console.proofs.Growth.{IsWithin-said, IsWithin-shown, IsWithin-same, length-expanded, IsWithin-key_into_line, length-key_into_line}
-use Rattle.cpm_memory.specs.Contents.{Contents, byte_at, next, touched_of, after_run}
-use Rattle.cpm_memory.specs.Room.{pages_of_run}
+use Rattle.cpm_memory.specs.Contents.{Contents, byte_at, next, run_at, touched_of, after_run}
 use Rattle.cpm_memory.proofs.Runs.{touched_of-run, limit-run}
 use Rattle.cpm_bdos.proofs.Limits.{limit-rebooted, limit-line_ended}
 use Rattle.cpm_bdos.specs.Registers.{de_of}
@@ -21,19 +24,30 @@ use Rattle.cpm_bdos.specs.Output.{wrote, listed, showed, write_byte, write_text}
 use Rattle.cpm_bdos.specs.Input.{is_echoed, read_key, direct_console}
 use Rattle.cpm_bdos.specs.ReadLine.{is_open, line_ended, after_key, with_edited, take_key, no_more, edit_line}
 use Rattle.cpm_bdos.specs.Faults.{fault_text, in_fault, faulted, after_fault}
+use Rattle.cpm_disks.specs.declared.disks.Disks.{Disks}
+use Rattle.cpm_disks.specs.declared.function.FileFunction.{FileFunction}
+use Rattle.cpm_disks.specs.Disks.{is_there, drive_at}
+use Rattle.cpm_disks.specs.Selecting.{used, select}
+use Rattle.cpm_disks.specs.Calls.{drive_named}
+use Rattle.cpm_disks.specs.Vectors.{allocation_vector, allocation_of}
+use Rattle.cpm_disks.specs.Sectors.{sector_read, sector_written}
+use Rattle.cpm_bdos.specs.Disks.{by_answer, with_disks, fcb_size, record_size, call_stored, vector_address, file_function, select_disk, give_allocation, user_code}
+use Rattle.cpm_bdos.specs.BiosDisks.{sector_got, sector_put, select_drive, read_sector, write_sector, translate}
+use Rattle.cpm_bdos.proofs.Pages.{pages-le}
+use Rattle.cpm_bdos.proofs.DriveCalls.{call_of, limit-record_stored, limit-call_stored, touched_of-record_stored, touched_of-call_stored}
 use Rattle.cpm_bdos.specs.Step.{called, in_mode, bdos, booted, console_input, bios_called, bios}
 use Rattle.cpm_bdos.specs.Bounds.{IsFit, IsBounded}
 use Rattle.cpm_bdos.specs.declared.function.Function.{Function}
-use Rattle.cpm_bdos.specs.declared.function.Function.TheVariants.{WarmBoot, ReadKey, WriteByte, ReaderInput, PunchOutput, ListOutput, DirectConsole, GetIoByte, SetIoByte, WriteText, ReadLine, ConsoleStatus, Version, Other}
+use Rattle.cpm_bdos.specs.declared.function.Function.TheVariants.{WarmBoot, ReadKey, WriteByte, ReaderInput, PunchOutput, ListOutput, DirectConsole, GetIoByte, SetIoByte, WriteText, ReadLine, ConsoleStatus, Version, ResetDisks, SelectDisk, File, LoginVector, CurrentDisk, SetBuffer, AllocationVector, ProtectDisk, ReadOnlyVector, DiskParameters, UserCode, ResetDrives, Other}
 use Rattle.cpm_bdos.specs.declared.function.BiosCall.{BiosCall}
 use Rattle.cpm_bdos.specs.declared.function.BiosCall.TheVariants as entry
-use Rattle.cpm_bdos.specs.declared.fault.Fault.{Fault}
-use Rattle.cpm_bdos.specs.declared.fault.Fault.TheVariants as fault
+use Rattle.cpm_files.specs.declared.answer.Fault.{Fault}
+use Rattle.cpm_files.specs.declared.answer.Fault.TheVariants as fault
 use Rattle.cpm_bdos.specs.declared.session.Session.{Session}
 use Rattle.cpm_bdos.specs.declared.session.Held.{Held}
 use Rattle.cpm_bdos.specs.declared.session.Held.TheVariants as held
 use Rattle.cpm_bdos.specs.declared.session.Mode.{Mode}
-use Rattle.cpm_bdos.specs.declared.session.Mode.TheVariants.{Program, Text, Line, Hold, Fault as FaultMode}
+use Rattle.cpm_bdos.specs.declared.session.Mode.TheVariants.{Program, Text, Line, Hold, Fault as FaultMode, Command}
 use Rattle.cpm_bdos.specs.declared.session.Went.TheVariants.{GoesOn}
 
 bounded_if : (b : Bool) (s : Session) (m : Contents) (x y : Did) → IsBounded s m x → IsBounded s m y → IsBounded s m (if b then x else y)
@@ -131,13 +145,6 @@ bounded_faulted s m f drive = bounded_kept s m _ refl (within_fault s f drive)
 
 -- ---- lines
 
-pub pages-le : (a n : ℕ) → pages_of_run a n ≤ 2
-pages-le a n = by_test (nat_le (a % 256 + n) 256)
-  where
-    by_test : (b : Bool) → cond {A = ℕ} b 1 2 ≤ 2
-    by_test true = omega arith
-    by_test false = omega arith
-
 bounded_line_ended : (s t : Session) (m : Contents) → length t.line.characters ≤ 256 → IsWithin 4096 s.console t.console → IsBounded s m (line_ended t m)
 bounded_line_ended s t m few output =
     let at = next (de_of t.regs) in
@@ -176,56 +183,155 @@ bounded_edit_line : (l : Draft) (s : Session) (m : Contents) → IsFitLine l →
 bounded_edit_line l s m fit =
     bounded_if (is_open l) s m _ _ (bounded_take_key (first_key s) l s m fit) (bounded_no_more l s m fit)
 
+-- ---- drives and files
+
+bounded_by_answer : (a : Result ℕ Fault) (drive : ℕ) (s : Session) (m n : Contents) (disks : Disks) → touched_of n ≤ touched_of m + 8 → n.limit ≡ m.limit → IsBounded s m (by_answer a drive (with_disks s disks) n)
+bounded_by_answer (Ok code) drive s m n disks pages limit = record { pages = pages; limit = limit; output = IsWithin-same 4096 s.console }
+bounded_by_answer (Err which) drive s m n disks pages limit =
+    let output = within_fault (with_disks s disks) which drive in
+    record { pages = pages; limit = limit; output = record { screen = output.screen; printer = output.printer } }
+
+bounded_file_function : (f : FileFunction) (system : Disk) (s : Session) (m : Contents) → IsFit s → IsBounded s m (file_function f system s m)
+unfolding file_function
+bounded_file_function f system s m fit =
+    let c = call_of f system s m in
+    let at = de_of s.regs in
+    let old = run_at m at fcb_size in
+    bounded_by_answer c.answer (drive_named s.disks (slice_index old 0)) s m (call_stored m s.buffer at old c) c.disks (omega (arith, touched_of-call_stored m s.buffer at old c (omega (arith, fit.buffer)) (omega (arith, fit.parameter)))) (limit-call_stored m s.buffer at old c)
+
+bounded_select_disk : (system : Disk) (s : Session) (m : Contents) → IsBounded s m (select_disk system s m)
+unfolding select_disk
+bounded_select_disk system s m =
+    let c = select s.disks system s.regs.e in
+    bounded_by_answer c.answer s.regs.e s m m c.disks (omega arith) refl
+
+length-allocation_vector : (f : Format) (reserved : List Bool) → length (allocation_vector (dpb_of f) reserved) ≤ 256
+unfolding allocation_vector dpb_of
+length-allocation_vector Ibm3740 reserved = omega arith
+
+bounded_give_allocation : (system : Disk) (s : Session) (m : Contents) → IsBounded s m (give_allocation system s m)
+unfolding give_allocation
+bounded_give_allocation system s m =
+    let at = vector_address s.disks.current in
+    let drive = drive_at (used s.disks system s.disks.current) system s.disks.current in
+    let vector = allocation_of drive in
+    record {
+      pages = omega (arith, touched_of-run m at vector (omega arith) (length-allocation_vector drive.image.format drive.marks.reserved), pages-le at (length vector));
+      limit = limit-run m at vector;
+      output = IsWithin-same 4096 s.console;
+    }
+
+bounded_user_code : (s : Session) (m : Contents) → IsBounded s m (user_code s m)
+unfolding user_code
+bounded_user_code s m =
+    bounded_if (s.regs.e == 255) s m _ _ (bounded_kept s m _ refl (IsWithin-same 4096 s.console)) (bounded_kept s m _ refl (IsWithin-same 4096 s.console))
+
+bounded_select_drive : (s : Session) (m : Contents) → IsBounded s m (select_drive s m)
+unfolding select_drive
+bounded_select_drive s m =
+    bounded_if (is_there s.disks s.regs.c) s m _ _ (bounded_kept s m _ refl (IsWithin-same 4096 s.console)) (bounded_kept s m _ refl (IsWithin-same 4096 s.console))
+
+bounded_sector_got : (got : Option (List ℕ)) (s : Session) (m : Contents) → IsFit s → IsBounded s m (sector_got got s m)
+bounded_sector_got None s m fit = bounded_kept s m _ refl (IsWithin-same 4096 s.console)
+bounded_sector_got (Some bytes) s m fit = record {
+  pages = omega (arith, touched_of-record_stored m s.place.buffer bytes (omega (arith, fit.sector_buffer)));
+  limit = limit-record_stored m s.place.buffer bytes;
+  output = IsWithin-same 4096 s.console;
+}
+
+bounded_read_sector : (system : Disk) (s : Session) (m : Contents) → IsFit s → IsBounded s m (read_sector system s m)
+unfolding read_sector
+bounded_read_sector system s m fit =
+    bounded_sector_got (sector_read s.disks system s.place.drive s.place.track s.place.sector) s m fit
+
+bounded_sector_put : (put : Option Disks) (s : Session) (m : Contents) → IsBounded s m (sector_put put s m)
+bounded_sector_put None s m = bounded_kept s m _ refl (IsWithin-same 4096 s.console)
+bounded_sector_put (Some disks) s m = bounded_kept s m _ refl (IsWithin-same 4096 s.console)
+
+bounded_write_sector : (s : Session) (m : Contents) → IsBounded s m (write_sector s m)
+unfolding write_sector
+bounded_write_sector s m =
+    bounded_sector_put (sector_written s.disks s.place.drive s.place.track s.place.sector (run_at m s.place.buffer record_size)) s m
+
+bounded_translate : (s : Session) (m : Contents) → IsBounded s m (translate s m)
+unfolding translate
+bounded_translate s m = bounded_kept s m _ refl (IsWithin-same 4096 s.console)
+
 -- ---- steps
 
-bounded_called : (f : Function) (s : Session) (m : Contents) → IsFit s → IsBounded s m (called f s m)
-bounded_called WarmBoot s m fit = bounded_rebooted s s m m (omega arith) refl (IsWithin-same 4096 s.console)
-bounded_called ReadKey s m fit = bounded_read_key (first_key s) s m
-bounded_called WriteByte s m fit = bounded_write_byte s m
-bounded_called ReaderInput s m fit = bounded_kept s m _ refl (IsWithin-same 4096 s.console)
-bounded_called PunchOutput s m fit = bounded_kept s m _ refl (IsWithin-same 4096 s.console)
-bounded_called ListOutput s m fit = bounded_kept s m (answered (listed s s.regs.e) m 0) refl (within_listed s s.regs.e)
-bounded_called DirectConsole s m fit = bounded_direct_console s.regs.e s m
-bounded_called GetIoByte s m fit = bounded_kept s m _ refl (IsWithin-same 4096 s.console)
-bounded_called SetIoByte s m fit = record {
+-- a call that leaves the memory and the console
+bounded_quiet : (s : Session) (m : Contents) (d : Did) → d.memory ≡ m → d.session.console ≡ s.console → IsBounded s m d
+bounded_quiet s m d same quiet = bounded_kept s m d same (rw quiet (IsWithin-same 4096 s.console))
+
+bounded_called : (f : Function) (system : Disk) (s : Session) (m : Contents) → IsFit s → IsBounded s m (called f system s m)
+bounded_called WarmBoot system s m fit = bounded_rebooted s s m m (omega arith) refl (IsWithin-same 4096 s.console)
+bounded_called ReadKey system s m fit = bounded_read_key (first_key s) s m
+bounded_called WriteByte system s m fit = bounded_write_byte s m
+bounded_called ReaderInput system s m fit = bounded_quiet s m _ refl refl
+bounded_called PunchOutput system s m fit = bounded_quiet s m _ refl refl
+bounded_called ListOutput system s m fit = bounded_kept s m (answered (listed s s.regs.e) m 0) refl (within_listed s s.regs.e)
+bounded_called DirectConsole system s m fit = bounded_direct_console s.regs.e s m
+bounded_called GetIoByte system s m fit = bounded_quiet s m _ refl refl
+bounded_called SetIoByte system s m fit = record {
   pages = omega (arith, touched_of-run m 3 (s.regs.e ∷ []) (omega arith) (omega arith), pages-le 3 1);
   limit = limit-run m 3 (s.regs.e ∷ []);
   output = IsWithin-same 4096 s.console;
 }
-bounded_called WriteText s m fit = bounded_write_text held.Call s m (de_of s.regs)
-bounded_called ReadLine s m fit =
+bounded_called WriteText system s m fit = bounded_write_text held.Call s m (de_of s.regs)
+bounded_called ReadLine system s m fit =
     bounded_edit_line (begun s.console.column (byte_at m (de_of s.regs))) s m (record { start = fit.column; characters = omega arith })
-bounded_called ConsoleStatus s m fit = bounded_kept s m _ refl (IsWithin-same 4096 s.console)
-bounded_called Version s m fit = bounded_kept s m _ refl (IsWithin-same 4096 s.console)
-bounded_called Other s m fit = bounded_kept s m _ refl (IsWithin-same 4096 s.console)
+bounded_called ConsoleStatus system s m fit = bounded_quiet s m _ refl refl
+bounded_called Version system s m fit = bounded_quiet s m _ refl refl
+bounded_called ResetDisks system s m fit = bounded_quiet s m _ refl refl
+bounded_called SelectDisk system s m fit = bounded_select_disk system s m
+bounded_called (File f) system s m fit = bounded_file_function f system s m fit
+bounded_called LoginVector system s m fit = bounded_quiet s m _ refl refl
+bounded_called CurrentDisk system s m fit = bounded_quiet s m _ refl refl
+bounded_called SetBuffer system s m fit = bounded_quiet s m _ refl refl
+bounded_called AllocationVector system s m fit = bounded_give_allocation system s m
+bounded_called ProtectDisk system s m fit = bounded_quiet s m _ refl refl
+bounded_called ReadOnlyVector system s m fit = bounded_quiet s m _ refl refl
+bounded_called DiskParameters system s m fit = bounded_quiet s m _ refl refl
+bounded_called UserCode system s m fit = bounded_user_code s m
+bounded_called ResetDrives system s m fit = bounded_quiet s m _ refl refl
+bounded_called Other system s m fit = bounded_quiet s m _ refl refl
 
-bounded_in_mode : (mode : Mode) (s : Session) (m : Contents) → IsFit s → IsBounded s m (in_mode mode s m)
-bounded_in_mode Program s m fit = bounded_called (function_of s.regs.c) s m fit
-bounded_in_mode (Text address) s m fit = bounded_write_text (held.Text address) s m address
-bounded_in_mode Line s m fit = bounded_edit_line s.line s m (record { start = fit.start; characters = fit.characters })
-bounded_in_mode (Hold h) s m fit = bounded_release h (first_key s) s m
-bounded_in_mode FaultMode s m fit = bounded_after_fault (first_key s) s m
+bounded_in_mode : (mode : Mode) (system : Disk) (s : Session) (m : Contents) → IsFit s → IsBounded s m (in_mode mode system s m)
+bounded_in_mode Program system s m fit = bounded_called (function_of s.regs.c) system s m fit
+bounded_in_mode (Text address) system s m fit = bounded_write_text (held.Text address) s m address
+bounded_in_mode Line system s m fit = bounded_edit_line s.line s m (record { start = fit.start; characters = fit.characters })
+bounded_in_mode (Hold h) system s m fit = bounded_release h (first_key s) s m
+bounded_in_mode FaultMode system s m fit = bounded_after_fault (first_key s) s m
+bounded_in_mode (Command part) system s m fit = bounded_quiet s m _ refl refl
 
 -- a step of the BDOS
-pub IsBounded-bdos : (s : Session) (m : Contents) → IsFit s → IsBounded s m (bdos s m)
-IsBounded-bdos s m fit = bounded_in_mode s.mode s m fit
+pub IsBounded-bdos : (system : Disk) (s : Session) (m : Contents) → IsFit s → IsBounded s m (bdos system s m)
+IsBounded-bdos system s m fit = bounded_in_mode s.mode system s m fit
 
 bounded_console_input : (k : Option ℕ) (s : Session) (m : Contents) → IsBounded s m (console_input k s m)
-bounded_console_input None s m = bounded_kept s m _ refl (IsWithin-same 4096 s.console)
+bounded_console_input None s m = bounded_quiet s m _ refl refl
 bounded_console_input (Some k) s m = bounded_kept s m _ refl (within_key s.console)
 
-bounded_bios : (call : BiosCall) (s : Session) (m : Contents) → IsBounded s m (bios_called call s m)
-bounded_bios entry.Boot s m = bounded_booted s m
-bounded_bios entry.WarmBoot s m = bounded_rebooted s s m m (omega arith) refl (IsWithin-same 4096 s.console)
-bounded_bios entry.ConsoleStatus s m = bounded_kept s m _ refl (IsWithin-same 4096 s.console)
-bounded_bios entry.ConsoleInput s m = bounded_console_input (first_key s) s m
-bounded_bios entry.ConsoleOutput s m = bounded_kept s m _ refl (within_showed s s.regs.c)
-bounded_bios entry.List s m = bounded_kept s m _ refl (within_listed s s.regs.c)
-bounded_bios entry.Punch s m = bounded_kept s m _ refl (IsWithin-same 4096 s.console)
-bounded_bios entry.Reader s m = bounded_kept s m _ refl (IsWithin-same 4096 s.console)
-bounded_bios entry.ListStatus s m = bounded_kept s m _ refl (IsWithin-same 4096 s.console)
-bounded_bios entry.Other s m = bounded_kept s m _ refl (IsWithin-same 4096 s.console)
+bounded_bios : (call : BiosCall) (system : Disk) (s : Session) (m : Contents) → IsFit s → IsBounded s m (bios_called call system s m)
+bounded_bios entry.Boot system s m fit = bounded_booted s m
+bounded_bios entry.WarmBoot system s m fit = bounded_rebooted s s m m (omega arith) refl (IsWithin-same 4096 s.console)
+bounded_bios entry.ConsoleStatus system s m fit = bounded_quiet s m _ refl refl
+bounded_bios entry.ConsoleInput system s m fit = bounded_console_input (first_key s) s m
+bounded_bios entry.ConsoleOutput system s m fit = bounded_kept s m _ refl (within_showed s s.regs.c)
+bounded_bios entry.List system s m fit = bounded_kept s m _ refl (within_listed s s.regs.c)
+bounded_bios entry.Punch system s m fit = bounded_quiet s m _ refl refl
+bounded_bios entry.Reader system s m fit = bounded_quiet s m _ refl refl
+bounded_bios entry.Home system s m fit = bounded_quiet s m _ refl refl
+bounded_bios entry.SelectDisk system s m fit = bounded_select_drive s m
+bounded_bios entry.SetTrack system s m fit = bounded_quiet s m _ refl refl
+bounded_bios entry.SetSector system s m fit = bounded_quiet s m _ refl refl
+bounded_bios entry.SetBuffer system s m fit = bounded_quiet s m _ refl refl
+bounded_bios entry.Read system s m fit = bounded_read_sector system s m fit
+bounded_bios entry.Write system s m fit = bounded_write_sector s m
+bounded_bios entry.ListStatus system s m fit = bounded_quiet s m _ refl refl
+bounded_bios entry.SectorTranslate system s m fit = bounded_translate s m
+bounded_bios entry.Other system s m fit = bounded_quiet s m _ refl refl
 
 -- a step of the BIOS
-pub IsBounded-bios : (number : ℕ) (s : Session) (m : Contents) → IsBounded s m (bios number s m)
-IsBounded-bios number s m = bounded_bios (bios_call_of number) s m
+pub IsBounded-bios : (number : ℕ) (system : Disk) (s : Session) (m : Contents) → IsFit s → IsBounded s m (bios number system s m)
+IsBounded-bios number system s m fit = bounded_bios (bios_call_of number) system s m fit

@@ -1,3 +1,7 @@
+pub mod Pages
+pub mod DriveCalls
+pub mod FcbChanges
+pub mod Marks
 pub mod ConsoleBehind
 pub mod Limits
 pub mod Bounded

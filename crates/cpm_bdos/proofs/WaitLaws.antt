@@ -1,13 +1,14 @@
 -- A step waits exactly where it needs a key and finds none.
-use Rattle.std.proofs.Common.{◌≡◌, ℕ, ◌-◌, Bool, true, false, ◌&&◌, not, refl, ap, sym, ◌∙◌, subst, Option, Some, None, is_some, arith}
-use Rattle.std.specs.Prelude.{if◌then◌else◌, ◌==◌, nat_le, nat_lt}
+use Rattle.std.proofs.Common.{◌≡◌, ℕ, ◌-◌, Bool, true, false, ◌&&◌, not, refl, ap, sym, ◌∙◌, subst, List, Option, Some, None, is_some, Result, Ok, Err, arith}
+use Rattle.std.specs.Prelude.{if◌then◌else◌, ◌==◌, nat_le, nat_lt, slice_index}
 use Rattle.std.proofs.lemmas.Bool.Decides.{nat_tests}
+use Rattle.cpm_geom.specs.Disk.{Disk}
 use Rattle.cpm_console.specs.Draft.{Draft}
 use Rattle.cpm_console.specs.Editing.{begun, key_into_line}
 use Rattle.cpm_console.specs.Terminal.{key_read}
 use Rattle.cpm_console.specs.declared.line.Progress.{Progress}
 use Rattle.cpm_console.specs.declared.line.Progress.TheVariants as line
-use Rattle.cpm_memory.specs.Contents.{Contents, byte_at}
+use Rattle.cpm_memory.specs.Contents.{Contents, byte_at, run_at}
 use Rattle.cpm_bdos.specs.Registers.{de_of}
 use Rattle.cpm_bdos.specs.Function.{function_of, bios_call_of}
 use Rattle.cpm_bdos.specs.Did.{Did, did}
@@ -17,17 +18,27 @@ use Rattle.cpm_bdos.specs.Output.{write_byte, write_text}
 use Rattle.cpm_bdos.specs.Input.{read_key, direct_console}
 use Rattle.cpm_bdos.specs.ReadLine.{is_open, after_key, with_edited, take_key, edit_line}
 use Rattle.cpm_bdos.specs.Faults.{after_fault}
+use Rattle.cpm_files.specs.declared.answer.Fault.{Fault as Failure}
+use Rattle.cpm_disks.specs.declared.disks.Disks.{Disks}
+use Rattle.cpm_disks.specs.declared.function.FileFunction.{FileFunction}
+use Rattle.cpm_disks.specs.Disks.{is_there}
+use Rattle.cpm_disks.specs.Selecting.{select}
+use Rattle.cpm_disks.specs.Calls.{drive_named}
+use Rattle.cpm_disks.specs.Sectors.{sector_read, sector_written}
+use Rattle.cpm_bdos.specs.Disks.{by_answer, with_disks, fcb_size, record_size, call_stored, file_function, select_disk, give_allocation, user_code}
+use Rattle.cpm_bdos.specs.BiosDisks.{sector_got, sector_put, select_drive, read_sector, write_sector, translate}
+use Rattle.cpm_bdos.proofs.DriveCalls.{call_of}
 use Rattle.cpm_bdos.specs.Step.{called, in_mode, bdos, console_input, bios_called, bios}
-use Rattle.cpm_bdos.specs.Waiting.{function_needs_key, needs_key, is_waiting, call_in, IsWaiting}
+use Rattle.cpm_bdos.specs.Waiting.{function_needs_key, needs_key, is_waiting, is_command, call_in, IsWaiting}
 use Rattle.cpm_bdos.specs.declared.function.Function.{Function}
-use Rattle.cpm_bdos.specs.declared.function.Function.TheVariants.{WarmBoot, ReadKey, WriteByte, ReaderInput, PunchOutput, ListOutput, DirectConsole, GetIoByte, SetIoByte, WriteText, ReadLine, ConsoleStatus, Version, Other}
+use Rattle.cpm_bdos.specs.declared.function.Function.TheVariants.{WarmBoot, ReadKey, WriteByte, ReaderInput, PunchOutput, ListOutput, DirectConsole, GetIoByte, SetIoByte, WriteText, ReadLine, ConsoleStatus, Version, ResetDisks, SelectDisk, File, LoginVector, CurrentDisk, SetBuffer, AllocationVector, ProtectDisk, ReadOnlyVector, DiskParameters, UserCode, ResetDrives, Other}
 use Rattle.cpm_bdos.specs.declared.function.BiosCall.{BiosCall}
 use Rattle.cpm_bdos.specs.declared.function.BiosCall.TheVariants as entry
 use Rattle.cpm_bdos.specs.declared.session.Session.{Session}
 use Rattle.cpm_bdos.specs.declared.session.Held.{Held}
 use Rattle.cpm_bdos.specs.declared.session.Held.TheVariants as held
 use Rattle.cpm_bdos.specs.declared.session.Mode.{Mode}
-use Rattle.cpm_bdos.specs.declared.session.Mode.TheVariants.{Program, Text, Line, Hold, Fault}
+use Rattle.cpm_bdos.specs.declared.session.Mode.TheVariants.{Program, Text, Line, Hold, Fault, Command}
 use Rattle.cpm_bdos.specs.declared.session.Went.TheVariants.{Waits}
 
 -- the step of a call changes nothing where it waits, and else is no wait
@@ -61,6 +72,58 @@ goes_after_key : (p : Progress) (s : Session) (m : Contents) → Goes (after_key
 goes_after_key line.GoesOn s m = λ e. cc
 goes_after_key line.Ended s m = λ e. cc
 goes_after_key line.Interrupted s m = λ e. cc
+
+goes_by_answer : (a : Result ℕ Failure) (drive : ℕ) (s : Session) (m : Contents) → Goes (by_answer a drive s m)
+goes_by_answer (Ok code) drive s m = λ e. cc
+goes_by_answer (Err which) drive s m = λ e. cc
+
+goes_file_function : (f : FileFunction) (system : Disk) (s : Session) (m : Contents) → Goes (file_function f system s m)
+unfolding file_function
+goes_file_function f system s m =
+    let c = call_of f system s m in
+    let at = de_of s.regs in
+    let old = run_at m at fcb_size in
+    goes_by_answer c.answer (drive_named s.disks (slice_index old 0)) (with_disks s c.disks) (call_stored m s.buffer at old c)
+
+goes_select_disk : (system : Disk) (s : Session) (m : Contents) → Goes (select_disk system s m)
+unfolding select_disk
+goes_select_disk system s m =
+    let c = select s.disks system s.regs.e in
+    goes_by_answer c.answer s.regs.e (with_disks s c.disks) m
+
+goes_give_allocation : (system : Disk) (s : Session) (m : Contents) → Goes (give_allocation system s m)
+unfolding give_allocation
+goes_give_allocation system s m = λ e. cc
+
+goes_user_code : (s : Session) (m : Contents) → Goes (user_code s m)
+unfolding user_code
+goes_user_code s m = goes_if (s.regs.e == 255) _ _ (λ e. cc) (λ e. cc)
+
+goes_select_drive : (s : Session) (m : Contents) → Goes (select_drive s m)
+unfolding select_drive
+goes_select_drive s m = goes_if (is_there s.disks s.regs.c) _ _ (λ e. cc) (λ e. cc)
+
+goes_sector_got : (got : Option (List ℕ)) (s : Session) (m : Contents) → Goes (sector_got got s m)
+goes_sector_got None s m = λ e. cc
+goes_sector_got (Some bytes) s m = λ e. cc
+
+goes_read_sector : (system : Disk) (s : Session) (m : Contents) → Goes (read_sector system s m)
+unfolding read_sector
+goes_read_sector system s m =
+    goes_sector_got (sector_read s.disks system s.place.drive s.place.track s.place.sector) s m
+
+goes_sector_put : (put : Option Disks) (s : Session) (m : Contents) → Goes (sector_put put s m)
+goes_sector_put None s m = λ e. cc
+goes_sector_put (Some disks) s m = λ e. cc
+
+goes_write_sector : (s : Session) (m : Contents) → Goes (write_sector s m)
+unfolding write_sector
+goes_write_sector s m =
+    goes_sector_put (sector_written s.disks s.place.drive s.place.track s.place.sector (run_at m s.place.buffer record_size)) s m
+
+goes_translate : (s : Session) (m : Contents) → Goes (translate s m)
+unfolding translate
+goes_translate s m = λ e. cc
 
 -- ---- steps that need a key
 
@@ -108,23 +171,35 @@ some-is n = by_test (nat_lt 0 n) (n == 0) refl refl
     by_test true true e f = absurd (grind (arith, nat_tests))
     by_test false false e f = absurd (grind (arith, nat_tests))
 
-called_waits : (f : Function) (s : Session) (m : Contents) → IsWait (function_needs_key f s m && not (is_some (first_key s))) s m (called f s m)
-called_waits WarmBoot s m = goes s m _ (λ e. cc)
-called_waits ReadKey s m = read_key_waits (first_key s) s m
-called_waits WriteByte s m = goes s m _ (goes_write_byte s m)
-called_waits ReaderInput s m = goes s m _ (λ e. cc)
-called_waits PunchOutput s m = goes s m _ (λ e. cc)
-called_waits ListOutput s m = goes s m _ (λ e. cc)
-called_waits DirectConsole s m = goes s m _ (goes_direct_console s.regs.e s m)
-called_waits GetIoByte s m = goes s m _ (λ e. cc)
-called_waits SetIoByte s m = goes s m _ (λ e. cc)
-called_waits WriteText s m = goes s m _ (goes_write_text held.Call s m (de_of s.regs))
-called_waits ReadLine s m =
+called_waits : (f : Function) (system : Disk) (s : Session) (m : Contents) → IsWait (function_needs_key f s m && not (is_some (first_key s))) s m (called f system s m)
+called_waits WarmBoot system s m = goes s m _ (λ e. cc)
+called_waits ReadKey system s m = read_key_waits (first_key s) s m
+called_waits WriteByte system s m = goes s m _ (goes_write_byte s m)
+called_waits ReaderInput system s m = goes s m _ (λ e. cc)
+called_waits PunchOutput system s m = goes s m _ (λ e. cc)
+called_waits ListOutput system s m = goes s m _ (λ e. cc)
+called_waits DirectConsole system s m = goes s m _ (goes_direct_console s.regs.e s m)
+called_waits GetIoByte system s m = goes s m _ (λ e. cc)
+called_waits SetIoByte system s m = goes s m _ (λ e. cc)
+called_waits WriteText system s m = goes s m _ (goes_write_text held.Call s m (de_of s.regs))
+called_waits ReadLine system s m =
     let l = begun s.console.column (byte_at m (de_of s.regs)) in
     subst (λ b. IsWait (b && not (is_some (first_key s))) s m (edit_line l s m)) (some-is (byte_at m (de_of s.regs))) (edit_line_waits l s m)
-called_waits ConsoleStatus s m = goes s m _ (λ e. cc)
-called_waits Version s m = goes s m _ (λ e. cc)
-called_waits Other s m = goes s m _ (λ e. cc)
+called_waits ConsoleStatus system s m = goes s m _ (λ e. cc)
+called_waits Version system s m = goes s m _ (λ e. cc)
+called_waits ResetDisks system s m = goes s m _ (λ e. cc)
+called_waits SelectDisk system s m = goes s m _ (goes_select_disk system s m)
+called_waits (File f) system s m = goes s m _ (goes_file_function f system s m)
+called_waits LoginVector system s m = goes s m _ (λ e. cc)
+called_waits CurrentDisk system s m = goes s m _ (λ e. cc)
+called_waits SetBuffer system s m = goes s m _ (λ e. cc)
+called_waits AllocationVector system s m = goes s m _ (goes_give_allocation system s m)
+called_waits ProtectDisk system s m = goes s m _ (λ e. cc)
+called_waits ReadOnlyVector system s m = goes s m _ (λ e. cc)
+called_waits DiskParameters system s m = goes s m _ (λ e. cc)
+called_waits UserCode system s m = goes s m _ (goes_user_code s m)
+called_waits ResetDrives system s m = goes s m _ (λ e. cc)
+called_waits Other system s m = goes s m _ (λ e. cc)
 
 -- ---- the BIOS
 
@@ -132,18 +207,26 @@ is_input : BiosCall → Bool
 is_input entry.ConsoleInput = true
 is_input _ = false
 
-bios_called_waits : (call : BiosCall) (s : Session) (m : Contents) → IsWait (is_input call && not (is_some (first_key s))) s m (bios_called call s m)
+bios_called_waits : (call : BiosCall) (system : Disk) (s : Session) (m : Contents) → IsWait (is_input call && not (is_some (first_key s))) s m (bios_called call system s m)
 unfolding is_input
-bios_called_waits entry.Boot s m = goes s m _ (λ e. cc)
-bios_called_waits entry.WarmBoot s m = goes s m _ (λ e. cc)
-bios_called_waits entry.ConsoleStatus s m = goes s m _ (λ e. cc)
-bios_called_waits entry.ConsoleInput s m = console_input_waits (first_key s) s m
-bios_called_waits entry.ConsoleOutput s m = goes s m _ (λ e. cc)
-bios_called_waits entry.List s m = goes s m _ (λ e. cc)
-bios_called_waits entry.Punch s m = goes s m _ (λ e. cc)
-bios_called_waits entry.Reader s m = goes s m _ (λ e. cc)
-bios_called_waits entry.ListStatus s m = goes s m _ (λ e. cc)
-bios_called_waits entry.Other s m = goes s m _ (λ e. cc)
+bios_called_waits entry.Boot system s m = goes s m _ (λ e. cc)
+bios_called_waits entry.WarmBoot system s m = goes s m _ (λ e. cc)
+bios_called_waits entry.ConsoleStatus system s m = goes s m _ (λ e. cc)
+bios_called_waits entry.ConsoleInput system s m = console_input_waits (first_key s) s m
+bios_called_waits entry.ConsoleOutput system s m = goes s m _ (λ e. cc)
+bios_called_waits entry.List system s m = goes s m _ (λ e. cc)
+bios_called_waits entry.Punch system s m = goes s m _ (λ e. cc)
+bios_called_waits entry.Reader system s m = goes s m _ (λ e. cc)
+bios_called_waits entry.Home system s m = goes s m _ (λ e. cc)
+bios_called_waits entry.SelectDisk system s m = goes s m _ (goes_select_drive s m)
+bios_called_waits entry.SetTrack system s m = goes s m _ (λ e. cc)
+bios_called_waits entry.SetSector system s m = goes s m _ (λ e. cc)
+bios_called_waits entry.SetBuffer system s m = goes s m _ (λ e. cc)
+bios_called_waits entry.Read system s m = goes s m _ (goes_read_sector system s m)
+bios_called_waits entry.Write system s m = goes s m _ (goes_write_sector s m)
+bios_called_waits entry.ListStatus system s m = goes s m _ (λ e. cc)
+bios_called_waits entry.SectorTranslate system s m = goes s m _ (goes_translate s m)
+bios_called_waits entry.Other system s m = goes s m _ (λ e. cc)
 
 input_if : (b : Bool) (x y : BiosCall) → is_input x ≡ false → is_input y ≡ false → is_input (if b then x else y) ≡ false
 input_if true x y hx hy = hx
@@ -156,11 +239,11 @@ input-is n = by_three (n == 3) refl
     by_three : (b : Bool) → (n == 3) ≡ b → is_input (bios_call_of n) ≡ b
     by_three true e = let three : n ≡ 3 = grind (arith, nat_tests) in rw three refl
     by_three false e =
-        rw e (input_if (n == 0) _ _ refl (input_if (n == 1) _ _ refl (input_if (n == 2) _ _ refl (input_if (n == 4) _ _ refl (input_if (n == 5) _ _ refl (input_if (n == 6) _ _ refl (input_if (n == 7) _ _ refl (input_if (n == 15) _ _ refl refl))))))))
+        rw e (input_if (n == 0) _ _ refl (input_if (n == 1) _ _ refl (input_if (n == 2) _ _ refl (input_if (n == 4) _ _ refl (input_if (n == 5) _ _ refl (input_if (n == 6) _ _ refl (input_if (n == 7) _ _ refl (input_if (n == 8) _ _ refl (input_if (n == 9) _ _ refl (input_if (n == 10) _ _ refl (input_if (n == 11) _ _ refl (input_if (n == 12) _ _ refl (input_if (n == 13) _ _ refl (input_if (n == 14) _ _ refl (input_if (n == 15) _ _ refl (input_if (n == 16) _ _ refl refl))))))))))))))))
 
-bios_waits : (n : ℕ) (s : Session) (m : Contents) → IsWait ((n == 3) && not (is_some (first_key s))) s m (bios n s m)
-bios_waits n s m =
-    subst (λ b. IsWait (b && not (is_some (first_key s))) s m (bios n s m)) (input-is n) (bios_called_waits (bios_call_of n) s m)
+bios_waits : (n : ℕ) (system : Disk) (s : Session) (m : Contents) → IsWait ((n == 3) && not (is_some (first_key s))) s m (bios n system s m)
+bios_waits n system s m =
+    subst (λ b. IsWait (b && not (is_some (first_key s))) s m (bios n system s m)) (input-is n) (bios_called_waits (bios_call_of n) system s m)
 
 -- ---- by the mode
 
@@ -172,33 +255,45 @@ waits_of : (waits : Bool) (s : Session) (m : Contents) (d : Did) → IsWait wait
 waits_of waits s m d h =
     (λ e. ap Some (h.changes_nothing e), λ e x is w. (let same : d ≡ x = cc in h.elsewhere e (ap (λ (y : Did). y.went) same ∙ w)))
 
-waits_in_call : (mode : Mode) (waits : Bool) (s : Session) (m : Contents) → s.mode ≡ mode → IsWait waits s m (in_mode mode s m) → IsWaitOf waits s m (Some (bdos s m))
-waits_in_call mode waits s m is h =
-    waits_of waits s m (bdos s m) (subst (λ (n : Mode). IsWait waits s m (in_mode n s m)) (sym is) h)
+waits_in_call : (mode : Mode) (waits : Bool) (system : Disk) (s : Session) (m : Contents) → s.mode ≡ mode → IsWait waits s m (in_mode mode system s m) → IsWaitOf waits s m (Some (bdos system s m))
+waits_in_call mode waits system s m is h =
+    waits_of waits s m (bdos system s m) (subst (λ (n : Mode). IsWait waits s m (in_mode n system s m)) (sym is) h)
 
-waits_in_program : (s : Session) (m : Contents) → s.mode ≡ Program → IsWaitOf (needs_key Program s m && not (is_some (first_key s))) s m (call_in Program s m)
-waits_in_program s m is = by_bdos (s.regs.pc == 60422) refl
+waits_in_program : (system : Disk) (s : Session) (m : Contents) → s.mode ≡ Program → IsWaitOf (needs_key Program s m && not (is_some (first_key s))) s m (call_in Program system s m)
+waits_in_program system s m is = by_bdos (s.regs.pc == 60422) refl
   where
-    by_range : (b : Bool) → (nat_le 64256 s.regs.pc && nat_le s.regs.pc 64272) ≡ b → IsWaitOf ((s.regs.pc == 64259) && not (is_some (first_key s))) s m (if b then Some (bios (s.regs.pc - 64256) s m) else None)
+    by_range : (b : Bool) → (nat_le 64256 s.regs.pc && nat_le s.regs.pc 64272) ≡ b → IsWaitOf ((s.regs.pc == 64259) && not (is_some (first_key s))) s m (if b then Some (bios (s.regs.pc - 64256) system s m) else None)
     by_range true e =
         let same : (s.regs.pc - 64256 == 3) ≡ (s.regs.pc == 64259) = grind (arith, nat_tests) in
-        waits_of _ s m (bios (s.regs.pc - 64256) s m) (subst (λ b. IsWait (b && not (is_some (first_key s))) s m (bios (s.regs.pc - 64256) s m)) same (bios_waits (s.regs.pc - 64256) s m))
+        waits_of _ s m (bios (s.regs.pc - 64256) system s m) (subst (λ b. IsWait (b && not (is_some (first_key s))) s m (bios (s.regs.pc - 64256) system s m)) same (bios_waits (s.regs.pc - 64256) system s m))
     by_range false e =
         let far : (s.regs.pc == 64259) ≡ false = grind (arith, nat_tests) in
         rw far (λ w. absurd cc, λ w d is. absurd cc)
 
-    by_bdos : (b : Bool) → (s.regs.pc == 60422) ≡ b → IsWaitOf ((if b then function_needs_key (function_of s.regs.c) s m else s.regs.pc == 64259) && not (is_some (first_key s))) s m (if b then Some (bdos s m) else if nat_le 64256 s.regs.pc && nat_le s.regs.pc 64272 then Some (bios (s.regs.pc - 64256) s m) else None)
-    by_bdos true e = waits_in_call Program _ s m is (called_waits (function_of s.regs.c) s m)
+    by_bdos : (b : Bool) → (s.regs.pc == 60422) ≡ b → IsWaitOf ((if b then function_needs_key (function_of s.regs.c) s m else s.regs.pc == 64259) && not (is_some (first_key s))) s m (if b then Some (bdos system s m) else if nat_le 64256 s.regs.pc && nat_le s.regs.pc 64272 then Some (bios (s.regs.pc - 64256) system s m) else None)
+    by_bdos true e = waits_in_call Program _ system s m is (called_waits (function_of s.regs.c) system s m)
     by_bdos false e = by_range (nat_le 64256 s.regs.pc && nat_le s.regs.pc 64272) refl
 
-waits_in : (mode : Mode) (s : Session) (m : Contents) → s.mode ≡ mode → IsWaitOf (needs_key mode s m && not (is_some (first_key s))) s m (call_in mode s m)
-waits_in Program s m is = waits_in_program s m is
-waits_in (Text address) s m is =
-    waits_in_call (Text address) false s m is (goes s m _ (goes_write_text (held.Text address) s m address))
-waits_in Line s m is = waits_in_call Line _ s m is (edit_line_waits s.line s m)
-waits_in (Hold h) s m is = waits_in_call (Hold h) _ s m is (release_waits h (first_key s) s m)
-waits_in Fault s m is = waits_in_call Fault _ s m is (after_fault_waits (first_key s) s m)
+-- nothing is said of a part of the command processor
+abbrev IsWaitIn : Mode → Bool → Session → Contents → Option Did → Type 0
+IsWaitIn mode waits s m call =
+    (waits ≡ true → is_command mode ≡ false → call ≡ Some (did s m Waits)) × (waits ≡ false → (d : Did) → call ≡ Some d → d.went ≡ Waits → ⊥)
+
+wait_in : (mode : Mode) (waits : Bool) (s : Session) (m : Contents) (call : Option Did) → IsWaitOf waits s m call → IsWaitIn mode waits s m call
+wait_in mode waits s m call h = (λ e _. h.0 e, h.1)
+
+waits_in : (mode : Mode) (system : Disk) (s : Session) (m : Contents) → s.mode ≡ mode → IsWaitIn mode (needs_key mode s m && not (is_some (first_key s))) s m (call_in mode system s m)
+waits_in Program system s m is = wait_in Program _ s m _ (waits_in_program system s m is)
+waits_in (Text address) system s m is =
+    wait_in (Text address) _ s m _ (waits_in_call (Text address) false system s m is (goes s m _ (goes_write_text (held.Text address) s m address)))
+waits_in Line system s m is = wait_in Line _ s m _ (waits_in_call Line _ system s m is (edit_line_waits s.line s m))
+waits_in (Hold h) system s m is = wait_in (Hold h) _ s m _ (waits_in_call (Hold h) _ system s m is (release_waits h (first_key s) s m))
+waits_in Fault system s m is = wait_in Fault _ s m _ (waits_in_call Fault _ system s m is (after_fault_waits (first_key s) s m))
+waits_in (Command part) system s m is = (λ e never. absurd cc, λ e d call. absurd cc)
 
 -- a step waits exactly where it needs a key and finds none
 pub IsWaiting-now : (s : Session) (m : Contents) → IsWaiting (is_waiting s m) s m
-IsWaiting-now s m = let h = waits_in s.mode s m refl in record { changes_nothing = h.0; elsewhere = h.1 }
+IsWaiting-now s m = record {
+  changes_nothing = λ e call system. (waits_in s.mode system s m refl).0 e call;
+  elsewhere = λ e system. (waits_in s.mode system s m refl).1 e;
+}

@@ -1,12 +1,13 @@
 -- A step does the same whatever output waits.
-use Rattle.std.proofs.Common.{◌≡◌, ℕ, Bool, true, false, List, [], ◌∷◌, refl, ap, ◌∙◌, Option, Some, None}
-use Rattle.std.specs.Prelude.{if◌then◌else◌, ◌==◌}
+use Rattle.std.proofs.Common.{◌≡◌, ℕ, Bool, true, false, List, [], ◌∷◌, refl, ap, ◌∙◌, Option, Some, None, Result, Ok, Err}
+use Rattle.std.specs.Prelude.{if◌then◌else◌, ◌==◌, slice_index}
+use Rattle.cpm_geom.specs.Disk.{Disk}
 use Rattle.cpm_console.specs.Terminal.{Terminal, expanded, key_read}
 use Rattle.cpm_console.specs.Draft.{Draft}
 use Rattle.cpm_console.specs.Editing.{Edited, begun, key_into_line}
 use Rattle.cpm_console.specs.declared.line.Progress.{Progress}
 use Rattle.cpm_console.specs.declared.line.Progress.TheVariants as line
-use Rattle.cpm_memory.specs.Contents.{Contents, byte_at, next}
+use Rattle.cpm_memory.specs.Contents.{Contents, byte_at, next, run_at}
 use Rattle.cpm_bdos.specs.Registers.{de_of}
 use Rattle.cpm_bdos.specs.Function.{function_of, bios_call_of}
 use Rattle.cpm_bdos.specs.Behind.{session_behind, did_behind}
@@ -17,17 +18,26 @@ use Rattle.cpm_bdos.specs.Output.{wrote, showed, listed, write_byte, write_text}
 use Rattle.cpm_bdos.specs.Input.{is_echoed, read_key, direct_console}
 use Rattle.cpm_bdos.specs.ReadLine.{is_open, line_ended, after_key, with_edited, edited_with, take_key, no_more, edit_line}
 use Rattle.cpm_bdos.specs.Faults.{fault_text, faulted, after_fault}
+use Rattle.cpm_disks.specs.declared.disks.Disks.{Disks}
+use Rattle.cpm_disks.specs.declared.function.FileFunction.{FileFunction}
+use Rattle.cpm_disks.specs.Disks.{is_there}
+use Rattle.cpm_disks.specs.Selecting.{select}
+use Rattle.cpm_disks.specs.Calls.{drive_named}
+use Rattle.cpm_disks.specs.Sectors.{sector_read, sector_written}
+use Rattle.cpm_bdos.specs.Disks.{by_answer, with_disks, fcb_size, record_size, call_stored, file_function, select_disk, give_allocation, user_code}
+use Rattle.cpm_bdos.specs.BiosDisks.{sector_got, sector_put, select_drive, read_sector, write_sector, translate}
+use Rattle.cpm_bdos.proofs.DriveCalls.{call_of}
 use Rattle.cpm_bdos.specs.Step.{called, in_mode, bdos, console_input, bios_called, bios}
 use Rattle.cpm_bdos.specs.declared.function.Function.{Function}
-use Rattle.cpm_bdos.specs.declared.function.Function.TheVariants.{WarmBoot, ReadKey, WriteByte, ReaderInput, PunchOutput, ListOutput, DirectConsole, GetIoByte, SetIoByte, WriteText, ReadLine, ConsoleStatus, Version, Other}
+use Rattle.cpm_bdos.specs.declared.function.Function.TheVariants.{WarmBoot, ReadKey, WriteByte, ReaderInput, PunchOutput, ListOutput, DirectConsole, GetIoByte, SetIoByte, WriteText, ReadLine, ConsoleStatus, Version, ResetDisks, SelectDisk, File, LoginVector, CurrentDisk, SetBuffer, AllocationVector, ProtectDisk, ReadOnlyVector, DiskParameters, UserCode, ResetDrives, Other}
 use Rattle.cpm_bdos.specs.declared.function.BiosCall.{BiosCall}
 use Rattle.cpm_bdos.specs.declared.function.BiosCall.TheVariants as entry
-use Rattle.cpm_bdos.specs.declared.fault.Fault.{Fault}
+use Rattle.cpm_files.specs.declared.answer.Fault.{Fault}
 use Rattle.cpm_bdos.specs.declared.session.Session.{Session}
 use Rattle.cpm_bdos.specs.declared.session.Held.{Held}
 use Rattle.cpm_bdos.specs.declared.session.Held.TheVariants as held
 use Rattle.cpm_bdos.specs.declared.session.Mode.{Mode}
-use Rattle.cpm_bdos.specs.declared.session.Mode.TheVariants.{Program, Text, Line, Hold, Fault as FaultMode}
+use Rattle.cpm_bdos.specs.declared.session.Mode.TheVariants.{Program, Text, Line, Hold, Fault as FaultMode, Command}
 use Rattle.cpm_bdos.specs.declared.session.Went.TheVariants.{GoesOn}
 use Rattle.cpm_bdos.proofs.ConsoleBehind.{said-behind, shown-behind, printed-behind, key_into_line-behind}
 
@@ -96,49 +106,122 @@ module _ (p q : List ℕ) where
   faulted-behind f drive s m =
       ap (λ (t : Terminal). did (record s { console = t; mode = FaultMode }) m GoesOn) (shown-behind p q s.console (fault_text f drive))
 
-  called-behind : (f : Function) (s : Session) (m : Contents) → called f (session_behind p q s) m ≡ did_behind p q (called f s m)
-  called-behind WarmBoot s m = refl
-  called-behind ReadKey s m = read_key-behind (first_key s) s m
-  called-behind WriteByte s m = write_byte-behind s m
-  called-behind ReaderInput s m = refl
-  called-behind PunchOutput s m = refl
-  called-behind ListOutput s m = ap (λ (t : Session). answered t m 0) (listed-behind s s.regs.e)
-  called-behind DirectConsole s m = direct_console-behind s.regs.e s m
-  called-behind GetIoByte s m = refl
-  called-behind SetIoByte s m = refl
-  called-behind WriteText s m = write_text-behind held.Call s m (de_of s.regs)
-  called-behind ReadLine s m = edit_line-behind (begun s.console.column (byte_at m (de_of s.regs))) s m
-  called-behind ConsoleStatus s m = refl
-  called-behind Version s m = refl
-  called-behind Other s m = refl
+  by_answer-behind : (a : Result ℕ Fault) (drive : ℕ) (s : Session) (m : Contents) → by_answer a drive (session_behind p q s) m ≡ did_behind p q (by_answer a drive s m)
+  by_answer-behind (Ok code) drive s m = refl
+  by_answer-behind (Err which) drive s m = faulted-behind which drive s m
 
-  in_mode-behind : (mode : Mode) (s : Session) (m : Contents) → in_mode mode (session_behind p q s) m ≡ did_behind p q (in_mode mode s m)
-  in_mode-behind Program s m = called-behind (function_of s.regs.c) s m
-  in_mode-behind (Text address) s m = write_text-behind (held.Text address) s m address
-  in_mode-behind Line s m = edit_line-behind s.line s m
-  in_mode-behind (Hold h) s m = release-behind h (first_key s) s m
-  in_mode-behind FaultMode s m = after_fault-behind (first_key s) s m
+  file_function-behind : (f : FileFunction) (system : Disk) (s : Session) (m : Contents) → file_function f system (session_behind p q s) m ≡ did_behind p q (file_function f system s m)
+  unfolding file_function
+  file_function-behind f system s m =
+      let c = call_of f system s m in
+      let at = de_of s.regs in
+      let old = run_at m at fcb_size in
+      by_answer-behind c.answer (drive_named s.disks (slice_index old 0)) (with_disks s c.disks) (call_stored m s.buffer at old c)
+
+  select_disk-behind : (system : Disk) (s : Session) (m : Contents) → select_disk system (session_behind p q s) m ≡ did_behind p q (select_disk system s m)
+  unfolding select_disk
+  select_disk-behind system s m =
+      let c = select s.disks system s.regs.e in
+      by_answer-behind c.answer s.regs.e (with_disks s c.disks) m
+
+  give_allocation-behind : (system : Disk) (s : Session) (m : Contents) → give_allocation system (session_behind p q s) m ≡ did_behind p q (give_allocation system s m)
+  unfolding give_allocation
+  give_allocation-behind system s m = refl
+
+  user_code-behind : (s : Session) (m : Contents) → user_code (session_behind p q s) m ≡ did_behind p q (user_code s m)
+  unfolding user_code
+  user_code-behind s m = did-if (s.regs.e == 255) _ _ _ _ refl refl
+
+  called-behind : (f : Function) (system : Disk) (s : Session) (m : Contents) → called f system (session_behind p q s) m ≡ did_behind p q (called f system s m)
+  called-behind WarmBoot system s m = refl
+  called-behind ReadKey system s m = read_key-behind (first_key s) s m
+  called-behind WriteByte system s m = write_byte-behind s m
+  called-behind ReaderInput system s m = refl
+  called-behind PunchOutput system s m = refl
+  called-behind ListOutput system s m = ap (λ (t : Session). answered t m 0) (listed-behind s s.regs.e)
+  called-behind DirectConsole system s m = direct_console-behind s.regs.e s m
+  called-behind GetIoByte system s m = refl
+  called-behind SetIoByte system s m = refl
+  called-behind WriteText system s m = write_text-behind held.Call s m (de_of s.regs)
+  called-behind ReadLine system s m = edit_line-behind (begun s.console.column (byte_at m (de_of s.regs))) s m
+  called-behind ConsoleStatus system s m = refl
+  called-behind Version system s m = refl
+  called-behind ResetDisks system s m = refl
+  called-behind SelectDisk system s m = select_disk-behind system s m
+  called-behind (File f) system s m = file_function-behind f system s m
+  called-behind LoginVector system s m = refl
+  called-behind CurrentDisk system s m = refl
+  called-behind SetBuffer system s m = refl
+  called-behind AllocationVector system s m = give_allocation-behind system s m
+  called-behind ProtectDisk system s m = refl
+  called-behind ReadOnlyVector system s m = refl
+  called-behind DiskParameters system s m = refl
+  called-behind UserCode system s m = user_code-behind s m
+  called-behind ResetDrives system s m = refl
+  called-behind Other system s m = refl
+
+  in_mode-behind : (mode : Mode) (system : Disk) (s : Session) (m : Contents) → in_mode mode system (session_behind p q s) m ≡ did_behind p q (in_mode mode system s m)
+  in_mode-behind Program system s m = called-behind (function_of s.regs.c) system s m
+  in_mode-behind (Text address) system s m = write_text-behind (held.Text address) s m address
+  in_mode-behind Line system s m = edit_line-behind s.line s m
+  in_mode-behind (Hold h) system s m = release-behind h (first_key s) s m
+  in_mode-behind FaultMode system s m = after_fault-behind (first_key s) s m
+  in_mode-behind (Command part) system s m = refl
 
   -- a step of the BDOS does the same whatever output waits, and shows its own behind it
-  pub bdos-behind : (s : Session) (m : Contents) → bdos (session_behind p q s) m ≡ did_behind p q (bdos s m)
-  bdos-behind s m = in_mode-behind s.mode s m
+  pub bdos-behind : (system : Disk) (s : Session) (m : Contents) → bdos system (session_behind p q s) m ≡ did_behind p q (bdos system s m)
+  bdos-behind system s m = in_mode-behind s.mode system s m
 
   console_input-behind : (k : Option ℕ) (s : Session) (m : Contents) → console_input k (session_behind p q s) m ≡ did_behind p q (console_input k s m)
   console_input-behind None s m = refl
   console_input-behind (Some k) s m = refl
 
-  bios_called-behind : (call : BiosCall) (s : Session) (m : Contents) → bios_called call (session_behind p q s) m ≡ did_behind p q (bios_called call s m)
-  bios_called-behind entry.Boot s m = refl
-  bios_called-behind entry.WarmBoot s m = refl
-  bios_called-behind entry.ConsoleStatus s m = refl
-  bios_called-behind entry.ConsoleInput s m = console_input-behind (first_key s) s m
-  bios_called-behind entry.ConsoleOutput s m = ap (λ (t : Session). returned t m) (showed-behind s s.regs.c)
-  bios_called-behind entry.List s m = ap (λ (t : Session). returned t m) (listed-behind s s.regs.c)
-  bios_called-behind entry.Punch s m = refl
-  bios_called-behind entry.Reader s m = refl
-  bios_called-behind entry.ListStatus s m = refl
-  bios_called-behind entry.Other s m = refl
+  select_drive-behind : (s : Session) (m : Contents) → select_drive (session_behind p q s) m ≡ did_behind p q (select_drive s m)
+  unfolding select_drive
+  select_drive-behind s m = did-if (is_there s.disks s.regs.c) _ _ _ _ refl refl
+
+  sector_got-behind : (got : Option (List ℕ)) (s : Session) (m : Contents) → sector_got got (session_behind p q s) m ≡ did_behind p q (sector_got got s m)
+  sector_got-behind None s m = refl
+  sector_got-behind (Some bytes) s m = refl
+
+  read_sector-behind : (system : Disk) (s : Session) (m : Contents) → read_sector system (session_behind p q s) m ≡ did_behind p q (read_sector system s m)
+  unfolding read_sector
+  read_sector-behind system s m =
+      sector_got-behind (sector_read s.disks system s.place.drive s.place.track s.place.sector) s m
+
+  sector_put-behind : (put : Option Disks) (s : Session) (m : Contents) → sector_put put (session_behind p q s) m ≡ did_behind p q (sector_put put s m)
+  sector_put-behind None s m = refl
+  sector_put-behind (Some disks) s m = refl
+
+  write_sector-behind : (s : Session) (m : Contents) → write_sector (session_behind p q s) m ≡ did_behind p q (write_sector s m)
+  unfolding write_sector
+  write_sector-behind s m =
+      sector_put-behind (sector_written s.disks s.place.drive s.place.track s.place.sector (run_at m s.place.buffer record_size)) s m
+
+  translate-behind : (s : Session) (m : Contents) → translate (session_behind p q s) m ≡ did_behind p q (translate s m)
+  unfolding translate
+  translate-behind s m = refl
+
+  bios_called-behind : (call : BiosCall) (system : Disk) (s : Session) (m : Contents) → bios_called call system (session_behind p q s) m ≡ did_behind p q (bios_called call system s m)
+  bios_called-behind entry.Boot system s m = refl
+  bios_called-behind entry.WarmBoot system s m = refl
+  bios_called-behind entry.ConsoleStatus system s m = refl
+  bios_called-behind entry.ConsoleInput system s m = console_input-behind (first_key s) s m
+  bios_called-behind entry.ConsoleOutput system s m = ap (λ (t : Session). returned t m) (showed-behind s s.regs.c)
+  bios_called-behind entry.List system s m = ap (λ (t : Session). returned t m) (listed-behind s s.regs.c)
+  bios_called-behind entry.Punch system s m = refl
+  bios_called-behind entry.Reader system s m = refl
+  bios_called-behind entry.Home system s m = refl
+  bios_called-behind entry.SelectDisk system s m = select_drive-behind s m
+  bios_called-behind entry.SetTrack system s m = refl
+  bios_called-behind entry.SetSector system s m = refl
+  bios_called-behind entry.SetBuffer system s m = refl
+  bios_called-behind entry.Read system s m = read_sector-behind system s m
+  bios_called-behind entry.Write system s m = write_sector-behind s m
+  bios_called-behind entry.ListStatus system s m = refl
+  bios_called-behind entry.SectorTranslate system s m = translate-behind s m
+  bios_called-behind entry.Other system s m = refl
 
   -- and so does a call of the BIOS
-  pub bios-behind : (number : ℕ) (s : Session) (m : Contents) → bios number (session_behind p q s) m ≡ did_behind p q (bios number s m)
-  bios-behind number s m = bios_called-behind (bios_call_of number) s m
+  pub bios-behind : (number : ℕ) (system : Disk) (s : Session) (m : Contents) → bios number system (session_behind p q s) m ≡ did_behind p q (bios number system s m)
+  bios-behind number system s m = bios_called-behind (bios_call_of number) system s m

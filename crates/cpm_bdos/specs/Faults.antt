@@ -4,8 +4,8 @@ use Rattle.cpm_console.specs.Terminal.{shown}
 use Rattle.cpm_memory.specs.Contents.{Contents}
 use Rattle.cpm_bdos.specs.Did.{Did, did, rebooted}
 use Rattle.cpm_bdos.specs.Keys.{took_key}
-use Rattle.cpm_bdos.specs.declared.fault.Fault.{Fault}
-use Rattle.cpm_bdos.specs.declared.fault.Fault.TheVariants.{BadSector, Select, FileReadOnly, ReadOnly}
+use Rattle.cpm_files.specs.declared.answer.Fault.{Fault}
+use Rattle.cpm_files.specs.declared.answer.Fault.TheVariants.{BadSector, Select, FileReadOnly, ReadOnly}
 use Rattle.cpm_bdos.specs.declared.session.Session.{Session}
 use Rattle.cpm_bdos.specs.declared.session.Mode.TheVariants as mode
 use Rattle.cpm_bdos.specs.declared.session.Went.TheVariants.{Waits, GoesOn}

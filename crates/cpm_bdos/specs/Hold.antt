@@ -8,7 +8,7 @@ use Rattle.cpm_bdos.specs.declared.session.Session.{Session}
 use Rattle.cpm_bdos.specs.declared.session.Held.{Held}
 use Rattle.cpm_bdos.specs.declared.session.Held.TheVariants as held
 use Rattle.cpm_bdos.specs.declared.session.Mode.{Mode}
-use Rattle.cpm_bdos.specs.declared.session.Mode.TheVariants.{Program, Text, Hold}
+use Rattle.cpm_bdos.specs.declared.session.Mode.TheVariants.{Program, Text, Hold, Command}
 use Rattle.cpm_bdos.specs.declared.session.Went.TheVariants.{Waits, GoesOn}
 
 -- ^S is the key that is read next
@@ -23,10 +23,11 @@ stopped s held = record s { console = key_read s.console; mode = Hold held }
 abbrev pub held_at : Held → Session → Contents → Did
 held_at held s m = did (stopped s held) m GoesOn
 
--- own: what was held begins anew, its look for ^S included: the call from its registers, or the text from its address
+-- own: what was held begins anew, its look for ^S included: the call from its registers, the text from its address, or the part of the command processor
 abbrev pub resumed : Held → Mode
 resumed held.Call = Program
 resumed (held.Text next) = Text next
+resumed (held.Command part) = Command part
 
 -- own: the next key ends the hold, ^C with a warm boot
 abbrev pub release : Held → Option ℕ → Session → Contents → Did

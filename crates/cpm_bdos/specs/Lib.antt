@@ -7,6 +7,8 @@ pub mod Output
 pub mod Input
 pub mod ReadLine
 pub mod Faults
+pub mod Disks
+pub mod BiosDisks
 pub mod Step
 pub mod Waiting
 pub mod Bounds

@@ -36,6 +36,14 @@ de_of regs = 256 * regs.d + regs.e
 abbrev pub with_result : Regs → ℕ → Regs
 with_result regs value = record regs { h = value / 256; l = value % 256; a = value % 256; b = value / 256 }
 
+-- the pair BC
+abbrev pub bc_of : Regs → ℕ
+bc_of regs = 256 * regs.b + regs.c
+
+-- a word left in HL
+abbrev pub with_hl : Regs → ℕ → Regs
+with_hl regs value = record regs { h = value / 256; l = value % 256 }
+
 -- a byte left in A
 abbrev pub with_a : Regs → ℕ → Regs
 with_a regs value = record regs { a = value }

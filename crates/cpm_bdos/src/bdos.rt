@@ -12,57 +12,63 @@ ghost use Rattle.cpm_bdos.specs.Behind.{session_behind, did_behind};
 use crate::function::Function;
 use crate::registers::pair_de;
 use crate::session::{Held, Mode, Session, Went};
+use cpm_geom::Image;
 use cpm_memory::{Memory, change_run};
 
 /// Where the I/O byte lies.
 const IO_BYTE: u16 = 0x0003;
+
+/// Where the disk parameter block lies.
+const DISK_PARAMETERS: u16 = 0xFC20;
 
 /// What the reader gives: the end of a text.
 pub(crate) const READER_BYTE: u8 = 0x1A;
 
 impl Session {
     /// One step of the call in progress, or the first step of the one that the registers ask for. A call that ends
-    /// returns to the program, or boots the session anew. Both devices must have room for 4,096 bytes.
-    pub fn bdos_step<M: Memory>(&mut self, memory: &mut M) -> Went
+    /// returns to the program, or boots the session anew. The system drive is lent. Both devices must have room for
+    /// 4,096 bytes.
+    pub fn bdos_step<M: Memory>(&mut self, memory: &mut M, system: &Image) -> Went
         requires screen { length self.old.console.screen ≤ 4096 }
         requires printer { length self.old.console.printer ≤ 4096 }
         requires room { HasRoom (M.contents memory.old) }
-        ensures step { did self.new (M.contents memory.new) result ≡ bdos self.old (M.contents memory.old) }
+        ensures step { did self.new (M.contents memory.new) result ≡ bdos system.now self.old (M.contents memory.old) }
         ensures surroundings { M.surroundings memory.new ≡ M.surroundings memory.old }
         ensures leads { M.Leads memory.old memory.new }
         ensures bounds { IsBounded self.old (M.contents memory.old) (did self.new (M.contents memory.new) result) }
 
         // Output that waits already changes nothing in a step, which shows its own behind it.
-        ensures behind { (p q : List ℕ) → bdos (session_behind p q self.old) (M.contents memory.old) ≡ did_behind p q (did self.new (M.contents memory.new) result) }
+        ensures behind { (p q : List ℕ) → bdos system.now (session_behind p q self.old) (M.contents memory.old) ≡ did_behind p q (did self.new (M.contents memory.new) result) }
     {
         self.numbers_fit();
-        self.call_step(memory)
+        self.call_step(memory, system)
     }
 
     /// One step, by the mode.
-    fn call_step<M: Memory>(&mut self, memory: &mut M) -> Went
+    fn call_step<M: Memory>(&mut self, memory: &mut M, system: &Image) -> Went
         requires screen { length self.old.console.screen ≤ 4096 }
         requires printer { length self.old.console.printer ≤ 4096 }
         requires room { HasRoom (M.contents memory.old) }
-        ensures step { did self.new (M.contents memory.new) result ≡ bdos self.old (M.contents memory.old) }
+        ensures step { did self.new (M.contents memory.new) result ≡ bdos system.now self.old (M.contents memory.old) }
         ensures surroundings { M.surroundings memory.new ≡ M.surroundings memory.old }
         ensures leads { M.Leads memory.old memory.new }
     {
         match self.mode {
-            Mode::Program => self.call(memory),
+            Mode::Program => self.call(memory, system),
             Mode::Text { next } => self.write_text(memory, next, Held::Text { next }),
             Mode::Line => self.edit_line(memory),
             Mode::Hold(held) => self.release(memory, held),
             Mode::Fault => self.after_fault(memory),
+            Mode::Command(_) => Went::GoesOn,
         }
     }
 
     /// The first step of a call.
-    fn call<M: Memory>(&mut self, memory: &mut M) -> Went
+    fn call<M: Memory>(&mut self, memory: &mut M, system: &Image) -> Went
         requires screen { length self.old.console.screen ≤ 4096 }
         requires printer { length self.old.console.printer ≤ 4096 }
         requires room { HasRoom (M.contents memory.old) }
-        ensures step { did self.new (M.contents memory.new) result ≡ called (function_of self.old.regs.c) self.old (M.contents memory.old) }
+        ensures step { did self.new (M.contents memory.new) result ≡ called (function_of self.old.regs.c) system.now self.old (M.contents memory.old) }
         ensures surroundings { M.surroundings memory.new ≡ M.surroundings memory.old }
         ensures leads { M.Leads memory.old memory.new }
     {
@@ -73,21 +79,27 @@ impl Session {
             Function::ReaderInput => self.answer(memory, u16::from(READER_BYTE)),
             Function::ListOutput => self.list_byte(memory),
             Function::DirectConsole => self.direct_console(memory),
-            Function::GetIoByte => {
-                let io_byte = memory.get(IO_BYTE);
-                self.answer(memory, u16::from(io_byte))
-            }
+            Function::GetIoByte => self.answer(memory, u16::from(memory.get(IO_BYTE))),
             Function::SetIoByte => self.set_io_byte(memory),
             Function::WriteText => {
                 let next = pair_de(&self.regs);
                 self.write_text(memory, next, Held::Call)
             }
             Function::ReadLine => self.read_line(memory),
-            Function::ConsoleStatus => {
-                let status = self.console_status();
-                self.answer(memory, u16::from(status))
-            }
+            Function::ConsoleStatus => self.answer(memory, u16::from(self.console_status())),
             Function::Version => self.answer(memory, 0x0022),
+            Function::ResetDisks => self.reset_disks(memory, system),
+            Function::SelectDisk => self.select_disk(memory, system),
+            Function::File(function) => self.file_function(memory, system, function),
+            Function::LoginVector => self.give_login_vector(memory),
+            Function::CurrentDisk => self.answer(memory, u16::from(self.disks.current)),
+            Function::SetBuffer => self.set_buffer(memory),
+            Function::AllocationVector => self.give_allocation(memory, system),
+            Function::ProtectDisk => self.protect_disk(memory, system),
+            Function::ReadOnlyVector => self.give_read_only_vector(memory),
+            Function::DiskParameters => self.answer(memory, DISK_PARAMETERS),
+            Function::UserCode => self.user_code(memory),
+            Function::ResetDrives => self.reset_drives(memory),
             Function::PunchOutput | Function::Other => self.answer(memory, 0),
         }
     }

@@ -5,13 +5,15 @@ ghost use Rattle.cpm_memory.specs.Room.{HasRoom};
 ghost use Rattle.cpm_bdos.specs.Did.{did, returned};
 ghost use Rattle.cpm_bdos.specs.Keys.{first_key};
 ghost use Rattle.cpm_bdos.specs.Output.{showed, listed};
-ghost use Rattle.cpm_bdos.specs.Step.{booted, returned_a, console_input, bios};
+ghost use Rattle.cpm_bdos.specs.BiosDisks.{returned_a};
+ghost use Rattle.cpm_bdos.specs.Step.{booted, console_input, bios};
 ghost use Rattle.cpm_bdos.specs.Bounds.{IsBounded};
 ghost use Rattle.cpm_bdos.specs.Behind.{session_behind, did_behind};
 
 use crate::bdos::READER_BYTE;
 use crate::function::BiosCall;
 use crate::session::{Session, Went};
+use cpm_geom::Image;
 use cpm_memory::{Memory, change_run};
 
 /// What says that the list device is ready.
@@ -20,27 +22,28 @@ const READY: u8 = 0xFF;
 impl Session {
     /// The call of the BIOS with this number. It returns to the program, boots the session anew, or waits for a key.
     /// Both devices must have room for 4,096 bytes.
-    pub fn bios_step<M: Memory>(&mut self, memory: &mut M, number: u8) -> Went
+    pub fn bios_step<M: Memory>(&mut self, memory: &mut M, system: &Image, number: u8) -> Went
         requires screen { length self.old.console.screen ≤ 4096 }
         requires printer { length self.old.console.printer ≤ 4096 }
         requires room { HasRoom (M.contents memory.old) }
-        ensures step { did self.new (M.contents memory.new) result ≡ bios number self.old (M.contents memory.old) }
+        ensures step { did self.new (M.contents memory.new) result ≡ bios number system.now self.old (M.contents memory.old) }
         ensures surroundings { M.surroundings memory.new ≡ M.surroundings memory.old }
         ensures leads { M.Leads memory.old memory.new }
         ensures bounds { IsBounded self.old (M.contents memory.old) (did self.new (M.contents memory.new) result) }
 
         // Output that waits already changes nothing in a step, which shows its own behind it.
-        ensures behind { (p q : List ℕ) → bios number (session_behind p q self.old) (M.contents memory.old) ≡ did_behind p q (did self.new (M.contents memory.new) result) }
+        ensures behind { (p q : List ℕ) → bios number system.now (session_behind p q self.old) (M.contents memory.old) ≡ did_behind p q (did self.new (M.contents memory.new) result) }
     {
-        self.bios_call(memory, number)
+        self.numbers_fit();
+        self.bios_call(memory, system, number)
     }
 
     /// A call of the BIOS.
-    fn bios_call<M: Memory>(&mut self, memory: &mut M, number: u8) -> Went
+    fn bios_call<M: Memory>(&mut self, memory: &mut M, system: &Image, number: u8) -> Went
         requires screen { length self.old.console.screen ≤ 4096 }
         requires printer { length self.old.console.printer ≤ 4096 }
         requires room { HasRoom (M.contents memory.old) }
-        ensures step { did self.new (M.contents memory.new) result ≡ bios number self.old (M.contents memory.old) }
+        ensures step { did self.new (M.contents memory.new) result ≡ bios number system.now self.old (M.contents memory.old) }
         ensures surroundings { M.surroundings memory.new ≡ M.surroundings memory.old }
         ensures leads { M.Leads memory.old memory.new }
     {
@@ -55,6 +58,14 @@ impl Session {
             BiosCall::ConsoleOutput => self.console_output(memory),
             BiosCall::List => self.list(memory),
             BiosCall::Reader => self.return_byte(memory, READER_BYTE),
+            BiosCall::Home => self.home(memory),
+            BiosCall::SelectDisk => self.select_drive(memory),
+            BiosCall::SetTrack => self.set_track(memory),
+            BiosCall::SetSector => self.set_sector(memory),
+            BiosCall::SetBuffer => self.set_sector_buffer(memory),
+            BiosCall::Read => self.read_sector(memory, system),
+            BiosCall::Write => self.write_sector(memory),
+            BiosCall::SectorTranslate => self.translate(memory),
             BiosCall::ListStatus => self.return_byte(memory, READY),
             BiosCall::Punch | BiosCall::Other => self.return_from_call(memory),
         }
@@ -72,7 +83,7 @@ impl Session {
     }
 
     /// Returns with a byte in A.
-    fn return_byte<M: Memory>(&mut self, memory: &M, value: u8) -> Went
+    pub(crate) fn return_byte<M: Memory>(&mut self, memory: &M, value: u8) -> Went
         ensures { did self.new (M.contents memory.now) result ≡ returned_a self.old (M.contents memory.now) value }
     {
         self.regs.a = value;

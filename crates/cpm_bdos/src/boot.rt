@@ -39,6 +39,8 @@ impl Session {
         self.regs.sp = 0xEBFE;
         self.regs.pc = 0xE406;
         self.console.set_list_echo(false);
+        self.disks.reboot();
+        self.buffer = 0x0080;
         self.mode = Mode::Program;
         Went::Reboot
     }

@@ -9,32 +9,18 @@ ghost use Rattle.cpm_bdos.specs.Faults.{fault_name, in_fault, after_fault};
 
 use crate::session::{Mode, Session, Went};
 use cpm_console::Console;
+use cpm_files::Fault;
 use cpm_memory::Memory;
 
-/// Why a call of the disk system can't go on.
-#[derive(Clone, Copy, Debug, PartialEq, Eq)]
-pub enum Fault {
-    /// A block beyond the last one of its drive.
-    BadSector,
-    /// No such drive.
-    Select,
-    /// The file is read-only.
-    FileReadOnly,
-    /// The drive is read-only.
-    ReadOnly,
-}
-
-impl Fault {
-    /// What it is called in its message.
-    fn name(self) -> &'static [u8]
-        ensures { result.now ≡ fault_name self }
-    {
-        match self {
-            Fault::BadSector => b"Bad Sector",
-            Fault::Select => b"Select",
-            Fault::FileReadOnly => b"File R/O",
-            Fault::ReadOnly => b"R/O",
-        }
+/// What a fault is called in its message.
+fn name_of(fault: Fault) -> &'static [u8]
+    ensures { result.now ≡ fault_name fault }
+{
+    match fault {
+        Fault::BadSector => b"Bad Sector",
+        Fault::Select => b"Select",
+        Fault::FileReadOnly => b"File R/O",
+        Fault::ReadOnly => b"R/O",
     }
 }
 
@@ -51,7 +37,7 @@ impl Session {
         show_all(&mut self.console, b"\r\nBdos Err On ");
         self.console.put(b'A' + drive % 16);
         show_all(&mut self.console, b": ");
-        show_all(&mut self.console, fault.name());
+        show_all(&mut self.console, name_of(fault));
         self.mode = Mode::Fault;
         Went::GoesOn
     }

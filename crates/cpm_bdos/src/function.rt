@@ -3,6 +3,8 @@
 ghost use Rattle.std.specs.Prelude.{◌≡◌};
 ghost use Rattle.cpm_bdos.specs.Function.{function_of, bios_call_of};
 
+use cpm_disks::FileFunction;
+
 /// A function of the BDOS, called with its number in C.
 #[derive(Clone, Copy, Debug, PartialEq, Eq)]
 pub enum Function {
@@ -19,6 +21,19 @@ pub enum Function {
     ReadLine,
     ConsoleStatus,
     Version,
+    ResetDisks,
+    SelectDisk,
+    /// A function on a file control block.
+    File(FileFunction),
+    LoginVector,
+    CurrentDisk,
+    SetBuffer,
+    AllocationVector,
+    ProtectDisk,
+    ReadOnlyVector,
+    DiskParameters,
+    UserCode,
+    ResetDrives,
     /// Any number without a function of its own.
     Other,
 }
@@ -43,6 +58,32 @@ impl Function {
             10 => Function::ReadLine,
             11 => Function::ConsoleStatus,
             12 => Function::Version,
+            13 => Function::ResetDisks,
+            14 => Function::SelectDisk,
+            15 => Function::File(FileFunction::OpenFile),
+            16 => Function::File(FileFunction::CloseFile),
+            17 => Function::File(FileFunction::SearchFirst),
+            18 => Function::File(FileFunction::SearchNext),
+            19 => Function::File(FileFunction::DeleteFile),
+            20 => Function::File(FileFunction::ReadSequential),
+            21 => Function::File(FileFunction::WriteSequential),
+            22 => Function::File(FileFunction::MakeFile),
+            23 => Function::File(FileFunction::RenameFile),
+            24 => Function::LoginVector,
+            25 => Function::CurrentDisk,
+            26 => Function::SetBuffer,
+            27 => Function::AllocationVector,
+            28 => Function::ProtectDisk,
+            29 => Function::ReadOnlyVector,
+            30 => Function::File(FileFunction::SetAttributes),
+            31 => Function::DiskParameters,
+            32 => Function::UserCode,
+            33 => Function::File(FileFunction::ReadRandom),
+            34 => Function::File(FileFunction::WriteRandom),
+            35 => Function::File(FileFunction::FileSize),
+            36 => Function::File(FileFunction::SetRandomRecord),
+            37 => Function::ResetDrives,
+            40 => Function::File(FileFunction::WriteRandomZeroFill),
             _ => Function::Other,
         }
     }
@@ -59,7 +100,15 @@ pub enum BiosCall {
     List,
     Punch,
     Reader,
+    Home,
+    SelectDisk,
+    SetTrack,
+    SetSector,
+    SetBuffer,
+    Read,
+    Write,
     ListStatus,
+    SectorTranslate,
     /// Any number without a call of its own.
     Other,
 }
@@ -79,7 +128,15 @@ impl BiosCall {
             5 => BiosCall::List,
             6 => BiosCall::Punch,
             7 => BiosCall::Reader,
+            8 => BiosCall::Home,
+            9 => BiosCall::SelectDisk,
+            10 => BiosCall::SetTrack,
+            11 => BiosCall::SetSector,
+            12 => BiosCall::SetBuffer,
+            13 => BiosCall::Read,
+            14 => BiosCall::Write,
             15 => BiosCall::ListStatus,
+            16 => BiosCall::SectorTranslate,
             _ => BiosCall::Other,
         }
     }

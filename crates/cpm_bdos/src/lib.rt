@@ -3,7 +3,9 @@
 
 mod bdos;
 mod bios;
+mod bios_disks;
 mod boot;
+mod disks;
 mod fault;
 mod function;
 mod input;
@@ -13,9 +15,9 @@ mod registers;
 mod session;
 #[cfg(test)]
 mod tests;
+mod transfer;
 mod wait;
 
-pub use fault::Fault;
 pub use function::{BiosCall, Function};
-pub use session::{Held, Mode, Session, Went};
+pub use session::{CommandPart, Held, Mode, SectorPlace, Session, Went};
 pub use wait::waits;

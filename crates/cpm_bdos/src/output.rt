@@ -92,6 +92,7 @@ impl Session {
         self.mode = match held {
             Held::Call => Mode::Program,
             Held::Text { next } => Mode::Text { next },
+            Held::Command(part) => Mode::Command(part),
         };
         Went::GoesOn
     }

@@ -1,7 +1,7 @@
 //! What a call reads from the registers and leaves in them.
 
 ghost use Rattle.std.specs.Prelude.{◌≡◌, ◌+◌, ◌*◌, ◌/◌, ◌%◌};
-ghost use Rattle.cpm_bdos.specs.Registers.{at_opening, de_of, with_result, returned_to};
+ghost use Rattle.cpm_bdos.specs.Registers.{at_opening, bc_of, de_of, with_hl, with_result, returned_to};
 
 use cpm_flags::{Alternate, Flags, Regs};
 
@@ -55,6 +55,21 @@ pub fn pair_de(regs: &Regs) -> u16
     ensures { result ≡ de_of regs.now }
 {
     256 * u16::from(regs.d) + u16::from(regs.e)
+}
+
+/// The pair BC.
+pub fn pair_bc(regs: &Regs) -> u16
+    ensures { result ≡ bc_of regs.now }
+{
+    256 * u16::from(regs.b) + u16::from(regs.c)
+}
+
+/// Puts a word into HL.
+pub fn put_hl(regs: &mut Regs, value: u16)
+    ensures { regs.new ≡ with_hl regs.old value }
+{
+    regs.h = (value >> 8) as u8;
+    regs.l = (value & 0xff) as u8;
 }
 
 /// Puts a call's result into HL, A and B.

@@ -1,13 +1,13 @@
 //! Whether a session waits for a key.
 
 ghost use Rattle.std.specs.Prelude.{◌≡◌};
-ghost use Rattle.cpm_bdos.specs.Waiting.{function_needs_key, needs_key, is_waiting, IsWaiting};
+ghost use Rattle.cpm_bdos.specs.Waiting.{function_needs_key, part_needs_key, needs_key, is_waiting, IsWaiting};
 ghost use Rattle.cpm_bdos.specs.Function.{function_of};
 
 use crate::function::Function;
 use crate::line::is_open;
 use crate::registers::pair_de;
-use crate::session::{Mode, Session};
+use crate::session::{CommandPart, Mode, Session};
 use cpm_memory::Memory;
 
 /// Where a program calls the BDOS.
@@ -41,6 +41,17 @@ fn needs_key<M: Memory>(session: &Session, memory: &M) -> bool
         Mode::Text { .. } => false,
         Mode::Line => is_open(&session.line),
         Mode::Hold(_) | Mode::Fault => true,
+        Mode::Command(part) => part_needs_key(session, part),
+    }
+}
+
+/// Whether the next step of a part of the command processor needs a key.
+fn part_needs_key(session: &Session, part: CommandPart) -> bool
+    ensures { result ≡ part_needs_key part session.now }
+{
+    match part {
+        CommandPart::Line | CommandPart::Answer => is_open(&session.line),
+        _ => false,
     }
 }
 

@@ -1,5 +1,5 @@
 -- The laws of directories.
-use Rattle.std.proofs.Common.{◌≡◌, ◌≢◌, ◌⊎◌, ℕ, suc, ◌+◌, ◌*◌, ◌<◌, ◌≤◌, Bool, true, false, not, ◌&&◌, ◌||◌, eqb, ltb, List, [], ◌∷◌, length, get_or, sym, refl, ap, ◌∙◌, inl, inr, arith}
+use Rattle.std.proofs.Common.{◌≡◌, ◌≢◌, ◌⊎◌, ℕ, ◌+◌, ◌*◌, ◌<◌, ◌≤◌, true, not, ◌&&◌, ◌||◌, eqb, ltb, List, length, get_or, sym, refl, ap, ◌∙◌, inl, inr, arith}
 use Rattle.std.specs.List.{list_any}
 use Rattle.std.proofs.lemmas.List.{get_or_past}
 use Rattle.std.proofs.lemmas.List.Folds.{list_any_at}
@@ -11,7 +11,7 @@ use Rattle.cpm_geom.specs.Disk.{Disk, IsDisk, records_of, with_sector}
 use Rattle.cpm_geom.proofs.RecordLemmas.{are_listed}
 use Rattle.cpm_files.specs.declared.extent.Entry.{Entry}
 use Rattle.cpm_files.specs.Reserved.{is_reserved, is_directory_block}
-use Rattle.cpm_files.specs.Files.{deleted, no_entry, entry_at, InUse, block_number, directory_records, IsFormat}
+use Rattle.cpm_files.specs.Files.{no_entry, entry_at, InUse, block_number, directory_records, IsFormat}
 use Rattle.cpm_files.proofs.Entries.{in_use_within, any_index}
 use Rattle.cpm_files.proofs.Formats.{each_format}
 use Rattle.cpm_directory.specs.Directory.{entries_of}

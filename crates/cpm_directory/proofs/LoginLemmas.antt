@@ -1,5 +1,5 @@
--- One more entry of a drive that is logged in.
-use Rattle.std.proofs.Common.{◌≡◌, ◌≢◌, ◌<◌, ◌+◌, ◌||◌, ◌&&◌, eqb, ℕ, List, length, get_or, take, true, false, Bool, sym, refl, ◌∙◌, arith}
+-- One more entry of a drive that is logged in, or from which a file is erased.
+use Rattle.std.proofs.Common.{◌≡◌, ◌≢◌, ◌<◌, ◌+◌, ◌||◌, ◌&&◌, eqb, ℕ, List, length, get_or, take, true, false, not, Bool, sym, refl, ap, ◌∙◌, arith}
 use Rattle.std.specs.List.{list_any}
 use Rattle.std.proofs.lemmas.List.Folds.{list_any_more}
 use Rattle.std.proofs.lemmas.Bool.{ne_eqb, eq-eqb}
@@ -9,7 +9,8 @@ use Rattle.std.proofs.lemmas.List.{length-take-le, get_or-take}
 use Rattle.std.proofs.lemmas.List.FromFn.{fill_by_all}
 use Rattle.std.proofs.lemmas.Bool.{cases_eq, lt-ltb}
 use Rattle.cpm_geom.specs.declared.dpb.Dpb.{Dpb}
-use Rattle.cpm_files.specs.Reserved.{is_directory_block}
+use Rattle.cpm_files.specs.Reserved.{is_reserved, is_directory_block}
+use Rattle.cpm_files.specs.Names.{is_named, is_erased, reserved_after}
 use Rattle.cpm_directory.specs.Login.{has_block, reserved_at_login}
 
 or_assoc : (a b c : Bool) → ((a || b) || c) ≡ (a || (b || c))
@@ -39,3 +40,38 @@ logged_in d es blocks count size e small zero others =
       | inl z ↦ rw z (zero ∙ sym (or_false _))
       | inr n ↦ rw (lt-ltb 0 b (omega arith)) (others b (omega arith) (omega arith))
     ]))
+
+-- one more entry that is erased
+split : (was dir low all one : Bool) → ((was && (dir || not (low && all))) && (dir || not (low && one))) ≡ (was && (dir || not (low && (all || one))))
+split false dir low all one = refl
+split true true low all one = refl
+split true false false all one = refl
+split true false true true one = refl
+split true false true false one = refl
+
+pub entry_erased : (user : ℕ) (name : List ℕ) (b : ℕ) (es : List Entry) (i : ℕ) (d : Entry) (was dir old new : Bool) → i < length es → is_named user name (get_or es i d) ≡ true → old ≡ (was && (dir || not (is_erased user name (take i es) b))) → new ≡ (old && (dir || not (ltb 0 b && list_any (λ number. eqb number b) (get_or es i d).extent.blocks))) → new ≡ (was && (dir || not (is_erased user name (take (i + 1) es) b)))
+unfolding is_erased
+entry_erased user name b es i d was dir old new h named o n =
+    rw (list_any_more (λ (e : Entry). is_named user name e && list_any (λ number. eqb number b) e.extent.blocks) es i d h, named) (n ∙ (rw o (split was dir (ltb 0 b) _ _)))
+
+pub entry_stays : (user : ℕ) (name : List ℕ) (b : ℕ) (es : List Entry) (i : ℕ) (d : Entry) (was dir old : Bool) → i < length es → is_named user name (get_or es i d) ≡ false → old ≡ (was && (dir || not (is_erased user name (take i es) b))) → old ≡ (was && (dir || not (is_erased user name (take (i + 1) es) b)))
+unfolding is_erased
+entry_stays user name b es i d was dir old h other o =
+    rw (list_any_more (λ (e : Entry). is_named user name e && list_any (λ number. eqb number b) e.extent.blocks) es i d h, other, or_false) o
+
+-- the first tests of a table are the blocks that stay reserved
+pub erased : (d : Dpb) (user : ℕ) (name : List ℕ) (es : List Entry) (old new : List Bool) (count : ℕ) → length old ≡ 512 → length new ≡ 512 → count ≤ 512 → ((b : ℕ) → b < 512 → get_or new b true ≡ (get_or old b true && (is_directory_block d b || not (is_erased user name es b)))) → take count new ≡ reserved_after d user name es (take count old)
+unfolding reserved_after is_reserved
+erased d user name es old new count size size' small at =
+    let l = length-take-le count old (omega arith) in
+    rw l (fill_by_all (λ b. get_or (take count old) b true && (is_directory_block d b || not (is_erased user name es b))) (take count new) count true (length-take-le count new (omega arith)) (λ b h. get_or-take count new b true h ∙ (at b (omega arith) ∙ ap (λ (t : Bool). t && (is_directory_block d b || not (is_erased user name es b))) (sym (get_or-take count old b true h)))))
+
+unsplit : (was dir low : Bool) → was ≡ (was && (dir || not (low && false)))
+unsplit false dir low = refl
+unsplit true true low = refl
+unsplit true false true = refl
+unsplit true false false = refl
+
+pub none_erased : (user : ℕ) (name : List ℕ) (b : ℕ) (es : List Entry) (was dir : Bool) → was ≡ (was && (dir || not (is_erased user name (take 0 es) b)))
+unfolding is_erased
+none_erased user name b es was dir = unsplit was dir (ltb 0 b)

@@ -1,10 +1,21 @@
 -- The reserved blocks as the first so many tests of a table.
-use Rattle.std.proofs.Common.{Some, None, inl, inr, ◌≡◌, ℕ, ◌<◌, ◌≤◌, Bool, true, false, not, List, length, get_or, take, ◌∙◌, arith}
+use Rattle.std.proofs.Common.{Some, None, inl, inr, ◌≡◌, ℕ, ◌<◌, ◌≤◌, Bool, true, false, not, List, length, get_or, take, ◌∙◌, arith, refl, ◌+◌}
 use Rattle.std.proofs.lemmas.List.{get_or_past, get_or-take, length-take-le, get_or_default}
 use Rattle.std.specs.List.{position, position_or_len}
 use Rattle.std.proofs.lemmas.List.Sums.{prefix_len-le-length}
 use Rattle.std.proofs.lemmas.Bool.{cases_lt, lt-ltb, le-ltb}
+use Rattle.cpm_geom.specs.Geometry.{dpb_of}
+use Rattle.cpm_geom.specs.declared.format.Format.{Format}
+use Rattle.cpm_geom.specs.declared.format.Format.TheVariants.{Ibm3740}
 use Rattle.cpm_files.specs.Reserved.{is_reserved, least_free}
+
+-- all formats have as many blocks
+pub same_count : (format other : Format) → (dpb_of format).last_block ≡ (dpb_of other).last_block
+same_count Ibm3740 Ibm3740 = refl
+
+pub count_small : (count : ℕ) → ((format : Format) → count ≡ (dpb_of format).last_block + 1) → count ≤ 512
+unfolding dpb_of
+count_small count h = let e = h Ibm3740 in omega arith
 
 pub past_is_reserved : (xs : List Bool) (count b : ℕ) → count ≤ length xs → count ≤ b → is_reserved (take count xs) b ≡ true
 unfolding is_reserved

@@ -4,6 +4,7 @@ use Rattle.std.specs.Prelude.{Result, Ok, Err, MatchResult, IsOk}
 use Rattle.std.specs.List.{between}
 use Rattle.std.proofs.lemmas.Slice.{between_is, take-put_mid_below, drop-put_mid, between-put_mid}
 use Rattle.std.proofs.lemmas.Bool.{cases_lt}
+use Rattle.std.proofs.lemmas.List.{get_or-set_other}
 use borrow.Rule.Slice.PartMut.{put_mid}
 use Rattle.std.proofs.lemmas.List.FromFn.{length-map-range_with_len}
 use Rattle.cpm_geom.specs.declared.dpb.Dpb.{Dpb}
@@ -12,6 +13,7 @@ use Rattle.cpm_geom.proofs.GeometryLemmas.{record_within}
 use Rattle.cpm_geom.specs.Disk.{Disk, IsDisk, records_of, sector_at, with_sector}
 use Rattle.cpm_geom.proofs.RecordLemmas.{are_listed, are_records}
 use Rattle.cpm_files.specs.declared.extent.Entry.{Entry}
+use Rattle.cpm_files.specs.Files.{entry_at, no_entry}
 use Rattle.cpm_files.specs.Encoding.{entry_of, entry_byte, entry_bytes, IsStorable}
 use Rattle.cpm_files.proofs.EncodingLemmas.{same_entry}
 use Rattle.cpm_directory.specs.Directory.{slot_bytes, directory_of, entries_of, with_slot}
@@ -54,14 +56,29 @@ unfolding entry_bytes
 entry_size d e = length-map-range_with_len (entry_byte d e) 0 32
 
 -- an entry written in its record is written in the directory
-pub put_in_directory : (disk : Disk) (i : ℕ) (e : Entry) → IsDisk disk → i ≤ (dpb_of disk.format).last_entry → IsStorable (dpb_of disk.format) e.extent → entries_of (with_sector disk (record_index disk.format (i / 4)) (with_slot (sector_at disk (record_index disk.format (i / 4))) (i % 4) (entry_bytes (dpb_of disk.format) e))) ≡ set (entries_of disk) i e
+put_as : (disk : Disk) (i : ℕ) (e f : Entry) → IsDisk disk → i ≤ (dpb_of disk.format).last_entry → entry_of (dpb_of disk.format) (entry_bytes (dpb_of disk.format) e) ≡ f → entries_of (with_sector disk (record_index disk.format (i / 4)) (with_slot (sector_at disk (record_index disk.format (i / 4))) (i % 4) (entry_bytes (dpb_of disk.format) e))) ≡ set (entries_of disk) i f
 unfolding entries_of
-put_in_directory disk i e whole h storable =
+put_as disk i e f whole h back =
     let there = entry_record disk.format i h in
     let listed = are_listed disk in
     let here = listed.at (i / 4) there in
     let size : length (sector_at disk (record_index disk.format (i / 4))) ≡ 128 = whole.sizes _ (record_within disk.format _ there) in
-    let own : entry_of (dpb_of disk.format) (slot_bytes (with_slot (sector_at disk (record_index disk.format (i / 4))) (i % 4) (entry_bytes (dpb_of disk.format) e)) (i % 4)) ≡ e = ap (entry_of (dpb_of disk.format)) (own_slot (sector_at disk (record_index disk.format (i / 4))) (entry_bytes (dpb_of disk.format) e) (i % 4) size (omega arith) (entry_size (dpb_of disk.format) e)) ∙ same_entry (dpb_of disk.format) e storable in
+    let own : entry_of (dpb_of disk.format) (slot_bytes (with_slot (sector_at disk (record_index disk.format (i / 4))) (i % 4) (entry_bytes (dpb_of disk.format) e)) (i % 4)) ≡ f = ap (entry_of (dpb_of disk.format)) (own_slot (sector_at disk (record_index disk.format (i / 4))) (entry_bytes (dpb_of disk.format) e) (i % 4) size (omega arith) (entry_size (dpb_of disk.format) e)) ∙ back in
     let others : (slot : ℕ) → slot ≢ i % 4 → slot_bytes (with_slot (sector_at disk (record_index disk.format (i / 4))) (i % 4) (entry_bytes (dpb_of disk.format) e)) slot ≡ slot_bytes (get_or (records_of disk) (i / 4) []) slot = λ slot n. other_slot (sector_at disk (record_index disk.format (i / 4))) (entry_bytes (dpb_of disk.format) e) (i % 4) size (omega arith) (entry_size (dpb_of disk.format) e) slot n ∙ ap (λ b. slot_bytes b slot) (sym here) in
     let below : i / 4 < length (records_of disk) = rw listed.size (((are_records disk.format).count (i / 4)).0 there) in
-    ap (directory_of (dpb_of disk.format)) (listed.written (i / 4) _ whole there) ∙ directory_put (dpb_of disk.format) (records_of disk) i (with_slot (sector_at disk (record_index disk.format (i / 4))) (i % 4) (entry_bytes (dpb_of disk.format) e)) e (omega arith) below own others
+    ap (directory_of (dpb_of disk.format)) (listed.written (i / 4) _ whole there) ∙ directory_put (dpb_of disk.format) (records_of disk) i (with_slot (sector_at disk (record_index disk.format (i / 4))) (i % 4) (entry_bytes (dpb_of disk.format) e)) f (omega arith) below own others
+
+pub put_in_directory : (disk : Disk) (i : ℕ) (e : Entry) → IsDisk disk → i ≤ (dpb_of disk.format).last_entry → IsStorable (dpb_of disk.format) e.extent → entries_of (with_sector disk (record_index disk.format (i / 4)) (with_slot (sector_at disk (record_index disk.format (i / 4))) (i % 4) (entry_bytes (dpb_of disk.format) e))) ≡ set (entries_of disk) i e
+put_in_directory disk i e whole h storable =
+    put_as disk i e e whole h (same_entry (dpb_of disk.format) e storable)
+
+-- and no other entry changes
+pub put_leaves : (disk : Disk) (i : ℕ) (e : Entry) → IsDisk disk → i ≤ (dpb_of disk.format).last_entry → (k : ℕ) → k ≢ i → entry_at (entries_of (with_sector disk (record_index disk.format (i / 4)) (with_slot (sector_at disk (record_index disk.format (i / 4))) (i % 4) (entry_bytes (dpb_of disk.format) e)))) k ≡ entry_at (entries_of disk) k
+unfolding entry_at
+put_leaves disk i e whole h k other =
+    rw (put_as disk i e (entry_of (dpb_of disk.format) (entry_bytes (dpb_of disk.format) e)) whole h refl) (get_or-set_other (entries_of disk) i k _ no_entry other)
+
+-- and no other record
+pub put_keeps : (disk : Disk) (i : ℕ) (bytes : List ℕ) → IsDisk disk → i ≤ (dpb_of disk.format).last_entry → (n : ℕ) → n ≢ i / 4 → get_or (records_of (with_sector disk (record_index disk.format (i / 4)) bytes)) n [] ≡ get_or (records_of disk) n []
+put_keeps disk i bytes whole h n other =
+    rw ((are_listed disk).written (i / 4) bytes whole (entry_record disk.format i h)) (get_or-set_other (records_of disk) (i / 4) n bytes [] other)

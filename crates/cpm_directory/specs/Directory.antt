@@ -1,10 +1,11 @@
 -- The directory of a drive, in its first records.
-use Rattle.std.specs.Prelude.{◌≡◌, ℕ, ◌+◌, ◌*◌, ◌/◌, ◌%◌, List, [], ◌++◌, map, take, drop, slice_range, slice_index_or, slice_set}
+use Rattle.std.specs.Prelude.{◌≡◌, ◌≢◌, ℕ, ◌+◌, ◌*◌, ◌/◌, ◌%◌, List, [], ◌++◌, map, take, drop, slice_range, slice_index_or, slice_set}
 use Rattle.std.specs.List.{range_with_len}
 use Rattle.cpm_geom.specs.declared.dpb.Dpb.{Dpb}
 use Rattle.cpm_geom.specs.Geometry.{dpb_of, record_index}
 use Rattle.cpm_geom.specs.Disk.{Disk, records_of, sector_at, with_sector}
 use Rattle.cpm_files.specs.declared.extent.Entry.{Entry}
+use Rattle.cpm_files.specs.Files.{entry_at}
 use Rattle.cpm_files.specs.Encoding.{entry_of, entry_bytes, IsStorable}
 
 -- the bytes of an entry in its record
@@ -24,7 +25,9 @@ entries_of disk = directory_of (dpb_of disk.format) (records_of disk)
 unfoldable pub with_slot : List ℕ → ℕ → List ℕ → List ℕ
 with_slot bytes slot entry = take (32 * slot) bytes ++ (entry ++ drop 32 (drop (32 * slot) bytes))
 
--- one entry is written: its 32 bytes in their record change, and in the directory the entry alone
+-- one entry is written: its 32 bytes in their record change, no other entry and no other record
 pub record PutsEntry (old : Disk) (index : ℕ) (e : Entry) (new : Disk) : Type 0 where
   pub bytes : new ≡ with_sector old (record_index old.format (index / 4)) (with_slot (sector_at old (record_index old.format (index / 4))) (index % 4) (entry_bytes (dpb_of old.format) e))
   pub entry : IsStorable (dpb_of old.format) e.extent → entries_of new ≡ slice_set (entries_of old) index e
+  pub others : (k : ℕ) → k ≢ index → entry_at (entries_of new) k ≡ entry_at (entries_of old) k
+  pub records : (n : ℕ) → n ≢ index / 4 → slice_index_or (records_of new) n [] ≡ slice_index_or (records_of old) n []

@@ -12,8 +12,8 @@ pub use block::block_at;
 pub use command_line::parse_fcb;
 pub use cpm_files::{Entry, Extent, Fcb};
 pub use directory::{DirectoryError, entry, find, first_free, put_entry};
-pub use pattern::Pattern;
-pub use reserved::{Reserved, login};
+pub use pattern::{Pattern, is_named};
+pub use reserved::{Reserved, login, without_files};
 
 #[cfg(test)]
 mod tests;

@@ -3,6 +3,7 @@
 ghost use Rattle.std.specs.Prelude.{◌≡◌};
 ghost use Rattle.std.specs.List.{list_all, zip};
 ghost use Rattle.cpm_files.specs.Files.{extent_number, group_of, name_matches, wildcard_or_same};
+ghost use Rattle.cpm_files.specs.Names.{is_named};
 ghost use Rattle.cpm_directory.specs.Matching.{is_in_group};
 
 use cpm_files::Entry;
@@ -39,6 +40,14 @@ impl Pattern {
             }
         }
     }
+}
+
+/// Whether an entry is of a user and its name matches, where a `?` stands for any character.
+#[tactic(auto, unfolding(cpm_files::specs::Names::is_named))]
+pub fn is_named(user: u8, name: &[u8; 11], entry: &Entry) -> bool
+    ensures { result ≡ is_named user name.now entry.now }
+{
+    entry.user == user && names_match(name, &entry.extent.name)
 }
 
 /// Whether an extent is of the group that is asked for, if one is.

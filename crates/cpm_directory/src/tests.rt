@@ -1,10 +1,10 @@
 //! Worked directories and names.
 
 use crate::{
-    DirectoryError, Entry, Extent, Fcb, Pattern, block_at, entry, find, first_free, login,
-    parse_fcb, put_entry,
+    DirectoryError, Entry, Extent, Fcb, Pattern, Reserved, block_at, entry, find, first_free,
+    login, parse_fcb, put_entry,
 };
-use cpm_geom::Image;
+use cpm_geom::{Format, Image};
 use std::alloc::Global;
 use std::process::Abort;
 
@@ -116,6 +116,27 @@ fn the_lowest_blocks_are_taken(rt: HostRuntime) {
     for block in 4..243u16 {
         assert_eq!(rt; reserved.take_lowest(), Ok(block));
     }
+    assert_eq!(rt; reserved.take_lowest(), Err(DirectoryError::NoBlockFree));
+}
+
+#[test]
+fn a_block_is_given_back(rt: HostRuntime) {
+    let mut reserved = Reserved::none(Format::Ibm3740);
+    reserved.has_all_blocks();
+    assert!(rt; !reserved.contains(0));
+    assert!(rt; !reserved.contains(242));
+    assert!(rt; reserved.contains(243));
+    for block in 0..243u16 {
+        assert_eq!(rt; reserved.take_lowest(), Ok(block));
+    }
+    reserved.free(242);
+    reserved.free(7);
+    reserved.free(243);
+    reserved.free(65535);
+    assert!(rt; reserved.contains(243));
+    assert!(rt; !reserved.contains(7));
+    assert_eq!(rt; reserved.take_lowest(), Ok(7));
+    assert_eq!(rt; reserved.take_lowest(), Ok(242));
     assert_eq!(rt; reserved.take_lowest(), Err(DirectoryError::NoBlockFree));
 }
 

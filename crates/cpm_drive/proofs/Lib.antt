@@ -1,8 +1,8 @@
 pub mod ChangeLemmas
 pub mod CloseLemmas
 pub mod FileLemmas
-pub mod KeptLemmas
 pub mod MapLemmas
+pub mod NamedLemmas
 pub mod OpenLemmas
 pub mod PlaceLemmas
 pub mod PutLemmas

@@ -1,5 +1,6 @@
 -- A drive with its marks, and what the calls on files leave of it.
-use Rattle.std.specs.Prelude.{ℕ, ◌/◌, ◌%◌, Bool, if◌then◌else◌, List, [], ◌∷◌, unwrap_or}
+use Rattle.std.specs.Prelude.{◌≡◌, ℕ, ◌+◌, ◌/◌, ◌%◌, Bool, false, if◌then◌else◌, List, [], ◌∷◌, Option, Some, None, length, replicate, slice_index_or}
+use Rattle.cpm_geom.specs.declared.format.Format.{Format}
 use Rattle.cpm_geom.specs.Geometry.{dpb_of, record_index}
 use Rattle.cpm_geom.specs.Disk.{Disk, records_of, sector_at, with_sector}
 use Rattle.cpm_files.specs.declared.fcb.Fcb.{Fcb}
@@ -9,6 +10,20 @@ use Rattle.cpm_files.specs.Files.{Volume, Write, entry_put, record_put}
 use Rattle.cpm_files.specs.Operations.{Outcome}
 use Rattle.cpm_directory.specs.Directory.{entries_of, with_slot}
 use Rattle.cpm_drive.specs.declared.drive.Drive.{Drive}
+use Rattle.cpm_drive.specs.declared.drive.Marks.{Marks}
+
+-- CP/M 2.2 Operating System Manual, Operating System Call Conventions: the code of an entry is its place in its record of four
+abbrev pub directory_code : ℕ → ℕ
+directory_code index = index % 4
+
+-- the marks say of each block of the drive whether it is reserved
+abbrev pub MarksEachBlock : Drive → Type 0
+MarksEachBlock drive = length drive.marks.reserved ≡ (dpb_of drive.image.format).last_block + 1
+
+-- own: before the first login no block is reserved
+abbrev pub fresh_marks : Format → Bool → Marks
+fresh_marks f protected =
+    record { reserved = replicate ((dpb_of f).last_block + 1) false; is_logged_in = false; is_protected = protected }
 
 -- what lies on a disk, by its directory, its records and the blocks that are reserved
 unfoldable pub volume_of : Disk → List Bool → Volume
@@ -40,7 +55,12 @@ pub record Called : Type 0 where
 abbrev pub called : Answer → Drive → Fcb → List ℕ → Called
 called answer drive fcb buffer = record { answer = answer; drive = drive; fcb = fcb; buffer = buffer }
 
--- by the outcome on the drive's volume: a record that was read lies in the buffer
+-- a record that was read lies in the buffer, as the disk has it
+abbrev pub buffer_after : Disk → Option ℕ → List ℕ → List ℕ
+buffer_after disk None buffer = buffer
+buffer_after disk (Some n) buffer = slice_index_or (records_of disk) n []
+
+-- by the outcome on the drive's volume: what is written reaches the disk before a record is read
 unfoldable pub after_call : Drive → Fcb → List ℕ → Outcome → Called
 after_call drive fcb buffer o =
-    called o.answer (drive_after drive o.volume) (record fcb { extent = o.extent; current_record = o.current }) (unwrap_or o.bytes buffer)
+    called o.answer (drive_after drive o.volume) (record fcb { extent = o.extent; current_record = o.current }) (buffer_after (drive_after drive o.volume).image o.read buffer)

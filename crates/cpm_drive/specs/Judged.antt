@@ -1,5 +1,5 @@
 -- What a call on a file comes to before anything is written: the entries that it is going to write, and where it stands.
-use Rattle.std.specs.Prelude.{⊤, ℕ, ◌≤◌, Bool, ◌||◌, ◌==◌, List, [], ◌∷◌, ◌++◌, Option, Some, None, Result, Ok, Err, IfSome, slice_set}
+use Rattle.std.specs.Prelude.{ℕ, ◌≤◌, Bool, ◌||◌, ◌==◌, List, [], ◌∷◌, ◌++◌, Option, Some, None, Result, Ok, Err, IfSome, slice_set}
 use Rattle.cpm_geom.specs.declared.dpb.Dpb.{Dpb}
 use Rattle.cpm_files.specs.declared.extent.Extent.{Extent}
 use Rattle.cpm_files.specs.declared.extent.Entry.{Entry}
@@ -35,10 +35,11 @@ close_of es Refused = refused
 close_of es (Fault which) = close_fault which
 close_of es (Closed change extent) = closed change.index (slice_set es change.index change.entry) extent
 
-abbrev pub IsWithinClose : Dpb → Closing → Type 0
-IsWithinClose d Refused = ⊤
-IsWithinClose d (Fault which) = ⊤
-IsWithinClose d (Closed change extent) = change.index ≤ d.last_entry
+-- the entry that is to be written then
+abbrev pub change_of : Closing → Option Change
+change_of Refused = None
+change_of (Fault which) = None
+change_of (Closed change extent) = Some change
 
 -- no place has two different numbers, for two of them
 abbrev pub agreeing : ℕ × ℕ → Bool
@@ -65,6 +66,11 @@ place_by v x (Err answer) = stopped answer v x
 -- where a call stands when it comes to its record
 abbrev pub place_of_arrival : Volume → Arrival → Place
 place_of_arrival v a = place_by (with_change (with_change v a.closed) a.made) a.extent a.current
+
+-- a call that stands in the extent that was sought
+abbrev pub arrived : Sought → Extent → Change → Option Change → Arrival
+arrived s x change made =
+    record { current = Ok s.current; extent = x; closed = Some change; made = made }
 
 -- a call that stands in the extent that was open, or stops there
 abbrev pub standing_in : Extent → ℕ → Arrival

@@ -1,33 +1,56 @@
--- What a read comes to before anything is written.
-use Rattle.std.specs.Prelude.{ℕ, List, unwrap_or}
-use Rattle.cpm_geom.specs.Disk.{Disk}
+-- What a read gives, and what it comes to before anything is written.
+use Rattle.std.specs.Prelude.{◌≡◌, ◌≢◌, ◌≤◌, ℕ, List, Option, Some, None, Result, Ok, Err}
+use Rattle.cpm_geom.specs.Geometry.{dpb_of}
+use Rattle.cpm_geom.specs.Disk.{Disk, records_of}
 use Rattle.cpm_files.specs.declared.fcb.Fcb.{Fcb}
 use Rattle.cpm_files.specs.declared.answer.Answer.{Answer}
+use Rattle.cpm_files.specs.declared.answer.Answer.TheVariants.{Done as done}
+use Rattle.cpm_files.specs.Files.{deleted, IsSound, open_file}
 use Rattle.cpm_files.specs.Operations.{Outcome}
+use Rattle.cpm_directory.specs.Directory.{entries_of}
 use Rattle.cpm_drive.specs.declared.drive.Drive.{Drive}
 use Rattle.cpm_drive.specs.declared.drive.Marks.{Marks}
 use Rattle.cpm_drive.specs.declared.reading.Reading.{Reading}
-use Rattle.cpm_drive.specs.Drive.{volume_of, drive_after, Called, called}
+use Rattle.cpm_drive.specs.Drive.{volume_of, drive_after, Called, called, buffer_after}
 use Rattle.cpm_drive.specs.Judged.{with_change}
 
--- what a read leaves beside the drive
+-- a read that is done on a drive and a file control block that agree with each other gives record n of the file
+abbrev pub GivesRecord : Drive → ℕ → Fcb → ℕ → Answer → List ℕ → Type 0
+GivesRecord drive user fcb n answer buffer =
+    user ≢ deleted → IsSound (dpb_of drive.image.format) (volume_of drive.image drive.marks.reserved) user fcb.extent → fcb.current_record ≤ 128 → answer ≡ done → open_file (dpb_of drive.image.format) (entries_of drive.image) (records_of drive.image) user fcb.extent n ≡ Some buffer
+
+-- what a read comes to beside the drive: its answer, the file control block and the number of its record
 pub record RecordRead : Type 0 where
   pub answer : Answer
   pub fcb : Fcb
-  pub buffer : List ℕ
+  pub read : Option ℕ
 
-abbrev pub record_read : Answer → Fcb → List ℕ → RecordRead
-record_read answer fcb buffer = record { answer = answer; fcb = fcb; buffer = buffer }
+unfoldable pub after_record : Fcb → Outcome → RecordRead
+after_record fcb o =
+    record { answer = o.answer; fcb = record fcb { extent = o.extent; current_record = o.current }; read = o.read }
 
-unfoldable pub after_record : Fcb → List ℕ → Outcome → RecordRead
-after_record fcb buffer o =
-    record_read o.answer (record fcb { extent = o.extent; current_record = o.current }) (unwrap_or o.bytes buffer)
+-- the number of a record that is found, or an answer without one
+abbrev pub answer_of : Result ℕ Answer → Answer
+answer_of (Ok number) = done
+answer_of (Err answer) = answer
+
+abbrev pub read_of : Result ℕ Answer → Option ℕ
+read_of (Ok number) = Some number
+read_of (Err answer) = None
+
+abbrev pub record_found : Result ℕ Answer → Fcb → RecordRead
+record_found found fcb = record { answer = answer_of found; fcb = fcb; read = read_of found }
 
 -- a drive of an image and marks that are lent
 abbrev pub lent_drive : Disk → Marks → Drive
 lent_drive image marks = record { image = image; marks = marks }
 
--- what a read leaves once the entry that it closed is written
+-- the drive once the entry that a read closed is written
+abbrev pub drive_read : Drive → Reading → Drive
+drive_read drive reading =
+    drive_after drive (with_change (volume_of drive.image drive.marks.reserved) reading.closed)
+
+-- what a read leaves then
 unfoldable pub after_reading : Drive → Reading → Fcb → List ℕ → Called
 after_reading drive reading fcb buffer =
-    called reading.answer (drive_after drive (with_change (volume_of drive.image drive.marks.reserved) reading.closed)) fcb buffer
+    called (answer_of reading.found) (drive_read drive reading) fcb (buffer_after (drive_read drive reading).image (read_of reading.found) buffer)

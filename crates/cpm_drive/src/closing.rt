@@ -1,16 +1,17 @@
 //! CLOSE FILE: the entry of an extent takes the extent's map, number and count.
 
-ghost use Rattle.std.specs.Prelude.{◌≡◌, ◌==◌, ◌&&◌, not, nat_lt};
+ghost use Rattle.std.specs.Prelude.{◌≡◌, ◌==◌, ◌&&◌, not, nat_lt, true, List};
 ghost use Rattle.std.specs.List.{list_any, list_all, zip};
 ghost use Rattle.cpm_geom.specs.Geometry.{dpb_of};
 ghost use Rattle.cpm_files.specs.Files.{group_of};
 ghost use Rattle.cpm_files.specs.Operations.{close_extent, close_function, merged, agree, has_bad_block, closed_entry, is_unchanged, same_numbers};
 ghost use Rattle.cpm_directory.specs.Directory.{entries_of};
-ghost use Rattle.cpm_drive.specs.Calls.{closed_file, after_close};
-ghost use Rattle.cpm_drive.specs.Judged.{close_of, IsWithinClose, agreeing};
+ghost use Rattle.cpm_drive.specs.Calls.{closed_file, close_answer, after_close};
+ghost use Rattle.cpm_drive.specs.Drive.{MarksEachBlock};
+ghost use Rattle.cpm_drive.specs.Judged.{close_of, change_of, IsWithin, agreeing};
 
 use crate::change::{Change, first_match};
-use crate::drive::Drive;
+use crate::drive::{Drive, directory_code};
 use cpm_directory::entry;
 use cpm_files::{Entry, Extent, Fault, Fcb};
 use cpm_geom::{Dpb, Image};
@@ -25,29 +26,58 @@ pub enum Closing {
     Closed(Change, Extent),
 }
 
+impl Closing {
+    /// The entry that is to be written.
+    fn change(&self) -> Option<Change>
+        ensures { result ≡ change_of self.now }
+    {
+        match self {
+            Closing::Closed(change, _) => Some(*change),
+            _ => None,
+        }
+    }
+
+    /// What the call answers. The file control block takes the map of both.
+    #[tactic(auto, unfolding(crate::specs::Calls::close_answer))]
+    fn answer(self, fcb: &mut Fcb) -> Result<Option<u8>, Fault>
+        ensures { (es : List Entry) → (result, fcb.new) ≡ close_answer fcb.old (close_of es self) }
+    {
+        match self {
+            Closing::Refused => Ok(None),
+            Closing::Fault(which) => Err(which),
+            Closing::Closed(change, both) => {
+                fcb.extent = both;
+                Ok(Some(directory_code(change.index)))
+            }
+        }
+    }
+}
+
+/// CLOSE FILE on a protected image that is lent: as `Drive::close_file`.
+pub fn close_lent(image: &Image, user: u8, fcb: &mut Fcb) -> Result<Option<u8>, Fault>
+    ensures { (result, fcb.new) ≡ close_answer fcb.old (close_function (dpb_of image.now.format) true (entries_of image.now) user fcb.old.extent) }
+{
+    judge_close(image, true, user, &fcb.extent).answer(fcb)
+}
+
 impl Drive {
     /// CLOSE FILE: the file's entry and the file control block take the map of both. The directory code, or none where no
     /// entry is of the extent or a place has two different numbers. A block number above the last block is a fault, and
     /// so is a close that would change a protected drive.
     pub fn close_file(&mut self, user: u8, fcb: &mut Fcb) -> Result<Option<u8>, Fault>
-        ensures { closed_file result self.new fcb.new ≡ after_close self.old fcb.old (close_function (dpb_of self.old.image.format) self.old.marks.is_protected (entries_of self.old.image) user fcb.old.extent) }
+        ensures value { closed_file result self.new fcb.new ≡ after_close self.old fcb.old (close_function (dpb_of self.old.image.format) self.old.marks.is_protected (entries_of self.old.image) user fcb.old.extent) }
+        ensures blocks { MarksEachBlock self.old → MarksEachBlock self.new }
     {
-        match judge_close(&self.image, self.marks.is_protected, user, &fcb.extent) {
-            Closing::Refused => Ok(None),
-            Closing::Fault(which) => Err(which),
-            Closing::Closed(change, both) => {
-                self.write_change(Some(change));
-                fcb.extent = both;
-                Ok(Some((change.index % 4) as u8))
-            }
-        }
+        let closing = judge_close(&self.image, self.marks.is_protected, user, &fcb.extent);
+        self.write_change(closing.change());
+        closing.answer(fcb)
     }
 }
 
 /// What a close of an extent comes to. Nothing is written.
 pub fn judge_close(image: &Image, is_protected: bool, user: u8, extent: &Extent) -> Closing
     ensures value { close_of (entries_of image.now) result ≡ close_extent (dpb_of image.now.format) is_protected (entries_of image.now) user extent.now }
-    ensures within { IsWithinClose (dpb_of image.now.format) result }
+    ensures within { IsWithin (dpb_of image.now.format) (change_of result) }
 {
     let dpb = image.format().dpb();
     let group = group_of(&dpb, extent.number());

@@ -1,14 +1,17 @@
 //! A drive and its marks.
 
-ghost use Rattle.std.specs.Prelude.{◌≡◌, ◌+◌, length};
+ghost use Rattle.std.specs.Prelude.{◌≡◌, ◌≤◌, ℕ, [], false, slice_index_or};
 ghost use Rattle.cpm_geom.specs.Geometry.{dpb_of};
-ghost use Rattle.cpm_drive.specs.Calls.{logged_in};
-ghost use Rattle.cpm_drive.specs.Drive.{volume_of, drive_after};
+ghost use Rattle.cpm_geom.specs.Disk.{records_of};
+ghost use Rattle.cpm_files.specs.Files.{directory_records};
+ghost use Rattle.cpm_drive.specs.Calls.{logged_in_marks, logged_in};
+ghost use Rattle.cpm_drive.specs.Drive.{directory_code, MarksEachBlock, fresh_marks, volume_of, drive_after};
 ghost use Rattle.cpm_drive.specs.Judged.{with_change, IsWithin};
+ghost use Rattle.cpm_drive.specs.Reads.{lent_drive};
 
 use crate::change::Change;
 use cpm_directory::{Reserved, login, put_entry};
-use cpm_geom::Image;
+use cpm_geom::{Format, Image};
 
 /// What the system keeps of a drive beside its image.
 #[derive(Drop)]
@@ -27,20 +30,60 @@ pub struct Drive {
     pub marks: Marks,
 }
 
+/// The code of an entry, by its index: its place in its record of four.
+pub fn directory_code(index: u16) -> u8
+    ensures { result ≡ directory_code index }
+{
+    (index % 4) as u8
+}
+
+impl Marks {
+    /// The marks of a drive that was never logged in.
+    pub fn new(format: Format, is_protected: bool) -> Marks
+        ensures { result ≡ fresh_marks format is_protected }
+    {
+        Marks {
+            reserved: Reserved::none(format),
+            is_logged_in: false,
+            is_protected,
+        }
+    }
+
+    /// Logs the drive of an image in: its directory's blocks and those of its files are reserved.
+    pub fn log_in(&mut self, image: &Image)
+        ensures marks { self.new ≡ logged_in_marks image.now self.old }
+        ensures blocks { MarksEachBlock (lent_drive image.now self.new) }
+    {
+        self.reserved = login(image);
+        self.is_logged_in = true;
+    }
+}
+
 impl Drive {
+    /// A drive that was never logged in and may be written.
+    pub fn new(image: Image) -> Drive
+        ensures drive { result ≡ lent_drive image (fresh_marks image.format false) }
+        ensures blocks { MarksEachBlock result }
+    {
+        let marks = Marks::new(image.format(), false);
+        Drive { image, marks }
+    }
+
     /// Logs the drive in: its directory's blocks and those of its files are reserved.
     pub fn log_in(&mut self)
         ensures drive { self.new ≡ logged_in self.old }
-        ensures blocks { length self.new.marks.reserved ≡ (dpb_of self.old.image.format).last_block + 1 }
+        ensures blocks { MarksEachBlock self.new }
     {
-        self.marks.reserved = login(&self.image);
-        self.marks.is_logged_in = true;
+        self.marks.log_in(&self.image);
     }
 
     /// Writes an entry that a call changes, unless the drive is protected.
     pub(crate) fn write_change(&mut self, change: Option<Change>)
         requires { IsWithin (dpb_of self.old.image.format) change }
-        ensures { self.new ≡ drive_after self.old (with_change (volume_of self.old.image self.old.marks.reserved) change) }
+        ensures drive { self.new ≡ drive_after self.old (with_change (volume_of self.old.image self.old.marks.reserved) change) }
+        ensures format { self.new.image.format ≡ self.old.image.format }
+        ensures records { (n : ℕ) → directory_records (dpb_of self.old.image.format) ≤ n → slice_index_or (records_of self.new.image) n [] ≡ slice_index_or (records_of self.old.image) n [] }
+        ensures blocks { MarksEachBlock self.old → MarksEachBlock self.new }
     {
         if let Some(change) = change {
             if !self.marks.is_protected {

@@ -5,16 +5,21 @@
 pub mod change;
 pub mod closing;
 pub mod drive;
+pub mod named;
 pub mod opening;
 pub mod place;
 pub mod reading;
+pub mod searching;
 pub mod writing;
 
 pub use change::Change;
-pub use closing::Closing;
-pub use drive::{Drive, Marks};
+pub use closing::{Closing, close_lent};
+pub use drive::{Drive, Marks, directory_code};
 pub use opening::open_lent;
 pub use reading::{read_at_protected, read_next_protected};
+pub use searching::{file_size, search};
 
 #[cfg(test)]
 mod tests;
+#[cfg(test)]
+mod tests_of_names;

@@ -3,9 +3,9 @@
 
 ghost use Rattle.std.specs.Prelude.{◌≡◌, ◌<◌, ◌≤◌, IfOk, Some, None};
 ghost use Rattle.cpm_geom.specs.Geometry.{dpb_of};
-ghost use Rattle.cpm_files.specs.Operations.{reading, writing, have_extent, cross, next_place, place_at, target_of};
+ghost use Rattle.cpm_files.specs.Operations.{have_extent, cross, next_place, place_at, target_of};
 ghost use Rattle.cpm_drive.specs.Drive.{volume_of};
-ghost use Rattle.cpm_drive.specs.Judged.{with_change, standing_in, stopped_in, purpose_of, place_of_arrival, IsArrival, target_by};
+ghost use Rattle.cpm_drive.specs.Judged.{with_change, arrived, standing_in, stopped_in, purpose_of, place_of_arrival, IsArrival, target_by};
 
 use crate::change::Change;
 use crate::closing::{Closing, judge_close};
@@ -42,6 +42,20 @@ pub enum Access {
     Write,
 }
 
+impl Sought {
+    /// A call that stands at the record, in an extent that was opened or made.
+    fn arrived(&self, extent: &Extent, closed: Change, made: Option<Change>) -> Arrival
+        ensures { result ≡ arrived self.now extent.now closed made }
+    {
+        Arrival {
+            current: Ok(self.current),
+            extent: *extent,
+            closed: Some(closed),
+            made,
+        }
+    }
+}
+
 impl Arrival {
     /// A call that stands at a record of the extent that was open.
     fn standing(extent: &Extent, current: u8) -> Arrival
@@ -68,10 +82,11 @@ impl Arrival {
     }
 }
 
-/// Opens the extent that is sought, once the open one was closed.
-fn open_sought(
+/// Opens the extent that is sought, or makes it to write it, once the open one was closed.
+fn have_extent(
     image: &Image,
     marks: &Marks,
+    access: Access,
     closed: Change,
     user: u8,
     extent: &Extent,
@@ -79,57 +94,25 @@ fn open_sought(
 ) -> Arrival
     requires number { sought.now.number < 512 }
     requires within { closed.index ≤ (dpb_of image.now.format).last_entry }
-    ensures place { place_of_arrival (volume_of image.now marks.now.reserved) result ≡ have_extent (dpb_of image.now.format) reading (with_change (volume_of image.now marks.now.reserved) (Some closed)) user extent.now (target_by sought.now) }
+    ensures place { place_of_arrival (volume_of image.now marks.now.reserved) result ≡ have_extent (dpb_of image.now.format) (purpose_of access) (with_change (volume_of image.now marks.now.reserved) (Some closed)) user extent.now (target_by sought.now) }
     ensures within { IsArrival (dpb_of image.now.format) result }
-    ensures none_made { result.made ≡ None }
+    ensures made { access ≡ Access.Read → result.made ≡ None }
     ensures current { IfOk result.current (λ here. here ≡ sought.now.current) }
 {
-    match open_to_read(image, Some(closed), user, &extent.name, sought.number) {
-        Some(opened) => Arrival {
-            current: Ok(sought.current),
-            extent: opened,
-            closed: Some(closed),
-            made: None,
-        },
-        None => Arrival {
-            current: Err(sought.missing),
-            extent: *extent,
-            closed: Some(closed),
-            made: None,
-        },
+    let name = &extent.name;
+    let opened = match access {
+        Access::Read => open_to_read(image, Some(closed), user, name, sought.number),
+        Access::Write => open_extent(image, Some(closed), user, name, sought.number),
+    };
+    if let Some(opened) = opened {
+        return sought.arrived(&opened, closed, None);
     }
-}
-
-/// Opens the extent that is sought, or makes it, once the open one was closed.
-fn open_or_make(
-    image: &Image,
-    marks: &Marks,
-    closed: Change,
-    user: u8,
-    extent: &Extent,
-    sought: &Sought,
-) -> Arrival
-    requires number { sought.now.number < 512 }
-    requires within { closed.index ≤ (dpb_of image.now.format).last_entry }
-    ensures place { place_of_arrival (volume_of image.now marks.now.reserved) result ≡ have_extent (dpb_of image.now.format) writing (with_change (volume_of image.now marks.now.reserved) (Some closed)) user extent.now (target_by sought.now) }
-    ensures within { IsArrival (dpb_of image.now.format) result }
-    ensures current { IfOk result.current (λ here. here ≡ sought.now.current) }
-{
-    if let Some(opened) = open_extent(image, Some(closed), user, &extent.name, sought.number) {
-        return Arrival {
-            current: Ok(sought.current),
-            extent: opened,
-            closed: Some(closed),
-            made: None,
-        };
-    }
-    match make_extent(image, Some(closed), user, extent, sought.number) {
-        Some(made) => Arrival {
-            current: Ok(sought.current),
-            extent: made.entry.extent,
-            closed: Some(closed),
-            made: Some(made),
-        },
+    let made = match access {
+        Access::Read => None,
+        Access::Write => make_extent(image, Some(closed), user, extent, sought.number),
+    };
+    match made {
+        Some(change) => sought.arrived(&change.entry.extent, closed, made),
         None => Arrival {
             current: Err(sought.missing),
             extent: *extent,
@@ -157,10 +140,9 @@ fn cross(
     match judge_close(image, marks.is_protected, user, extent) {
         Closing::Refused => Arrival::stopped(extent, sought.unclosed),
         Closing::Fault(which) => Arrival::stopped(extent, Answer::Fault(which)),
-        Closing::Closed(closed, both) => match access {
-            Access::Read => open_sought(image, marks, closed, user, &both, sought),
-            Access::Write => open_or_make(image, marks, closed, user, &both, sought),
-        },
+        Closing::Closed(closed, both) => {
+            have_extent(image, marks, access, closed, user, &both, sought)
+        }
     }
 }
 

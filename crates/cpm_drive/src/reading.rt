@@ -1,11 +1,13 @@
 //! READ SEQUENTIAL and READ RANDOM: a record of a file comes into the buffer.
 
-ghost use Rattle.std.specs.Prelude.{◌≡◌, ◌+◌, ◌<◌, ◌≤◌, IfOk, List, [], Bool, true};
+ghost use Rattle.std.specs.Prelude.{◌≡◌, ◌+◌, ◌<◌, ◌≤◌, ℕ, IfOk, List, true};
 ghost use Rattle.cpm_geom.specs.Geometry.{dpb_of, IsRecord};
+ghost use Rattle.cpm_files.specs.Files.{Volume};
+ghost use Rattle.cpm_files.specs.Laws.{position};
 ghost use Rattle.cpm_files.specs.Operations.{get_record, read_in, read_next, read_at, record_in_block};
-ghost use Rattle.cpm_drive.specs.Drive.{volume_of, drive_after, called, after_call};
-ghost use Rattle.cpm_drive.specs.Judged.{IsWithin, IsArrival, place_of_arrival};
-ghost use Rattle.cpm_drive.specs.Reads.{record_read, after_record, after_reading, lent_drive};
+ghost use Rattle.cpm_drive.specs.Drive.{MarksEachBlock, volume_of, called, after_call, buffer_after};
+ghost use Rattle.cpm_drive.specs.Judged.{IsWithin, place_of_arrival};
+ghost use Rattle.cpm_drive.specs.Reads.{record_found, answer_of, read_of, after_record, after_reading, lent_drive, GivesRecord};
 
 use crate::change::Change;
 use crate::drive::{Drive, Marks};
@@ -14,10 +16,11 @@ use cpm_directory::block_at;
 use cpm_files::{Answer, Fault, Fcb};
 use cpm_geom::{Format, Image};
 
-/// What a read comes to before anything is written: its answer, and the entry of the extent that it closed.
+/// What a read comes to before anything is written: the number of its record or what it answers without one, and the
+/// entry of the extent that it closed.
 #[derive(Clone, Copy, PartialEq, Eq, Debug)]
 pub struct Reading {
-    pub answer: Answer,
+    pub found: Result<u16, Answer>,
     pub closed: Option<Change>,
 }
 
@@ -31,79 +34,78 @@ pub(crate) fn record_in_block(format: Format, block: u16, current: u8) -> u16
     block * block_size + u16::from(current) % block_size
 }
 
-/// Reads the record that a file control block stands at, which goes `step` records on.
-fn get_record(image: &Image, fcb: &mut Fcb, step: u8, buffer: &mut [u8; 128]) -> Answer
+/// Finds the record that a file control block stands at, which goes `step` records on.
+fn find_record(format: Format, fcb: &mut Fcb, step: u8) -> Result<u16, Answer>
     requires { fcb.old.current_record + step < 256 }
-    ensures { record_read result fcb.new buffer.new ≡ after_record fcb.old buffer.old (get_record (dpb_of image.now.format) (volume_of image.now []) fcb.old.extent fcb.old.current_record (fcb.old.current_record + step)) }
+    ensures value { (v : Volume) → record_found result fcb.new ≡ after_record fcb.old (get_record (dpb_of format) v fcb.old.extent fcb.old.current_record (fcb.old.current_record + step)) }
+    ensures there { IfOk result (λ number. IsRecord format number) }
 {
     if fcb.current_record >= fcb.extent.record_count {
-        return Answer::NoRecord;
+        return Err(Answer::NoRecord);
     }
-    let block = match block_at(&image.format().dpb(), fcb) {
+    let block = match block_at(&format.dpb(), fcb) {
         Ok(block) => block,
-        Err(_) => return Answer::Fault(Fault::BadSector),
+        Err(_) => return Err(Answer::Fault(Fault::BadSector)),
     };
     if block == 0 {
-        return Answer::NoRecord;
+        return Err(Answer::NoRecord);
     }
-    let number = record_in_block(image.format(), block, fcb.current_record);
-    buffer.copy_from_slice(image.record(number).unwrap());
+    let number = record_in_block(format, block, fcb.current_record);
     fcb.current_record += step;
-    Answer::Done
+    Ok(number)
 }
 
-/// Reads the record where a call stands.
-fn read_arrived(
-    image: &Image,
-    arrival: &Arrival,
-    step: u8,
-    fcb: &mut Fcb,
-    buffer: &mut [u8; 128],
-) -> Answer
+/// Finds the record where a call stands.
+fn find_arrived(format: Format, arrival: &Arrival, step: u8, fcb: &mut Fcb) -> Result<u16, Answer>
     requires step { step ≤ 1 }
     requires current { IfOk arrival.now.current (λ here. here < 128) }
-    ensures { (reserved : List Bool) → record_read result fcb.new buffer.new ≡ after_record fcb.old buffer.old (read_in (dpb_of image.now.format) fcb.old.current_record step (place_of_arrival (volume_of image.now reserved) arrival.now)) }
+    ensures value { (v : Volume) → record_found result fcb.new ≡ after_record fcb.old (read_in (dpb_of format) fcb.old.current_record step (place_of_arrival v arrival.now)) }
+    ensures there { IfOk result (λ number. IsRecord format number) }
 {
     fcb.extent = arrival.extent;
     match arrival.current {
         Ok(here) => {
             fcb.current_record = here;
-            get_record(image, fcb, step, buffer)
+            find_record(format, fcb, step)
+        }
+        Err(answer) => Err(answer),
+    }
+}
+
+/// Reads the record that was found, if one was.
+fn take_record(image: &Image, found: Result<u16, Answer>, buffer: &mut [u8; 128]) -> Answer
+    requires { IfOk found (λ number. IsRecord image.now.format number) }
+    ensures answer { result ≡ answer_of found }
+    ensures buffer { buffer.new ≡ buffer_after image.now (read_of found) buffer.old }
+{
+    match found {
+        Ok(number) => {
+            buffer.copy_from_slice(image.record(number).unwrap());
+            Answer::Done
         }
         Err(answer) => answer,
     }
 }
 
-/// READ SEQUENTIAL over an image that is lent. Nothing is written.
-fn judge_read_next(
-    image: &Image,
-    marks: &Marks,
-    user: u8,
-    fcb: &mut Fcb,
-    buffer: &mut [u8; 128],
-) -> Reading
-    ensures value { after_reading (lent_drive image.now marks.now) result fcb.new buffer.new ≡ after_call (lent_drive image.now marks.now) fcb.old buffer.old (read_next (dpb_of image.now.format) marks.now.is_protected (volume_of image.now marks.now.reserved) user fcb.old.extent fcb.old.current_record) }
+/// What READ SEQUENTIAL comes to. Nothing is written.
+fn judge_read_next(image: &Image, marks: &Marks, user: u8, fcb: &mut Fcb) -> Reading
+    ensures value { (buffer : List ℕ) → after_reading (lent_drive image.now marks.now) result fcb.new buffer ≡ after_call (lent_drive image.now marks.now) fcb.old buffer (read_next (dpb_of image.now.format) marks.now.is_protected (volume_of image.now marks.now.reserved) user fcb.old.extent fcb.old.current_record) }
     ensures within { IsWithin (dpb_of image.now.format) result.closed }
+    ensures there { IfOk result.found (λ number. IsRecord image.now.format number) }
 {
     let arrival = next_place(image, marks, Access::Read, user, fcb);
-    let answer = read_arrived(image, &arrival, 1, fcb, buffer);
+    let found = find_arrived(image.format(), &arrival, 1, fcb);
     Reading {
-        answer,
+        found,
         closed: arrival.closed,
     }
 }
 
-/// READ RANDOM over an image that is lent. Nothing is written.
-fn judge_read_at(
-    image: &Image,
-    marks: &Marks,
-    user: u8,
-    number: u16,
-    fcb: &mut Fcb,
-    buffer: &mut [u8; 128],
-) -> Reading
-    ensures value { after_reading (lent_drive image.now marks.now) result fcb.new buffer.new ≡ after_call (lent_drive image.now marks.now) fcb.old buffer.old (read_at (dpb_of image.now.format) marks.now.is_protected (volume_of image.now marks.now.reserved) user fcb.old.extent fcb.old.current_record number) }
+/// What READ RANDOM comes to. Nothing is written.
+fn judge_read_at(image: &Image, marks: &Marks, user: u8, number: u16, fcb: &mut Fcb) -> Reading
+    ensures value { (buffer : List ℕ) → after_reading (lent_drive image.now marks.now) result fcb.new buffer ≡ after_call (lent_drive image.now marks.now) fcb.old buffer (read_at (dpb_of image.now.format) marks.now.is_protected (volume_of image.now marks.now.reserved) user fcb.old.extent fcb.old.current_record number) }
     ensures within { IsWithin (dpb_of image.now.format) result.closed }
+    ensures there { IfOk result.found (λ number. IsRecord image.now.format number) }
 {
     let arrival = place_at(
         image,
@@ -114,9 +116,9 @@ fn judge_read_at(
         number,
         Answer::NoExtent,
     );
-    let answer = read_arrived(image, &arrival, 0, fcb, buffer);
+    let found = find_arrived(image.format(), &arrival, 0, fcb);
     Reading {
-        answer,
+        found,
         closed: arrival.closed,
     }
 }
@@ -130,9 +132,11 @@ pub fn read_next_protected(
     buffer: &mut [u8; 128],
 ) -> Answer
     requires { marks.now.is_protected ≡ true }
-    ensures { called result (lent_drive image.now marks.now) fcb.new buffer.new ≡ after_call (lent_drive image.now marks.now) fcb.old buffer.old (read_next (dpb_of image.now.format) true (volume_of image.now marks.now.reserved) user fcb.old.extent fcb.old.current_record) }
+    ensures value { called result (lent_drive image.now marks.now) fcb.new buffer.new ≡ after_call (lent_drive image.now marks.now) fcb.old buffer.old (read_next (dpb_of image.now.format) true (volume_of image.now marks.now.reserved) user fcb.old.extent fcb.old.current_record) }
+    ensures file { GivesRecord (lent_drive image.now marks.now) user fcb.old (position fcb.old.extent fcb.old.current_record) result buffer.new }
 {
-    judge_read_next(image, marks, user, fcb, buffer).answer
+    let reading = judge_read_next(image, marks, user, fcb);
+    take_record(image, reading.found, buffer)
 }
 
 /// READ RANDOM on a protected image that is lent: as `Drive::read_at`.
@@ -145,24 +149,28 @@ pub fn read_at_protected(
     buffer: &mut [u8; 128],
 ) -> Answer
     requires { marks.now.is_protected ≡ true }
-    ensures { called result (lent_drive image.now marks.now) fcb.new buffer.new ≡ after_call (lent_drive image.now marks.now) fcb.old buffer.old (read_at (dpb_of image.now.format) true (volume_of image.now marks.now.reserved) user fcb.old.extent fcb.old.current_record number) }
+    ensures value { called result (lent_drive image.now marks.now) fcb.new buffer.new ≡ after_call (lent_drive image.now marks.now) fcb.old buffer.old (read_at (dpb_of image.now.format) true (volume_of image.now marks.now.reserved) user fcb.old.extent fcb.old.current_record number) }
+    ensures file { GivesRecord (lent_drive image.now marks.now) user fcb.old number result buffer.new }
 {
-    judge_read_at(image, marks, user, number, fcb, buffer).answer
+    let reading = judge_read_at(image, marks, user, number, fcb);
+    take_record(image, reading.found, buffer)
 }
 
 impl Drive {
     /// READ SEQUENTIAL: the record that is next in sequence, for which the extent may be closed and the next one opened.
-    /// The answer says whether the buffer has it.
+    /// The answer says whether the buffer has it, as it is on the disk once the entry is closed.
     pub fn read_next(&mut self, user: u8, fcb: &mut Fcb, buffer: &mut [u8; 128]) -> Answer
-        ensures { called result self.new fcb.new buffer.new ≡ after_call self.old fcb.old buffer.old (read_next (dpb_of self.old.image.format) self.old.marks.is_protected (volume_of self.old.image self.old.marks.reserved) user fcb.old.extent fcb.old.current_record) }
+        ensures value { called result self.new fcb.new buffer.new ≡ after_call self.old fcb.old buffer.old (read_next (dpb_of self.old.image.format) self.old.marks.is_protected (volume_of self.old.image self.old.marks.reserved) user fcb.old.extent fcb.old.current_record) }
+        ensures file { GivesRecord self.old user fcb.old (position fcb.old.extent fcb.old.current_record) result buffer.new }
+        ensures blocks { MarksEachBlock self.old → MarksEachBlock self.new }
     {
-        let reading = judge_read_next(&self.image, &self.marks, user, fcb, buffer);
+        let reading = judge_read_next(&self.image, &self.marks, user, fcb);
         self.write_change(reading.closed);
-        reading.answer
+        take_record(&self.image, reading.found, buffer)
     }
 
     /// READ RANDOM: record `number` of the file, for which the extent may be closed and another one opened. The answer
-    /// says whether the buffer has it.
+    /// says whether the buffer has it, as it is on the disk once the entry is closed.
     pub fn read_at(
         &mut self,
         user: u8,
@@ -170,10 +178,12 @@ impl Drive {
         fcb: &mut Fcb,
         buffer: &mut [u8; 128],
     ) -> Answer
-        ensures { called result self.new fcb.new buffer.new ≡ after_call self.old fcb.old buffer.old (read_at (dpb_of self.old.image.format) self.old.marks.is_protected (volume_of self.old.image self.old.marks.reserved) user fcb.old.extent fcb.old.current_record number) }
+        ensures value { called result self.new fcb.new buffer.new ≡ after_call self.old fcb.old buffer.old (read_at (dpb_of self.old.image.format) self.old.marks.is_protected (volume_of self.old.image self.old.marks.reserved) user fcb.old.extent fcb.old.current_record number) }
+        ensures file { GivesRecord self.old user fcb.old number result buffer.new }
+        ensures blocks { MarksEachBlock self.old → MarksEachBlock self.new }
     {
-        let reading = judge_read_at(&self.image, &self.marks, user, number, fcb, buffer);
+        let reading = judge_read_at(&self.image, &self.marks, user, number, fcb);
         self.write_change(reading.closed);
-        reading.answer
+        take_record(&self.image, reading.found, buffer)
     }
 }

@@ -1,13 +1,13 @@
 //! Worked calls on files.
 
 use crate::{Drive, Marks, open_lent, read_at_protected, read_next_protected};
-use cpm_directory::{entry, login, put_entry};
+use cpm_directory::{entry, put_entry};
 use cpm_files::{Answer, Entry, Extent, Fault, Fcb};
 use cpm_geom::Image;
 use std::alloc::Global;
 use std::process::Abort;
 
-fn blank(rt: &impl Abort, alloc: Global) -> Image {
+pub(crate) fn blank(rt: &impl Abort, alloc: Global) -> Image {
     let bytes = vec![in alloc; 0xE5u8; 256_256].expect(rt, "memory");
     match Image::from_bytes(bytes) {
         Ok(image) => image,
@@ -16,19 +16,13 @@ fn blank(rt: &impl Abort, alloc: Global) -> Image {
 }
 
 /// A drive that is logged in and may be written.
-fn drive(image: Image) -> Drive {
-    let reserved = login(&image);
-    Drive {
-        image,
-        marks: Marks {
-            reserved,
-            is_logged_in: true,
-            is_protected: false,
-        },
-    }
+pub(crate) fn drive(image: Image) -> Drive {
+    let mut drive = Drive::new(image);
+    drive.log_in();
+    drive
 }
 
-fn fcb(name: [u8; 11]) -> Fcb {
+pub(crate) fn fcb(name: [u8; 11]) -> Fcb {
     let blocks = [0; 16];
     Fcb {
         drive: 0,
@@ -45,31 +39,40 @@ fn fcb(name: [u8; 11]) -> Fcb {
     }
 }
 
-/// The text file of two records in block 2: entry 0, records 16 and 17.
-fn text_image(rt: &impl Abort, alloc: Global) -> Image {
-    let mut image = blank(rt, alloc);
+/// Puts an entry of a user with a name, an extent of less than 32, a count of records and one block.
+pub(crate) fn put(
+    rt: &impl Abort,
+    image: &mut Image,
+    index: u16,
+    user: u8,
+    name: &[u8; 11],
+    (ex, record_count, block): (u8, u8, u16),
+) {
+    assert!(rt; index <= image.format().dpb().last_entry);
     let mut blocks = [0; 16];
-    blocks[0] = 2;
-    let file = Entry {
-        user: 0,
-        extent: Extent {
-            name: *b"T       TXT",
-            ex: 0,
-            s1: 0,
-            s2: 0,
-            record_count: 2,
-            blocks,
-        },
+    blocks[0] = block;
+    let extent = Extent {
+        name: *name,
+        ex,
+        s1: 0,
+        s2: 0,
+        record_count,
+        blocks,
     };
-    assert!(rt; 0 <= image.format().dpb().last_entry);
-    put_entry(&mut image, 0, &file);
+    put_entry(image, index, &Entry { user, extent });
+}
+
+/// The text file of two records in block 2: entry 0, records 16 and 17.
+pub(crate) fn text_image(rt: &impl Abort, alloc: Global) -> Image {
+    let mut image = blank(rt, alloc);
+    put(rt, &mut image, 0, 0, b"T       TXT", (0, 2, 2));
     image.put_record(16, &[0x41; 128]).expect(rt, "record 16");
     image.put_record(17, &[0x42; 128]).expect(rt, "record 17");
     image
 }
 
 /// A file control block that counts two records and has these blocks.
-fn with_map(fcb: &Fcb, first: u16, second: u16) -> Fcb {
+pub(crate) fn with_map(fcb: &Fcb, first: u16, second: u16) -> Fcb {
     let mut blocks = [0; 16];
     blocks[0] = first;
     blocks[1] = second;
@@ -81,7 +84,7 @@ fn with_map(fcb: &Fcb, first: u16, second: u16) -> Fcb {
     Fcb { extent, ..*fcb }
 }
 
-fn at(rt: &impl Abort, image: &Image, index: u16) -> Entry {
+pub(crate) fn at(rt: &impl Abort, image: &Image, index: u16) -> Entry {
     assert!(rt; index <= image.format().dpb().last_entry);
     entry(image, index)
 }
@@ -125,11 +128,9 @@ fn text_file_is_read_at_random(rt: HostRuntime) {
 #[test]
 fn protected_image_is_read(rt: HostRuntime) {
     let image = text_image(&rt, rt.alloc());
-    let marks = Marks {
-        reserved: login(&image),
-        is_logged_in: true,
-        is_protected: true,
-    };
+    let mut marks = Marks::new(image.format(), true);
+    marks.log_in(&image);
+    assert!(rt; marks.is_protected);
     let mut file = fcb(*b"T       TXT");
     let mut buffer = [0; 128];
     assert_eq!(rt; open_lent(&image, 0, &mut file), Some(0));
@@ -213,4 +214,40 @@ fn random_write_with_zero_fill_clears_its_block(rt: HostRuntime) {
     assert_eq!(rt; byte(&rt, &drive.image, 19), 0x41);
     assert_eq!(rt; byte(&rt, &drive.image, 23), 0);
     assert_eq!(rt; byte(&rt, &drive.image, 24), 0xE5);
+}
+
+/// A file whose second extent has a forged block, the directory's second: its first record is that of entry 32, which is
+/// the entry of the file's first extent. The file control block is at the end of that, and has a block more.
+fn forged(rt: &impl Abort, alloc: Global) -> (Drive, Fcb) {
+    let mut image = blank(rt, alloc);
+    put(rt, &mut image, 32, 0, b"T       DAT", (0, 128, 2));
+    put(rt, &mut image, 40, 0, b"T       DAT", (1, 1, 1));
+    let mut file = fcb(*b"T       DAT");
+    assert_eq!(rt; open_lent(&image, 0, &mut file), Some(0));
+    file.extent.blocks[3] = 9;
+    file.current_record = 128;
+    (drive(image), file)
+}
+
+#[test]
+fn closed_entry_is_there_when_it_is_read(rt: HostRuntime) {
+    let (mut drive, mut file) = forged(&rt, rt.alloc());
+    let mut buffer = [0; 128];
+    assert_eq!(rt; drive.read_next(0, &mut file, &mut buffer), Answer::Done);
+    assert_eq!(rt; buffer[1], b'T');
+    assert_eq!(rt; buffer[16], 2);
+    assert_eq!(rt; buffer[19], 9);
+    assert_eq!(rt; at(&rt, &drive.image, 32).extent.blocks[3], 9);
+    assert_eq!(rt; file.extent.ex, 1);
+    assert_eq!(rt; file.current_record, 1);
+}
+
+#[test]
+fn closed_entry_is_there_when_it_is_read_at_random(rt: HostRuntime) {
+    let (mut drive, mut file) = forged(&rt, rt.alloc());
+    let mut buffer = [0; 128];
+    assert_eq!(rt; drive.read_at(0, 128, &mut file, &mut buffer), Answer::Done);
+    assert_eq!(rt; buffer[16], 2);
+    assert_eq!(rt; buffer[19], 9);
+    assert_eq!(rt; file.current_record, 0);
 }

@@ -1,10 +1,10 @@
 //! WRITE SEQUENTIAL, WRITE RANDOM and WRITE RANDOM WITH ZERO FILL: the buffer goes into a record of a file.
 
-ghost use Rattle.std.specs.Prelude.{◌≡◌, ◌+◌, ◌<◌, ◌≤◌, IfOk, false, true, [], ◌∷◌, length};
+ghost use Rattle.std.specs.Prelude.{◌≡◌, ◌+◌, ◌<◌, ◌≤◌, IfOk, false, true, [], ◌∷◌};
 ghost use Rattle.cpm_geom.specs.Geometry.{dpb_of};
 ghost use Rattle.cpm_files.specs.Files.{place_of, record_put};
-ghost use Rattle.cpm_files.specs.Operations.{put_record, taken_writes, record_in_block, with_block, write_in, write_next, write_at, write_at_cleared, counting};
-ghost use Rattle.cpm_drive.specs.Drive.{volume_of, called, after_call};
+ghost use Rattle.cpm_files.specs.Operations.{writing, place_at, target_of, put_record, taken_writes, record_in_block, with_block, write_in, write_next, write_at, write_at_cleared, counting};
+ghost use Rattle.cpm_drive.specs.Drive.{MarksEachBlock, volume_of, called, after_call};
 ghost use Rattle.cpm_drive.specs.Judged.{IsArrival, place_of_arrival};
 ghost use Rattle.cpm_drive.specs.Writes.{drive_written, stood_on};
 
@@ -94,8 +94,9 @@ impl Drive {
         requires current { fcb.old.current_record < 128 }
         requires step { step ≤ 1 }
         requires writable { self.old.marks.is_protected ≡ false }
-        requires blocks { length self.old.marks.reserved ≡ (dpb_of self.old.image.format).last_block + 1 }
-        ensures { called result self.new fcb.new bytes.now ≡ after_call self.old fcb.old bytes.now (put_record (dpb_of self.old.image.format) clears (volume_of self.old.image self.old.marks.reserved) fcb.old.extent fcb.old.current_record (fcb.old.current_record + step) bytes.now) }
+        requires blocks { MarksEachBlock self.old }
+        ensures value { called result self.new fcb.new bytes.now ≡ after_call self.old fcb.old bytes.now (put_record (dpb_of self.old.image.format) clears (volume_of self.old.image self.old.marks.reserved) fcb.old.extent fcb.old.current_record (fcb.old.current_record + step) bytes.now) }
+        ensures blocks { MarksEachBlock self.new }
     {
         let format = self.image.format();
         let old = match block_at(&format.dpb(), fcb) {
@@ -130,8 +131,9 @@ impl Drive {
         requires step { step ≤ 1 }
         requires within { IsArrival (dpb_of self.old.image.format) arrival.now }
         requires writable { self.old.marks.is_protected ≡ false }
-        requires blocks { length self.old.marks.reserved ≡ (dpb_of self.old.image.format).last_block + 1 }
-        ensures { called result self.new fcb.new bytes.now ≡ after_call self.old fcb.old bytes.now (write_in (dpb_of self.old.image.format) clears fcb.old.current_record step bytes.now (place_of_arrival (volume_of self.old.image self.old.marks.reserved) arrival.now)) }
+        requires blocks { MarksEachBlock self.old }
+        ensures value { called result self.new fcb.new bytes.now ≡ after_call self.old fcb.old bytes.now (write_in (dpb_of self.old.image.format) clears fcb.old.current_record step bytes.now (place_of_arrival (volume_of self.old.image self.old.marks.reserved) arrival.now)) }
+        ensures blocks { MarksEachBlock self.new }
     {
         self.write_change(arrival.closed);
         self.write_change(arrival.made);
@@ -149,18 +151,27 @@ impl Drive {
     /// or made.
     pub fn write_next(&mut self, user: u8, fcb: &mut Fcb, bytes: &[u8; 128]) -> Answer
         requires writable { self.old.marks.is_protected ≡ false }
-        requires blocks { length self.old.marks.reserved ≡ (dpb_of self.old.image.format).last_block + 1 }
-        ensures { called result self.new fcb.new bytes.now ≡ after_call self.old fcb.old bytes.now (write_next (dpb_of self.old.image.format) (volume_of self.old.image self.old.marks.reserved) user fcb.old.extent fcb.old.current_record bytes.now) }
+        requires blocks { MarksEachBlock self.old }
+        ensures value { called result self.new fcb.new bytes.now ≡ after_call self.old fcb.old bytes.now (write_next (dpb_of self.old.image.format) (volume_of self.old.image self.old.marks.reserved) user fcb.old.extent fcb.old.current_record bytes.now) }
+        ensures blocks { MarksEachBlock self.new }
     {
         let arrival = next_place(&self.image, &self.marks, Access::Write, user, fcb);
         self.write_arrived(false, &arrival, 1, fcb, bytes)
     }
 
-    /// WRITE RANDOM: record `number` of the file, for which the extent may be closed and another one opened or made.
-    pub fn write_at(&mut self, user: u8, number: u16, fcb: &mut Fcb, bytes: &[u8; 128]) -> Answer
+    /// Writes record `number` of the file, and clears a block that is taken if it is asked for.
+    fn write_random(
+        &mut self,
+        clears: bool,
+        user: u8,
+        number: u16,
+        fcb: &mut Fcb,
+        bytes: &[u8; 128],
+    ) -> Answer
         requires writable { self.old.marks.is_protected ≡ false }
-        requires blocks { length self.old.marks.reserved ≡ (dpb_of self.old.image.format).last_block + 1 }
-        ensures { called result self.new fcb.new bytes.now ≡ after_call self.old fcb.old bytes.now (write_at (dpb_of self.old.image.format) (volume_of self.old.image self.old.marks.reserved) user fcb.old.extent fcb.old.current_record number bytes.now) }
+        requires blocks { MarksEachBlock self.old }
+        ensures value { called result self.new fcb.new bytes.now ≡ after_call self.old fcb.old bytes.now (write_in (dpb_of self.old.image.format) clears fcb.old.current_record 0 bytes.now (place_at (dpb_of self.old.image.format) writing false (volume_of self.old.image self.old.marks.reserved) user fcb.old.extent (target_of Answer.NoEntryFree number))) }
+        ensures blocks { MarksEachBlock self.new }
     {
         let arrival = place_at(
             &self.image,
@@ -171,10 +182,22 @@ impl Drive {
             number,
             Answer::NoEntryFree,
         );
-        self.write_arrived(false, &arrival, 0, fcb, bytes)
+        self.write_arrived(clears, &arrival, 0, fcb, bytes)
+    }
+
+    /// WRITE RANDOM: record `number` of the file, for which the extent may be closed and another one opened or made.
+    #[tactic(auto, unfolding(cpm_files::specs::Operations::write_at))]
+    pub fn write_at(&mut self, user: u8, number: u16, fcb: &mut Fcb, bytes: &[u8; 128]) -> Answer
+        requires writable { self.old.marks.is_protected ≡ false }
+        requires blocks { MarksEachBlock self.old }
+        ensures value { called result self.new fcb.new bytes.now ≡ after_call self.old fcb.old bytes.now (write_at (dpb_of self.old.image.format) (volume_of self.old.image self.old.marks.reserved) user fcb.old.extent fcb.old.current_record number bytes.now) }
+        ensures blocks { MarksEachBlock self.new }
+    {
+        self.write_random(false, user, number, fcb, bytes)
     }
 
     /// WRITE RANDOM WITH ZERO FILL: as `write_at`, but a block that is taken is cleared first.
+    #[tactic(auto, unfolding(cpm_files::specs::Operations::write_at_cleared))]
     pub fn write_at_cleared(
         &mut self,
         user: u8,
@@ -183,18 +206,10 @@ impl Drive {
         bytes: &[u8; 128],
     ) -> Answer
         requires writable { self.old.marks.is_protected ≡ false }
-        requires blocks { length self.old.marks.reserved ≡ (dpb_of self.old.image.format).last_block + 1 }
-        ensures { called result self.new fcb.new bytes.now ≡ after_call self.old fcb.old bytes.now (write_at_cleared (dpb_of self.old.image.format) (volume_of self.old.image self.old.marks.reserved) user fcb.old.extent fcb.old.current_record number bytes.now) }
+        requires blocks { MarksEachBlock self.old }
+        ensures value { called result self.new fcb.new bytes.now ≡ after_call self.old fcb.old bytes.now (write_at_cleared (dpb_of self.old.image.format) (volume_of self.old.image self.old.marks.reserved) user fcb.old.extent fcb.old.current_record number bytes.now) }
+        ensures blocks { MarksEachBlock self.new }
     {
-        let arrival = place_at(
-            &self.image,
-            &self.marks,
-            Access::Write,
-            user,
-            &fcb.extent,
-            number,
-            Answer::NoEntryFree,
-        );
-        self.write_arrived(true, &arrival, 0, fcb, bytes)
+        self.write_random(true, user, number, fcb, bytes)
     }
 }

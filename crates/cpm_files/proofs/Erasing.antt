@@ -1,15 +1,15 @@
 -- The law of an erase.
-use Rattle.std.proofs.Common.{◌≡◌, ◌++◌, ◌≢◌, ◌⊎◌, ℕ, ◌/◌, ◌%◌, ◌*◌, ◌+◌, ◌<◌, ◌≤◌, Bool, true, false, not, cond, ◌&&◌, ◌||◌, eqb, ltb, List, [], ◌∷◌, None, length, get_or, map, sym, refl, ap, ◌∙◌, inl, inr, arith}
-use Rattle.std.specs.List.{position_or_len, list_any, range_with_len}
+use Rattle.std.proofs.Common.{◌≡◌, ◌++◌, ◌≢◌, ℕ, ◌/◌, ◌%◌, ◌+◌, ◌<◌, ◌≤◌, Bool, true, false, not, cond, ◌&&◌, ◌||◌, eqb, ltb, List, [], ◌∷◌, None, length, get_or, map, sym, refl, ap, ◌∙◌, inl, inr, arith}
+use Rattle.std.specs.List.{position_or_len, list_any}
 use Rattle.std.proofs.lemmas.List.{get_or_past, get_or-map, length-map}
 use Rattle.std.proofs.lemmas.List.Folds.{list_any_at}
 use Rattle.std.proofs.lemmas.List.FromFn.{length-map-range_with_len, get_or-map-range_with_len}
 use Rattle.std.proofs.lemmas.List.Sums.{fails_before_first}
-use Rattle.std.proofs.lemmas.Bool.{false≢true, eqb-true, eq-eqb, ne_eqb, and_parts, and_from, and_left, or_left, or_right, or_from, cases_Bool, cases_lt, cases_eq, lt-ltb, le-ltb, false_from_ne_true}
+use Rattle.std.proofs.lemmas.Bool.{false≢true, eqb-true, eq-eqb, ne_eqb, and_parts, and_from, and_left, or_left, or_right, cases_Bool, cases_lt, lt-ltb, le-ltb, false_from_ne_true}
 use Rattle.cpm_geom.specs.declared.dpb.Dpb.{Dpb}
 use Rattle.cpm_files.specs.declared.extent.Entry.{Entry}
-use Rattle.cpm_files.specs.Files.{extent_number, group_of, map_place, same_name, name_matches, deleted, no_entry, entry_at, InUse, is_of, first_of, block_number, entry_block, file_block, is_reserved, is_directory_block, directory_records, IsStored, IsWellFormed, IsFormat, record_in, directory_file, Volume, IsVolume, IsSoundDrive}
-use Rattle.cpm_files.specs.Names.{is_named, first_named, is_read_only, change_named, none_named, file_read_only, named, protects, deletion, is_erased, reserved_after, named_writes, erase_function}
+use Rattle.cpm_files.specs.Files.{extent_number, group_of, same_name, name_matches, deleted, no_entry, entry_at, InUse, is_of, first_of, block_number, file_block, is_reserved, is_directory_block, IsStored, IsFormat, record_in, directory_file, Volume, IsSoundDrive}
+use Rattle.cpm_files.specs.Names.{is_named, first_named, is_read_only, change_named, named, protects, deletion, is_erased, reserved_after, named_writes, erase_function}
 use Rattle.cpm_files.specs.NameLaws.{ErasesFiles, EraseLaw}
 use Rattle.cpm_files.proofs.Entries.{in_use_within, is_of_parts, first_of_passes, any_index}
 use Rattle.cpm_files.proofs.Making.{none_block}

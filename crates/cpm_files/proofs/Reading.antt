@@ -5,7 +5,7 @@ use Rattle.std.proofs.lemmas.Bool.Decides.{nat_tests}
 use Rattle.cpm_geom.specs.declared.dpb.Dpb.{Dpb}
 use Rattle.cpm_files.specs.declared.extent.Extent.{Extent}
 use Rattle.cpm_files.specs.declared.extent.Entry.{Entry}
-use Rattle.cpm_files.specs.Files.{extent_number, group_of, map_place, deleted, entry_at, is_of, first_of, record_count_of, block_number, block_if, open_record_count, open_block, entry_block, file_block, open_file_block, drive_record, record_in, open_file, Volume, IsSound}
+use Rattle.cpm_files.specs.Files.{extent_number, group_of, map_place, deleted, entry_at, is_of, first_of, record_count_of, block_number, block_if, open_record_count, open_block, entry_block, file_block, open_file_block, directory_records, drive_record, record_in, open_file, Volume, IsSound}
 use Rattle.cpm_files.specs.Operations.{Answer, done, no_record, no_extent, read_only, fault, Outcome, ends, gives, opened, open_to_read, reading, Target, stopped, standing, opened_in, have_extent, cross, next_target, target_of, next_place, place_at, get_record, read_in, read_next, read_at}
 use Rattle.cpm_files.specs.Laws.{OthersStay, FileStays, position, StaysSound, HasRead, HasNone, IsProtected, ReadsNext, ReadsAt}
 use Rattle.cpm_files.proofs.Entries.{first_of_passes}
@@ -60,7 +60,11 @@ past_file d es user x n h =
 -- ---- the record of the extent
 abbrev ReadsRecord : Dpb → ℕ → Volume → Extent → ℕ → ℕ → Type 0
 ReadsRecord d user v x n next =
-    ((get_record d v x (n % 128) next ≡ ends no_record v x (n % 128)) × (open_file d v.entries v.records user x n ≡ None)) ⊎ ((bytes : List ℕ) × (get_record d v x (n % 128) next ≡ gives v x next bytes) × (open_file d v.entries v.records user x n ≡ Some bytes))
+    ((get_record d v x (n % 128) next ≡ ends no_record v x (n % 128)) × (open_file d v.entries v.records user x n ≡ None)) ⊎ ((number : ℕ) × (get_record d v x (n % 128) next ≡ gives v x next number) × (open_file d v.entries v.records user x n ≡ Some (get_or v.records number [])) × (directory_records d ≤ number))
+
+past_records : (d : Dpb) (b n : ℕ) → directory_records d ≤ b * (d.block_mask + 1) → directory_records d ≤ drive_record d b n
+unfolding drive_record
+past_records d b n h = omega (arith, h)
 
 reads_record : (d : Dpb) (user : ℕ) (v : Volume) (x : Extent) (n next : ℕ) → IsSound d v user x → n / 128 ≡ extent_number x → ReadsRecord d user v x n next
 unfolding get_record open_file record_in block_if
@@ -69,7 +73,9 @@ reads_record d user v x n next sound h =
       | inr ge ↦ inl (rw (le-ltb _ _ ge) refl, rw (le-ltb _ _ ge) refl)
       | inl lt ↦ elim (cases_eq (block_number x (map_place d n)) 0) [
         | inl z ↦ inl (rw (lt-ltb _ _ lt, z, le-ltb d.last_block 0 (omega arith)) refl, rw (lt-ltb _ _ lt, z) refl)
-        | inr there ↦ inr (get_or v.records (drive_record d (block_number x (map_place d n)) n) [], rw (lt-ltb _ _ lt, le-ltb _ _ (sound.kept.stored (map_place d n) there).within, ne_eqb _ _ there) refl, rw (lt-ltb _ _ lt, ne_eqb _ _ there) refl)
+        | inr there ↦
+            let stored = sound.kept.stored (map_place d n) there in
+            inr (drive_record d (block_number x (map_place d n)) n, rw (lt-ltb _ _ lt, le-ltb _ _ stored.within, ne_eqb _ _ there) refl, rw (lt-ltb _ _ lt, ne_eqb _ _ there) refl, past_records d (block_number x (map_place d n)) n stored.outside)
       ]
     ])
 
@@ -78,6 +84,7 @@ pub record SameFile (d : Dpb) (user : ℕ) (v : Volume) (x : Extent) (number : �
   pub number_is : extent_number x1 ≡ number
   pub sound : IsSound d v1 user x1
   pub reserved : v1.reserved ≡ v.reserved
+  pub records : v1.records ≡ v.records
   pub others : OthersStay d user x.name v v1
   pub file : FileStays d user v x v1 x1
 
@@ -86,6 +93,7 @@ same_there d user v x number sound e = record {
   number_is = e;
   sound = sound;
   reserved = refl;
+  records = refl;
   others = record { stay = λ other name m ok apart. refl };
   file = record { stay = λ m. refl };
 }
@@ -95,12 +103,12 @@ abbrev Reads : Dpb → ℕ → Volume → Extent → ℕ → ℕ → Outcome →
 Reads d user v x n after o =
     StaysSound d user v x o × FileStays d user v x o.volume o.extent × (((o.answer ≡ done) × HasRead d user v x n o × (position o.extent o.current ≡ after)) ⊎ ((o.answer ≡ no_record) × HasNone d user v x n o × (position o.extent o.current ≡ n)))
 
-gives_there : (d : Dpb) (user : ℕ) (v : Volume) (x : Extent) (n next after : ℕ) (v1 : Volume) (x1 : Extent) (bytes : List ℕ) → SameFile d user v x (n / 128) v1 x1 → next ≤ 128 → 128 * (n / 128) + next ≡ after → open_file d v1.entries v1.records user x1 n ≡ Some bytes → Reads d user v x n after (gives v1 x1 next bytes)
+gives_there : (d : Dpb) (user : ℕ) (v : Volume) (x : Extent) (n next after : ℕ) (v1 : Volume) (x1 : Extent) (number : ℕ) → SameFile d user v x (n / 128) v1 x1 → next ≤ 128 → 128 * (n / 128) + next ≡ after → open_file d v1.entries v1.records user x1 n ≡ Some (get_or v1.records number []) → directory_records d ≤ number → Reads d user v x n after (gives v1 x1 next number)
 unfolding gives position
-gives_there d user v x n next after v1 x1 bytes same small last there = (
+gives_there d user v x n next after v1 x1 number same small last there outside = (
   record { sound = same.sound; current = small; reserved = λ b h. rw same.reserved h; others = same.others },
   same.file,
-  inl (refl, record { bytes = bytes; there = sym (same.file.stay n) ∙ there; given = refl }, rw same.number_is last),
+  inl (refl, record { number = number; given = refl; there = sym (same.file.stay n) ∙ (there ∙ ap (λ records. Some (get_or records number [])) same.records); outside = outside }, rw same.number_is last),
 )
 
 ends_there : (d : Dpb) (user : ℕ) (v : Volume) (x : Extent) (n after : ℕ) (v1 : Volume) (x1 : Extent) → SameFile d user v x (n / 128) v1 x1 → open_file d v1.entries v1.records user x1 n ≡ None → Reads d user v x n after (ends no_record v1 x1 (n % 128))
@@ -115,7 +123,7 @@ reads_there : (d : Dpb) (user : ℕ) (v : Volume) (x : Extent) (n here next afte
 reads_there d user v x n here next after v1 x1 same at_here small last =
     elim (reads_record d user v1 x1 n next same.sound (sym same.number_is)) [
       | inl e ↦ rw (at_here, e.0) (ends_there d user v x n after v1 x1 same e.1)
-      | inr e ↦ rw (at_here, e.1) (gives_there d user v x n next after v1 x1 e.0 same small last e.2)
+      | inr e ↦ rw (at_here, e.1) (gives_there d user v x n next after v1 x1 e.0 same small last e.2 e.3)
     ]
 
 -- ---- after the close, the extent of a number
@@ -214,7 +222,7 @@ module _ (d : Dpb) (user : ℕ) (v : Volume) (x : Extent) (user_ok : user ≢ de
           rw (first_match_plain d v1.entries user x.name (group_of d t.number) sound.kept.plain, lt-ltb _ _ there, le-ltb _ _ greater) refl
 
       same_file_next : SameFile d user v x t.number v1 next
-      same_file_next = record { number_is = number_next; sound = sound_next; reserved = reserved1; others = others1; file = record { stay = same_next } }
+      same_file_next = record { number_is = number_next; sound = sound_next; reserved = reserved1; records = records1; others = others1; file = record { stay = same_next } }
 
   answers : Answers
   answers =
@@ -268,7 +276,7 @@ Refuses d user protected v x current o =
 refuses : (d : Dpb) (user : ℕ) (protected : Bool) (v : Volume) (x : Extent) (current : ℕ) → current ≤ 128 → IsSound d v user x → protected ≡ true → Refuses d user protected v x current (ends (fault read_only) v x current)
 unfolding ends
 refuses d user protected v x current small sound is_protected =
-    (record { sound = sound; current = small; reserved = λ b h. h; others = record { stay = λ other name m ok apart. refl } }, record { stay = λ m. refl }, record { answer = refl; protected_is = is_protected; untouched = record { volume = refl; extent = refl; current_is = refl; bytes = refl } })
+    (record { sound = sound; current = small; reserved = λ b h. h; others = record { stay = λ other name m ok apart. refl } }, record { stay = λ m. refl }, record { answer = refl; protected_is = is_protected; untouched = record { volume = refl; extent = refl; current_is = refl; read = refl } })
 
 -- ---- a random read
 at_from : (d : Dpb) (user : ℕ) (protected : Bool) (v : Volume) (x : Extent) (current n : ℕ) (o : Outcome) → Reads d user v x n n o → ReadsAt d user protected v x current n o

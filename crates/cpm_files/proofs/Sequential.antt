@@ -67,7 +67,7 @@ done_there d user v x n bytes clears next after v1 x1 move small last v' x' put 
       answer = refl;
       written = written_after d user v x (n / 128) v1 x1 move n bytes v' x' put.written;
       position_is = rw (put.number, move.number_is) last;
-      no_bytes = refl;
+      none_read = refl;
     },
     λ clear. cleared_after d user v x (n / 128) v1 x1 move n v' x' (put.zeros clear),
   ),
@@ -84,7 +84,7 @@ lacks_there d user v x n bytes clears next after v1 x1 move lack =
           file = loses_none d user v x (n / 128) v1 x1 move;
           exact = exact_file d user v x (n / 128) v1 x1 move;
           position_is = rw move.number_is (omega arith);
-          bytes = refl;
+          read = refl;
           none = elim (cases_eq (open_file_block d v.entries user x n) 0) [
             | inl z ↦ no_file d v user x n z
             | inr h ↦ absurd (h (sym (move.file n h) ∙ none))
@@ -111,7 +111,7 @@ unfolding ends
 misses d user v x current n number answer v1 small lack inside = (
   record { sound = lack.sound; current = small; reserved = λ b h. rw lack.reserved h; others = lack.others },
   refl,
-  record { file = lack.file; extent = refl; current_is = refl; bytes = refl; none = lack.none n inside },
+  record { file = lack.file; extent = refl; current_is = refl; read = refl; none = lack.none n inside },
 )
 
 misses_last : (d : Dpb) (user : ℕ) (v : Volume) (x : Extent) (current n : ℕ) → current ≤ 128 → IsSound d v user x → 511 < n / 128 → Misses d user v x current n no_record (ends no_record v x current)
@@ -119,7 +119,7 @@ unfolding ends
 misses_last d user v x current n small sound past = (
   record { sound = sound; current = small; reserved = λ b h. h; others = record { stay = λ other name m ok apart. refl } },
   refl,
-  record { file = record { stay = λ m. refl }; extent = refl; current_is = refl; bytes = refl; none = no_file d v user x n (past_file d v.entries user x n past) },
+  record { file = record { stay = λ m. refl }; extent = refl; current_is = refl; read = refl; none = no_file d v user x n (past_file d v.entries user x n past) },
 )
 
 -- ---- a random write, clearing or not

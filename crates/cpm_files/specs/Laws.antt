@@ -1,11 +1,11 @@
 -- The laws of files, over all drives and file control blocks.
-use Rattle.std.specs.Prelude.{◌≡◌, ◌≢◌, ◌⊎◌, ℕ, ◌+◌, ◌*◌, ◌%◌, ◌<◌, ◌≤◌, Bool, false, true, List, Some, None, length, replicate}
+use Rattle.std.specs.Prelude.{◌≡◌, ◌≢◌, ◌⊎◌, ℕ, ◌+◌, ◌*◌, ◌%◌, ◌<◌, ◌≤◌, Bool, false, true, List, [], Some, None, length, replicate, slice_index_or}
 use Rattle.cpm_geom.specs.declared.dpb.Dpb.{Dpb}
 use Rattle.cpm_geom.specs.declared.format.Format.{Format}
 use Rattle.cpm_geom.specs.Geometry.{dpb_of}
 use Rattle.cpm_files.specs.declared.extent.Extent.{Extent}
 use Rattle.cpm_files.specs.declared.extent.Entry.{Entry}
-use Rattle.cpm_files.specs.Files.{extent_number, group_of, is_of, entry_at, InUse, same_name, deleted, is_reserved, first_free, file_block, open_file_block, directory_file, open_file, IsWellFormed, IsKept, IsFormat, IsSound, IsSoundDrive, Volume, has_wildcard}
+use Rattle.cpm_files.specs.Files.{extent_number, group_of, is_of, entry_at, InUse, same_name, deleted, is_reserved, first_free, file_block, open_file_block, directory_records, directory_file, open_file, IsWellFormed, IsKept, IsFormat, IsSound, IsSoundDrive, Volume, has_wildcard}
 use Rattle.cpm_files.specs.Operations.{read_only, done, no_record, no_block, no_extent, no_entry_free, fault, Outcome, with_entry, closed, close_fault, close_function, open_function, make_function, read_next, write_next, read_at, write_at, write_at_cleared}
 use Rattle.cpm_files.specs.Rows.{large}
 
@@ -48,20 +48,21 @@ pub record IsUntouched (v : Volume) (x : Extent) (current : ℕ) (o : Outcome) :
   pub volume : o.volume ≡ v
   pub extent : o.extent ≡ x
   pub current_is : o.current ≡ current
-  pub bytes : o.bytes ≡ None
+  pub read : o.read ≡ None
 
 -- ---- reads
 
--- record n was read
+-- record n was read: the drive's record of a number, none of the directory's
 pub record HasRead (d : Dpb) (user : ℕ) (v : Volume) (x : Extent) (n : ℕ) (o : Outcome) : Type 0 where
-  pub bytes : List ℕ
-  pub there : open_file d v.entries v.records user x n ≡ Some bytes
-  pub given : o.bytes ≡ Some bytes
+  pub number : ℕ
+  pub given : o.read ≡ Some number
+  pub there : open_file d v.entries v.records user x n ≡ Some (slice_index_or v.records number [])
+  pub outside : directory_records d ≤ number
 
 -- the file has no record n
 pub record HasNone (d : Dpb) (user : ℕ) (v : Volume) (x : Extent) (n : ℕ) (o : Outcome) : Type 0 where
   pub none : open_file d v.entries v.records user x n ≡ None
-  pub given : o.bytes ≡ None
+  pub given : o.read ≡ None
 
 -- a close was refused since the drive is protected
 pub record IsProtected (protected : Bool) (v : Volume) (x : Extent) (current : ℕ) (o : Outcome) : Type 0 where
@@ -90,7 +91,7 @@ pub record HasNoExtent (d : Dpb) (user : ℕ) (v : Volume) (x : Extent) (current
   pub file : FileStays d user v x o.volume o.extent
   pub extent : o.extent ≡ x
   pub current_is : o.current ≡ current
-  pub bytes : o.bytes ≡ None
+  pub read : o.read ≡ None
   pub none : open_file d v.entries v.records user x n ≡ None
 
 -- 02: all blocks are reserved, and the file has no record n; where extents share no entry the file is as it was
@@ -98,7 +99,7 @@ pub record HasNoBlock (d : Dpb) (user : ℕ) (v : Volume) (x : Extent) (n : ℕ)
   pub file : LosesNone d user v x o.volume o.extent
   pub exact : d.extent_mask ≡ 0 → FileStays d user v x o.volume o.extent
   pub position_is : position o.extent o.current ≡ n
-  pub bytes : o.bytes ≡ None
+  pub read : o.read ≡ None
   pub none : open_file d v.entries v.records user x n ≡ None
   pub full : (b : ℕ) → is_reserved v.reserved b ≡ true
 
@@ -107,7 +108,7 @@ pub record HasDone (d : Dpb) (user : ℕ) (v : Volume) (x : Extent) (n : ℕ) (b
   pub answer : o.answer ≡ done
   pub written : HasWritten d user v x n bytes o.volume o.extent
   pub position_is : position o.extent o.current ≡ after
-  pub no_bytes : o.bytes ≡ None
+  pub none_read : o.read ≡ None
 
 -- a sequential write writes the record at the position; 01 where the file has its last extent or the directory is full
 abbrev pub WritesNext : Dpb → ℕ → Volume → Extent → ℕ → List ℕ → Outcome → Type 0

@@ -1,8 +1,8 @@
 -- The law of an erase, over all drives and patterns.
 use Rattle.std.specs.Prelude.{◌≡◌, ◌≢◌, ◌⊎◌, ℕ, true, false, List, None}
 use Rattle.cpm_geom.specs.declared.dpb.Dpb.{Dpb}
-use Rattle.cpm_files.specs.Files.{deleted, entry_at, InUse, name_matches, block_number, is_reserved, directory_file, IsFormat, IsSoundDrive, Volume}
-use Rattle.cpm_files.specs.Names.{Named, none_named, file_read_only, named, is_named, is_read_only, erase_function}
+use Rattle.cpm_files.specs.Files.{deleted, entry_at, name_matches, block_number, is_reserved, directory_file, IsFormat, IsSoundDrive, Volume}
+use Rattle.cpm_files.specs.Names.{none_named, file_read_only, named, is_named, is_read_only, erase_function}
 
 -- the files of a name are gone and their blocks free, all others are as they were, and the drive agrees with itself
 pub record ErasesFiles (d : Dpb) (user : ℕ) (v : Volume) (pattern : List ℕ) (v' : Volume) : Type 0 where

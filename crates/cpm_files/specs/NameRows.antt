@@ -1,10 +1,10 @@
 -- Worked rows: what the calls on all entries of a name must give.
-use Rattle.std.specs.Prelude.{◌≡◌, ℕ, true, false, List, [], ◌∷◌, Option, Some, None, replicate, map}
+use Rattle.std.specs.Prelude.{◌≡◌, ℕ, true, List, [], ◌∷◌, replicate, map}
 use Rattle.cpm_files.specs.declared.extent.Entry.{Entry}
-use Rattle.cpm_files.specs.Files.{Volume, no_entry, deleted}
+use Rattle.cpm_files.specs.Files.{Volume}
 use Rattle.cpm_files.specs.Operations.{Outcome, make_function}
 use Rattle.cpm_files.specs.Names.{Named, none_named, file_read_only, named, erase_function, rename_function, attributes_function}
-use Rattle.cpm_files.specs.Rows.{standard, t_dat, two_extents, seen, from_make, more}
+use Rattle.cpm_files.specs.Rows.{standard, t_dat, two_extents, from_make, more}
 
 -- T.DAT of 129 records, blocks 02h to 12h
 unfoldable pub two_taken : Volume

@@ -1,10 +1,10 @@
--- What the calls on all entries of a name do: erase, rename, set attributes.
+-- What the calls on all entries of a name do: erase, rename, set attributes, compute the size.
 -- CP/M 2.2 Operating System Manual, Operating System Call Conventions; own: what the manual leaves open.
-use Rattle.std.specs.Prelude.{ℕ, ◌+◌, ◌*◌, ◌/◌, ◌%◌, Bool, true, false, ◌&&◌, ◌||◌, not, nat_lt, ◌==◌, if◌then◌else◌, List, [], ◌∷◌, ◌++◌, length, map, slice_index}
-use Rattle.std.specs.List.{position_or_len, list_any, range_with_len}
+use Rattle.std.specs.Prelude.{ℕ, ◌+◌, ◌*◌, ◌/◌, ◌%◌, Bool, ◌&&◌, ◌||◌, not, nat_lt, ◌==◌, if◌then◌else◌, List, [], ◌∷◌, ◌++◌, Option, max, length, map, slice_index}
+use Rattle.std.specs.List.{position_or_len, list_any, filter, reduce, range_with_len}
 use Rattle.cpm_geom.specs.declared.dpb.Dpb.{Dpb}
 use Rattle.cpm_files.specs.declared.extent.Entry.{Entry}
-use Rattle.cpm_files.specs.Files.{deleted, name_matches, is_reserved, is_directory_block, Volume, Write, entry_put}
+use Rattle.cpm_files.specs.Files.{deleted, extent_number, name_matches, is_reserved, is_directory_block, Volume, Write, entry_put}
 
 -- an entry of the user whose name matches, of any extent
 unfoldable pub is_named : ℕ → List ℕ → Entry → Bool
@@ -84,3 +84,11 @@ unfoldable pub attributes_function : Volume → ℕ → List ℕ → Named
 attributes_function v user pattern =
     if not (nat_lt (first_named v.entries user pattern) (length v.entries)) then none_named
     else named (first_named v.entries user pattern) (record v { entries = change_named user pattern (marking pattern) v.entries; written = v.written ++ named_writes user pattern 0 v.entries (change_named user pattern (marking pattern) v.entries) })
+
+-- the records of a file up to the end of an entry, by the entry's count
+unfoldable pub records_to : Entry → ℕ
+records_to e = 128 * extent_number e.extent + e.extent.record_count
+
+-- COMPUTE FILE SIZE: own: the greatest of these over the entries of the name, none where there is no such entry
+unfoldable pub file_size : List Entry → ℕ → List ℕ → Option ℕ
+file_size es user pattern = reduce max (map records_to (filter (is_named user pattern) es))

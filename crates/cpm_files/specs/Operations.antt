@@ -1,6 +1,6 @@
 -- What the calls on files do to a drive and to a file control block, in every case.
 -- CP/M 2.2 Operating System Manual, Operating System Call Conventions; own: what the manual leaves open.
-use Rattle.std.specs.Prelude.{ℕ, zero, suc, ◌+◌, ◌*◌, ◌/◌, ◌%◌, Bool, true, false, ◌&&◌, ◌||◌, not, nat_lt, ◌==◌, if◌then◌else◌, List, [], ◌∷◌, ◌++◌, map, Option, Some, None, max, replicate, length, slice_index_or, slice_set}
+use Rattle.std.specs.Prelude.{ℕ, zero, suc, ◌+◌, ◌*◌, ◌/◌, ◌%◌, Bool, true, false, ◌&&◌, ◌||◌, not, nat_lt, ◌==◌, if◌then◌else◌, List, [], ◌∷◌, ◌++◌, map, Option, Some, None, max, replicate, length, slice_set}
 use Rattle.std.specs.List.{range_with_len}
 use Rattle.cpm_geom.specs.declared.dpb.Dpb.{Dpb}
 use Rattle.cpm_files.specs.declared.extent.Extent.{Extent}
@@ -21,23 +21,23 @@ code_of no_extent = Some 4
 code_of no_entry_free = Some 5
 code_of (fault which) = None
 
--- what a call on a record leaves: its answer, the drive, the file control block with its current record, and the record that was read
+-- what a call on a record leaves: its answer, the drive, the file control block with its current record, and the number of the record that was read
 pub record Outcome : Type 0 where
   pub answer : Answer
   pub volume : Volume
   pub extent : Extent
   pub current : ℕ
-  pub bytes : Option (List ℕ)
+  pub read : Option ℕ
 
 -- no record was read
 unfoldable pub ends : Answer → Volume → Extent → ℕ → Outcome
 ends answer v x current =
-    record { answer = answer; volume = v; extent = x; current = current; bytes = None }
+    record { answer = answer; volume = v; extent = x; current = current; read = None }
 
 -- a record was read
-unfoldable pub gives : Volume → Extent → ℕ → List ℕ → Outcome
-gives v x current bytes =
-    record { answer = done; volume = v; extent = x; current = current; bytes = Some bytes }
+unfoldable pub gives : Volume → Extent → ℕ → ℕ → Outcome
+gives v x current number =
+    record { answer = done; volume = v; extent = x; current = current; read = Some number }
 
 -- one entry of the directory is another
 unfoldable pub with_entry : Volume → ℕ → List Entry → Volume
@@ -227,7 +227,7 @@ get_record d v x current next =
     if not (nat_lt current x.record_count) then ends no_record v x current
     else (if nat_lt d.last_block b then ends (fault bad_sector) v x current
     else (if b == 0 then ends no_record v x current
-    else gives v x next (slice_index_or v.records (record_in_block d b current) [])))
+    else gives v x next (record_in_block d b current)))
 
 -- the block that a write is into
 pub data Found : Type 0 where

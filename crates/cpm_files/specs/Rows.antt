@@ -1,13 +1,14 @@
 -- Worked rows: what calls on a blank drive must give, computed on lists.
 -- A row that looks at the directory alone leaves the drive's records out; in the others a record is one byte, repeated as often as it likes.
-use Rattle.std.specs.Prelude.{◌≡◌, ℕ, zero, suc, ◌+◌, Bool, true, false, List, [], ◌∷◌, ◌++◌, Option, Some, None, replicate, length, map, take, slice_index_or}
+use Rattle.std.specs.Prelude.{◌≡◌, ℕ, zero, suc, Bool, true, false, List, [], ◌∷◌, ◌++◌, Option, Some, None, replicate, map, take, slice_index_or}
+use Rattle.std.specs.Option.{option_map}
 use Rattle.cpm_geom.specs.declared.dpb.Dpb.{Dpb}
 use Rattle.cpm_geom.specs.declared.format.Format.TheVariants.{Ibm3740}
 use Rattle.cpm_geom.specs.Geometry.{dpb_of}
 use Rattle.cpm_files.specs.declared.extent.Extent.{Extent}
 use Rattle.cpm_files.specs.declared.extent.Entry.{Entry}
-use Rattle.cpm_files.specs.Files.{Volume, no_entry, deleted}
-use Rattle.cpm_files.specs.Operations.{Answer, done, no_record, no_block, cannot_close, no_extent, no_entry_free, fault, bad_sector, read_only, Outcome, ends, Close, refused, close_fault, closed, close_function, open_function, make_function, read_next, write_next, read_at, write_at, write_at_cleared}
+use Rattle.cpm_files.specs.Files.{Volume, no_entry}
+use Rattle.cpm_files.specs.Operations.{Answer, done, no_record, no_block, no_extent, no_entry_free, fault, bad_sector, read_only, Outcome, ends, Close, refused, close_fault, closed, close_function, open_function, make_function, read_next, write_next, read_at, write_at, write_at_cleared}
 
 -- the standard 8-inch disk
 unfoldable pub standard : Dpb
@@ -201,10 +202,14 @@ next_read o = read_next standard false o.volume 0 o.extent o.current
 unfoldable pub any_read : ℕ → Outcome
 any_read n = read_at standard false two_opened.volume 0 two_opened.extent 0 n
 
+-- the bytes that were read
+abbrev pub bytes_read : Outcome → Option (List ℕ)
+bytes_read o = option_map (λ n. slice_index_or o.volume.records n []) o.read
+
 -- sequential reads give both records and then none; random reads give record 1, no record 2, and no extent for record 256
 abbrev pub RowReads : Type 0
 RowReads =
-    ((next_read two_opened).bytes ≡ Some (0x41 ∷ [])) × ((next_read (next_read two_opened)).bytes ≡ Some (0x42 ∷ [])) × ((next_read (next_read (next_read two_opened))).answer ≡ no_record) × ((any_read 1).bytes ≡ Some (0x42 ∷ [])) × ((any_read 1).current ≡ 1) × ((any_read 2).answer ≡ no_record) × ((any_read 2).current ≡ 2) × ((any_read 256).answer ≡ no_extent) × ((any_read 256).current ≡ 0)
+    (bytes_read (next_read two_opened) ≡ Some (0x41 ∷ [])) × (bytes_read (next_read (next_read two_opened)) ≡ Some (0x42 ∷ [])) × ((next_read (next_read (next_read two_opened))).answer ≡ no_record) × (bytes_read (any_read 1) ≡ Some (0x42 ∷ [])) × ((any_read 1).current ≡ 1) × ((any_read 2).answer ≡ no_record) × ((any_read 2).current ≡ 2) × ((any_read 256).answer ≡ no_extent) × ((any_read 256).current ≡ 0)
 
 -- a block number above the last is a Bad Sector
 abbrev pub RowBadSector : Type 0

@@ -31,6 +31,7 @@ pub struct Entry {
 
 impl Extent {
     ghost use Rattle.cpm_files.specs.Files.{extent_number};
+    ghost use Rattle.cpm_files.specs.Names.{is_read_only};
 
     /// The number of the extent.
     #[tactic(auto, unfolding(crate::specs::Files::extent_number))]
@@ -39,6 +40,14 @@ impl Extent {
         ensures small { result < 512 }
     {
         32 * u16::from(self.s2 % 16) + u16::from(self.ex % 32)
+    }
+
+    /// Whether the file is read-only: the high bit of its type's first character.
+    #[tactic(auto, unfolding(crate::specs::Names::is_read_only))]
+    pub fn is_read_only(&self) -> bool
+        ensures { result ≡ is_read_only self.now.name }
+    {
+        127 < self.name[8]
     }
 }
 

@@ -18,6 +18,11 @@ format_size Ibm3740 n h =
       | inr other ↦ let none = rw (ne_eqb _ _ other) at h in cc none
     ]
 
+-- and so many sectors are an image of it
+pub format_of_size : (f : Format) → format_of_length (sector_count f * 128) ≡ Some f
+unfolding format_of_length sector_count sectors_per_track tracks_of dpb_of
+format_of_size Ibm3740 = refl
+
 -- the places of the skew table, by its sectors
 unfoldable pub places : List ℕ
 places =

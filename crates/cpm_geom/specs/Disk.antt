@@ -1,5 +1,5 @@
 -- A disk as its format and its sectors, and its records by number.
-use Rattle.std.specs.Prelude.{◌≡◌, ℕ, ◌+◌, ◌-◌, ◌*◌, ◌/◌, ◌<◌, List, [], length, map, slice_range, slice_index_or, slice_set}
+use Rattle.std.specs.Prelude.{◌≡◌, ℕ, ◌+◌, ◌-◌, ◌*◌, ◌/◌, ◌<◌, List, [], length, map, replicate, slice_range, slice_index_or, slice_set}
 use Rattle.std.specs.List.{range_with_len}
 use Rattle.cpm_geom.specs.declared.format.Format.{Format}
 use Rattle.cpm_geom.specs.Geometry.{dpb_of, tracks_of, sectors_per_track, sector_count, record_index}
@@ -15,6 +15,10 @@ sectors_of bytes = map (λ k. slice_range bytes (k * 128) (k * 128 + 128)) (rang
 
 abbrev pub disk_of : Format → List ℕ → Disk
 disk_of f bytes = record { format = f; sectors = sectors_of bytes }
+
+-- a blank disk: every byte is E5h, as formatting leaves it
+unfoldable pub blank_disk : Format → Disk
+blank_disk f = disk_of f (replicate (sector_count f * 128) 0xE5)
 
 -- the sectors are those of the format, of 128 bytes each
 pub record IsDisk (d : Disk) : Type 0 where

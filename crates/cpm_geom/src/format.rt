@@ -1,6 +1,6 @@
 //! The formats of disk images, and where a record lies on a disk.
 
-ghost use Rattle.std.specs.Prelude.{◌≡◌, ◌<◌, ◌↔◌, IsTrue};
+ghost use Rattle.std.specs.Prelude.{◌≡◌, ◌<◌, ◌≤◌, ◌↔◌, IsTrue};
 ghost use Rattle.cpm_geom.specs.Geometry.{format_of_length, dpb_of, tracks_of, first_sector_of, sectors_per_track, sector_of, sector_count, sector_index, record_index, track_of, IsSector, IsRecord};
 
 use crate::dpb::Dpb;
@@ -76,6 +76,15 @@ impl Format {
         ensures some { 0 < result }
     {
         self.dpb().sectors_per_track
+    }
+
+    /// The number of sectors.
+    #[tactic(auto, unfolding(crate::specs::Geometry::sector_count), using(crate::proofs::GeometryLemmas::sector_count_small))]
+    pub(crate) fn sector_count(self) -> usize
+        ensures count { result ≡ sector_count self }
+        ensures small { result ≤ 65536 }
+    {
+        usize::from(self.tracks()) * usize::from(self.sectors_per_track())
     }
 
     /// The sector of a track's record.

@@ -1,10 +1,11 @@
 //! A disk image: a list of sectors over a flat vector of bytes.
 
-ghost use Rattle.std.specs.Prelude.{◌≡◌, ◌<◌, ◌≤◌, ◌*◌, Some, None, [], length, MatchResult, slice_index_or};
+ghost use Rattle.std.specs.Prelude.{◌≡◌, ◌<◌, ◌≤◌, ◌*◌, Some, None, [], length, IfOk, MatchResult, slice_index_or};
 ghost use Rattle.std.specs.List.{concat};
 ghost use Rattle.cpm_geom.specs.Geometry.{format_of_length, sector_count, sector_index, record_index, IsSector, IsRecord};
 
 use crate::format::Format;
+use std::alloc::{AllocError, Global};
 use std::marker::Model;
 use thiserror::Error;
 
@@ -40,7 +41,7 @@ impl Model for Image {
 }
 
 impl Image {
-    ghost use Rattle.cpm_geom.specs.Disk.{Disk, disk_of, IsDisk, sector_at, with_sector};
+    ghost use Rattle.cpm_geom.specs.Disk.{Disk, blank_disk, disk_of, IsDisk, sector_at, with_sector};
 
     /// The image of these bytes, which come back where no format has their length. It takes no memory.
     pub fn from_bytes(bytes: Vec<u8>) -> Result<Image, (Vec<u8>, GeomError)>
@@ -52,6 +53,15 @@ impl Image {
             Some(format) => Ok(Image { format, bytes }),
             None => Err((bytes, GeomError::WrongLength)),
         }
+    }
+
+    /// The image of a blank disk, all of whose bytes are E5h.
+    #[tactic(auto, using(crate::proofs::GeometryLemmas::format_of_size), unfolding(crate::specs::Disk::blank_disk))]
+    pub fn blank(alloc: Global, format: Format) -> Result<Image, AllocError>
+        ensures { IfOk result (λ image. image ≡ blank_disk format) }
+    {
+        let bytes = vec![in alloc; 0xE5u8; format.sector_count() * SECTOR_SIZE]?;
+        Ok(Image { format, bytes })
     }
 
     /// The image's bytes: its sectors one after the other.

@@ -14,6 +14,16 @@ fn blank(rt: &impl Abort, alloc: Global) -> Image {
 }
 
 #[test]
+fn blank_disk_is_all_e5(rt: HostRuntime) -> Result<(), Fail> {
+    let image = Image::blank(rt.alloc(), Format::Ibm3740)?;
+    assert_eq!(rt; image.format(), Format::Ibm3740);
+    let bytes = image.into_bytes();
+    assert_eq!(rt; bytes.len(), 256_256);
+    assert!(rt; bytes.iter().all(|byte| *byte == 0xE5));
+    Ok(())
+}
+
+#[test]
 fn other_lengths_come_back(rt: HostRuntime) -> Result<(), Fail> {
     for length in [0, 256_255, 256_257] {
         let bytes = vec![in rt.alloc(); 0xE5u8; length]?;

@@ -3,6 +3,7 @@ use Rattle.std.proofs.Common.{◌≡◌, ◌∙◌, ◌++◌, ◌&&◌, ap, ap�
 use Rattle.std.proofs.lemmas.List.{append_assoc, length-take-le, take-append-drop, take_at}
 use Rattle.std.specs.Io.KnownBytes.{Appends, Keeps}
 use Rattle.cpm_console.specs.Terminal.{Terminal, has_room}
+use Rattle.cpm_geom.specs.Disk.{Disk}
 use Rattle.cpm_slots.specs.Calls.{state_behind}
 use Rattle.cpm_slots.specs.MachineState.{MachineState}
 use Rattle.cpm_slots.specs.Serve.{executed, taken}
@@ -63,13 +64,13 @@ appends_none None = tt
 appends_none (Some xs) = sym (append-nil xs)
 
 -- before the first turn
-pub run_none : (s : MachineState) (o : Option (List ℕ)) → HasNoOutput s → IsRun 0 s s o o
-run_none s o none = record { text = []; list = []; state = refl; written = appends_none o; taken = none }
+pub run_none : (system : Disk) (s : MachineState) (o : Option (List ℕ)) → HasNoOutput s → IsRun system 0 s s o o
+run_none system s o none = record { text = []; list = []; state = refl; written = appends_none o; taken = none }
 
 -- one turn more, and its output
-pub run_turn : (k e : ℕ) (old now turned next : MachineState) (before middle after_it : Option (List ℕ)) → IsRun k old now before middle → turned ≡ after e now
-    → next ≡ without_output turned → Appends middle after_it turned.session.console.screen → IsRun (k + e) old next before after_it
-run_turn k e old now turned next before middle after_it run is moved writes =
+pub run_turn : (system : Disk) (k e : ℕ) (old now turned next : MachineState) (before middle after_it : Option (List ℕ)) → IsRun system k old now before middle → turned ≡ after system e now
+    → next ≡ without_output turned → Appends middle after_it turned.session.console.screen → IsRun system (k + e) old next before after_it
+run_turn system k e old now turned next before middle after_it run is moved writes =
     let screen = turned.session.console.screen in
     let printer = turned.session.console.printer in
     record {
@@ -77,7 +78,7 @@ run_turn k e old now turned next before middle after_it run is moved writes =
       list = run.list ++ printer;
       state = ap (state_behind (run.text ++ screen) (run.list ++ printer)) moved
           ∙ ap₂ (λ a b. with_text a (with_list b turned)) (append-nil (run.text ++ screen)) (append-nil (run.list ++ printer))
-          ∙ ap (state_behind run.text run.list) is ∙ sym (after-behind run.text run.list e now) ∙ ap (after e) run.state ∙ sym (after-add k e old);
+          ∙ ap (state_behind run.text run.list) is ∙ sym (after-behind system run.text run.list e now) ∙ ap (after system e) run.state ∙ sym (after-add system k e old);
       written = appends_more before middle after_it after_it run.text screen run.written writes (keeps_all after_it);
       taken = record { screen = ap (λ (s : MachineState). s.session.console.screen) moved; printer = ap (λ (s : MachineState). s.session.console.printer) moved };
     }
@@ -86,20 +87,20 @@ run_turn k e old now turned next before middle after_it run is moved writes =
     keeps_all None = tt
     keeps_all (Some xs) = refl
 
-step_stays : (s : MachineState) → is_running s.ended ≡ false → step s ≡ s
+step_stays : (system : Disk) (s : MachineState) → is_running s.ended ≡ false → step system s ≡ s
 unfolding step
-step_stays s ended = ap (λ b. step_if b s) ended
+step_stays system s ended = ap (λ b. step_if system b s) ended
 
-after_stays : (n : ℕ) (s : MachineState) → is_running s.ended ≡ false → after n s ≡ s
-after_stays zero s ended = refl
-after_stays (suc n) s ended = ap step (after_stays n s ended) ∙ step_stays s ended
+after_stays : (system : Disk) (n : ℕ) (s : MachineState) → is_running s.ended ≡ false → after system n s ≡ s
+after_stays system zero s ended = refl
+after_stays system (suc n) s ended = ap (step system) (after_stays system n s ended) ∙ step_stays system s ended
 
 -- a machine with no output to take that makes no step has ended
-pub stopped : (n : ℕ) (s : MachineState) → HasNoOutput s → 0 < n → 0 ≡ executed n s → is_running s.ended ≡ false
+pub stopped : (system : Disk) (n : ℕ) (s : MachineState) → HasNoOutput s → 0 < n → 0 ≡ executed system n s → is_running s.ended ≡ false
 unfolding executed
-stopped n s none some is =
-    let longest = longest-is (λ k. can_step (after k s)) n in
-    let blocked : can_step s ≡ false = subst (λ k. k < n → can_step (after k s) ≡ false) (sym is) longest.greatest some in
+stopped system n s none some is =
+    let longest = longest-is (λ k. can_step (after system k s)) n in
+    let blocked : can_step s ≡ false = subst (λ k. k < n → can_step (after system k s) ≡ false) (sym is) longest.greatest some in
     go (is_running s.ended) (has_room s.session.console) (room s.session.console none.screen none.printer) blocked
   where
     room : (t : Terminal) → t.screen ≡ [] → t.printer ≡ [] → has_room t ≡ true
@@ -110,15 +111,15 @@ stopped n s none some is =
     go true b e f = absurd (let bad : ⊥ = cc in bad)
 
 -- after that all further steps change nothing
-pub run_stopped : (k steps : ℕ) (old now : MachineState) (before written : Option (List ℕ)) → IsRun k old now before written → is_running now.ended ≡ false → k ≤ steps
-    → IsRun steps old now before written
-run_stopped k steps old now before written run ended within =
+pub run_stopped : (system : Disk) (k steps : ℕ) (old now : MachineState) (before written : Option (List ℕ)) → IsRun system k old now before written → is_running now.ended ≡ false → k ≤ steps
+    → IsRun system steps old now before written
+run_stopped system k steps old now before written run ended within =
     let total : k + (steps - k) ≡ steps = omega arith in
-    let stays : after (steps - k) (after k old) ≡ after k old = after_stays (steps - k) (after k old) (ap (λ (s : MachineState). is_running s.ended) (sym run.state) ∙ ended) in
+    let stays : after system (steps - k) (after system k old) ≡ after system k old = after_stays system (steps - k) (after system k old) (ap (λ (s : MachineState). is_running s.ended) (sym run.state) ∙ ended) in
     record {
       text = run.text;
       list = run.list;
-      state = run.state ∙ sym stays ∙ sym (after-add k (steps - k) old) ∙ ap (λ n. after n old) total;
+      state = run.state ∙ sym stays ∙ sym (after-add system k (steps - k) old) ∙ ap (λ n. after system n old) total;
       written = run.written;
       taken = run.taken;
     }
@@ -147,21 +148,21 @@ first_left [] ys some e = some refl
 first_left (x ∷ xs) ys some e = cc
 
 -- text that was shown stays in front
-text_kept : (n : ℕ) (s : MachineState) → HasText s → HasText (after n s)
-text_kept n s some =
+text_kept : (system : Disk) (n : ℕ) (s : MachineState) → HasText s → HasText (after system n s)
+text_kept system n s some =
     let screen = s.session.console.screen in
     let printer = s.session.console.printer in
     let split : state_behind screen printer (without_output s) ≡ s = ap₂ (λ a b. with_text a (with_list b s)) (append-nil screen) (append-nil printer) in
-    let kept : state_behind screen printer (after n (without_output s)) ≡ after n s = sym (after-behind screen printer n (without_output s)) ∙ ap (after n) split in
-    subst HasText kept (first_left screen (after n (without_output s)).session.console.screen some)
+    let kept : state_behind screen printer (after system n (without_output s)) ≡ after system n s = sym (after-behind system screen printer n (without_output s)) ∙ ap (after system n) split in
+    subst HasText kept (first_left screen (after system n (without_output s)).session.console.screen some)
 
 -- so what a turn showed is text of the whole run
-pub turn_text : (k e steps : ℕ) (old now turned : MachineState) (before written : Option (List ℕ)) → IsRun k old now before written → turned ≡ after e now
-    → HasText turned → k + e ≤ steps → HasText (after steps old)
-turn_text k e steps old now turned before written run is some within =
+pub turn_text : (system : Disk) (k e steps : ℕ) (old now turned : MachineState) (before written : Option (List ℕ)) → IsRun system k old now before written → turned ≡ after system e now
+    → HasText turned → k + e ≤ steps → HasText (after system steps old)
+turn_text system k e steps old now turned before written run is some within =
     let total : (k + e) + (steps - (k + e)) ≡ steps = omega arith in
-    let shown : state_behind run.text run.list turned ≡ after (k + e) old =
-    ap (state_behind run.text run.list) is ∙ sym (after-behind run.text run.list e now) ∙ ap (after e) run.state ∙ sym (after-add k e old) in
+    let shown : state_behind run.text run.list turned ≡ after system (k + e) old =
+    ap (state_behind run.text run.list) is ∙ sym (after-behind system run.text run.list e now) ∙ ap (after system e) run.state ∙ sym (after-add system k e old) in
     let behind : HasText (state_behind run.text run.list turned) = λ none. some (both_empty run.text turned.session.console.screen none) in
-    let here : HasText (after (k + e) old) = subst HasText shown behind in
-    subst HasText (sym (after-add (k + e) (steps - (k + e)) old) ∙ ap (λ n. after n old) total) (text_kept (steps - (k + e)) (after (k + e) old) here)
+    let here : HasText (after system (k + e) old) = subst HasText shown behind in
+    subst HasText (sym (after-add system (k + e) (steps - (k + e)) old) ∙ ap (λ n. after system n old) total) (text_kept system (steps - (k + e)) (after system (k + e) old) here)

@@ -1,13 +1,15 @@
 -- What running a program shows, and when it is refused.
-use Rattle.std.specs.Prelude.{◌≡◌, ◌≢◌, ◌<◌, ◌≤◌, ℕ, List, [], length, Option}
+use Rattle.std.specs.Prelude.{◌≡◌, ◌≢◌, ◌<◌, ◌≤◌, ℕ, List, [], ◌∷◌, length, Option}
 use Rattle.std.specs.Io.KnownBytes.{Appends}
 use Rattle.cpm_flags.specs.declared.regs.Cpu.{Cpu}
+use Rattle.cpm_geom.specs.Disk.{Disk, blank_disk}
+use Rattle.cpm_geom.specs.declared.format.Format.TheVariants.{Ibm3740}
 use Rattle.cpm_slots.specs.Calls.{state_behind}
 use Rattle.cpm_slots.specs.MachineState.{MachineState, opened_with}
 use Rattle.cpm_slots.specs.Step.{after}
 use Rattle.cpm_host.specs.declared.ending.Ending.{Ending}
 use Rattle.cpm_host.specs.declared.error.HostError.{HostError}
-use Rattle.cpm_host.specs.declared.error.HostError.TheVariants.{Usage, NotText, FileUnreadable, OutputUnwritable, OutOfMemory, ProgramTooLong}
+use Rattle.cpm_host.specs.declared.error.HostError.TheVariants.{Usage, NotText, FileUnreadable, OutputUnwritable, OutOfMemory, OpeningRefused, ProgramTooLong}
 
 -- the console bytes of a machine from which none was taken
 abbrev pub text_of : MachineState → List ℕ
@@ -37,12 +39,16 @@ pub record HasNoOutput (s : MachineState) : Type 0 where
   pub screen : s.session.console.screen ≡ []
   pub printer : s.session.console.printer ≡ []
 
+-- a program run alone for so many steps, with a blank drive and a blank system drive
+abbrev pub ran_alone : Cpu → List ℕ → ℕ → MachineState
+ran_alone cpu program steps = after (blank_disk Ibm3740) steps (opened_with cpu (blank_disk Ibm3740 ∷ []) program)
+
 -- The machine went from `old` to `new`, and the known bytes of a writer likewise: with the bytes that
 -- were taken put back in front it is `old` after so many steps, and the writer got the console bytes.
-pub record IsRun (steps : ℕ) (old new : MachineState) (before now : Option (List ℕ)) : Type 0 where
+pub record IsRun (system : Disk) (steps : ℕ) (old new : MachineState) (before now : Option (List ℕ)) : Type 0 where
   pub text : List ℕ
   pub list : List ℕ
-  pub state : state_behind text list new ≡ after steps old
+  pub state : state_behind text list new ≡ after system steps old
   pub written : Appends before now text
   pub taken : HasNoOutput new
 
@@ -53,7 +59,8 @@ IsComRefusal {W} cpu program steps (ProgramTooLong count) old new =
     (58112 < length program) × (count ≡ length program) × (new ≡ old)
 IsComRefusal {W} cpu program steps OutOfMemory old new = (length program ≤ 58112) × (new ≡ old)
 IsComRefusal {W} cpu program steps (OutputUnwritable reason) old new =
-    (length program ≤ 58112) × HasText (after steps (opened_with cpu program))
+    (length program ≤ 58112) × HasText (ran_alone cpu program steps)
+IsComRefusal {W} cpu program steps (OpeningRefused fault) old new = ⊥
 IsComRefusal {W} cpu program steps (Usage fault) old new = ⊥
 IsComRefusal {W} cpu program steps NotText old new = ⊥
 IsComRefusal {W} cpu program steps (FileUnreadable name reason) old new = ⊥

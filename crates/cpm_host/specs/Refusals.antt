@@ -3,7 +3,9 @@ use Rattle.std.specs.Prelude.{⊤, ℕ}
 use Rattle.cpm_command.specs.declared.fault.UsageError.{UsageError}
 use Rattle.cpm_command.specs.declared.fault.UsageError.TheVariants as usage
 use Rattle.cpm_host.specs.declared.error.HostError.{HostError}
-use Rattle.cpm_host.specs.declared.error.HostError.TheVariants.{Usage, NotText, FileUnreadable, OutputUnwritable, OutOfMemory, ProgramTooLong}
+use Rattle.cpm_host.specs.declared.error.HostError.TheVariants.{Usage, NotText, FileUnreadable, OutputUnwritable, OutOfMemory, OpeningRefused, ProgramTooLong}
+use Rattle.cpm_slots.specs.declared.opening.OpenError.{OpenError}
+use Rattle.cpm_slots.specs.declared.opening.OpenError.TheVariants as opening
 
 -- the number of the code that the text begins with
 abbrev pub status_of : HostError → ℕ
@@ -12,12 +14,14 @@ status_of NotText = 1
 status_of (FileUnreadable name reason) = 4
 status_of (OutputUnwritable reason) = 5
 status_of OutOfMemory = 8
+status_of (OpeningRefused fault) = 9
 status_of (ProgramTooLong count) = 9
 
 -- what a file that is not read comes to
 abbrev pub IsFileRefusal : HostError → Type 0
 IsFileRefusal (FileUnreadable name reason) = ⊤
 IsFileRefusal OutOfMemory = ⊤
+IsFileRefusal (OpeningRefused fault) = ⊥
 IsFileRefusal (Usage fault) = ⊥
 IsFileRefusal NotText = ⊥
 IsFileRefusal (OutputUnwritable reason) = ⊥
@@ -27,6 +31,7 @@ IsFileRefusal (ProgramTooLong count) = ⊥
 abbrev pub IsWordRefusal : HostError → Type 0
 IsWordRefusal NotText = ⊤
 IsWordRefusal OutOfMemory = ⊤
+IsWordRefusal (OpeningRefused fault) = ⊥
 IsWordRefusal (Usage fault) = ⊥
 IsWordRefusal (FileUnreadable name reason) = ⊥
 IsWordRefusal (OutputUnwritable reason) = ⊥
@@ -36,3 +41,10 @@ IsWordRefusal (ProgramTooLong count) = ⊥
 abbrev pub host_error_of : UsageError → HostError
 host_error_of (usage.Usage fault) = Usage fault
 host_error_of usage.OutOfMemory = OutOfMemory
+
+-- what a refused opening comes to
+abbrev pub host_error_of_opening : OpenError → HostError
+host_error_of_opening opening.BadQuota = OpeningRefused opening.BadQuota
+host_error_of_opening opening.BadDrives = OpeningRefused opening.BadDrives
+host_error_of_opening opening.ProgramTooLong = OpeningRefused opening.ProgramTooLong
+host_error_of_opening opening.OutOfMemory = OutOfMemory

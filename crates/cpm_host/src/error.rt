@@ -1,9 +1,10 @@
 //! Why a command is refused.
 ghost use Rattle.std.specs.Prelude.{◌≡◌};
 ghost use Rattle.cpm_host.specs.declared.error.HostError.TheVariants.{OutOfMemory};
-ghost use Rattle.cpm_host.specs.Refusals.{status_of, host_error_of};
+ghost use Rattle.cpm_host.specs.Refusals.{status_of, host_error_of, host_error_of_opening};
 
 use cpm_command::{Fault, UsageError, Word};
+use cpm_slots::OpenError;
 use std::alloc::{AllocError, AllocFailed};
 use std::io;
 use thiserror::Error;
@@ -26,6 +27,9 @@ pub enum HostError {
     /// Memory was refused.
     #[error("HO8 out of memory")]
     OutOfMemory,
+    /// The machine can't be made so.
+    #[error("HO9 {0}")]
+    OpeningRefused(OpenError),
     /// The program has this many bytes, which is more than a machine takes.
     #[error("HO9 the program has {0} bytes, and a machine takes at most 58112")]
     ProgramTooLong(usize),
@@ -41,7 +45,7 @@ impl HostError {
             HostError::FileUnreadable { .. } => 4,
             HostError::OutputUnwritable(_) => 5,
             HostError::OutOfMemory => 8,
-            HostError::ProgramTooLong(_) => 9,
+            HostError::OpeningRefused(_) | HostError::ProgramTooLong(_) => 9,
         }
     }
 }
@@ -53,6 +57,17 @@ impl From<UsageError> for HostError {
         match error {
             UsageError::Usage(fault) => HostError::Usage(fault),
             UsageError::OutOfMemory => HostError::OutOfMemory,
+        }
+    }
+}
+
+impl From<OpenError> for HostError {
+    ghost from_gives = { λ o e. e ≡ host_error_of_opening o };
+
+    fn from(error: OpenError) -> HostError {
+        match error {
+            OpenError::OutOfMemory => HostError::OutOfMemory,
+            fault => HostError::OpeningRefused(fault),
         }
     }
 }

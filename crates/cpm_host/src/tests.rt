@@ -4,6 +4,7 @@ ghost use Rattle.std.specs.Prelude.{Some};
 
 use crate::{Ending, Fault, HostError, MOST_FILE, UsageError, read_whole, run_com, shown};
 use cpm_flags::Cpu;
+use cpm_slots::OpenError;
 use std::alloc::Global;
 use std::io;
 use std::io::{ErrorKind, Read, Write};
@@ -233,6 +234,16 @@ fn names_code_and_status(rt: HostRuntime) {
             HostError::OutputUnwritable(reason),
             5,
             "HO5 can't write to standard output: the disk is gone",
+        ),
+        (
+            HostError::from(OpenError::BadQuota),
+            9,
+            "HO9 the quota is not 16 to 256 pages, or with a program not 256",
+        ),
+        (
+            HostError::from(OpenError::OutOfMemory),
+            8,
+            "HO8 out of memory",
         ),
         (
             HostError::ProgramTooLong(60_000),

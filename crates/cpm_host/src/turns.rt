@@ -4,6 +4,7 @@ ghost use Rattle.std.specs.Io.KnownBytes.{Appends};
 ghost use Rattle.cpm_slots.specs.Step.{after};
 ghost use Rattle.cpm_host.specs.Com.{HasNoOutput, HasText, IsRun, without_list, without_output, without_text};
 
+use cpm_geom::Image;
 use cpm_slots::Machine;
 use std::io;
 use std::io::Write;
@@ -52,17 +53,22 @@ fn move_output<W: Write>(machine: &mut Machine, out: &mut W) -> io::Result<()>
     Ok(())
 }
 
-/// Runs the machine for at most so many steps, and writes its console bytes as they come.
+/// Runs the machine for at most so many steps with this system drive, and writes its console bytes as they come.
 ///
 /// An error is the writer's: it comes only where there was text to write.
-pub(crate) fn run<W: Write>(machine: &mut Machine, steps: u64, out: &mut W) -> io::Result<()>
+pub(crate) fn run<W: Write>(
+    system: &Image,
+    machine: &mut Machine,
+    steps: u64,
+    out: &mut W,
+) -> io::Result<()>
     requires { HasNoOutput machine.old }
-    ensures ran { OnOk result (IsRun steps machine.old machine.new (W.contents out.old) (W.contents out.new)) }
-    ensures refused { OnErr result (HasText (after steps machine.old)) }
+    ensures ran { OnOk result (IsRun system.now steps machine.old machine.new (W.contents out.old) (W.contents out.new)) }
+    ensures refused { OnErr result (HasText (after system.now steps machine.old)) }
 {
     let mut left = steps;
     while left > 0 {
-        let granted = machine.grant(left.min(QUANTUM));
+        let granted = machine.grant(system, left.min(QUANTUM));
         if granted.executed == 0 {
             break;
         }

@@ -7,6 +7,7 @@ use Rattle.std.proofs.lemmas.Bool.{cases_lt, cases_eq}
 use Rattle.std.specs.Prelude.{◌==◌}
 use Rattle.std.proofs.lemmas.Bool.Decides.{nat_tests}
 use Rattle.cpm_memory.specs.Opening.{opening_byte, base_byte, jumps_byte}
+use Rattle.cpm_memory.specs.DiskTables.{disk_table_byte}
 use Rattle.cpm_memory.specs.Tabulated.{tabulated, length-tabulated, get_or-tabulated, same_as_tabulated, same_tabulated}
 use Rattle.cpm_memory.specs.Frames.{Frames, Table, IsSound, IsBlank, AreNewFrames, blank_table, table_at, frame_of, boot_of, names, pages_on, owners_of, used_by, reserved_by, reserved_of, memory_of, memory_at, memories}
 use Rattle.cpm_memory.specs.Kept.{IsKept}
@@ -106,14 +107,14 @@ plus-zero n = omega arith
 boot-others : (page : ℕ) → page ≢ 0 → page ≢ 250 → page ≢ 252 → boot_of page ≡ 0
 boot-others page a b c = grind arith
 
-no_page : (p q : Bool) (x y : ℕ) → p ≡ false → q ≡ false → cond p x (cond q y 0) ≡ 0
-no_page p q x y a b = rw (a, b) refl
+no_page : (p q r : Bool) (x y z : ℕ) → p ≡ false → q ≡ false → r ≡ false → cond p x (cond q y (cond r z 0)) ≡ 0
+no_page p q r x y z a b c = rw (a, b, c) refl
 
 -- the other pages are zeros at opening
 pub blank-page : (page k : ℕ) → page ≢ 0 → page ≢ 250 → page ≢ 252 → opening_byte 1 k ≡ opening_byte page k
 unfolding opening_byte
 blank-page page k a b c =
-    sym (no_page (page == 0) (page == 250) (base_byte k) (jumps_byte k) (grind (arith, nat_tests)) (grind (arith, nat_tests)))
+    sym (no_page (page == 0) (page == 250) (page == 252) (base_byte k) (jumps_byte k) (disk_table_byte k) (grind (arith, nat_tests)) (grind (arith, nat_tests)) (grind (arith, nat_tests)))
 
 module _ (s : Frames) (most : s.private ≤ 16384) (new : AreNewFrames s.frames s.private) (count : length s.tables ≡ 64) (blank : (k : ℕ) → k < 64 → IsBlank (table_at s k)) where
   none_used : sum_by used_by s.tables ≡ 0

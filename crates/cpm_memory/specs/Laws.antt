@@ -1,6 +1,7 @@
 -- Laws of memories and of the store. All are own: CP/M has one memory and no store.
-use Rattle.std.specs.Prelude.{◌≡◌, ◌≢◌, ℕ, ◌/◌, ◌%◌, ◌<◌, List, Some, slice_index, slice_set}
-use Rattle.cpm_memory.specs.Contents.{Write, byte_at, touched_of, after_sets}
+use Rattle.std.specs.Prelude.{◌≡◌, ◌≢◌, ℕ, ◌+◌, ◌*◌, ◌/◌, ◌%◌, ◌<◌, List, Some, slice_index, slice_set}
+use Rattle.cpm_memory.specs.Contents.{Write, byte_at, word_at, touched_of, after_sets}
+use Rattle.cpm_memory.specs.DiskTables.{skew, parameter_block, parameter_header, skew_address, parameter_block_address, header_address}
 use Rattle.cpm_memory.specs.Opening.{opening, opening_byte}
 use Rattle.cpm_memory.specs.Frames.{Frames, IsTaken, place_of, frame_of, memory_of, memories}
 use Rattle.cpm_memory.specs.View.{ViewLeads, store_of, table_of, contents_of}
@@ -11,6 +12,15 @@ abbrev pub OpensBlank : Type 0
 OpensBlank = (limit : ℕ) →
     (touched_of (opening limit) ≡ 0)
     × ((address : ℕ) → address < 65536 → byte_at (opening limit) address ≡ opening_byte (address / 256) (address % 256))
+
+-- A memory at its opening has the disk tables: the skew and the parameter block byte by byte, and the header of each of five drives word by word. (own)
+pub record HasDiskTables (limit : ℕ) : Type 0 where
+  pub sectors : (k : ℕ) → k < 26 → byte_at (opening limit) (skew_address + k) ≡ slice_index skew k
+  pub parameters : (k : ℕ) → k < 15 → byte_at (opening limit) (parameter_block_address + k) ≡ slice_index parameter_block k
+  pub headers : (drive k : ℕ) → drive < 5 → k < 8 → word_at (opening limit) (header_address drive + 2 * k) ≡ slice_index (parameter_header drive) k
+
+abbrev pub OpensWithDiskTables : Type 0
+OpensWithDiskTables = (limit : ℕ) → HasDiskTables limit
 
 -- A byte of a table's memory is a byte of the frame at its page. (own)
 abbrev pub FramesMakeMemories : Type 0

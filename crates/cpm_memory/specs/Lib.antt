@@ -1,5 +1,6 @@
 pub mod Contents
 pub mod Sets
+pub mod DiskTables
 pub mod Opening
 pub mod Tabulated
 pub mod Flat

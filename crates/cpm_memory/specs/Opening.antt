@@ -1,6 +1,7 @@
 -- The memory of a session at its opening.
 use Rattle.std.specs.Prelude.{ℕ, ◌-◌, ◌/◌, ◌%◌, Bool, false, ◌==◌, nat_lt, if◌then◌else◌, ◌&&◌, List, [], ◌∷◌, slice_index}
 use Rattle.cpm_memory.specs.Contents.{Contents}
+use Rattle.cpm_memory.specs.DiskTables.{disk_table_byte}
 use Rattle.cpm_memory.specs.Tabulated.{tabulated}
 
 -- the jump to the warm boot, the I/O and drive bytes, and the jump to the BDOS
@@ -25,7 +26,7 @@ jumps_byte offset = (if nat_lt offset 51 then jump_byte (offset / 3) (offset % 3
 
 -- The byte at an offset of a page.
 unfoldable pub opening_byte : ℕ → ℕ → ℕ
-opening_byte page offset = (if page == 0 then base_byte offset else (if page == 250 then jumps_byte offset else 0))
+opening_byte page offset = (if page == 0 then base_byte offset else (if page == 250 then jumps_byte offset else (if page == 252 then disk_table_byte offset else 0)))
 
 -- the memory at opening, of which so many pages may be written
 abbrev pub opening : ℕ → Contents

@@ -3,7 +3,7 @@
 ghost use Rattle.std.specs.Prelude.{◌≡◌, ◌/◌, Some, slice_set};
 ghost use Rattle.cpm_memory.specs.Contents.{CanSet, after_set, page_of};
 ghost use Rattle.cpm_memory.specs.Frames.{IsSound, IsTaken, MovesAtMost, memories, memory_of};
-ghost use Rattle.cpm_memory.specs.Laws.{OpensBlank, FramesMakeMemories, ViewsChangeOwnTable};
+ghost use Rattle.cpm_memory.specs.Laws.{OpensBlank, OpensWithDiskTables, FramesMakeMemories, ViewsChangeOwnTable};
 
 use crate::memory::Memory;
 use crate::pages::TableId;
@@ -12,6 +12,11 @@ use crate::store::FrameStore;
 /// A memory at its opening has the bytes of the table of opening bytes, and no page is written.
 pub fn opens_blank()
     ensures { OpensBlank }
+{}
+
+/// A memory at its opening has the disk tables at their addresses.
+pub fn opens_with_disk_tables()
+    ensures { OpensWithDiskTables }
 {}
 
 /// A byte of a table's memory is a byte of the frame at its page.

@@ -2,6 +2,7 @@
 #![tactic(auto)]
 
 pub mod access;
+mod disk_tables;
 pub mod flat;
 mod frames;
 pub mod laws;
@@ -12,7 +13,7 @@ pub mod store;
 pub mod view;
 
 pub use access::{
-    change_byte, change_run, change_word, get_word, has_room, set_byte, set_run, set_word,
+    change_byte, change_run, change_word, get_run, get_word, has_room, set_byte, set_run, set_word,
 };
 pub use flat::FlatMemory;
 pub use memory::Memory;

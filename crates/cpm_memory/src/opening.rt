@@ -3,6 +3,8 @@
 ghost use Rattle.std.specs.Prelude.{◌≡◌, ◌<◌, ◌≤◌, ◌/◌, ◌%◌, ◌+◌, ◌-◌, ◌*◌};
 ghost use Rattle.cpm_memory.specs.Opening.{opening_byte, base_byte, jumps_byte};
 
+use crate::disk_tables::disk_table_byte_at;
+
 const BASE_PAGE: [u8; 8] = [0xC3, 0x03, 0xFA, 0, 0, 0xC3, 0x06, 0xEC];
 
 /// The byte at an offset of a page at the opening of a memory.
@@ -13,6 +15,7 @@ pub fn opening_byte_at(page: u8, offset: u8) -> u8
     match page {
         0x00 => base_byte_at(offset),
         0xFA => jumps_byte_at(offset),
+        0xFC => disk_table_byte_at(offset),
         _ => 0,
     }
 }

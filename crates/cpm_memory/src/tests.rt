@@ -2,6 +2,9 @@
 
 ghost use Rattle.std.specs.Prelude.{◌≤◌};
 
+mod disk_tables;
+
+use crate::flat::FlatMemory;
 use crate::memory::Memory;
 use crate::pages::TableId;
 use crate::store::{FrameStore, MemoryError};
@@ -89,6 +92,9 @@ fn boot_frames_stay(rt: HostRuntime) -> Result<(), Fail> {
         (0x00, 6, 0x06),
         (0xFA, 1, 0x00),
         (0xFA, 49, 0x10),
+        (0xFC, 0, 0x01),
+        (0xFC, 0x25, 0xF2),
+        (0xFC, 0xCF, 0xFF),
         (0x20, 255, 0x00),
     ] {
         let want: u8 = byte;
@@ -163,5 +169,19 @@ fn answers_want_of_memory(rt: HostRuntime) -> Result<(), Fail> {
     if let Ok(mut store) = FrameStore::new(rt.alloc(), 4) {
         assert!(rt; reserve(&rt, &mut store, 4).is_ok());
     }
+    Ok(())
+}
+
+#[test]
+fn flat_memory_has_room_for_its_limit(rt: HostRuntime) -> Result<(), Fail> {
+    let mut memory = FlatMemory::with_limit(rt.alloc(), 2)?;
+    assert_eq!(rt; memory.room(), 2);
+    assert!(rt; memory.room() > 0);
+    memory.set(0x1234, 7);
+    assert!(rt; memory.room() > 0);
+    memory.set(0x1235, 8);
+    assert_eq!(rt; memory.touched(), 1);
+    assert_eq!(rt; memory.room(), 1);
+    assert_eq!(rt; FlatMemory::new(rt.alloc())?.room(), 256);
     Ok(())
 }

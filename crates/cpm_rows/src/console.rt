@@ -1,6 +1,6 @@
 //! Programs that read keys, each on a machine of its own.
 
-use crate::run::machine_of;
+use crate::run::{blank, machine_of};
 use cpm_flags::Cpu;
 use cpm_slots::{End, KeysFull, Machine, Why};
 use std::process::Abort;
@@ -54,10 +54,11 @@ fn press(rt: &impl Abort, machine: &mut Machine, keys: &[u8]) {
 
 #[test]
 fn reads_keys_that_wait(rt: HostRuntime) -> Result<(), Fail> {
+    let system = blank(rt.alloc())?;
     for row in &TYPED {
         let mut machine = machine_of(rt.alloc(), Cpu::I8080, row.program)?;
         press(&rt, &mut machine, row.keys);
-        let granted = machine.grant(1_000_000);
+        let granted = machine.grant(&system, 1_000_000);
         assert_eq!(rt; granted.executed, row.executed);
         assert_eq!(rt; machine.look().ended, End::Exited);
         let mut out = [0; 32];
@@ -77,15 +78,16 @@ const POLLS: &[u8] = &[
 
 #[test]
 fn sees_a_key_at_its_count(rt: HostRuntime) -> Result<(), Fail> {
+    let system = blank(rt.alloc())?;
     // by one grant up to the key's count and one after it, and by grants of 7 steps
     for turn in [1000u64, 7] {
         let mut machine = machine_of(rt.alloc(), Cpu::I8080, POLLS)?;
         for _ in 0..1000 / turn {
-            machine.grant(turn);
+            machine.grant(&system, turn);
         }
-        machine.grant(1000 % turn);
+        machine.grant(&system, 1000 % turn);
         press(&rt, &mut machine, b"x");
-        machine.grant(1_000_000);
+        machine.grant(&system, 1_000_000);
         let look = machine.look();
         assert_eq!(rt; look.count, 1014);
         assert_eq!(rt; look.ended, End::Exited);
@@ -101,28 +103,30 @@ const READS: &[u8] = &[0x0E, 0x01, 0xCD, 0x05, 0x00, 0xC9];
 
 #[test]
 fn waits_for_a_key(rt: HostRuntime) -> Result<(), Fail> {
+    let system = blank(rt.alloc())?;
     let mut machine = machine_of(rt.alloc(), Cpu::I8080, READS)?;
     assert_eq!(rt; machine.look().waiting, false);
-    let granted = machine.grant(100);
+    let granted = machine.grant(&system, 100);
     assert_eq!(rt; granted.executed, 100);
     assert_eq!(rt; granted.why, Why::All);
     assert_eq!(rt; machine.look().waiting, true);
     press(&rt, &mut machine, b"k");
     assert_eq!(rt; machine.look().waiting, false);
-    assert_eq!(rt; machine.grant(100).why, Why::Stopped);
+    assert_eq!(rt; machine.grant(&system, 100).why, Why::Stopped);
     assert_eq!(rt; machine.look().waiting, false);
     Ok(())
 }
 
 #[test]
 fn keeps_4096_keys_and_refuses_the_next(rt: HostRuntime) -> Result<(), Fail> {
+    let system = blank(rt.alloc())?;
     let mut machine = machine_of(rt.alloc(), Cpu::I8080, READS)?;
     for number in 0..4096u16 {
         assert_eq!(rt; machine.key((number % 64) as u8 + 0x20), Ok(()));
     }
     assert_eq!(rt; machine.key(b'!'), Err(KeysFull));
     assert_eq!(rt; machine.look().keys, 4096);
-    machine.grant(100);
+    machine.grant(&system, 100);
     assert_eq!(rt; machine.look().keys, 4095);
     assert_eq!(rt; machine.key(b'!'), Ok(()));
     assert_eq!(rt; machine.look().keys, 4096);

@@ -4,6 +4,10 @@
 #[cfg(test)]
 mod console;
 #[cfg(test)]
+mod disks;
+#[cfg(test)]
+mod openings;
+#[cfg(test)]
 mod programs;
 #[cfg(test)]
 mod programs_z80;

@@ -1,6 +1,6 @@
-use crate::run::run;
+use crate::run::{blank, machine_of, run};
 use cpm_flags::Cpu;
-use cpm_slots::{End, Machine, OpenError, Why};
+use cpm_slots::{End, Why};
 use std::test::Fail;
 
 /// What a program shows, how many steps it makes and how it ends.
@@ -196,49 +196,28 @@ fn full_ring_blocks(rt: HostRuntime) -> Result<(), Fail> {
     assert_eq!(rt; ran.granted.executed, 4_101);
     assert_eq!(rt; ran.granted.why, Why::Blocked);
     assert_eq!(rt; ran.machine.look().console, 4_097);
-    assert!(rt; !ran.machine.step());
+    assert!(rt; !ran.machine.step(&ran.system));
     let mut out = [1; 8192];
     assert_eq!(rt; ran.machine.take(&mut out), 4_097);
     assert!(rt; out.iter().position(|byte| *byte != 0) == Some(4_097));
-    assert_eq!(rt; ran.machine.grant(1_000_000).executed, 4_097);
+    assert_eq!(rt; ran.machine.grant(&ran.system, 1_000_000).executed, 4_097);
     Ok(())
 }
 
 #[test]
 fn steps_one_by_one(rt: HostRuntime) -> Result<(), Fail> {
+    let system = blank(rt.alloc())?;
     let program = [0x0E, 0x02, 0x1E, 0x41, 0xCD, 0x05, 0x00, 0xC9];
-    let bytes = Vec::from_slice(rt.alloc(), &program)?;
-    let mut machine = match Machine::with_program(rt.alloc(), Cpu::I8080, bytes) {
-        Ok(machine) => machine,
-        Err((_, error)) => return Err(Fail::from(error)),
-    };
+    let mut machine = machine_of(rt.alloc(), Cpu::I8080, &program)?;
     assert_eq!(rt; machine.look().pages, 2);
     for _ in 0..7 {
-        assert!(rt; machine.step());
+        assert!(rt; machine.step(&system));
     }
-    assert!(rt; !machine.step());
-    let none = machine.grant(5);
+    assert!(rt; !machine.step(&system));
+    let none = machine.grant(&system, 5);
     assert_eq!(rt; none.executed, 0);
     assert_eq!(rt; none.why, Why::Stopped);
-    assert_eq!(rt; machine.grant(0).why, Why::All);
+    assert_eq!(rt; machine.grant(&system, 0).why, Why::All);
     assert_eq!(rt; machine.look().ended, End::Exited);
-    Ok(())
-}
-
-#[test]
-fn long_program_comes_back(rt: HostRuntime) -> Result<(), Fail> {
-    let long = vec![in rt.alloc(); 7u8; 58_113]?;
-    match Machine::with_program(rt.alloc(), Cpu::I8080, long) {
-        Ok(_) => return Err(Fail::from("58,113 bytes were taken")),
-        Err((bytes, error)) => {
-            assert_eq!(rt; error, OpenError::ProgramTooLong);
-            assert_eq!(rt; bytes.len(), 58_113);
-        }
-    }
-    let longest = vec![in rt.alloc(); 0u8; 58_112]?;
-    match Machine::with_program(rt.alloc(), Cpu::I8080, longest) {
-        Ok(machine) => assert_eq!(rt; machine.look().pages, 228),
-        Err((_, error)) => return Err(Fail::from(error)),
-    }
     Ok(())
 }

@@ -1,6 +1,6 @@
-use crate::run::run;
+use crate::run::{machine_of, run};
 use cpm_flags::Cpu;
-use cpm_slots::{End, Machine, Why};
+use cpm_slots::{End, Why};
 use std::test::Fail;
 
 /// A program that halts, its steps, and the bytes that it leaves.
@@ -93,16 +93,12 @@ fn each_repetition_is_a_step(rt: HostRuntime) -> Result<(), Fail> {
     assert_eq!(rt; look.regs.b, 0);
     assert_eq!(rt; look.regs.c, 0);
     assert!(rt; !look.regs.flags.zero && !look.regs.flags.parity && !look.regs.flags.carry);
-    let bytes = Vec::from_slice(rt.alloc(), &MOVE_ALL)?;
-    let mut cut = match Machine::with_program(rt.alloc(), Cpu::Z80, bytes) {
-        Ok(machine) => machine,
-        Err((_, error)) => return Err(Fail::from(error)),
-    };
+    let mut cut = machine_of(rt.alloc(), Cpu::Z80, &MOVE_ALL)?;
     let opening = cut.peek(0x0005);
     for _ in 0..65_540 {
-        assert_eq!(rt; cut.grant(1).executed, 1);
+        assert_eq!(rt; cut.grant(&whole.system, 1).executed, 1);
     }
-    assert_eq!(rt; cut.grant(1).executed, 0);
+    assert_eq!(rt; cut.grant(&whole.system, 1).executed, 0);
     assert_eq!(rt; cut.look(), look);
     assert_eq!(rt; cut.peek(0x0005), opening);
     assert_eq!(rt; cut.peek(0x0100), 0x21);

@@ -1,7 +1,8 @@
 //! A program run by one grant, and what it showed.
 
 use cpm_flags::Cpu;
-use cpm_slots::{Granted, Machine};
+use cpm_geom::{Format, Image};
+use cpm_slots::{Granted, Machine, Opening};
 use std::alloc::Global;
 use std::test::Fail;
 
@@ -10,20 +11,40 @@ use std::test::Fail;
 pub struct Ran {
     pub machine: Machine,
     pub granted: Granted,
+    pub system: Image,
 }
 
-/// A machine with a program.
+/// A blank system drive.
+pub fn blank(alloc: Global) -> Result<Image, Fail> {
+    Ok(Image::blank(alloc, Format::Ibm3740)?)
+}
+
+/// An opening with so many blank drives.
+pub fn opening_of(alloc: Global, cpu: Cpu, quota: u16, count: usize) -> Result<Opening, Fail> {
+    let mut drives = Vec::with_capacity(alloc, count)?;
+    for _ in 0..count {
+        drives.push(blank(alloc)?)?;
+    }
+    Ok(Opening { cpu, quota, drives })
+}
+
+/// A machine with a program and a blank drive.
 pub fn machine_of(alloc: Global, cpu: Cpu, program: &[u8]) -> Result<Machine, Fail> {
     let bytes = Vec::from_slice(alloc, program)?;
-    match Machine::with_program(alloc, cpu, bytes) {
+    match Machine::with_program(alloc, opening_of(alloc, cpu, 256, 1)?, bytes) {
         Ok(machine) => Ok(machine),
-        Err((_, error)) => Err(Fail::from(error)),
+        Err((_, _, error)) => Err(Fail::from(error)),
     }
 }
 
-/// Runs a program by one grant of 1,000,000 steps.
+/// Runs a program with a blank system drive by one grant of 1,000,000 steps.
 pub fn run(alloc: Global, cpu: Cpu, program: &[u8]) -> Result<Ran, Fail> {
+    let system = blank(alloc)?;
     let mut machine = machine_of(alloc, cpu, program)?;
-    let granted = machine.grant(1_000_000);
-    Ok(Ran { machine, granted })
+    let granted = machine.grant(&system, 1_000_000);
+    Ok(Ran {
+        machine,
+        granted,
+        system,
+    })
 }

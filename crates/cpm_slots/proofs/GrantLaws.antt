@@ -3,6 +3,7 @@ use Rattle.std.proofs.Common.{◌≡◌, ℕ, zero, suc, ◌+◌, ◌-◌, ◌<�
 use Rattle.std.proofs.lemmas.Bool.Decides.{nat_tests}
 use Rattle.std.proofs.lemmas.Bool.{cases_lt}
 use Rattle.std.proofs.Math.Nat.{add-suc}
+use Rattle.cpm_geom.specs.Disk.{Disk}
 use Rattle.cpm_slots.specs.MachineState.{MachineState}
 use Rattle.cpm_slots.specs.Step.{step, after, can_step}
 use Rattle.cpm_slots.specs.Serve.{longest, executed}
@@ -33,9 +34,9 @@ longest-unique test n k l h g =
     let on : l < k → ⊥ = λ lt. let t : test l ≡ true = h.each l lt in let w = h.within in let f : test l ≡ false = g.greatest (omega arith) in cc in
     omega (arith, no, on)
 
-pub after-add : (k l : ℕ) (s : MachineState) → after (k + l) s ≡ after l (after k s)
-after-add k zero s = ap (λ n. after n s) (add-zero k)
-after-add k (suc l) s = ap (λ n. after n s) (add-suc k l) ∙ ap step (after-add k l s)
+pub after-add : (system : Disk) (k l : ℕ) (s : MachineState) → after system (k + l) s ≡ after system l (after system k s)
+after-add system k zero s = ap (λ n. after system n s) (add-zero k)
+after-add system k (suc l) s = ap (λ n. after system n s) (add-suc k l) ∙ ap (step system) (after-add system k l s)
 
 -- two runs, the second from where the first ended, are one
 longest-add : (p q : ℕ → Bool) (a b k l : ℕ) → ((i : ℕ) → q i ≡ p (k + i)) → IsLongest p a k → IsLongest q b l → IsLongest p (a + b) (k + l)
@@ -63,23 +64,23 @@ longest-add p q a b k l shift h g =
     }
 
 -- cutting a grant changes nothing
-pub cut : (a b : ℕ) (s : MachineState) → executed (a + b) s ≡ executed a s + executed b (after (executed a s) s)
+pub cut : (system : Disk) (a b : ℕ) (s : MachineState) → executed system (a + b) s ≡ executed system a s + executed system b (after system (executed system a s) s)
 unfolding executed
-cut a b s =
-    let p : ℕ → Bool = λ k. can_step (after k s) in
+cut system a b s =
+    let p : ℕ → Bool = λ k. can_step (after system k s) in
     let k = longest p a in
-    let q : ℕ → Bool = λ i. can_step (after i (after k s)) in
+    let q : ℕ → Bool = λ i. can_step (after system i (after system k s)) in
     longest-unique p (a + b) (longest p (a + b)) (k + longest q b) (longest-is p (a + b))
-    (longest-add p q a b k (longest q b) (λ i. ap can_step (sym (after-add k i s))) (longest-is p a) (longest-is q b))
+    (longest-add p q a b k (longest q b) (λ i. ap can_step (sym (after-add system k i s))) (longest-is p a) (longest-is q b))
 
 -- a grant of one step
-executed-one : (s : MachineState) → executed 1 s ≡ (if can_step s then 1 else 0)
+executed-one : (system : Disk) (s : MachineState) → executed system 1 s ≡ (if can_step s then 1 else 0)
 unfolding executed
-executed-one s = refl
+executed-one system s = refl
 
-by_one : (b : Bool) (k : ℕ) (s : MachineState) → k ≡ (if b then 1 else 0) → ((k == 1) ≡ b) × (after k s ≡ (if k == 1 then step s else s))
-by_one true k s e = rw e (refl, refl)
-by_one false k s e = rw e (refl, refl)
+by_one : (system : Disk) (b : Bool) (k : ℕ) (s : MachineState) → k ≡ (if b then 1 else 0) → ((k == 1) ≡ b) × (after system k s ≡ (if k == 1 then step system s else s))
+by_one system true k s e = rw e (refl, refl)
+by_one system false k s e = rw e (refl, refl)
 
-pub one_step : (k : ℕ) (s : MachineState) → k ≡ executed 1 s → ((k == 1) ≡ can_step s) × (after k s ≡ (if k == 1 then step s else s))
-one_step k s e = by_one (can_step s) k s (e ∙ executed-one s)
+pub one_step : (system : Disk) (k : ℕ) (s : MachineState) → k ≡ executed system 1 s → ((k == 1) ≡ can_step s) × (after system k s ≡ (if k == 1 then step system s else s))
+one_step system k s e = by_one system (can_step s) k s (e ∙ executed-one system s)

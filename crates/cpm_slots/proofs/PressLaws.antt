@@ -3,6 +3,7 @@ use Rattle.std.proofs.Common.{◌≡◌, ℕ, zero, suc, ◌+◌, ◌<◌, ◌�
 use Rattle.std.proofs.lemmas.Bool.Decides.{nat_tests}
 use Rattle.std.proofs.lemmas.List.{append_assoc, append-nil}
 use Rattle.std.proofs.Math.Nat.{add-suc}
+use Rattle.cpm_geom.specs.Disk.{Disk}
 use Rattle.cpm_slots.specs.MachineState.{MachineState}
 use Rattle.cpm_slots.specs.Step.{step, after}
 use Rattle.cpm_slots.specs.Serve.{keyed}
@@ -47,36 +48,36 @@ due-none count xs ys none =
     due-append count xs ys ∙ ap (λ zs. due count xs ++ zs) none ∙ append-nil (due count xs)
 
 -- keys that come later make no difference
-pub alone-late : (presses later : List Press) (n : ℕ) (start : MachineState) → ((i : ℕ) → i ≤ n → due i later ≡ []) → alone (presses ++ later) n start ≡ alone presses n start
-alone-late presses later zero start none =
+pub alone-late : (system : Disk) (presses later : List Press) (n : ℕ) (start : MachineState) → ((i : ℕ) → i ≤ n → due i later ≡ []) → alone system (presses ++ later) n start ≡ alone system presses n start
+alone-late system presses later zero start none =
     ap (λ keys. with_keys keys start) (due-none 0 presses later (none 0 (omega arith)))
-alone-late presses later (suc n) start none =
-    ap (λ keys. with_keys keys (step (alone (presses ++ later) n start))) (due-none (suc n) presses later (none (suc n) (omega arith)))
-    ∙ ap (λ s. with_keys (due (suc n) presses) (step s)) (alone-late presses later n start (λ i below. none i (omega arith)))
+alone-late system presses later (suc n) start none =
+    ap (λ keys. with_keys keys (step system (alone system (presses ++ later) n start))) (due-none (suc n) presses later (none (suc n) (omega arith)))
+    ∙ ap (λ s. with_keys (due (suc n) presses) (step system s)) (alone-late system presses later n start (λ i below. none i (omega arith)))
 
 -- after so many steps no key is to come
 abbrev pub AllCame : List Press → ℕ → Type 0
 AllCame presses n = (i : ℕ) → n < i → due i presses ≡ []
 
 -- steps after which no key comes
-pub alone-add : (presses : List Press) (n k : ℕ) (start : MachineState) → AllCame presses n → alone presses (n + k) start ≡ after k (alone presses n start)
-alone-add presses n zero start came = ap (λ m. alone presses m start) (add-zero n)
-alone-add presses n (suc k) start came =
-    ap (λ m. alone presses m start) (add-suc n k)
-    ∙ ap (λ keys. with_keys keys (step (alone presses (n + k) start))) (came (suc (n + k)) (omega arith))
-    ∙ with_keys-nil (step (alone presses (n + k) start))
-    ∙ ap step (alone-add presses n k start came)
+pub alone-add : (system : Disk) (presses : List Press) (n k : ℕ) (start : MachineState) → AllCame presses n → alone system presses (n + k) start ≡ after system k (alone system presses n start)
+alone-add system presses n zero start came = ap (λ m. alone system presses m start) (add-zero n)
+alone-add system presses n (suc k) start came =
+    ap (λ m. alone system presses m start) (add-suc n k)
+    ∙ ap (λ keys. with_keys keys (step system (alone system presses (n + k) start))) (came (suc (n + k)) (omega arith))
+    ∙ with_keys-nil (step system (alone system presses (n + k) start))
+    ∙ ap (step system) (alone-add system presses n k start came)
 
 -- a key that comes now
-pub alone-pressed : (presses : List Press) (n key : ℕ) (start : MachineState) → alone (presses ++ record { after = n; key = key } ∷ []) n start ≡ keyed key (alone presses n start)
-alone-pressed presses zero key start =
+pub alone-pressed : (system : Disk) (presses : List Press) (n key : ℕ) (start : MachineState) → alone system (presses ++ record { after = n; key = key } ∷ []) n start ≡ keyed key (alone system presses n start)
+alone-pressed system presses zero key start =
     ap (λ keys. with_keys keys start) (due-append 0 presses (record { after = 0; key = key } ∷ []) ∙ ap (λ ys. due 0 presses ++ ys) (due_if-same 0 key))
     ∙ with_keys-more (due 0 presses) key start
-alone-pressed presses (suc n) key start =
+alone-pressed system presses (suc n) key start =
     let last : List Press = record { after = suc n; key = key } ∷ [] in
-    ap (λ s. with_keys (due (suc n) (presses ++ last)) (step s)) (alone-late presses last n start (λ i below. due_if-other (suc n) i key (λ same. omega arith)))
-    ∙ ap (λ keys. with_keys keys (step (alone presses n start))) (due-append (suc n) presses last ∙ ap (λ ys. due (suc n) presses ++ ys) (due_if-same (suc n) key))
-    ∙ with_keys-more (due (suc n) presses) key (step (alone presses n start))
+    ap (λ s. with_keys (due (suc n) (presses ++ last)) (step system s)) (alone-late system presses last n start (λ i below. due_if-other (suc n) i key (λ same. omega arith)))
+    ∙ ap (λ keys. with_keys keys (step system (alone system presses n start))) (due-append (suc n) presses last ∙ ap (λ ys. due (suc n) presses ++ ys) (due_if-same (suc n) key))
+    ∙ with_keys-more (due (suc n) presses) key (step system (alone system presses n start))
 
 -- and none comes after it
 pub AllCame-pressed : (presses : List Press) (n key : ℕ) → AllCame presses n → AllCame (presses ++ record { after = n; key = key } ∷ []) n

@@ -1,5 +1,6 @@
 -- How much a step can change.
 use Rattle.std.proofs.Common.{if◌then◌else◌, ◌+◌, ◌≤◌, Bool, true, false, Option, Some, None, arith, length}
+use Rattle.cpm_geom.specs.Disk.{Disk}
 use Rattle.cpm_memory.specs.Contents.{Contents, touched_of}
 use Rattle.cpm_memory.specs.Room.{touched_of-after_sets}
 use Rattle.cpm_console.proofs.Growth.{IsWithin-same}
@@ -15,7 +16,7 @@ use Rattle.cpm_bdos.specs.Step.{bdos}
 use Rattle.cpm_bdos.specs.Bounds.{IsFit}
 use Rattle.cpm_bdos.specs.declared.session.Session.{Session}
 use Rattle.cpm_bdos.specs.declared.session.Mode.{Mode}
-use Rattle.cpm_bdos.specs.declared.session.Mode.TheVariants.{Program, Text, Line, Hold, Fault}
+use Rattle.cpm_bdos.specs.declared.session.Mode.TheVariants.{Program, Text, Line, Hold, Fault, Command}
 use Rattle.cpm_slots.specs.declared.trap.Trap.{Trap}
 use Rattle.cpm_slots.specs.declared.trap.Trap.TheVariants.{CommandProcessor, Bdos, Bios}
 use Rattle.cpm_slots.specs.Trap.{trap_at}
@@ -31,39 +32,41 @@ record IsBoundedPart (s : Session) (m : Contents) (x : Part) : Type 0 where
   pages : touched_of x.memory ≤ touched_of m + 8
   output : IsWithin 4096 s.console x.session.console
 
-bounded_call : (s : Session) (m : Contents) → IsFit s → IsBoundedPart s m (by_call (bdos s m))
-bounded_call s m fit = let b = IsBounded-bdos s m fit in record { pages = b.pages; output = b.output }
+bounded_call : (system : Disk) (s : Session) (m : Contents) → IsFit s → IsBoundedPart s m (by_call (bdos system s m))
+bounded_call system s m fit = let b = IsBounded-bdos system s m fit in record { pages = b.pages; output = b.output }
 
-bounded_trap : (cpu : Cpu) (t : Option Trap) (s : Session) (m : Contents) → IsFit s → IsBoundedPart s m (at_trap cpu t s m)
-bounded_trap cpu None s m fit = record {
+bounded_trap : (system : Disk) (cpu : Cpu) (with_program : Bool) (t : Option Trap) (s : Session) (m : Contents) → IsFit s → IsBoundedPart s m (at_trap system cpu with_program t s m)
+bounded_trap system cpu with_program None s m fit = record {
   pages = omega (arith, few_stores cpu m s.regs, touched_of-after_sets m (effect_at cpu m s.regs).stores);
   output = IsWithin-same 4096 s.console;
 }
-bounded_trap cpu (Some CommandProcessor) s m fit = record { pages = omega arith; output = IsWithin-same 4096 s.console }
-bounded_trap cpu (Some Bdos) s m fit = bounded_call s m fit
-bounded_trap cpu (Some (Bios number)) s m fit =
-    let b = IsBounded-bios number s m in record { pages = b.pages; output = b.output }
+bounded_trap system cpu true (Some CommandProcessor) s m fit = record { pages = omega arith; output = IsWithin-same 4096 s.console }
+bounded_trap system cpu false (Some CommandProcessor) s m fit = record { pages = omega arith; output = IsWithin-same 4096 s.console }
+bounded_trap system cpu with_program (Some Bdos) s m fit = bounded_call system s m fit
+bounded_trap system cpu with_program (Some (Bios number)) s m fit =
+    let b = IsBounded-bios number system s m fit in record { pages = b.pages; output = b.output }
 
-bounded_mode : (cpu : Cpu) (mode : Mode) (s : Session) (m : Contents) → IsFit s → IsBoundedPart s m (part_in cpu mode s m)
-bounded_mode cpu Program s m fit = bounded_trap cpu (trap_at s.regs.pc) s m fit
-bounded_mode cpu (Text next) s m fit = bounded_call s m fit
-bounded_mode cpu Line s m fit = bounded_call s m fit
-bounded_mode cpu (Hold held) s m fit = bounded_call s m fit
-bounded_mode cpu Fault s m fit = bounded_call s m fit
+bounded_mode : (system : Disk) (cpu : Cpu) (with_program : Bool) (mode : Mode) (s : Session) (m : Contents) → IsFit s → IsBoundedPart s m (part_in system cpu with_program mode s m)
+bounded_mode system cpu with_program Program s m fit = bounded_trap system cpu with_program (trap_at s.regs.pc) s m fit
+bounded_mode system cpu with_program (Text next) s m fit = bounded_call system s m fit
+bounded_mode system cpu with_program Line s m fit = bounded_call system s m fit
+bounded_mode system cpu with_program (Hold held) s m fit = bounded_call system s m fit
+bounded_mode system cpu with_program Fault s m fit = bounded_call system s m fit
+bounded_mode system cpu with_program (Command part) s m fit = bounded_call system s m fit
 
-bounded_part : (cpu : Cpu) (s : Session) (m : Contents) → IsFit s → IsBoundedPart s m (part cpu s m)
+bounded_part : (system : Disk) (cpu : Cpu) (with_program : Bool) (s : Session) (m : Contents) → IsFit s → IsBoundedPart s m (part system cpu with_program s m)
 unfolding part
-bounded_part cpu s m fit = bounded_mode cpu s.mode s m fit
+bounded_part system cpu with_program s m fit = bounded_mode system cpu with_program s.mode s m fit
 
-bounded_if : (b : Bool) (s : MachineState) → IsFit s.session → IsBounded s (step_if b s)
-bounded_if true s fit = let x = bounded_part s.cpu s.session s.memory fit in record { pages = x.pages; output = x.output }
-bounded_if false s fit = record { pages = omega arith; output = IsWithin-same 4096 s.session.console }
+bounded_if : (system : Disk) (b : Bool) (s : MachineState) → IsFit s.session → IsBounded s (step_if system b s)
+bounded_if system true s fit = let x = bounded_part system s.cpu s.with_program s.session s.memory fit in record { pages = x.pages; output = x.output }
+bounded_if system false s fit = record { pages = omega arith; output = IsWithin-same 4096 s.session.console }
 
-pub IsBounded-step : (s : MachineState) → IsFit s.session → IsBounded s (step s)
+pub IsBounded-step : (system : Disk) (s : MachineState) → IsFit s.session → IsBounded s (step system s)
 unfolding step
-IsBounded-step s fit = bounded_if (is_running s.ended) s fit
+IsBounded-step system s fit = bounded_if system (is_running s.ended) s fit
 
 -- a step that is made, or not
-pub IsBounded-once : (b : Bool) (s : MachineState) → IsFit s.session → IsBounded s (if b then step s else s)
-IsBounded-once true s fit = IsBounded-step s fit
-IsBounded-once false s fit = record { pages = omega arith; output = IsWithin-same 4096 s.session.console }
+pub IsBounded-once : (system : Disk) (b : Bool) (s : MachineState) → IsFit s.session → IsBounded s (if b then step system s else s)
+IsBounded-once system true s fit = IsBounded-step system s fit
+IsBounded-once system false s fit = record { pages = omega arith; output = IsWithin-same 4096 s.session.console }

@@ -1,55 +1,71 @@
 -- A step that is a wait.
-use Rattle.std.proofs.Common.{◌≡◌, ℕ, ◌-◌, Bool, true, false, ◌&&◌, ◌==◌, Some, None, refl, ap, ◌∙◌, arith, if◌then◌else◌}
+use Rattle.std.proofs.Common.{◌≡◌, ℕ, ◌-◌, Bool, true, false, ◌&&◌, ◌==◌, Some, None, refl, ap, sym, ◌∙◌, arith, if◌then◌else◌}
 use Rattle.std.specs.Prelude.{nat_le}
 use Rattle.std.proofs.lemmas.Bool.Decides.{nat_tests}
 use Rattle.cpm_slots.proofs.StepLaws.{and-left, and-right}
 use Rattle.cpm_flags.specs.declared.regs.Cpu.{Cpu}
+use Rattle.cpm_geom.specs.Disk.{Disk}
 use Rattle.cpm_memory.specs.Contents.{Contents}
 use Rattle.cpm_bdos.specs.Did.{Did, did}
-use Rattle.cpm_bdos.specs.Step.{bdos, bios}
-use Rattle.cpm_bdos.specs.Waiting.{is_waiting, call_in}
+use Rattle.cpm_bdos.specs.Step.{in_mode, bdos, bios}
+use Rattle.cpm_bdos.specs.Waiting.{is_waiting, call_in, is_command}
 use Rattle.cpm_bdos.proofs.WaitLaws.{IsWaiting-now}
 use Rattle.cpm_bdos.specs.declared.session.Session.{Session}
 use Rattle.cpm_bdos.specs.declared.session.Mode.{Mode}
-use Rattle.cpm_bdos.specs.declared.session.Mode.TheVariants.{Program, Text, Line, Hold, Fault}
+use Rattle.cpm_bdos.specs.declared.session.Mode.TheVariants.{Program, Text, Line, Hold, Fault, Command}
 use Rattle.cpm_bdos.specs.declared.session.Went.TheVariants.{Waits}
+use Rattle.cpm_slots.specs.declared.steps.Outcome.TheVariants as outcome
 use Rattle.cpm_slots.specs.declared.trap.Trap.TheVariants.{CommandProcessor, Bdos, Bios}
 use Rattle.cpm_slots.specs.Trap.{trap_at}
 use Rattle.cpm_slots.specs.MachineState.{MachineState}
 use Rattle.cpm_slots.specs.Serve.{look_of}
-use Rattle.cpm_slots.specs.Step.{part, part_in, at_trap, by_call, after_part, step_if, is_running, step}
+use Rattle.cpm_slots.specs.Step.{part, part_in, at_trap, by_call, made, after_part, step_if, is_running, step}
 
 -- the call that PC names is that of the trap there
-call-at_trap : (cpu : Cpu) (s : Session) (m : Contents) (d : Did) → call_in Program s m ≡ Some d → at_trap cpu (trap_at s.regs.pc) s m ≡ by_call d
+call-at_trap : (system : Disk) (cpu : Cpu) (with_program : Bool) (s : Session) (m : Contents) (d : Did) → call_in Program system s m ≡ Some d → at_trap system cpu with_program (trap_at s.regs.pc) s m ≡ by_call d
 unfolding trap_at
-call-at_trap cpu s m d = by_tests s.regs.pc (s.regs.pc == 58374) (s.regs.pc == 60422) (nat_le 64256 s.regs.pc && nat_le s.regs.pc 64272) refl refl refl
+call-at_trap system cpu with_program s m d = by_tests s.regs.pc (s.regs.pc == 58374) (s.regs.pc == 60422) (nat_le 64256 s.regs.pc && nat_le s.regs.pc 64272) refl refl refl
   where
-    by_tests : (pc : ℕ) (a b c : Bool) → (pc == 58374) ≡ a → (pc == 60422) ≡ b → (nat_le 64256 pc && nat_le pc 64272) ≡ c → (if b then Some (bdos s m) else if c then Some (bios (pc - 64256) s m) else None) ≡ Some d → at_trap cpu (if a then Some CommandProcessor else if b then Some Bdos else if c then Some (Bios (pc - 64256)) else None) s m ≡ by_call d
+    by_tests : (pc : ℕ) (a b c : Bool) → (pc == 58374) ≡ a → (pc == 60422) ≡ b → (nat_le 64256 pc && nat_le pc 64272) ≡ c → (if b then Some (bdos system s m) else if c then Some (bios (pc - 64256) system s m) else None) ≡ Some d → at_trap system cpu with_program (if a then Some CommandProcessor else if b then Some Bdos else if c then Some (Bios (pc - 64256)) else None) s m ≡ by_call d
     by_tests pc true true c ea eb ec h = absurd (grind (arith, nat_tests))
     by_tests pc true false true ea eb ec h =
         let low : nat_le 64256 pc ≡ true = and-left (nat_le 64256 pc) (nat_le pc 64272) ec in
         absurd (grind (arith, nat_tests))
     by_tests pc true false false ea eb ec h = absurd cc
-    by_tests pc false true c ea eb ec h = let same : bdos s m ≡ d = cc in ap by_call same
-    by_tests pc false false true ea eb ec h = let same : bios (pc - 64256) s m ≡ d = cc in ap by_call same
+    by_tests pc false true c ea eb ec h = let same : bdos system s m ≡ d = cc in ap by_call same
+    by_tests pc false false true ea eb ec h = let same : bios (pc - 64256) system s m ≡ d = cc in ap by_call same
     by_tests pc false false false ea eb ec h = absurd cc
 
 -- and in the other modes it is the BDOS's
-call-part_in : (cpu : Cpu) (mode : Mode) (s : Session) (m : Contents) (d : Did) → call_in mode s m ≡ Some d → part_in cpu mode s m ≡ by_call d
-call-part_in cpu Program s m d h = call-at_trap cpu s m d h
-call-part_in cpu (Text next) s m d h = let same : bdos s m ≡ d = cc in ap by_call same
-call-part_in cpu Line s m d h = let same : bdos s m ≡ d = cc in ap by_call same
-call-part_in cpu (Hold held) s m d h = let same : bdos s m ≡ d = cc in ap by_call same
-call-part_in cpu Fault s m d h = let same : bdos s m ≡ d = cc in ap by_call same
+call-part_in : (system : Disk) (cpu : Cpu) (with_program : Bool) (mode : Mode) (s : Session) (m : Contents) (d : Did) → call_in mode system s m ≡ Some d → part_in system cpu with_program mode s m ≡ by_call d
+call-part_in system cpu with_program Program s m d h = call-at_trap system cpu with_program s m d h
+call-part_in system cpu with_program (Text next) s m d h = let same : bdos system s m ≡ d = cc in ap by_call same
+call-part_in system cpu with_program Line s m d h = let same : bdos system s m ≡ d = cc in ap by_call same
+call-part_in system cpu with_program (Hold held) s m d h = let same : bdos system s m ≡ d = cc in ap by_call same
+call-part_in system cpu with_program Fault s m d h = let same : bdos system s m ≡ d = cc in ap by_call same
+call-part_in system cpu with_program (Command part) s m d h = absurd cc
 
-part-waits : (cpu : Cpu) (s : Session) (m : Contents) → is_waiting s m ≡ true → part cpu s m ≡ by_call (did s m Waits)
+-- a call that waits changes nothing
+by_call-waits : (system : Disk) (cpu : Cpu) (with_program : Bool) (mode : Mode) (s : Session) (m : Contents) → s.mode ≡ mode → is_command mode ≡ false → is_waiting s m ≡ true → part_in system cpu with_program mode s m ≡ made s m outcome.GoesOn
+by_call-waits system cpu with_program mode s m e plain h =
+    call-part_in system cpu with_program mode s m (did s m Waits) (ap (λ mode. call_in mode system s m) (sym e) ∙ (IsWaiting-now s m).changes_nothing h (ap is_command e ∙ plain) system)
+
+-- a part of the command processor is left as it is
+part-waits_in : (system : Disk) (cpu : Cpu) (with_program : Bool) (mode : Mode) (s : Session) (m : Contents) → s.mode ≡ mode → is_waiting s m ≡ true → part_in system cpu with_program mode s m ≡ made s m outcome.GoesOn
+part-waits_in system cpu with_program (Command part) s m e h = ap by_call (ap (λ mode. in_mode mode system s m) e)
+part-waits_in system cpu with_program Program s m e h = by_call-waits system cpu with_program Program s m e refl h
+part-waits_in system cpu with_program (Text next) s m e h = by_call-waits system cpu with_program (Text next) s m e refl h
+part-waits_in system cpu with_program Line s m e h = by_call-waits system cpu with_program Line s m e refl h
+part-waits_in system cpu with_program (Hold held) s m e h = by_call-waits system cpu with_program (Hold held) s m e refl h
+part-waits_in system cpu with_program Fault s m e h = by_call-waits system cpu with_program Fault s m e refl h
+
+part-waits : (system : Disk) (cpu : Cpu) (with_program : Bool) (s : Session) (m : Contents) → is_waiting s m ≡ true → part system cpu with_program s m ≡ made s m outcome.GoesOn
 unfolding part
-part-waits cpu s m h =
-    call-part_in cpu s.mode s m (did s m Waits) ((IsWaiting-now s m).changes_nothing h)
+part-waits system cpu with_program s m h = part-waits_in system cpu with_program s.mode s m refl h
 
-pub step-waits : (s : MachineState) → (look_of s).waiting ≡ true → step s ≡ after_part s (by_call (did s.session s.memory Waits))
+pub step-waits : (system : Disk) (s : MachineState) → (look_of s).waiting ≡ true → step system s ≡ after_part s (made s.session s.memory outcome.GoesOn)
 unfolding look_of step
-step-waits s h =
+step-waits system s h =
     let runs : is_running s.ended ≡ true = and-left (is_running s.ended) (is_waiting s.session s.memory) h in
     let waits : is_waiting s.session s.memory ≡ true = and-right (is_running s.ended) (is_waiting s.session s.memory) h in
-    ap (λ b. step_if b s) runs ∙ ap (after_part s) (part-waits s.cpu s.session s.memory waits)
+    ap (λ b. step_if system b s) runs ∙ ap (after_part s) (part-waits system s.cpu s.with_program s.session s.memory waits)

@@ -1,5 +1,6 @@
 -- The machine run alone, whose keys are given beforehand.
 use Rattle.std.specs.Prelude.{ℕ, zero, suc, List, [], ◌∷◌, ◌++◌, ◌==◌, if◌then◌else◌}
+use Rattle.cpm_geom.specs.Disk.{Disk}
 use Rattle.cpm_slots.specs.MachineState.{MachineState}
 use Rattle.cpm_slots.specs.Step.{step}
 
@@ -18,7 +19,7 @@ abbrev pub with_keys : List ℕ → MachineState → MachineState
 with_keys keys s =
     record s { session = record s.session { console = record s.session.console { keys = s.session.console.keys ++ keys } } }
 
--- own: the machine run alone for so many steps. A key that comes after some steps can be read by the step that begins then, and by later ones.
-abbrev pub alone : List Press → ℕ → MachineState → MachineState
-alone presses zero s = with_keys (due 0 presses) s
-alone presses (suc n) s = with_keys (due (suc n) presses) (step (alone presses n s))
+-- own: the machine run alone for so many steps with this system drive. A key that comes after some steps can be read by the step that begins then, and by later ones.
+abbrev pub alone : Disk → List Press → ℕ → MachineState → MachineState
+alone system presses zero s = with_keys (due 0 presses) s
+alone system presses (suc n) s = with_keys (due (suc n) presses) (step system (alone system presses n s))

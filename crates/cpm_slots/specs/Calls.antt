@@ -1,5 +1,6 @@
--- The calls to a machine, what they are answered, and what they leave.
+-- The calls to a machine with a system drive, what they are answered, and what they leave.
 use Rattle.std.specs.Prelude.{ℕ, ◌+◌, List, [], ◌∷◌, ◌++◌, length, take, min, Bool, true, false}
+use Rattle.cpm_geom.specs.Disk.{Disk}
 use Rattle.cpm_memory.specs.Contents.{byte_at}
 use Rattle.cpm_bdos.specs.Behind.{session_behind}
 use Rattle.cpm_slots.specs.declared.reply.Granted.{Granted}
@@ -30,8 +31,8 @@ pub record Served : Type 0 where
   pub answer : Answer
   pub state : MachineState
 
-abbrev pub granted : ℕ → MachineState → Granted
-granted n s = let k = executed n s in record { executed = k; why = why n k (after k s) }
+abbrev pub granted : Disk → ℕ → MachineState → Granted
+granted system n s = let k = executed system n s in record { executed = k; why = why n k (after system k s) }
 
 -- a key is accepted, or refused with nothing changed
 abbrev pub served_key : Bool → ℕ → MachineState → Served
@@ -39,13 +40,13 @@ served_key true key s = record { answer = Accepted; state = keyed key s }
 served_key false key s = record { answer = KeysFull; state = s }
 
 -- what a call is answered, and the state after it
-unfoldable pub serve : Call → MachineState → Served
-serve (Key key) s = served_key (takes_key s) key s
-serve (Grant steps) s = record { answer = Grants (granted steps s); state = after (executed steps s) s }
-serve (Take room) s = record { answer = Bytes (take (min room (length s.session.console.screen)) s.session.console.screen); state = taken room s }
-serve (TakeList room) s = record { answer = Bytes (take (min room (length s.session.console.printer)) s.session.console.printer); state = taken_list room s }
-serve LookAt s = record { answer = Looked (look_of s); state = s }
-serve (Peek address) s = record { answer = Peeked (byte_at s.memory address); state = s }
+unfoldable pub serve : Disk → Call → MachineState → Served
+serve system (Key key) s = served_key (takes_key s) key s
+serve system (Grant steps) s = record { answer = Grants (granted system steps s); state = after system (executed system steps s) s }
+serve system (Take room) s = record { answer = Bytes (take (min room (length s.session.console.screen)) s.session.console.screen); state = taken room s }
+serve system (TakeList room) s = record { answer = Bytes (take (min room (length s.session.console.printer)) s.session.console.printer); state = taken_list room s }
+serve system LookAt s = record { answer = Looked (look_of s); state = s }
+serve system (Peek address) s = record { answer = Peeked (byte_at s.memory address); state = s }
 
 -- the keys accepted, each with the number of steps executed before it, the steps executed, and the console and list bytes taken
 pub record Account : Type 0 where
@@ -66,13 +67,13 @@ entered a (TakeList room) (Bytes bytes) = record a { printer = a.printer ++ byte
 entered a _ _ = a
 
 -- the state, and the account, after some calls
-abbrev pub state_after : List Call → MachineState → MachineState
-state_after [] s = s
-state_after (call ∷ calls) s = state_after calls (serve call s).state
+abbrev pub state_after : Disk → List Call → MachineState → MachineState
+state_after system [] s = s
+state_after system (call ∷ calls) s = state_after system calls (serve system call s).state
 
-abbrev pub account_after : List Call → Account → MachineState → Account
-account_after [] a s = a
-account_after (call ∷ calls) a s = account_after calls (entered a call (serve call s).answer) (serve call s).state
+abbrev pub account_after : Disk → List Call → Account → MachineState → Account
+account_after system [] a s = a
+account_after system (call ∷ calls) a s = account_after system calls (entered a call (serve system call s).answer) (serve system call s).state
 
 -- the state with the bytes that were taken put back in front
 abbrev pub state_behind : List ℕ → List ℕ → MachineState → MachineState

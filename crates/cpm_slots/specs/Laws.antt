@@ -1,5 +1,6 @@
--- Laws over the step.
+-- Laws over the step, whatever the system drive.
 use Rattle.std.specs.Prelude.{◌≡◌, ℕ, ◌+◌, ◌<◌, ◌≤◌, List, [], ◌++◌, Bool, true, false}
+use Rattle.cpm_geom.specs.Disk.{Disk}
 use Rattle.cpm_memory.specs.Contents.{touched_of}
 use Rattle.cpm_console.specs.Terminal.{IsWithin}
 use Rattle.cpm_bdos.specs.Bounds.{IsFit}
@@ -18,14 +19,14 @@ pub record IsLongest (test : ℕ → Bool) (n k : ℕ) : Type 0 where
 
 -- what a grant executes is the greatest number of steps that can be made
 abbrev pub Greatest : Type 0
-Greatest = (n : ℕ) (s : MachineState) → IsLongest (λ k. can_step (after k s)) n (executed n s)
+Greatest = (system : Disk) (n : ℕ) (s : MachineState) → IsLongest (λ k. can_step (after system k s)) n (executed system n s)
 
 -- two grants are one of the sum
 abbrev pub Cutting : Type 0
-Cutting = (a b : ℕ) (s : MachineState) →
-    let k = executed a s in
-    let l = executed b (after k s) in
-    (executed (a + b) s ≡ k + l) × (after (k + l) s ≡ after l (after k s))
+Cutting = (system : Disk) (a b : ℕ) (s : MachineState) →
+    let k = executed system a s in
+    let l = executed system b (after system k s) in
+    (executed system (a + b) s ≡ k + l) × (after system (k + l) s ≡ after system l (after system k s))
 
 -- a step newly writes at most 8 pages, and puts at most 4,096 bytes on each device
 pub record IsBounded (old new : MachineState) : Type 0 where
@@ -33,18 +34,18 @@ pub record IsBounded (old new : MachineState) : Type 0 where
   pub output : IsWithin 4096 old.session.console new.session.console
 
 abbrev pub Bounded : Type 0
-Bounded = (s : MachineState) → IsFit s.session → IsBounded s (step s)
+Bounded = (system : Disk) (s : MachineState) → IsFit s.session → IsBounded s (step system s)
 
 -- After any calls the state, with the bytes that were taken put back in front, is that of the machine run alone from the start, for the keys that were accepted and the steps that were executed: whatever was taken and looked at, however the grants were cut, and as if the keys had been known beforehand.
 abbrev pub Alone : Type 0
-Alone = (calls : List Call) (start : MachineState) →
-    let a = account_after calls no_account start in
-    state_behind a.screen a.printer (state_after calls start) ≡ alone a.presses a.executed start
+Alone = (system : Disk) (calls : List Call) (start : MachineState) →
+    let a = account_after system calls no_account start in
+    state_behind a.screen a.printer (state_after system calls start) ≡ alone system a.presses a.executed start
 
 -- a step of a machine that waits for a key changes its count alone, and its end by that
 abbrev pub Waiting : Type 0
-Waiting = (s : MachineState) → (look_of s).waiting ≡ true → step s ≡ after_part s (made s.session s.memory outcome.GoesOn)
+Waiting = (system : Disk) (s : MachineState) → (look_of s).waiting ≡ true → step system s ≡ after_part s (made s.session s.memory outcome.GoesOn)
 
 -- keys that come later make no difference
 abbrev pub LateKeys : Type 0
-LateKeys = (presses later : List Press) (n : ℕ) (start : MachineState) → ((i : ℕ) → i ≤ n → due i later ≡ []) → alone (presses ++ later) n start ≡ alone presses n start
+LateKeys = (system : Disk) (presses later : List Press) (n : ℕ) (start : MachineState) → ((i : ℕ) → i ≤ n → due i later ≡ []) → alone system (presses ++ later) n start ≡ alone system presses n start

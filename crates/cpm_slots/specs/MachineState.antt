@@ -1,6 +1,7 @@
 -- The state of a machine.
-use Rattle.std.specs.Prelude.{ℕ, ◌++◌, List}
+use Rattle.std.specs.Prelude.{ℕ, ◌++◌, Bool, true, false, List}
 use Rattle.cpm_flags.specs.declared.regs.Cpu.{Cpu}
+use Rattle.cpm_geom.specs.Disk.{Disk}
 use Rattle.cpm_memory.specs.Contents.{Contents, Write, run_puts, word_puts, after_sets}
 use Rattle.cpm_memory.specs.Opening.{opening}
 use Rattle.cpm_console.specs.Terminal.{blank}
@@ -20,18 +21,34 @@ pub record MachineState : Type 0 where
   -- the steps executed since the opening
   pub count : ℕ
   pub ended : End
+  -- whether it was made with a program, and so ends at the command processor
+  pub with_program : Bool
 
 -- the stores that make a machine with a program: the program at 0100h, and the address of the command processor on the stack
 abbrev pub program_puts : List ℕ → List Write
 program_puts program = run_puts 256 program ++ word_puts 60414 58374
 
--- own: a machine made with a program is at its opening but for those stores, and begins at 0100h
-abbrev pub opened_with : Cpu → List ℕ → MachineState
-opened_with cpu program = record {
+-- own: a machine at its opening, with this quota and these drives, begins at the command processor, and nothing is written
+abbrev pub opened_machine : Cpu → ℕ → List Disk → MachineState
+opened_machine cpu quota drives = record {
   cpu = cpu;
-  session = record (opened blank) { regs = record (opened blank).regs { pc = 256 } };
-  memory = after_sets (opening 256) (program_puts program);
-  quota = 256;
+  session = opened blank drives;
+  memory = opening quota;
+  quota = quota;
   count = 0;
   ended = Running;
+  with_program = false;
 }
+
+-- own: with a program it is the same but for those stores, and begins at 0100h
+abbrev pub loaded : List ℕ → MachineState → MachineState
+loaded program s =
+    record s {
+      session = record s.session { regs = record s.session.regs { pc = 256 } };
+      memory = after_sets s.memory (program_puts program);
+      with_program = true;
+    }
+
+-- own: a machine made with a program, which may write all pages
+abbrev pub opened_with : Cpu → List Disk → List ℕ → MachineState
+opened_with cpu drives program = loaded program (opened_machine cpu 256 drives)

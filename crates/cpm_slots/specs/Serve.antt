@@ -1,5 +1,6 @@
 -- What a machine answers, and what it is afterwards.
 use Rattle.std.specs.Prelude.{ℕ, zero, suc, length, drop, min, ◌&&◌, ◌==◌, not, nat_lt, Bool, if◌then◌else◌}
+use Rattle.cpm_geom.specs.Disk.{Disk}
 use Rattle.cpm_memory.specs.Contents.{touched_of}
 use Rattle.cpm_console.specs.Terminal.{pressed}
 use Rattle.cpm_bdos.specs.Waiting.{is_waiting}
@@ -15,8 +16,8 @@ longest test zero = 0
 longest test (suc n) = if longest test n == n && test n then suc n else longest test n
 
 -- a grant of n executes the greatest number of steps, at most n, of which each begins where a step can be made
-unfoldable pub executed : ℕ → MachineState → ℕ
-executed n s = longest (λ k. can_step (after k s)) n
+unfoldable pub executed : Disk → ℕ → MachineState → ℕ
+executed system n s = longest (λ k. can_step (after system k s)) n
 
 -- why a grant of n steps ended after k of them, which left this state: the first reason that fits
 abbrev pub why : ℕ → ℕ → MachineState → Why

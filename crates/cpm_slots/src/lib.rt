@@ -3,9 +3,11 @@
 
 pub mod laws;
 pub mod machine;
+pub mod opening;
 pub mod reply;
 mod steps;
 mod trap;
 
-pub use machine::{MOST_PROGRAM, Machine, OpenError};
+pub use machine::Machine;
+pub use opening::{LEAST_QUOTA, MOST_DRIVES, MOST_PROGRAM, MOST_QUOTA, OpenError, Opening};
 pub use reply::{Closed, End, Granted, KeysFull, Look, Why};

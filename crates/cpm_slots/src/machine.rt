@@ -1,35 +1,26 @@
 //! One machine with a memory of its own.
 
 ghost use Rattle.std.specs.Prelude.{◌≡◌, true, false, ◌++◌, ◌≤◌, length, take, drop, min, IfOk, IfErr, None, if◌then◌else◌};
+ghost use Rattle.cpm_console.specs.Terminal.{blank};
 ghost use Rattle.cpm_memory.specs.Contents.{byte_at};
-ghost use Rattle.cpm_slots.specs.MachineState.{opened_with};
+ghost use Rattle.cpm_memory.specs.Flat.{flat_contents};
+ghost use Rattle.cpm_memory.specs.Opening.{opening as memory_opening};
+ghost use Rattle.cpm_disks.specs.Disks.{images_of};
+ghost use Rattle.cpm_slots.specs.MachineState.{loaded, opened_machine, opened_with};
 ghost use Rattle.cpm_slots.specs.Step.{can_step, step, after};
 ghost use Rattle.cpm_slots.specs.Laws.{IsBounded};
 ghost use Rattle.cpm_slots.specs.Serve.{executed, why, look_of, taken, taken_list, takes_key, keyed};
-ghost use Rattle.cpm_slots.specs.Opening.{program_fault, IsRefusal};
+ghost use Rattle.cpm_slots.specs.Opening.{opening_fault, program_fault, IsRefusal};
 
+use crate::opening::{OpenError, Opening};
 use crate::reply::{Closed, End, Granted, KeysFull, Look};
 use crate::steps::{self, Runner};
 use cpm_bdos::Session;
 use cpm_console::Console;
-use cpm_flags::Cpu;
+use cpm_geom::Image;
 use cpm_memory::{FlatMemory, Memory, set_run, set_word};
 use std::alloc::{AllocError, Global};
 use std::marker::Model;
-use thiserror::Error;
-
-/// The most bytes that a program may have: those from 0100h up to the command processor at E400h.
-pub const MOST_PROGRAM: usize = 58_112;
-
-/// Why a machine can't be made.
-#[derive(Clone, Copy, Debug, PartialEq, Eq, Drop, Error)]
-pub enum OpenError {
-    /// The program has more than 58,112 bytes.
-    #[error("the program has more than 58112 bytes")]
-    ProgramTooLong,
-    #[error("out of memory")]
-    OutOfMemory,
-}
 
 /// One session with a memory of its own.
 #[derive(Drop)]
@@ -51,64 +42,97 @@ impl Model for Machine {
 }
 
 impl Machine {
-    /// A machine with a program at 0100h, which begins there. All pages may be written. What is refused comes back with the reason:
-    /// a program of more than 58,112 bytes, else want of memory.
+    /// A machine at its opening, which begins at the command processor. What is refused comes back with the reason: a quota that is not 16 to
+    /// 256 pages, then no drive or more than four, then want of memory.
+    pub fn new(alloc: Global, opening: Opening) -> Result<Machine, (Opening, OpenError)>
+        ensures made { IfOk result (λ m. m ≡ opened_machine opening.cpu opening.quota opening.drives.items) }
+        ensures fits { IfOk result (λ m. opening_fault opening ≡ None) }
+        ensures refused { IfErr result (λ r. IsRefusal (opening_fault opening) r.1) }
+        ensures handed_back { IfErr result (λ r. r.0 ≡ opening) }
+    {
+        if let Some(fault) = opening.fault() {
+            return Err((opening, fault));
+        }
+        match allocate(alloc, opening.quota) {
+            Ok((console, memory)) => Ok(Self::opened(opening, console, memory)),
+            Err(_) => Err((opening, OpenError::OutOfMemory)),
+        }
+    }
+
+    /// A machine with a program at 0100h, which begins there. All pages may be written. What is refused comes back with the reason: a quota
+    /// that is not 256 pages, then no drive or more than four, then a program of more than 58,112 bytes, then want of memory.
     pub fn with_program(
         alloc: Global,
-        cpu: Cpu,
+        opening: Opening,
         program: Vec<u8>,
-    ) -> Result<Machine, (Vec<u8>, OpenError)>
-        ensures made { IfOk result (λ m. m ≡ opened_with cpu program.items) }
-        ensures fits { IfOk result (λ m. program_fault program.items ≡ None) }
-        ensures refused { IfErr result (λ r. IsRefusal (program_fault program.items) r.1) }
-        ensures handed_back { IfErr result (λ r. r.0 ≡ program) }
+    ) -> Result<Machine, (Opening, Vec<u8>, OpenError)>
+        ensures made { IfOk result (λ m. m ≡ opened_with opening.cpu opening.drives.items program.items) }
+        ensures fits { IfOk result (λ m. program_fault opening program.items ≡ None) }
+        ensures refused { IfErr result (λ r. IsRefusal (program_fault opening program.items) r.2) }
+        ensures handed_back { IfErr result (λ r. (r.0 ≡ opening) × (r.1 ≡ program)) }
     {
-        if program.len() > MOST_PROGRAM {
-            return Err((program, OpenError::ProgramTooLong));
+        if let Some(fault) = opening.fault_with(program.as_slice()) {
+            return Err((opening, program, fault));
         }
-        match Self::loaded(alloc, cpu, program.as_slice()) {
-            Ok(machine) => Ok(machine),
-            Err(_) => Err((program, OpenError::OutOfMemory)),
+        match allocate(alloc, opening.quota) {
+            Ok((console, memory)) => {
+                let mut machine = Self::opened(opening, console, memory);
+                machine.load(program.as_slice());
+                Ok(machine)
+            }
+            Err(_) => Err((opening, program, OpenError::OutOfMemory)),
         }
     }
 
-    /// A machine with a program that fits.
-    fn loaded(alloc: Global, cpu: Cpu, program: &[u8]) -> Result<Machine, AllocError>
-        ensures { IfOk result (λ m. m ≡ opened_with cpu program.now) }
+    /// A machine at its opening, over this console and this memory.
+    fn opened(opening: Opening, console: Console, memory: FlatMemory) -> Machine
+        requires least { 16 ≤ opening.quota }
+        requires console { console ≡ blank }
+        requires memory { flat_contents memory ≡ memory_opening opening.quota }
+        ensures { result ≡ opened_machine opening.cpu opening.quota opening.drives.items }
     {
-        let mut session = Session::new(Console::new(alloc)?);
-        session.regs.pc = 0x0100;
-        let mut memory = FlatMemory::new(alloc)?;
-        set_run(&mut memory, 0x0100, program);
-        set_word(&mut memory, 0xEBFE, 0xE406);
+        let Opening { cpu, quota, drives } = opening;
         let runner = Runner {
             cpu,
-            session,
-            quota: 256,
+            session: Session::new(console, drives),
+            quota,
             count: 0,
             ended: End::Running,
+            with_program: false,
         };
-        Ok(Machine { runner, memory })
+        Machine { runner, memory }
     }
 
-    /// Executes one step, if one can be made: the session runs, and console and list device have room for 4,096 bytes. Says whether it did.
-    pub fn step(&mut self) -> bool
+    /// Loads a program, which the machine then begins.
+    fn load(&mut self, program: &[u8])
+        requires { self.old.quota ≡ 256 }
+        ensures { self.new ≡ loaded program.now self.old }
+    {
+        self.runner.session.regs.pc = 0x0100;
+        self.runner.with_program = true;
+        set_run(&mut self.memory, 0x0100, program);
+        set_word(&mut self.memory, 0xEBFE, 0xE406);
+    }
+
+    /// Executes one step with this system drive, if one can be made: the session runs, and console and list device have room for 4,096
+    /// bytes. Says whether it did.
+    pub fn step(&mut self, system: &Image) -> bool
         ensures stepped { result ≡ can_step self.old }
-        ensures state { self.new ≡ (if result then step self.old else self.old) }
+        ensures state { self.new ≡ (if result then step system.now self.old else self.old) }
         ensures bounds { IsBounded self.old self.new }
     {
         self.runner.session.numbers_fit();
-        self.grant(1).executed == 1
+        self.grant(system, 1).executed == 1
     }
 
-    /// Executes the greatest number of steps, at most `steps`, that can be made.
-    pub fn grant(&mut self, steps: u64) -> Granted
-        ensures executed { result.executed ≡ executed steps self.old }
+    /// Executes the greatest number of steps, at most `steps`, that can be made with this system drive.
+    pub fn grant(&mut self, system: &Image, steps: u64) -> Granted
+        ensures executed { result.executed ≡ executed system.now steps self.old }
         ensures why { result.why ≡ why steps result.executed self.new }
-        ensures state { self.new ≡ after result.executed self.old }
+        ensures state { self.new ≡ after system.now result.executed self.old }
         ensures within { result.executed ≤ steps }
     {
-        steps::grant(&mut self.runner, &mut self.memory, steps)
+        steps::grant(system, &mut self.runner, &mut self.memory, steps)
     }
 
     /// Presses a key, which the next step can read. Refused, with nothing changed, where 4,096 keys are pending.
@@ -157,9 +181,24 @@ impl Machine {
 
     /// What is left of the machine. Bytes not taken are dropped.
     pub fn finish(self) -> Closed
-        ensures { result.look ≡ look_of self }
+        ensures look { result.look ≡ look_of self }
+        ensures drives { result.drives ≡ images_of self.session.disks }
     {
         let look = self.look();
-        Closed { look }
+        let Machine { runner, .. } = self;
+        let Runner { session, .. } = runner;
+        let Session { disks, .. } = session;
+        let drives = disks.into_images();
+        Closed { look, drives }
     }
+}
+
+/// What a machine takes memory for: its console, and its memory, of which so many pages may be written.
+fn allocate(alloc: Global, quota: u16) -> Result<(Console, FlatMemory), AllocError>
+    requires { quota ≤ 256 }
+    ensures { IfOk result (λ parts. (parts.0 ≡ blank) × (flat_contents parts.1 ≡ memory_opening quota)) }
+{
+    let console = Console::new(alloc)?;
+    let memory = FlatMemory::with_limit(alloc, quota)?;
+    Ok((console, memory))
 }

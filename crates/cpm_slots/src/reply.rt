@@ -1,6 +1,7 @@
 //! What a machine answers.
 
 use cpm_flags::Regs;
+use cpm_geom::Image;
 use thiserror::Error;
 
 /// Whether a session still runs, and else how it ended.
@@ -63,7 +64,9 @@ pub struct Look {
 }
 
 /// What is left of a machine.
-#[derive(Clone, Copy, Debug, PartialEq, Eq, Drop)]
+#[derive(Drop)]
 pub struct Closed {
     pub look: Look,
+    /// The images of the drives A to D, as far as it had them.
+    pub drives: [Option<Image>; 4],
 }

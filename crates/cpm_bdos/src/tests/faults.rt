@@ -1,7 +1,8 @@
 //! Faults of the disk system.
 
 use crate::tests::trial::Trial;
-use crate::{Fault, Mode, Went};
+use crate::{Mode, Went};
+use cpm_files::Fault;
 use std::process::Abort;
 use std::test::Fail;
 

@@ -2,30 +2,51 @@
 
 use crate::{Mode, Session, Went};
 use cpm_console::Console;
-use cpm_memory::{FlatMemory, set_run, set_word};
+use cpm_geom::Image;
+use cpm_memory::{FlatMemory, get_run, has_room, set_byte, set_word};
 use std::alloc::{AllocError, Global};
 use std::process::Abort;
 
 /// Where a call returns to.
 pub const BACK: u16 = 0x1234;
 
-/// A session and its memory.
+/// The image of a blank disk.
+pub fn blank(alloc: Global) -> Result<Image, AllocError> {
+    let bytes = vec![in alloc; 0xE5u8; 256_256]?;
+    Image::from_bytes(bytes).map_err(|_| AllocError)
+}
+
+/// A session, its memory and the system drive.
 #[derive(Drop)]
 pub struct Trial {
     pub session: Session,
     pub memory: FlatMemory,
+    pub system: Image,
 }
 
 impl Trial {
+    /// A session with a blank drive A.
     pub fn new(alloc: Global) -> Result<Self, AllocError> {
-        let session = Session::new(Console::new(alloc)?);
+        Trial::on(alloc, blank(alloc)?)
+    }
+
+    /// A session with this drive A.
+    pub fn on(alloc: Global, image: Image) -> Result<Self, AllocError> {
+        let session = Session::new(Console::new(alloc)?, vec![in alloc; image]?);
         let memory = FlatMemory::new(alloc)?;
-        Ok(Trial { session, memory })
+        let system = blank(alloc)?;
+        Ok(Trial {
+            session,
+            memory,
+            system,
+        })
     }
 
     /// Comes to a trap address as a program does by CALL, with all other registers 55h.
     pub fn come(&mut self, address: u16) {
-        set_word(&mut self.memory, 0xEBFC, BACK);
+        if has_room(&self.memory) {
+            set_word(&mut self.memory, 0xEBFC, BACK);
+        }
         let regs = &mut self.session.regs;
         regs.pc = address;
         regs.sp = 0xEBFC;
@@ -49,7 +70,13 @@ impl Trial {
 
     /// Puts bytes into memory.
     pub fn store(&mut self, address: u16, bytes: &[u8]) {
-        set_run(&mut self.memory, address, bytes);
+        let mut at = address;
+        for byte in bytes {
+            if has_room(&self.memory) {
+                set_byte(&mut self.memory, at, *byte);
+            }
+            at = at.wrapping_add(1);
+        }
     }
 
     /// Presses keys.
@@ -63,14 +90,17 @@ impl Trial {
     pub fn step(&mut self, rt: &impl Abort) -> Went {
         assert!(rt; self.session.console.held() <= 4096);
         assert!(rt; self.session.console.held_list() <= 4096);
-        self.session.bdos_step(&mut self.memory)
+        assert!(rt; has_room(&self.memory));
+        self.session.bdos_step(&mut self.memory, &self.system)
     }
 
     /// One step of the BIOS.
     pub fn bios(&mut self, rt: &impl Abort, number: u8) -> Went {
         assert!(rt; self.session.console.held() <= 4096);
         assert!(rt; self.session.console.held_list() <= 4096);
-        self.session.bios_step(&mut self.memory, number)
+        assert!(rt; has_room(&self.memory));
+        self.session
+            .bios_step(&mut self.memory, &self.system, number)
     }
 
     /// Calls a function of one step, and gives its result.
@@ -89,6 +119,23 @@ impl Trial {
         assert_eq!(rt; regs.b, regs.h);
         assert_eq!(rt; self.session.mode, Mode::Program);
         256 * u16::from(regs.h) + u16::from(regs.l)
+    }
+
+    /// Calls a function that ends in a fault with this message, and boots by a key.
+    pub fn fails(&mut self, rt: &impl Abort, function: u8, parameter: u16, message: &[u8]) {
+        self.call(function, parameter);
+        assert_eq!(rt; self.step(rt), Went::GoesOn);
+        self.shows(rt, message);
+        self.press(rt, b" ");
+        assert_eq!(rt; self.step(rt), Went::Reboot);
+        self.is_rebooted(rt);
+    }
+
+    /// The bytes from an address on.
+    pub fn bytes<const N: usize>(&self, address: u16) -> [u8; N] {
+        let mut bytes = [0; N];
+        get_run(&self.memory, address, &mut bytes);
+        bytes
     }
 
     /// Takes all console bytes, which must be these.

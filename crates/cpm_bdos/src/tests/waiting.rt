@@ -1,7 +1,8 @@
 //! When a session waits for a key.
 
 use crate::tests::trial::Trial;
-use crate::{Fault, Held, Mode, waits};
+use crate::{CommandPart, Held, Mode, waits};
+use cpm_files::Fault;
 use std::process::Abort;
 use std::test::Fail;
 
@@ -40,6 +41,10 @@ fn waits_where_a_key_is_needed(rt: HostRuntime) -> Result<(), Fail> {
     let _went = trial.step(&rt);
     assert_eq!(rt; trial.session.mode, Mode::Line);
     waits_for_a_key(&rt, &mut trial);
+    trial.session.mode = Mode::Command(CommandPart::Line);
+    waits_for_a_key(&rt, &mut trial);
+    trial.session.mode = Mode::Command(CommandPart::Answer);
+    waits_for_a_key(&rt, &mut trial);
     Ok(())
 }
 
@@ -47,7 +52,7 @@ fn waits_where_a_key_is_needed(rt: HostRuntime) -> Result<(), Fail> {
 fn waits_nowhere_else(rt: HostRuntime) -> Result<(), Fail> {
     let mut trial = Trial::new(rt.alloc())?;
     assert!(rt; !is_waiting(&trial));
-    for function in [0, 2, 3, 4, 5, 6, 7, 8, 9, 11, 12, 13] {
+    for function in [0, 2, 3, 4, 5, 6, 7, 8, 9, 11, 12, 13, 14, 15, 20, 27, 40] {
         trial.call(function, 0x00FF);
         assert!(rt; !is_waiting(&trial));
     }
@@ -60,6 +65,8 @@ fn waits_nowhere_else(rt: HostRuntime) -> Result<(), Fail> {
         assert!(rt; !is_waiting(&trial));
     }
     trial.session.mode = Mode::Text { next: 0x8000 };
+    assert!(rt; !is_waiting(&trial));
+    trial.session.mode = Mode::Command(CommandPart::Show);
     assert!(rt; !is_waiting(&trial));
     Ok(())
 }

@@ -1,10 +1,11 @@
-use Rattle.std.proofs.Common.{◌≡◌, ◌/◌, ◌%◌, ap, ◌∙◌}
+use Rattle.std.proofs.Common.{◌≡◌, ◌/◌, ◌%◌, [], get_or, ap, ◌∙◌}
 use Rattle.cpm_geom.specs.Geometry.{dpb_of, record_index}
-use Rattle.cpm_geom.specs.Disk.{sector_at, with_sector}
+use Rattle.cpm_geom.specs.Disk.{records_of, sector_at, with_sector}
+use Rattle.cpm_files.specs.Files.{entry_at}
 use Rattle.cpm_files.specs.Encoding.{entry_bytes}
 use Rattle.cpm_directory.specs.Directory.{entries_of, with_slot}
 use Rattle.cpm_directory.proofs.DriveLemmas.{entry_record}
-use Rattle.cpm_directory.proofs.SlotLemmas.{must_be_ok, slot_written, put_in_directory}
+use Rattle.cpm_directory.proofs.SlotLemmas.{must_be_ok, slot_written, put_in_directory, put_leaves, put_keeps}
 use Rattle.cpm_directory.proofs.directory.put_entry.Goals as goal
 
 pub unwrap-requires : goal.unwrap-requires
@@ -22,4 +23,6 @@ returns c =
     record {
       bytes = bytes;
       entry = λ storable. ap entries_of bytes ∙ put_in_directory c.args.image.now c.args.index c.args.entry.now c.format.ensures.whole c.requires storable;
+      others = λ k other. ap (λ disk. entry_at (entries_of disk) k) bytes ∙ put_leaves c.args.image.now c.args.index c.args.entry.now c.format.ensures.whole c.requires k other;
+      records = λ n other. ap (λ disk. get_or (records_of disk) n []) bytes ∙ put_keeps c.args.image.now c.args.index _ c.format.ensures.whole c.requires n other;
     }

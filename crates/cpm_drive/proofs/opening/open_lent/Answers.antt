@@ -20,7 +20,7 @@ returns-in-Some-opened_to_read c =
     let group : c.group_of-group.result ≡ group_of (dpb_of c.args.image.now.format) (c.args.fcb.now.extent.ex % 32) = cc in
     let is = rw group at c.in-Some.ensures.0 in
     let value = rw (number, c.entry.ensures.value) at c.in-Some-opened_to_read.ensures in
-    opens (dpb_of c.args.image.now.format) (entries_of c.args.image.now) c.args.user c.args.fcb.now c.in-Some.index is (omega arith) c.in-Some-opened_to_read.extent value
+    rw c.directory_code.ensures (opens (dpb_of c.args.image.now.format) (entries_of c.args.image.now) c.args.user c.args.fcb.now c.in-Some.index is (omega arith) c.in-Some-opened_to_read.extent value)
 
 pub returns-in-None-opened_to_read : goal.returns-in-None-opened_to_read
 returns-in-None-opened_to_read c =

@@ -1,13 +1,20 @@
-use Rattle.std.proofs.Common.{sym, ap, ◌∙◌}
+use Rattle.std.proofs.Common.{refl, sym, ap, ◌∙◌}
 use Rattle.cpm_geom.specs.Geometry.{dpb_of}
 use Rattle.cpm_files.specs.Operations.{read_at}
-use Rattle.cpm_drive.specs.Drive.{volume_of, called, after_call}
-use Rattle.cpm_drive.specs.Reads.{after_reading, lent_drive}
+use Rattle.cpm_drive.specs.Drive.{volume_of, after_call}
+use Rattle.cpm_drive.specs.Reads.{lent_drive}
+use Rattle.cpm_drive.proofs.ReadLemmas.{taken, at_gives}
 use Rattle.cpm_drive.proofs.WriteLemmas.{drive_kept}
 use Rattle.cpm_drive.proofs.reading.read_at_protected.Goals as goal
 
-pub returns : goal.returns
-unfolding after_reading
-returns c =
-    let kept = drive_kept (lent_drive c.args.image.now c.args.marks.now) c.judge_read_at.result.closed c.requires in
-    ap (λ drive. called c.judge_read_at.result.answer drive c.judge_read_at.new.fcb c.judge_read_at.new.buffer) (sym kept) ∙ (c.judge_read_at.ensures.value ∙ ap (λ b. after_call (lent_drive c.args.image.now c.args.marks.now) c.args.fcb.now c.args.buffer.now (read_at (dpb_of c.args.image.now.format) b (volume_of c.args.image.now c.args.marks.now.reserved) c.args.user c.args.fcb.now.extent c.args.fcb.now.current_record c.args.number)) c.requires)
+pub returns-clause-value : goal.returns-clause-value
+returns-clause-value c =
+    let reading = c.judge_read_at-reading in
+    let kept = sym (drive_kept (lent_drive c.args.image.now c.args.marks.now) reading.result.closed c.requires) in
+    taken (lent_drive c.args.image.now c.args.marks.now) (lent_drive c.args.image.now c.args.marks.now) _ reading.result.found reading.result.closed _ c.args.buffer.now _ c.take_record.ensures.answer kept c.take_record.ensures.buffer ∙ (reading.ensures.value c.args.buffer.now ∙ ap (λ b. after_call (lent_drive c.args.image.now c.args.marks.now) c.args.fcb.now c.args.buffer.now (read_at (dpb_of c.args.image.now.format) b (volume_of c.args.image.now c.args.marks.now.reserved) c.args.user c.args.fcb.now.extent c.args.fcb.now.current_record c.args.number)) c.requires)
+
+pub returns-clause-file : goal.returns-clause-file
+returns-clause-file c =
+    let reading = c.judge_read_at-reading in
+    let kept = sym (drive_kept (lent_drive c.args.image.now c.args.marks.now) reading.result.closed c.requires) in
+    at_gives (lent_drive c.args.image.now c.args.marks.now) (lent_drive c.args.image.now c.args.marks.now) c.args.user c.args.fcb.now _ c.args.buffer.now _ _ (λ n h. refl) c.args.number c.ranges.number.fits (taken (lent_drive c.args.image.now c.args.marks.now) (lent_drive c.args.image.now c.args.marks.now) _ reading.result.found reading.result.closed _ c.args.buffer.now _ c.take_record.ensures.answer kept c.take_record.ensures.buffer ∙ reading.ensures.value c.args.buffer.now)

@@ -2,4 +2,4 @@ use Rattle.cpm_slots.proofs.StepBounds.{IsBounded-step}
 use Rattle.cpm_slots.proofs.laws.bounded.Goals as goal
 
 pub returns : goal.returns
-returns c s fit = IsBounded-step s fit
+returns c system s fit = IsBounded-step system s fit

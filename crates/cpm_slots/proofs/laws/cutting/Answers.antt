@@ -4,4 +4,5 @@ use Rattle.cpm_slots.proofs.GrantLaws.{cut, after-add}
 use Rattle.cpm_slots.proofs.laws.cutting.Goals as goal
 
 pub returns : goal.returns
-returns c a b s = (cut a b s, after-add (executed a s) (executed b (after (executed a s) s)) s)
+returns c system a b s =
+    (cut system a b s, after-add system (executed system a s) (executed system b (after system (executed system a s) s)) s)

@@ -5,4 +5,4 @@ use Rattle.cpm_slots.proofs.laws.greatest.Goals as goal
 
 pub returns : goal.returns
 unfolding executed
-returns c n s = longest-is (λ k. can_step (after k s)) n
+returns c system n s = longest-is (λ k. can_step (after system k s)) n

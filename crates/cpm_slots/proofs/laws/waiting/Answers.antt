@@ -2,4 +2,4 @@ use Rattle.cpm_slots.proofs.WaitLaws.{step-waits}
 use Rattle.cpm_slots.proofs.laws.waiting.Goals as goal
 
 pub returns : goal.returns
-returns c s h = step-waits s h
+returns c system s h = step-waits system s h

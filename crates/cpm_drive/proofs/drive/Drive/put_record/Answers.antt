@@ -7,28 +7,28 @@ use Rattle.cpm_drive.specs.declared.drive.Drive.{Drive}
 use Rattle.cpm_drive.proofs.PutLemmas.{put_bad, put_old, put_none, put_taken, writes_format}
 use Rattle.cpm_drive.proofs.drive.Drive.put_record.Goals as goal
 
-pub returns-in-Err : goal.returns-in-Err
-returns-in-Err c =
+pub returns-in-Err-clause-value : goal.returns-in-Err-clause-value
+returns-in-Err-clause-value c =
     let d : c.dpb.result ≡ dpb_of c.args.self.now.image.format = cc in
     let e = rw d at c.in-Err.ensures in
     put_bad (dpb_of c.args.self.now.image.format) c.args.self.now c.args.fcb.now c.args.bytes.now c.args.clears _ c.requires.writable e.1
 
-pub returns-then-old-ne0 : goal.returns-then-old-ne0
-returns-then-old-ne0 c =
+pub returns-then-old-ne0-clause-value : goal.returns-then-old-ne0-clause-value
+returns-then-old-ne0-clause-value c =
     let d : c.dpb.result ≡ dpb_of c.args.self.now.image.format = cc in
     let e = rw d at c.in-Ok.ensures in
     let other : c.in-Ok.block ≢ 0 = λ z. omega arith in
     rw (c.write_record.ensures.drive, c.write_record.ensures.fcb) (put_old (dpb_of c.args.self.now.image.format) c.args.self.now c.args.fcb.now c.args.bytes.now c.args.clears _ c.requires.writable c.in-Ok.block e.0 e.1 other)
 
-pub returns-in-Err-take_lowest : goal.returns-in-Err-take_lowest
-returns-in-Err-take_lowest c =
+pub returns-in-Err-take_lowest-clause-value : goal.returns-in-Err-take_lowest-clause-value
+returns-in-Err-take_lowest-clause-value c =
     let d : c.dpb.result ≡ dpb_of c.args.self.now.image.format = cc in
     let e = rw d at c.in-Ok.ensures in
     let full = c.in-Err-take_lowest.ensures in
     rw full.2 (put_none (dpb_of c.args.self.now.image.format) c.args.self.now c.args.fcb.now c.args.bytes.now c.args.clears _ c.requires.writable c.in-Ok.block e.0 e.1 (omega arith) (omega arith))
 
-pub returns : goal.returns
-returns c =
+pub returns-clause-value : goal.returns-clause-value
+returns-clause-value c =
     let d : c.dpb.result ≡ dpb_of c.args.self.now.image.format = cc in
     let e = rw d at c.in-Ok.ensures in
     let t = c.in-Ok-take_lowest.ensures in

@@ -1,6 +1,12 @@
-use Rattle.cpm_drive.specs.Reads.{after_reading}
+use Rattle.std.proofs.Common.{◌∙◌}
+use Rattle.cpm_drive.proofs.ReadLemmas.{taken, next_gives}
 use Rattle.cpm_drive.proofs.drive.Drive.read_next.Goals as goal
 
-pub returns : goal.returns
-unfolding after_reading
-returns c = rw c.write_change.ensures c.judge_read_next-reading.ensures.value
+pub returns-clause-value : goal.returns-clause-value
+returns-clause-value c =
+    let reading = c.judge_read_next-reading in
+    taken c.args.self.now c.write_change.new.self _ reading.result.found reading.result.closed _ c.args.buffer.now _ c.take_record.ensures.answer c.write_change.ensures.drive c.take_record.ensures.buffer ∙ reading.ensures.value c.args.buffer.now
+
+pub returns-clause-file : goal.returns-clause-file
+returns-clause-file c =
+    next_gives c.args.self.now c.write_change.new.self c.args.user c.args.fcb.now _ c.args.buffer.now _ _ c.write_change.ensures.records (returns-clause-value c)

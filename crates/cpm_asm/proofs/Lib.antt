@@ -1,0 +1,10 @@
+pub mod LineLemmas
+pub mod OperandLemmas
+pub mod Encodings
+pub mod Sizes
+pub mod Empty
+pub mod Passing
+pub mod Stable
+pub mod OneTable
+pub mod Fitting
+pub mod Laying

@@ -1,0 +1,98 @@
+-- One statement of a pass.
+use Rattle.std.proofs.Common.{◌≡◌, ℕ, true, false, List, ◌∷◌, ap, sym, ◌∙◌}
+use Rattle.std.specs.Prelude.{None, Some, Result, Ok, Err}
+use Rattle.cpm_expression.specs.Names.{Table}
+use Rattle.cpm_asm.specs.Pieces.{Numbered}
+use Rattle.cpm_asm.specs.Statements.{Said}
+use Rattle.cpm_asm.specs.Measures.{measured}
+use Rattle.cpm_asm.specs.Emitting.{emitted, second_fault}
+use Rattle.cpm_asm.specs.Places.{blamed, first_fault, moved}
+use Rattle.cpm_asm.specs.Passes.{at_end, first_pass, is_last, laid, last_or, said, second_pass, table_after, unless_first, unless_second}
+use Rattle.cpm_asm.specs.declared.measure.Measure.{Measure}
+use Rattle.cpm_asm.specs.declared.place.Place.{Place}
+use Rattle.cpm_asm.specs.declared.emit.Doubt.{Doubt}
+use Rattle.cpm_asm.specs.declared.error.AsmError.{AsmError}
+use Rattle.cpm_asm.specs.declared.error.AsmErrorKind.{AsmErrorKind}
+
+-- ---- the first pass
+
+abbrev first_more : Table → Place → Numbered → List Numbered → Said → Measure → Result Table AsmError
+first_more names p x xs s m = last_or (is_last s.deed) (at_end p (table_after names s.label m.label)) (first_pass (table_after names s.label m.label) (moved p x.line s.deed m) xs)
+
+abbrev first_step : Table → Place → Numbered → List Numbered → Said → Measure → Result Table AsmError
+first_step names p x xs s m = unless_first p x xs (first_fault names p s m) (first_more names p x xs s m)
+
+first_at : (names : Table) (p : Place) (x : Numbered) (xs : List Numbered) (s : Said) (m : Measure) → s ≡ said p x → m ≡ measured names p.address s.deed
+    → first_step names p x xs s m ≡ first_pass names p (x ∷ xs)
+first_at names p x xs s m is taken = ap (first_step names p x xs s) taken ∙ ap (λ (t : Said). first_step names p x xs t (measured names p.address t.deed)) is
+
+first_quiet : (names : Table) (p : Place) (x : Numbered) (xs : List Numbered) (s : Said) (m : Measure) → s ≡ said p x → m ≡ measured names p.address s.deed
+    → first_fault names p s m ≡ None → first_more names p x xs s m ≡ first_pass names p (x ∷ xs)
+first_quiet names p x xs s m is taken none =
+    sym (ap (λ o. unless_first p x xs o (first_more names p x xs s m)) none) ∙ first_at names p x xs s m is taken
+
+pub first-on : (names : Table) (p : Place) (x : Numbered) (xs : List Numbered) (s : Said) (m : Measure) (later : Table) (q : Place)
+    → s ≡ said p x → m ≡ measured names p.address s.deed → first_fault names p s m ≡ None → is_last s.deed ≡ false
+    → later ≡ table_after names s.label m.label → q ≡ moved p x.line s.deed m
+    → first_pass later q xs ≡ first_pass names p (x ∷ xs)
+first-on names p x xs s m later q is taken none on named there =
+    ap (λ t. first_pass t q xs) named ∙ ap (λ r. first_pass (table_after names s.label m.label) r xs) there
+    ∙ sym (ap (λ b. last_or b (at_end p (table_after names s.label m.label)) (first_pass (table_after names s.label m.label) (moved p x.line s.deed m) xs)) on)
+    ∙ first_quiet names p x xs s m is taken none
+
+pub first-last : (names : Table) (p : Place) (x : Numbered) (xs : List Numbered) (s : Said) (m : Measure) (later : Table)
+    → s ≡ said p x → m ≡ measured names p.address s.deed → first_fault names p s m ≡ None → is_last s.deed ≡ true
+    → later ≡ table_after names s.label m.label
+    → at_end p later ≡ first_pass names p (x ∷ xs)
+first-last names p x xs s m later is taken none last named =
+    ap (at_end p) named
+    ∙ sym (ap (λ b. last_or b (at_end p (table_after names s.label m.label)) (first_pass (table_after names s.label m.label) (moved p x.line s.deed m) xs)) last)
+    ∙ first_quiet names p x xs s m is taken none
+
+pub first-fault : (names : Table) (p : Place) (x : Numbered) (xs : List Numbered) (s : Said) (m : Measure) (kind : AsmErrorKind)
+    → s ≡ said p x → m ≡ measured names p.address s.deed → first_fault names p s m ≡ Some kind
+    → first_pass names p (x ∷ xs) ≡ Err (blamed p x.line kind (x ∷ xs))
+first-fault names p x xs s m kind is taken found =
+    sym (first_at names p x xs s m is taken) ∙ ap (λ o. unless_first p x xs o (first_more names p x xs s m)) found
+
+-- ---- the second pass
+
+abbrev second_more : Table → List ℕ → Place → Numbered → List Numbered → Said → Measure → Result (List ℕ) AsmError
+second_more names image p x xs s m =
+    last_or (is_last s.deed) (Ok (laid image p.address (emitted names p.address m.next s.deed).bytes)) (second_pass names (laid image p.address (emitted names p.address m.next s.deed).bytes) (moved p x.line s.deed m) xs)
+
+abbrev second_step : Table → List ℕ → Place → Numbered → List Numbered → Said → Measure → Result (List ℕ) AsmError
+second_step names image p x xs s m = unless_second x.line (second_fault (emitted names p.address m.next s.deed).doubt) (second_more names image p x xs s m)
+
+second_at : (names : Table) (image : List ℕ) (p : Place) (x : Numbered) (xs : List Numbered) (s : Said) (m : Measure) → s ≡ said p x → m ≡ measured names p.address s.deed
+    → second_step names image p x xs s m ≡ second_pass names image p (x ∷ xs)
+second_at names image p x xs s m is taken = ap (second_step names image p x xs s) taken ∙ ap (λ (t : Said). second_step names image p x xs t (measured names p.address t.deed)) is
+
+second_quiet : (names : Table) (image : List ℕ) (p : Place) (x : Numbered) (xs : List Numbered) (s : Said) (m : Measure) (d : Doubt) → s ≡ said p x → m ≡ measured names p.address s.deed
+    → d ≡ (emitted names p.address m.next s.deed).doubt → second_fault d ≡ None → second_more names image p x xs s m ≡ second_pass names image p (x ∷ xs)
+second_quiet names image p x xs s m d is taken doubt none =
+    sym (ap (λ o. unless_second x.line o (second_more names image p x xs s m)) (ap second_fault (sym doubt) ∙ none)) ∙ second_at names image p x xs s m is taken
+
+pub second-on : (names : Table) (image after : List ℕ) (p : Place) (x : Numbered) (xs : List Numbered) (s : Said) (m : Measure) (d : Doubt) (q : Place)
+    → s ≡ said p x → m ≡ measured names p.address s.deed → d ≡ (emitted names p.address m.next s.deed).doubt → second_fault d ≡ None → is_last s.deed ≡ false
+    → after ≡ laid image p.address (emitted names p.address m.next s.deed).bytes → q ≡ moved p x.line s.deed m
+    → second_pass names after q xs ≡ second_pass names image p (x ∷ xs)
+second-on names image after p x xs s m d q is taken doubt none on bytes there =
+    ap (λ i. second_pass names i q xs) bytes ∙ ap (λ r. second_pass names (laid image p.address (emitted names p.address m.next s.deed).bytes) r xs) there
+    ∙ sym (ap (λ b. last_or b (Ok (laid image p.address (emitted names p.address m.next s.deed).bytes)) (second_pass names (laid image p.address (emitted names p.address m.next s.deed).bytes) (moved p x.line s.deed m) xs)) on)
+    ∙ second_quiet names image p x xs s m d is taken doubt none
+
+pub second-last : (names : Table) (image after : List ℕ) (p : Place) (x : Numbered) (xs : List Numbered) (s : Said) (m : Measure) (d : Doubt)
+    → s ≡ said p x → m ≡ measured names p.address s.deed → d ≡ (emitted names p.address m.next s.deed).doubt → second_fault d ≡ None → is_last s.deed ≡ true
+    → after ≡ laid image p.address (emitted names p.address m.next s.deed).bytes
+    → second_pass names image p (x ∷ xs) ≡ Ok after
+second-last names image after p x xs s m d is taken doubt none last bytes =
+    sym (second_quiet names image p x xs s m d is taken doubt none)
+    ∙ ap (λ b. last_or b (Ok (laid image p.address (emitted names p.address m.next s.deed).bytes)) (second_pass names (laid image p.address (emitted names p.address m.next s.deed).bytes) (moved p x.line s.deed m) xs)) last
+    ∙ ap (λ (i : List ℕ). Ok i) (sym bytes)
+
+pub second-ends : (names : Table) (image : List ℕ) (p : Place) (x : Numbered) (xs : List Numbered) (s : Said) (m : Measure) (d : Doubt) (kind : AsmErrorKind)
+    → s ≡ said p x → m ≡ measured names p.address s.deed → d ≡ (emitted names p.address m.next s.deed).doubt → second_fault d ≡ Some kind
+    → second_pass names image p (x ∷ xs) ≡ Err (record { line = x.line; kind = kind })
+second-ends names image p x xs s m d kind is taken doubt found =
+    sym (second_at names image p x xs s m is taken) ∙ ap (λ o. unless_second x.line o (second_more names image p x xs s m)) (ap second_fault (sym doubt) ∙ found)

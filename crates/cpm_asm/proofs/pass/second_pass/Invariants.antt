@@ -1,0 +1,17 @@
+-- The image so far, and what is left.
+use Rattle.std.proofs.Common.{◌≡◌, ◌<◌, ◌+◌, ◌^◌, [], length}
+use Rattle.cpm_expression.specs.Names.{in_table}
+use Rattle.cpm_asm.specs.Pieces.{bytes_left, left, pieces}
+use Rattle.cpm_asm.specs.Places.{IsPlace, start}
+use Rattle.cpm_asm.specs.Passes.{second_pass}
+use Rattle.cpm_asm.proofs.pass.second_pass.Given as goal
+
+abbrev pub invariant-loop-piece : goal.invariant-loop-piece
+invariant-loop-piece l = record {
+  same : second_pass (in_table l.names) l.image.items l.place (left l.pieces) ≡ second_pass (in_table l.names) [] start (pieces l.source);
+  place : IsPlace l.place;
+  lines : l.pieces.line + length l.pieces.rest.now < 2 ^ 64;
+}
+
+abbrev pub decreases-loop-piece : goal.decreases-loop-piece
+decreases-loop-piece l = bytes_left l.pieces

@@ -1,0 +1,12 @@
+pub mod Lines
+pub mod Pieces
+pub mod Heads
+pub mod Operands
+pub mod Statements
+pub mod Encoding
+pub mod Data
+pub mod Measures
+pub mod Emitting
+pub mod Places
+pub mod Passes
+pub mod Assembled

@@ -1,0 +1,111 @@
+//! IFs that are left open.
+ghost use Rattle.std.specs.Prelude.{◌≡◌, ◌+◌, ◌<◌, ◌^◌, length};
+ghost use Rattle.cpm_asm.specs.Pieces.{bytes_left, left};
+ghost use Rattle.cpm_asm.specs.Places.{IsPlace, blamed, closes, one_less, seen_turn, turn_of};
+
+use crate::error::{AsmError, AsmErrorKind};
+use crate::head::head_of;
+use crate::pieces::{Pieces, next_piece};
+use crate::place::Place;
+use cpm_expression::Operation;
+
+/// What a statement does to the IFs that are open.
+#[derive(Clone, Copy)]
+pub enum Turning {
+    Opens,
+    Closes,
+    Ends,
+    Stays,
+}
+
+/// How many IFs are held: those that are read, and those that are only counted.
+#[derive(Clone, Copy)]
+pub struct Depth {
+    pub held: u8,
+    pub skipped: u128,
+}
+
+#[tactic(auto, unfolding(crate::specs::Places::turn_of))]
+fn turn_of(text: &[u8]) -> Turning
+    ensures { seen_turn result ≡ turn_of text.now }
+{
+    match head_of(text) {
+        Some(head) => match head.operation {
+            Some(Operation::If) => Turning::Opens,
+            Some(Operation::EndIf) => Turning::Closes,
+            Some(Operation::End) => Turning::Ends,
+            _ => Turning::Stays,
+        },
+        None => Turning::Stays,
+    }
+}
+
+fn one_less(depth: Depth) -> Depth
+    ensures { result ≡ one_less depth }
+{
+    if depth.skipped == 0 {
+        Depth {
+            held: depth.held.saturating_sub(1),
+            skipped: 0,
+        }
+    } else {
+        Depth {
+            held: depth.held,
+            skipped: depth.skipped - 1,
+        }
+    }
+}
+
+/// Whether the IFs that are open are closed by the statements that are left.
+fn closes(from: Depth, start: &Pieces) -> bool
+    requires lines { start.now.line + length start.now.rest.now < 2 ^ 64 }
+    requires small { from.skipped + bytes_left start.now < 2 ^ 100 }
+    ensures { result ≡ closes from (left start.now) }
+{
+    let mut depth = from;
+    let mut pieces = *start;
+    while let Some((piece, behind)) = next_piece(&pieces) {
+        match turn_of(piece.text) {
+            Turning::Stays => {}
+            Turning::Opens => depth = Depth {
+                held: depth.held,
+                skipped: depth.skipped + 1,
+            },
+            Turning::Ends => {
+                if depth.skipped == 0 {
+                    return false;
+                }
+            }
+            Turning::Closes => {
+                depth = one_less(depth);
+                if depth.held == 0 && depth.skipped == 0 {
+                    return true;
+                }
+            }
+        }
+        pieces = behind;
+    }
+    false
+}
+
+/// A fault of the first of the statements that are left, or that of the first IF that is open where it is left open.
+#[tactic(auto, unfolding(crate::specs::Places::blamed))]
+pub(crate) fn blamed(place: Place, line: u64, kind: AsmErrorKind, pieces: &Pieces) -> AsmError
+    requires place { IsPlace place }
+    requires lines { pieces.now.line + length pieces.now.rest.now < 2 ^ 64 }
+    requires small { bytes_left pieces.now < 2 ^ 99 }
+    ensures { result ≡ blamed place line kind (left pieces.now) }
+{
+    let depth = Depth {
+        held: place.held,
+        skipped: u128::from(place.skipped),
+    };
+    if place.held + place.skipped == 0 || closes(depth, pieces) {
+        AsmError { line, kind }
+    } else {
+        AsmError {
+            line: place.outermost,
+            kind: AsmErrorKind::Syntax,
+        }
+    }
+}

@@ -1,0 +1,5 @@
+pub mod Capitals
+pub mod Words
+pub mod Names
+pub mod Command
+pub mod Message

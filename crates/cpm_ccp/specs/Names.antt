@@ -1,0 +1,30 @@
+-- What the names of files are like.
+use Rattle.std.specs.Prelude.{ℕ, ◌%◌, ◌==◌, ◌&&◌, ◌++◌, Bool, not, take, drop, replicate, codes}
+use Rattle.std.specs.List.{list_all}
+use Rattle.std.specs.Str.{bytes_eq}
+use Rattle.cpm_files.specs.declared.fcb.Fcb.{Fcb}
+use Rattle.cpm_files.specs.Files.{has_wildcard}
+
+-- neither a name nor a type
+unfoldable pub is_blank : Fcb → Bool
+is_blank file = bytes_eq file.extent.name (codes "           ")
+
+-- a question mark in the low seven bits, as where names are compared
+abbrev pub is_wildcard : ℕ → Bool
+is_wildcard c = c % 128 == 63
+
+-- the name of every file
+unfoldable pub is_every : Fcb → Bool
+is_every file = list_all is_wildcard file.extent.name
+
+-- CP/M 2.2 Operating System Manual, section 1 (transient commands): a name, which stands for one file; own: no type
+unfoldable pub is_command_name : Fcb → Bool
+is_command_name file =
+    not (bytes_eq (take 8 file.extent.name) (codes "        ")) && (bytes_eq (drop 8 file.extent.name) (codes "   ") && not (has_wildcard file.extent.name))
+
+unfoldable pub all_of : Fcb → Fcb
+all_of file = record file { extent = record file.extent { name = replicate 11 63 } }
+
+-- CP/M 2.2 Operating System Manual, section 1 (transient commands): programs are files of type COM
+unfoldable pub program_file : Fcb → Fcb
+program_file file = record file { extent = record file.extent { name = take 8 file.extent.name ++ codes "COM" } }

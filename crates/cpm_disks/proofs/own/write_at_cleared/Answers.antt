@@ -1,0 +1,23 @@
+use Rattle.std.proofs.Common.{ap, refl, sym, ◌∙◌}
+use Rattle.cpm_disks.specs.Files.{write_at_cleared_on, record_on}
+use Rattle.cpm_disks.proofs.CallLemmas.{allowed, written, within}
+use Rattle.cpm_drive.specs.Drive.{Called}
+use Rattle.std.proofs.lemmas.Bool.{ne_eqb}
+use Rattle.cpm_disks.proofs.own.write_at_cleared.Goals as goal
+
+pub returns-then-drive : goal.returns-then-drive
+unfolding write_at_cleared_on
+returns-then-drive c = rw c.if-drive.true refl
+
+pub returns-then-is_read_only : goal.returns-then-is_read_only
+unfolding write_at_cleared_on
+returns-then-is_read_only c = rw (c.if-drive.false, ← c.is_read_only.ensures, c.if-is_read_only.true) refl
+
+pub returns-then-fcb-ne0 : goal.returns-then-fcb-ne0
+unfolding write_at_cleared_on
+returns-then-fcb-ne0 c = rw (c.if-drive.false, ← c.is_read_only.ensures, c.if-is_read_only.false, ne_eqb _ _ c.if-fcb-ne0.true) refl
+
+pub returns : goal.returns
+unfolding write_at_cleared_on
+returns c =
+    rw (← c.random_number.ensures, c.code_of.ensures) ((ap (λ (o : Called). record_on o) c.write_at_cleared.ensures.value) ∙ (within c.args.drive.now c.args.fcb.now c.args.buffer.now _ c.if-fcb-ne0.false ∙ (written c.args.drive.now c.args.fcb.now c.args.buffer.now _ (sym c.is_read_only.ensures ∙ c.if-is_read_only.false) ∙ (allowed c.args.drive.now c.args.fcb.now c.args.buffer.now _ c.if-drive.false))))

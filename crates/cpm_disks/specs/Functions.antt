@@ -1,0 +1,59 @@
+-- The functions on a file control block as bytes of memory.
+use Rattle.std.specs.Prelude.{ℕ, List, Result, slice_range}
+use Rattle.cpm_geom.specs.Disk.{Disk}
+use Rattle.cpm_geom.specs.Geometry.{dpb_of}
+use Rattle.cpm_geom.specs.declared.format.Format.TheVariants.{Ibm3740}
+use Rattle.cpm_files.specs.declared.fcb.Fcb.{Fcb}
+use Rattle.cpm_files.specs.declared.answer.Fault.{Fault}
+use Rattle.cpm_files.specs.Encoding.{fcb_of, fcb_bytes}
+use Rattle.cpm_disks.specs.declared.disks.Disks.{Disks}
+use Rattle.cpm_disks.specs.declared.function.FileFunction.{FileFunction}
+use Rattle.cpm_disks.specs.declared.function.FileFunction.TheVariants.{OpenFile, CloseFile, SearchFirst, SearchNext, DeleteFile, ReadSequential, WriteSequential, MakeFile, RenameFile, SetAttributes, ReadRandom, WriteRandom, FileSize, SetRandomRecord, WriteRandomZeroFill}
+use Rattle.cpm_disks.specs.Calls.{FileCall}
+use Rattle.cpm_disks.specs.Files.{open_file, close_file, make_file, erase_files, rename_files, set_attributes, read_next_record, write_next_record, read_random, write_random, write_random_cleared, compute_size, set_random_record}
+use Rattle.cpm_disks.specs.Search.{search_first, search_next}
+
+-- own: a file control block in memory has the block numbers of the standard disk, bytes
+abbrev pub fcb_in_memory : List ℕ → Fcb
+fcb_in_memory bytes = fcb_of (dpb_of Ibm3740) bytes
+
+abbrev pub bytes_in_memory : Fcb → List ℕ
+bytes_in_memory fcb = fcb_bytes (dpb_of Ibm3740) fcb
+
+-- RENAME FILE: the new name is that of a second block, 16 bytes behind the first
+abbrev pub new_name : List ℕ → List ℕ
+new_name bytes = slice_range bytes 17 28
+
+-- CP/M 2.2 Operating System Manual, Operating System Call Conventions: each function, over the 36 bytes of a file control block
+unfoldable pub function_on : FileFunction → List ℕ → Disks → Disk → Fcb → List ℕ → FileCall
+function_on OpenFile bytes = open_file
+function_on CloseFile bytes = close_file
+function_on SearchFirst bytes = search_first
+function_on SearchNext bytes = search_next
+function_on DeleteFile bytes = erase_files
+function_on ReadSequential bytes = read_next_record
+function_on WriteSequential bytes = write_next_record
+function_on MakeFile bytes = make_file
+function_on RenameFile bytes = rename_files (new_name bytes)
+function_on SetAttributes bytes = set_attributes
+function_on ReadRandom bytes = read_random
+function_on WriteRandom bytes = write_random
+function_on FileSize bytes = compute_size
+function_on SetRandomRecord bytes = set_random_record
+function_on WriteRandomZeroFill bytes = write_random_cleared
+
+-- what it leaves: its code or its fault, the drives, the bytes of the file control block, and the buffer of a record
+pub record BytesCall : Type 0 where
+  pub answer : Result ℕ Fault
+  pub disks : Disks
+  pub bytes : List ℕ
+  pub buffer : List ℕ
+
+abbrev pub bytes_call : Result ℕ Fault → Disks → List ℕ → List ℕ → BytesCall
+bytes_call answer disks bytes buffer = record { answer = answer; disks = disks; bytes = bytes; buffer = buffer }
+
+abbrev pub in_bytes : FileCall → BytesCall
+in_bytes c = bytes_call c.answer c.disks (bytes_in_memory c.fcb) c.buffer
+
+unfoldable pub function_call : FileFunction → Disks → Disk → List ℕ → List ℕ → BytesCall
+function_call f disks system bytes buffer = in_bytes (function_on f bytes disks system (fcb_in_memory bytes) buffer)

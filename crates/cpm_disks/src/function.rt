@@ -1,0 +1,87 @@
+//! The functions on a file control block in memory.
+
+ghost use Rattle.std.specs.Prelude.{◌≡◌};
+ghost use Rattle.cpm_disks.specs.Calls.{file_call};
+ghost use Rattle.cpm_disks.specs.Functions.{new_name, function_on, function_call, bytes_call};
+
+use crate::disks::Disks;
+use cpm_files::{Fault, Fcb};
+use cpm_geom::{Format, Image};
+
+/// A function of the BDOS on a file control block.
+#[derive(Clone, Copy, Debug, PartialEq, Eq)]
+pub enum FileFunction {
+    OpenFile,
+    CloseFile,
+    SearchFirst,
+    SearchNext,
+    DeleteFile,
+    ReadSequential,
+    WriteSequential,
+    MakeFile,
+    RenameFile,
+    SetAttributes,
+    ReadRandom,
+    WriteRandom,
+    FileSize,
+    SetRandomRecord,
+    WriteRandomZeroFill,
+}
+
+impl Disks {
+    /// A function over the 36 bytes of a file control block and the buffer of a record, with its code, or the fault of
+    /// the drive that the file control block names.
+    pub fn call(
+        &mut self,
+        system: &Image,
+        function: FileFunction,
+        bytes: &mut [u8; 36],
+        buffer: &mut [u8; 128],
+    ) -> Result<u8, Fault>
+        ensures { bytes_call result self.new bytes.new buffer.new ≡ function_call function self.old system.now bytes.old buffer.old }
+    {
+        let dpb = Format::Ibm3740.dpb();
+        let mut fcb = Fcb::from_bytes(&dpb, bytes);
+        let answer = self.call_on(system, function, bytes, &mut fcb, buffer);
+        *bytes = fcb.to_bytes(&dpb);
+        answer
+    }
+
+    fn call_on(
+        &mut self,
+        system: &Image,
+        function: FileFunction,
+        bytes: &[u8; 36],
+        fcb: &mut Fcb,
+        buffer: &mut [u8; 128],
+    ) -> Result<u8, Fault>
+        ensures { file_call result self.new fcb.new buffer.new ≡ function_on function bytes.now self.old system.now fcb.old buffer.old }
+    {
+        match function {
+            FileFunction::OpenFile => self.open_file(system, fcb),
+            FileFunction::CloseFile => self.close_file(system, fcb),
+            FileFunction::SearchFirst => self.search_first(system, fcb, buffer),
+            FileFunction::SearchNext => Ok(self.search_next(system, buffer)),
+            FileFunction::DeleteFile => self.erase_files(system, fcb),
+            FileFunction::ReadSequential => self.read_next(system, fcb, buffer),
+            FileFunction::WriteSequential => self.write_next(system, fcb, buffer),
+            FileFunction::MakeFile => self.make_file(system, fcb),
+            FileFunction::RenameFile => self.rename_files(system, fcb, &new_name(bytes)),
+            FileFunction::SetAttributes => self.set_attributes(system, fcb),
+            FileFunction::ReadRandom => self.read_random(system, fcb, buffer),
+            FileFunction::WriteRandom => self.write_random(system, fcb, buffer),
+            FileFunction::FileSize => self.compute_size(system, fcb),
+            FileFunction::SetRandomRecord => self.set_random_record(system, fcb),
+            FileFunction::WriteRandomZeroFill => self.write_random_cleared(system, fcb, buffer),
+        }
+    }
+}
+
+/// The new name in the second half of a file control block.
+fn new_name(bytes: &[u8; 36]) -> [u8; 11]
+    ensures { result ≡ new_name bytes.now }
+{
+    let mut name = [0; 11];
+    name.copy_from_slice(&bytes[17..28]);
+    name
+}

@@ -1,0 +1,25 @@
+//! The drives of a session: which are there, which is current, and the calls on their files and sectors over a file
+//! control block and a buffer of a record.
+#![tactic(auto)]
+
+mod codes;
+mod disks;
+mod files;
+mod function;
+mod lent;
+mod own;
+mod search;
+mod sectors;
+mod selecting;
+mod vectors;
+
+pub use disks::Disks;
+pub use function::FileFunction;
+pub use search::Search;
+
+#[cfg(test)]
+mod tests;
+#[cfg(test)]
+mod tests_of_drives;
+#[cfg(test)]
+mod tests_of_writes;

@@ -1,0 +1,10 @@
+use Rattle.std.proofs.Common.{ap, ◌∙◌}
+use Rattle.cpm_files.specs.Operations.{close_function}
+use Rattle.cpm_directory.specs.Directory.{entries_of}
+use Rattle.cpm_drive.specs.Calls.{close_answer}
+use Rattle.cpm_drive.proofs.closing.close_lent.Goals as goal
+
+pub returns : goal.returns
+unfolding close_function
+returns c =
+    c.answer.ensures (entries_of c.args.image.now) ∙ ap (close_answer c.args.fcb.now) c.judge_close.ensures.value

@@ -1,0 +1,10 @@
+pub mod Levels
+pub mod TreesRead
+pub mod Sound
+pub mod Quoted
+pub mod Trimming
+pub mod LastDigits
+pub mod Shortness
+pub mod Lexing
+pub mod Readings
+pub mod Stable

@@ -1,0 +1,9 @@
+pub mod Letters
+pub mod Names
+pub mod Numbers
+pub mod Quotes
+pub mod Words
+pub mod Tokens
+pub mod Values
+pub mod Grammar
+pub mod Reading

@@ -1,0 +1,11 @@
+-- Sixteen bytes of memory on a line (own).
+use Rattle.std.specs.Prelude.{ℕ, List, ◌++◌, nat_lt, if◌then◌else◌, map, codes}
+use Rattle.cpm_lines.specs.Digits.{four_digits, spaced}
+
+-- a byte as a character; a full stop stands for what doesn't print, all but 20h to 7Eh
+abbrev pub shown : ℕ → ℕ
+shown b = if nat_lt b 32 then 46 else if nat_lt 126 b then 46 else b
+
+-- the address, the bytes, and their characters
+unfoldable pub dump_line : ℕ → List ℕ → List ℕ
+dump_line address bytes = four_digits address ++ codes "  " ++ spaced bytes ++ codes "  " ++ map shown bytes

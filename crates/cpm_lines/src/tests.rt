@@ -1,0 +1,5 @@
+//! Lines worked by hand.
+
+mod dump;
+mod listing;
+mod registers;

@@ -1,0 +1,57 @@
+-- The disk tables of a memory at its opening.
+use Rattle.std.proofs.Common.{◌≡◌, ℕ, ◌+◌, ◌*◌, ◌/◌, ◌%◌, ◌<◌, List, [], map, get_or, refl, arith, ap, sym, ◌∙◌}
+use Rattle.std.specs.List.{range_with_len}
+use Rattle.std.proofs.lemmas.List.FromFn.{get_or-map-range_with_len}
+use Rattle.cpm_memory.specs.Contents.{byte_at, word_at, next}
+use Rattle.cpm_memory.specs.DiskTables.{skew, parameter_block, parameter_header, skew_address, parameter_block_address, header_address}
+use Rattle.cpm_memory.specs.Opening.{opening, opening_byte}
+use Rattle.cpm_memory.specs.Opened.{byte_at-opening}
+use Rattle.cpm_memory.specs.Laws.{HasDiskTables}
+
+abbrev byte : ℕ → ℕ
+byte a = opening_byte (a / 256) (a % 256)
+
+abbrev header_word : ℕ → ℕ → ℕ
+header_word drive k = byte (header_address drive + 2 * k) + 256 * byte (next (header_address drive + 2 * k))
+
+abbrev header : ℕ → List ℕ
+header drive = map (header_word drive) (range_with_len 0 8)
+
+skew-bytes : map byte (range_with_len skew_address 26) ≡ skew
+unfolding opening_byte
+skew-bytes = refl
+
+parameter_block-bytes : map byte (range_with_len parameter_block_address 15) ≡ parameter_block
+unfolding opening_byte
+parameter_block-bytes = refl
+
+header-words : map header (range_with_len 0 5) ≡ map parameter_header (range_with_len 0 5)
+unfolding opening_byte
+header-words = refl
+
+-- bytes of a table from an address on
+bytes-at : (limit first size k : ℕ) (table : List ℕ) → map byte (range_with_len first size) ≡ table → first + size < 65536 → k < size → byte_at (opening limit) (first + k) ≡ get_or table k 0
+bytes-at limit first size k table e within l =
+    byte_at-opening limit (first + k) (omega (arith, within, l))
+    ∙ sym (get_or-map-range_with_len byte first size k (first + k) 0 l refl)
+    ∙ ap (λ xs. get_or xs k 0) e
+
+header-at : (drive : ℕ) → drive < 5 → header drive ≡ parameter_header drive
+header-at drive l =
+    sym (get_or-map-range_with_len header 0 5 drive drive [] l (omega arith))
+    ∙ ap (λ xs. get_or xs drive []) header-words
+    ∙ get_or-map-range_with_len parameter_header 0 5 drive drive [] l (omega arith)
+
+word-at : (limit drive k : ℕ) → drive < 5 → k < 8 → word_at (opening limit) (header_address drive + 2 * k) ≡ get_or (parameter_header drive) k 0
+word-at limit drive k ld lk =
+    ap (λ b. b + 256 * byte_at (opening limit) (next (header_address drive + 2 * k))) (byte_at-opening limit (header_address drive + 2 * k) (omega (arith, ld, lk)))
+    ∙ ap (λ b. byte (header_address drive + 2 * k) + 256 * b) (byte_at-opening limit (next (header_address drive + 2 * k)) (omega arith))
+    ∙ sym (get_or-map-range_with_len (header_word drive) 0 8 k k 0 lk (omega arith))
+    ∙ ap (λ xs. get_or xs k 0) (header-at drive ld)
+
+pub has-disk-tables : (limit : ℕ) → HasDiskTables limit
+has-disk-tables limit = record {
+  sectors = λ k l. bytes-at limit skew_address 26 k skew skew-bytes (omega arith) l;
+  parameters = λ k l. bytes-at limit parameter_block_address 15 k parameter_block parameter_block-bytes (omega arith) l;
+  headers = λ drive k ld lk. word-at limit drive k ld lk;
+}

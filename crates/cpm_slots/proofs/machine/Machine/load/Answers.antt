@@ -1,0 +1,43 @@
+use Rattle.std.proofs.Common.{◌≡◌, sym, ap, ◌∙◌, inr, true}
+use Rattle.cpm_memory.specs.Contents.{Contents, run_puts, word_puts, after_sets}
+use Rattle.cpm_memory.specs.Flat.{flat_contents}
+use Rattle.cpm_memory.specs.Room.{limit-after_sets}
+use Rattle.cpm_memory.specs.Sets.{after_sets-append}
+use Rattle.cpm_slots.specs.MachineState.{MachineState, loaded, program_puts}
+use Rattle.cpm_slots.specs.Runner.{state_of}
+use Rattle.cpm_slots.proofs.machine.Machine.load.Goals as goal
+
+-- a machine with this memory, which begins at 0100h
+abbrev begun : MachineState → Contents → MachineState
+begun s m =
+    record s { session = record s.session { regs = record s.session.regs { pc = 256 } }; memory = m; with_program = true }
+
+pub set_word-requires : goal.set_word-requires
+set_word-requires c =
+    inr (ap (λ (m : Contents). m.limit) c.set_run.ensures.contents
+    ∙ limit-after_sets (flat_contents c.self.inside.memory) (run_puts 256 c.args.program.now)
+    ∙ c.self.invariant.limit
+    ∙ ap (λ (s : MachineState). s.quota) c.self.view_is
+    ∙ c.requires)
+
+pub invariant_of-self : goal.invariant_of-self
+invariant_of-self c =
+    let limit : (flat_contents c.set_word.new.memory).limit ≡ c.self.inside.runner.quota = ap (λ (m : Contents). m.limit) c.set_word.ensures.contents
+    ∙ limit-after_sets (flat_contents c.set_run.new.memory) (word_puts 60414 58374)
+    ∙ ap (λ (m : Contents). m.limit) c.set_run.ensures.contents
+    ∙ limit-after_sets (flat_contents c.self.inside.memory) (run_puts 256 c.args.program.now)
+    ∙ c.self.invariant.limit in
+    record {
+      limit = limit;
+      count = c.self.invariant.count;
+      room = λ h. inr (limit ∙ ap (λ (s : MachineState). s.quota) c.self.view_is ∙ c.requires);
+    }
+
+pub returns : goal.returns
+returns c =
+    let program = c.args.program.now in
+    let before = flat_contents c.self.inside.memory in
+    let memory : flat_contents c.set_word.new.memory ≡ after_sets before (program_puts program) = c.set_word.ensures.contents
+    ∙ ap (λ m. after_sets m (word_puts 60414 58374)) c.set_run.ensures.contents
+    ∙ sym (after_sets-append before (run_puts 256 program) (word_puts 60414 58374)) in
+    ap (begun (state_of c.self.inside.runner before)) memory ∙ ap (loaded program) c.self.view_is
