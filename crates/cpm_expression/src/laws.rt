@@ -15,11 +15,9 @@ pub fn exact_reading()
 /// A value that is known is the same under each table that has more names.
 pub fn known_values_stay()
     ensures { (names more : Table) (here : ℕ) (text : List ℕ) (v : Valued) → Extends names more → value_at names here text ≡ Some v → v.is_unknown ≡ false → value_at more here text ≡ Some v }
-{
-}
+{}
 
 /// Whether a text is an expression depends on no name and no address.
 pub fn expressions_anywhere()
     ensures { (names others : Table) (here there : ℕ) (text : List ℕ) → is_some (value_at names here text) ≡ is_some (value_at others there text) }
-{
-}
+{}

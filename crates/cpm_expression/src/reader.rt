@@ -219,7 +219,12 @@ fn answer(waiting: &mut Vec<Waiting>, stage: Stage) -> Option<Valued>
 }
 
 /// The value of the expression that a text is, in a statement at an address; none where the text is no expression.
-pub fn value_of(alloc: Global, names: &Names, here: usize, text: &[u8]) -> Result<Option<Valued>, AllocError>
+pub fn value_of(
+    alloc: Global,
+    names: &Names,
+    here: usize,
+    text: &[u8],
+) -> Result<Option<Valued>, AllocError>
     ensures { IfOk result (λ found. found ≡ value_at (in_table names.now) here text.now) }
 {
     let mut waiting: Vec<Waiting> = Vec::new(alloc);

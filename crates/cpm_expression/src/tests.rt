@@ -1,8 +1,6 @@
 //! Values of expressions, worked by hand.
 
-use crate::{
-    Keyword, Names, Operation, Valued, keyword_of, letters_of, name_of, value_of,
-};
+use crate::{Keyword, Names, Operation, Valued, keyword_of, letters_of, name_of, value_of};
 use std::collections::BTreeMap;
 use std::process::Abort;
 
@@ -125,11 +123,7 @@ fn refuses_what_is_no_expression(rt: HostRuntime) {
         b"ABCDEFGHIJKLMNOPQ",
     ];
     for text in texts {
-        assert_eq!(rt;
-            read(&rt, text),
-            None,
-            "at {text:?}"
-        );
+        assert_eq!(rt; read(&rt, text), None, "at {text:?}");
     }
 }
 
