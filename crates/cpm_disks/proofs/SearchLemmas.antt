@@ -1,7 +1,6 @@
 -- Searches.
-use Rattle.std.proofs.Common.{◌≡◌, ◌+◌, ◌/◌, ◌%◌, inl, inr, ℕ, List, [], Option, Some, None, Ok, length, get_or, refl, sym, ap, ◌∙◌}
-use Rattle.std.proofs.lemmas.Bool.{cases_lt, lt-ltb, le-ltb}
-use Rattle.cpm_geom.specs.Disk.{Disk, records_of}
+use Rattle.std.proofs.Common.{◌≡◌, ◌+◌, ◌%◌, ℕ, List, Option, Some, None, Ok, length, sym, ap, ◌∙◌}
+use Rattle.cpm_geom.specs.Disk.{Disk}
 use Rattle.cpm_geom.specs.Geometry.{dpb_of}
 use Rattle.cpm_files.specs.declared.fcb.Fcb.{Fcb}
 use Rattle.cpm_directory.specs.Directory.{entries_of}
@@ -12,41 +11,18 @@ use Rattle.cpm_disks.specs.declared.search.Search.{Search}
 use Rattle.cpm_disks.specs.Calls.{file_call}
 use Rattle.cpm_disks.specs.Disks.{drive_at}
 use Rattle.cpm_disks.specs.Selecting.{used}
-use Rattle.cpm_disks.specs.Search.{pattern_of, found_at, searched, search_on, search_next_from, search_next}
+use Rattle.cpm_disks.specs.Search.{pattern_of, search_left, search_from, search_on, search_next_from, search_next}
 use Rattle.cpm_disks.proofs.DriveLemmas.{used_at, ready_image}
 
-some_none : (i : ℕ) → Some i ≡ None → ⊥
-some_none i h = cc
-
-none_some : (i : ℕ) → None ≡ Some i → ⊥
-none_some i h = cc
-
-same_some : (i j : ℕ) → Some i ≡ Some j → i ≡ j
-same_some i j h = cc
-
-searched_found : (d : Drive) (sought : Search) (disks : Disks) (fcb : Fcb) (buffer new : List ℕ) (i : ℕ) → ◌≡◌ {A = Option ℕ × List ℕ} (Some i, new) (drive.searched d.image (pattern_of (dpb_of d.image.format) sought disks.user) sought.next buffer) → file_call (Ok (i % 4)) (record disks { sought = Some (record sought { next = i + 1 }) }) fcb new ≡ searched d sought disks fcb buffer
-unfolding searched found_at drive.searched
+searched_found : (d : Drive) (sought : Search) (disks : Disks) (fcb : Fcb) (buffer new : List ℕ) (i : ℕ) → ◌≡◌ {A = Option ℕ × List ℕ} (Some i, new) (drive.searched d.image (pattern_of (dpb_of d.image.format) sought disks.user) sought.next buffer) → file_call (Ok (i % 4)) (record disks { sought = Some (record sought { next = i + 1 }) }) fcb new ≡ search_from d sought disks fcb buffer
+unfolding search_from
 searched_found d sought disks fcb buffer new i e =
-    elim (cases_lt (found_at d sought disks.user) (length (entries_of d.image))) [
-      | inl below ↦ (
-          let found = rw (lt-ltb _ _ below) at e in
-          let index : i ≡ found_at d sought disks.user = same_some _ _ (ap (λ (p : Option ℕ × List ℕ). p.0) found) in
-          let bytes : new ≡ get_or (records_of d.image) (found_at d sought disks.user / 4) [] = ap (λ (p : Option ℕ × List ℕ). p.1) found in
-          rw (lt-ltb _ _ below, index, bytes) refl
-          )
-      | inr past ↦ absurd (some_none i (ap (λ (p : Option ℕ × List ℕ). p.0) (rw (le-ltb _ _ past) at e)))
-    ]
+    ap (λ (p : Option ℕ × List ℕ). search_left sought (length (entries_of d.image)) disks fcb p.0 p.1) e
 
-searched_none : (d : Drive) (sought : Search) (disks : Disks) (fcb : Fcb) (buffer new : List ℕ) (next : ℕ) → next ≡ length (entries_of d.image) → ◌≡◌ {A = Option ℕ × List ℕ} (None, new) (drive.searched d.image (pattern_of (dpb_of d.image.format) sought disks.user) sought.next buffer) → file_call (Ok 255) (record disks { sought = Some (record sought { next = next }) }) fcb new ≡ searched d sought disks fcb buffer
-unfolding searched found_at drive.searched
+searched_none : (d : Drive) (sought : Search) (disks : Disks) (fcb : Fcb) (buffer new : List ℕ) (next : ℕ) → next ≡ length (entries_of d.image) → ◌≡◌ {A = Option ℕ × List ℕ} (None, new) (drive.searched d.image (pattern_of (dpb_of d.image.format) sought disks.user) sought.next buffer) → file_call (Ok 255) (record disks { sought = Some (record sought { next = next }) }) fcb new ≡ search_from d sought disks fcb buffer
+unfolding search_from
 searched_none d sought disks fcb buffer new next count e =
-    elim (cases_lt (found_at d sought disks.user) (length (entries_of d.image))) [
-      | inl below ↦ absurd (none_some _ (ap (λ (p : Option ℕ × List ℕ). p.0) (rw (lt-ltb _ _ below) at e)))
-      | inr past ↦ (
-          let bytes : new ≡ buffer = ap (λ (p : Option ℕ × List ℕ). p.1) (rw (le-ltb _ _ past) at e) in
-          rw (le-ltb _ _ past, count, bytes) refl
-          )
-    ]
+    ap (λ (n : ℕ). search_left sought n disks fcb None new) count ∙ ap (λ (p : Option ℕ × List ℕ). search_left sought (length (entries_of d.image)) disks fcb p.0 p.1) e
 
 -- the image of a drive that is used is the drive's
 used_image : (disks now : Disks) (system image : Disk) (n : ℕ) → now ≡ used disks system n → image ≡ (drive_at now system n).image → image ≡ (drive_at disks system n).image

@@ -1,17 +1,18 @@
 -- SEARCH FOR FIRST and SEARCH FOR NEXT.
 -- CP/M 2.2 Operating System Manual, Operating System Call Conventions, functions 17 and 18; own: what the manual leaves open.
-use Rattle.std.specs.Prelude.{ℕ, ◌+◌, ◌/◌, ◌%◌, ◌==◌, nat_lt, List, [], Option, Some, None, Ok, Err, if◌then◌else◌, length, slice_index_or}
-use Rattle.cpm_geom.specs.Disk.{Disk, records_of}
+use Rattle.std.specs.Prelude.{ℕ, ◌+◌, ◌%◌, ◌==◌, List, Option, Some, None, Ok, Err, if◌then◌else◌, length}
+use Rattle.cpm_geom.specs.Disk.{Disk}
 use Rattle.cpm_geom.specs.Geometry.{dpb_of}
 use Rattle.cpm_geom.specs.declared.dpb.Dpb.{Dpb}
 use Rattle.cpm_files.specs.declared.fcb.Fcb.{Fcb}
 use Rattle.cpm_files.specs.declared.answer.Fault.TheVariants.{Select}
 use Rattle.cpm_files.specs.Files.{group_of}
 use Rattle.cpm_directory.specs.Directory.{entries_of}
-use Rattle.cpm_directory.specs.Matching.{match_from}
 use Rattle.cpm_directory.specs.declared.pattern.Pattern.{Pattern}
 use Rattle.cpm_directory.specs.declared.pattern.Pattern.TheVariants.{Every, Files}
 use Rattle.cpm_drive.specs.declared.drive.Drive.{Drive}
+use Rattle.cpm_drive.specs.Drive.{directory_code}
+use Rattle.cpm_drive.specs.Named.{searched}
 use Rattle.cpm_disks.specs.declared.disks.Disks.{Disks}
 use Rattle.cpm_disks.specs.declared.search.Search.{Search}
 use Rattle.cpm_disks.specs.Disks.{is_there, drive_at}
@@ -27,29 +28,23 @@ unfoldable pub pattern_of : Dpb → Search → ℕ → Pattern
 pattern_of d sought user =
     if sought.is_every then Every else Files user sought.name (group_sought d sought.ex)
 
--- the first entry from a place on that matches, on a drive
-unfoldable pub found_at : Drive → Search → ℕ → ℕ
-found_at drive sought user =
-    match_from (dpb_of drive.image.format) (pattern_of (dpb_of drive.image.format) sought user) (entries_of drive.image) sought.next
+-- the search goes on behind the entry that was found, whose directory record lies in the buffer and whose place in that is the code; after the last it stays at the end
+abbrev pub search_left : Search → ℕ → Disks → Fcb → Option ℕ → List ℕ → FileCall
+search_left sought count disks fcb (Some index) buffer =
+    file_call (Ok (directory_code index)) (record disks { sought = Some (record sought { next = index + 1 }) }) fcb buffer
+search_left sought count disks fcb None buffer =
+    file_call (Ok 255) (record disks { sought = Some (record sought { next = count }) }) fcb buffer
 
--- the search goes on behind the entry at an index; after the last it stays at the end
-abbrev pub behind_entry : Search → ℕ → ℕ → Search
-behind_entry sought count index = record sought { next = if nat_lt index count then index + 1 else count }
+-- it goes on from its place on a drive
+unfoldable pub search_from : Drive → Search → Disks → Fcb → List ℕ → FileCall
+search_from drive sought disks fcb buffer =
+    let found = searched drive.image (pattern_of (dpb_of drive.image.format) sought disks.user) sought.next buffer in
+    search_left sought (length (entries_of drive.image)) disks fcb found.0 found.1
 
--- the entry's directory record goes to the buffer, and its place in that is the code
-unfoldable pub searched : Drive → Search → Disks → Fcb → List ℕ → FileCall
-searched drive sought disks fcb buffer =
-    let count = length (entries_of drive.image) in
-    let index = found_at drive sought disks.user in
-    let left = record disks { sought = Some (behind_entry sought count index) } in
-    if nat_lt index count
-    then file_call (Ok (index % 4)) left fcb (slice_index_or (records_of drive.image) (index / 4) [])
-    else file_call (Ok 255) left fcb buffer
-
--- a search goes on, and uses its drive
+-- and uses that drive
 unfoldable pub search_on : Search → Disks → Disk → Fcb → List ℕ → FileCall
 search_on sought disks system fcb buffer =
-    searched (drive_at disks system sought.drive) sought (used disks system sought.drive) fcb buffer
+    search_from (drive_at disks system sought.drive) sought (used disks system sought.drive) fcb buffer
 
 -- SEARCH FOR FIRST: a `?` as the drive is every entry of the current drive; own: it is kept until the next one, or a warm boot
 unfoldable pub search_of : Disks → Fcb → Search
