@@ -15,7 +15,7 @@ use Rattle.cpm_exec8080.specs.Effect.{Effect}
 use Rattle.cpm_exec8080.specs.Operands.{place_stores, holds}
 use Rattle.cpm_exec8080.specs.Meaning8080.{meaning, shared_effect, effect_of_row, shared_step, step8080_of}
 
-few_places : (place : Place) (regs : Regs) (value : ℕ) → length (place_stores regs place value) ≤ 2
+pub few_places : (place : Place) (regs : Regs) (value : ℕ) → length (place_stores regs place value) ≤ 2
 few_places places.B regs value = omega arith
 few_places places.C regs value = omega arith
 few_places places.D regs value = omega arith
@@ -25,7 +25,7 @@ few_places places.L regs value = omega arith
 few_places places.AtHl regs value = omega arith
 few_places places.A regs value = omega arith
 
-few_if : (b : Bool) (x y : Effect) → length x.stores ≤ 2 → length y.stores ≤ 2 → length (if b then x else y).stores ≤ 2
+pub few_if : (b : Bool) (x y : Effect) → length x.stores ≤ 2 → length y.stores ≤ 2 → length (if b then x else y).stores ≤ 2
 few_if true x y h g = h
 few_if false x y h g = g
 
