@@ -1,0 +1,60 @@
+//! Why a command is refused.
+
+use std::alloc::{AllocError, AllocFailed};
+use std::io;
+use thiserror::Error;
+
+/// Why a command is refused.
+#[derive(Clone, Copy, Debug, Drop, Error)]
+pub enum InteropError {
+    /// The words of the command line name no command.
+    #[error(
+        "usage: calls LIST IMAGES | names IMAGE | get IMAGE USER NAME OUT | put IMAGE USER NAME FILE [R/O] [SYS]"
+    )]
+    Usage,
+    /// A line of a list, counted from 1, is neither a session for which there are images nor a call.
+    #[error("line {0} of the list is no call and no session")]
+    NoCall(usize),
+    /// A file can't be read.
+    #[error("a file can't be read: {0}")]
+    Unreadable(io::Error),
+    /// A file or standard output can't be written.
+    #[error("a file can't be written: {0}")]
+    Unwritable(io::Error),
+    /// A file is not one or more disk images.
+    #[error("not an image of 256,256 bytes")]
+    NoImage,
+    /// A function of the BDOS answers this code where it should do its work.
+    #[error("function {0} answers {1:02X}h")]
+    Answered(u8, u8),
+    /// Memory was refused.
+    #[error("out of memory")]
+    OutOfMemory,
+}
+
+impl InteropError {
+    /// The exit status.
+    pub fn status(&self) -> u8 {
+        match self {
+            InteropError::Usage => 2,
+            InteropError::NoCall(_) => 3,
+            InteropError::Unreadable(_) => 4,
+            InteropError::Unwritable(_) => 5,
+            InteropError::NoImage => 6,
+            InteropError::Answered(_, _) => 7,
+            InteropError::OutOfMemory => 8,
+        }
+    }
+}
+
+impl From<AllocError> for InteropError {
+    fn from(_error: AllocError) -> InteropError {
+        InteropError::OutOfMemory
+    }
+}
+
+impl<T: Drop> From<AllocFailed<T>> for InteropError {
+    fn from(_error: AllocFailed<T>) -> InteropError {
+        InteropError::OutOfMemory
+    }
+}
