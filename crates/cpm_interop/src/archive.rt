@@ -1,5 +1,9 @@
 //! Files on a disk image, read and written by calls of the BDOS as a program does.
 
+ghost use Rattle.std.specs.Prelude.{◌≡◌, Ok, Err, IfErr, IfOk, MatchResult};
+ghost use Rattle.cpm_interop.specs.declared.error.InteropError.TheVariants.{Usage, Faulted};
+ghost use Rattle.cpm_interop.specs.Refusals.{IsFileRefusal, IsNamesRefusal, entry_of};
+
 use crate::error::InteropError;
 use cpm_directory::parse_fcb;
 use cpm_disks::Disks;
@@ -24,15 +28,19 @@ pub struct Archive {
 }
 
 /// The code of a call, or the refusal that it met a fault.
-fn code_of(function: u8, answer: Result<u8, Fault>) -> Result<u8, InteropError> {
+fn code_of(function: u8, answer: Result<u8, Fault>) -> Result<u8, InteropError>
+    ensures { MatchResult answer (λ code. result ≡ Ok code) (λ fault. result ≡ Err (Faulted function fault)) }
+{
     match answer {
         Ok(code) => Ok(code),
-        Err(_) => Err(InteropError::Answered(function, NONE)),
+        Err(fault) => Err(InteropError::Faulted(function, fault)),
     }
 }
 
 /// A call that has to find or make an entry.
-fn entry_of(function: u8, answer: Result<u8, Fault>) -> Result<(), InteropError> {
+fn entry_of(function: u8, answer: Result<u8, Fault>) -> Result<(), InteropError>
+    ensures { result ≡ entry_of function answer }
+{
     match code_of(function, answer)? {
         NONE => Err(InteropError::Answered(function, NONE)),
         _ => Ok(()),
@@ -40,7 +48,10 @@ fn entry_of(function: u8, answer: Result<u8, Fault>) -> Result<(), InteropError>
 }
 
 /// The file control block of a name.
-fn named(name: &str) -> Result<Fcb, InteropError> {
+fn named(name: &str) -> Result<Fcb, InteropError>
+    ensures drive { IfOk result (λ fcb. fcb.drive ≡ 0) }
+    ensures refusal { IfErr result (λ e. e ≡ Usage) }
+{
     let (fcb, rest) = parse_fcb(name.as_bytes());
     if fcb.drive != 0 || !rest.is_empty() {
         return Err(InteropError::Usage);
@@ -63,7 +74,9 @@ impl Archive {
     }
 
     /// Prints the user, the name, the records and the attributes of each file, user by user, in the order of the directory.
-    pub fn print_names(&mut self, rt: &(impl Print + AllocGlobal)) -> Result<(), InteropError> {
+    pub fn print_names(&mut self, rt: &(impl Print + AllocGlobal)) -> Result<(), InteropError>
+        ensures { IfErr result IsNamesRefusal }
+    {
         for user in 0..32 {
             self.disks.user = user;
             self.print_names_of_user(rt)?;
@@ -71,10 +84,9 @@ impl Archive {
         Ok(())
     }
 
-    fn print_names_of_user(
-        &mut self,
-        rt: &(impl Print + AllocGlobal),
-    ) -> Result<(), InteropError> {
+    fn print_names_of_user(&mut self, rt: &(impl Print + AllocGlobal)) -> Result<(), InteropError>
+        ensures { IfErr result IsNamesRefusal }
+    {
         let all = named("*.*")?;
         let mut record = [0; 128];
         let answer = self.disks.search_first(&self.system, &all, &mut record);
@@ -96,7 +108,9 @@ impl Archive {
         &mut self,
         rt: &(impl Print + AllocGlobal),
         name: &[u8; 11],
-    ) -> Result<(), InteropError> {
+    ) -> Result<(), InteropError>
+        ensures { IfErr result IsNamesRefusal }
+    {
         let mut fcb = named("X")?;
         fcb.extent.name = *name;
         entry_of(35, self.disks.compute_size(&self.system, &mut fcb))?;
@@ -113,12 +127,15 @@ impl Archive {
         }
         let read_only = if name[8] >= 128 { " R/O" } else { "" };
         let system = if name[9] >= 128 { " SYS" } else { "" };
-        println!(rt; "{} {text} {records}{read_only}{system}", self.disks.user)
-            .map_err(InteropError::Unwritable)
+        println!(rt; "{} {text} {records}{read_only}{system}", self.disks.user).map_err(
+            InteropError::Unwritable,
+        )
     }
 
     /// The bytes of a file: its records, of which the last is cut to the number in its extent's S1, if that isn't 0.
-    pub fn get(&mut self, alloc: Global, user: u8, name: &str) -> Result<Vec<u8>, InteropError> {
+    pub fn get(&mut self, alloc: Global, user: u8, name: &str) -> Result<Vec<u8>, InteropError>
+        ensures { IfErr result IsFileRefusal }
+    {
         self.disks.user = user;
         let mut fcb = named(name)?;
         entry_of(15, self.disks.open_file(&self.system, &mut fcb))?;
@@ -146,7 +163,9 @@ impl Archive {
         name: &str,
         bytes: &[u8],
         attributes: &[&str],
-    ) -> Result<(), InteropError> {
+    ) -> Result<(), InteropError>
+        ensures { IfErr result IsFileRefusal }
+    {
         self.disks.user = user;
         let mut fcb = named(name)?;
         entry_of(22, self.disks.make_file(&self.system, &mut fcb))?;
@@ -163,7 +182,9 @@ impl Archive {
         self.set_attributes(named(name)?, attributes)
     }
 
-    fn set_attributes(&mut self, file: Fcb, attributes: &[&str]) -> Result<(), InteropError> {
+    fn set_attributes(&mut self, file: Fcb, attributes: &[&str]) -> Result<(), InteropError>
+        ensures { IfErr result IsFileRefusal }
+    {
         let mut fcb = file;
         for attribute in attributes {
             match *attribute {

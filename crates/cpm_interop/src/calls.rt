@@ -1,5 +1,9 @@
 //! The command `calls`.
 
+ghost use Rattle.std.specs.Prelude.{◌≡◌, IfErr};
+ghost use Rattle.cpm_interop.specs.declared.error.InteropError.TheVariants.{NoImage, OutOfMemory};
+ghost use Rattle.cpm_interop.specs.Refusals.{IsCallsRefusal, IsListRefusal};
+
 use crate::call::{Call, Line};
 use crate::error::InteropError;
 use crate::files::{read_images, write_file};
@@ -24,7 +28,9 @@ struct Sessions {
 }
 
 impl Sessions {
-    fn new(alloc: Global, images: Vec<Image>) -> Result<Sessions, InteropError> {
+    fn new(alloc: Global, images: Vec<Image>) -> Result<Sessions, InteropError>
+        ensures { IfErr result (λ e. e ≡ NoImage) }
+    {
         let mut images = images.into_iter();
         let Some(system) = images.next() else {
             return Err(InteropError::NoImage);
@@ -38,7 +44,9 @@ impl Sessions {
     }
 
     /// Ends the session that is called now.
-    fn end(&mut self) -> Result<(), InteropError> {
+    fn end(&mut self) -> Result<(), InteropError>
+        ensures { IfErr result (λ e. e ≡ OutOfMemory) }
+    {
         if let Some(trial) = self.trial.take() {
             for image in trial.into_images().into_iter() {
                 if let Some(image) = image {
@@ -50,7 +58,9 @@ impl Sessions {
     }
 
     /// Begins a session with the next images as its drives. None where there are too few.
-    fn begin(&mut self, alloc: Global, count: usize) -> Result<Option<()>, InteropError> {
+    fn begin(&mut self, alloc: Global, count: usize) -> Result<Option<()>, InteropError>
+        ensures { IfErr result (λ e. e ≡ OutOfMemory) }
+    {
         self.end()?;
         let mut drives = Vec::new(alloc);
         for _ in 0..count {
@@ -73,7 +83,9 @@ impl Sessions {
 }
 
 /// Prints what a call left: HL or the console's bytes behind a `!`, the bytes at DE, the bytes at the buffer.
-fn print_left(rt: &(impl Print + AllocGlobal), left: &Left) -> Result<(), InteropError> {
+fn print_left(rt: &(impl Print + AllocGlobal), left: &Left) -> Result<(), InteropError>
+    ensures { IfErr result IsListRefusal }
+{
     let fcb = hex::encode(rt.alloc(), left.fcb)?;
     let record = hex::encode(rt.alloc(), left.record)?;
     let written = if left.count == 0 {
@@ -90,7 +102,9 @@ fn do_line(
     rt: &(impl Print + AllocGlobal),
     sessions: &mut Sessions,
     text: &str,
-) -> Result<Option<()>, InteropError> {
+) -> Result<Option<()>, InteropError>
+    ensures { IfErr result IsListRefusal }
+{
     match Line::of(text) {
         Some(Line::Session(count)) => sessions.begin(rt.alloc(), count),
         Some(Line::Call(call)) => match sessions.call(&call) {
@@ -110,7 +124,9 @@ pub fn run_calls(
     rt: &(impl Files + Print + AllocGlobal),
     list: &str,
     images: &str,
-) -> Result<(), InteropError> {
+) -> Result<(), InteropError>
+    ensures { IfErr result IsCallsRefusal }
+{
     let text = fs::read_to_string(rt, list).map_err(InteropError::Unreadable)?;
     let mut sessions = Sessions::new(rt.alloc(), read_images(rt, images)?)?;
     let mut number = 0;

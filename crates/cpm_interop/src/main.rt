@@ -3,6 +3,9 @@
 //! `put IMAGE USER NAME FILE [R/O] [SYS]` read and write files as a program does.
 #![tactic(auto)]
 
+ghost use Rattle.std.specs.Prelude.{◌≡◌, ◌<◌, IfErr, IfOk};
+ghost use Rattle.cpm_interop.specs.declared.error.InteropError.TheVariants.{Usage};
+
 mod archive;
 mod call;
 mod calls;
@@ -28,7 +31,10 @@ fn words(rt: &(impl Env + AllocGlobal)) -> Result<Vec<String>, InteropError> {
 }
 
 /// The number of a user, 0 to 31.
-fn user_of(word: &str) -> Result<u8, InteropError> {
+fn user_of(word: &str) -> Result<u8, InteropError>
+    ensures user { IfOk result (λ user. user < 32) }
+    ensures refusal { IfErr result (λ e. e ≡ Usage) }
+{
     match word.parse::<u8>() {
         Ok(user) if user < 32 => Ok(user),
         _ => Err(InteropError::Usage),
