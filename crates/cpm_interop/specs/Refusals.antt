@@ -1,5 +1,5 @@
 -- The exit statuses, and which refusals a command or a part of it comes to.
-use Rattle.std.specs.Prelude.{⊤, ⊥, ℕ, ◌==◌, if◌then◌else◌, Result, Ok, Err, Unit, tt}
+use Rattle.std.specs.Prelude.{⊤, ℕ, ◌==◌, if◌then◌else◌, Result, Ok, Err}
 use Rattle.cpm_files.specs.declared.answer.Fault.{Fault}
 use Rattle.cpm_interop.specs.declared.error.InteropError.{InteropError}
 use Rattle.cpm_interop.specs.declared.error.InteropError.TheVariants.{Usage, NoCall, Unreadable, Unwritable, NoImage, Answered, Faulted, OutOfMemory}

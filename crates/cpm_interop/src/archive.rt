@@ -170,16 +170,25 @@ impl Archive {
         let mut fcb = named(name)?;
         entry_of(22, self.disks.make_file(&self.system, &mut fcb))?;
         for chunk in bytes.chunks(128) {
-            let mut record = [0x1A; 128];
-            record[..chunk.len()].copy_from_slice(chunk);
-            let answer = self.disks.write_next(&self.system, &mut fcb, &record);
-            match code_of(21, answer)? {
-                0 => {}
-                code => return Err(InteropError::Answered(21, code)),
-            }
+            self.write(&mut fcb, chunk)?;
         }
         entry_of(16, self.disks.close_file(&self.system, &mut fcb))?;
         self.set_attributes(named(name)?, attributes)
+    }
+
+    /// Writes the next record, which these bytes begin, and no more than 128 of them.
+    fn write(&mut self, fcb: &mut Fcb, bytes: &[u8]) -> Result<(), InteropError>
+        ensures { IfErr result IsFileRefusal }
+    {
+        let mut record = [0x1A; 128];
+        for (place, byte) in record.iter_mut().zip(bytes.iter()) {
+            *place = *byte;
+        }
+        let answer = self.disks.write_next(&self.system, fcb, &record);
+        match code_of(21, answer)? {
+            0 => Ok(()),
+            code => Err(InteropError::Answered(21, code)),
+        }
     }
 
     fn set_attributes(&mut self, file: Fcb, attributes: &[&str]) -> Result<(), InteropError>

@@ -53,7 +53,7 @@ impl Trial {
         self.come(call.function, call.parameter);
         self.step(system);
         let mut left = Left {
-            result: 256 * u16::from(self.session.regs.h) + u16::from(self.session.regs.l),
+            result: u16::from(self.session.regs.h) << 8 | u16::from(self.session.regs.l),
             shown: [0; 64],
             count: 0,
             fcb: [0; 36],
