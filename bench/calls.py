@@ -155,7 +155,7 @@ class Maker:
 
     def function(self, before):
         """A function, which may be one that goes on with what the one before it did."""
-        follows = {17: [18], 18: [18], 15: [20, 21, 33, 34, 40, 16], 22: [21, 21, 34, 40, 16]}
+        follows = {17: [18], 18: [18], 15: [20, 21, 28, 33, 34, 40, 16], 22: [21, 21, 34, 40, 16], 28: [16, 16, 20, 33]}
         for number in (20, 21, 33, 34, 40):
             follows[number] = [20, 21, 33, 34, 40, 16]
         if before in follows and self.dice.random() < 0.6:
@@ -171,7 +171,7 @@ class Maker:
         if function == 27:
             return function, 0xFE00 + 64 * self.pick(0, 0, 1, 4), None, None, None
         if function in (13, 14, 24, 25, 28, 29, 31, 32, 37, 38, 39):
-            words = (0, 1, 2, 3, 15, 16, 0xFF, 0xFFFF, 0x8001, 0xFC20, 0xFC40, self.dice.randrange(65536))
+            words = (0, 1, 2, 3, 15, 16, 0xFF, 0xFF, 0xFFFF, 0x8001, 0xFC20, 0xFC40, self.dice.randrange(65536))
             return function, self.pick(*words), None, None, None
         at = self.pick(0x5C, 0x5C, 0x5C, 0x5C, 0x6C, 0x70, 0x9A, 0xFFE8, self.dice.randrange(65536))
         record = self.pick(None, bytes([self.byte()]) * 128, self.some(128))
@@ -182,6 +182,10 @@ class Maker:
                 fcb[32] = self.pick(0, 7, 8, 127, 128, 255)
             if self.dice.random() < 0.3:
                 fcb[33:36] = bytes([self.byte(), self.pick(0, 0, 1, 255), self.pick(0, 0, 0, 1)])
+            if self.dice.random() < 0.2:
+                fcb[15] = self.pick(0, 1, 128, self.byte())
+            if self.dice.random() < 0.1:
+                fcb[self.dice.randrange(16, 32)] = self.pick(0, 0, 2, 243, self.byte())
             return function, at, bytes(fcb), record, None
         if self.dice.random() < 0.05:
             return function, at, None, record, None
@@ -272,7 +276,7 @@ def parser():
     it = argparse.ArgumentParser(prog="bench/calls.py", description=__doc__.split("\n", maxsplit=1)[0])
     it.add_argument("--seed", type=int, default=1)
     it.add_argument("--pairs", type=int, default=600, help="sessions of one call on one directory, 600 unless given")
-    it.add_argument("--sessions", type=int, default=240, help="sessions of 12 calls, 240 unless given")
+    it.add_argument("--sessions", type=int, default=480, help="sessions of 12 calls, 480 unless given")
     it.add_argument("--batch", type=int, default=60, help="sessions for each start of the program, 60 unless given")
     it.add_argument("--program", default=PROGRAM, help="the words that start the program")
     return it
