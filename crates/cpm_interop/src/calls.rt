@@ -129,11 +129,9 @@ pub fn run_calls(
 {
     let text = fs::read_to_string(rt, list).map_err(InteropError::Unreadable)?;
     let mut sessions = Sessions::new(rt.alloc(), read_images(rt, images)?)?;
-    let mut number = 0;
-    for line in text.as_str().lines() {
-        number += 1;
+    for (place, line) in text.as_str().lines().enumerate() {
         if do_line(rt, &mut sessions, line)?.is_none() {
-            return Err(InteropError::NoCall(number));
+            return Err(InteropError::NoCall(place));
         }
     }
     sessions.end()?;

@@ -15,8 +15,8 @@ pub enum InteropError {
     /// The words of the command line name no command.
     #[error("usage: calls LIST IMAGES | names IMAGE | get IMAGE USER NAME OUT | put IMAGE USER NAME FILE [R/O] [SYS]")]
     Usage,
-    /// A line of a list, counted from 1, is neither a session for which there are images nor a call.
-    #[error("line {0} of the list is no call and no session")]
+    /// A line of a list, counted from 0, is neither a session for which there are images nor a call.
+    #[error("line {0} of the list, counted from 0, is no call and no session")]
     NoCall(usize),
     /// A file can't be read.
     #[error("a file can't be read: {0}")]
