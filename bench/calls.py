@@ -81,7 +81,7 @@ class Maker:
         if self.dice.random() < 0.5:
             self.dice.shuffle(free)
         index = 0
-        for user, name in {(self.dice.choice(USERS), self.dice.choice(NAMES)) for _ in range(count)}:
+        for user, name in sorted({(self.dice.choice(USERS), self.dice.choice(NAMES)) for _ in range(count)}):
             name = bytearray(name)
             name[8] |= self.pick(0, 0, 0, 128)
             name[9] |= self.pick(0, 128)
@@ -119,7 +119,7 @@ class Maker:
         elif kind == 1:
             blocks = self.some(16)
         elif kind == 2:
-            blocks = bytes(self.pick(0, 2, 3, 242, 243, 255) for _ in range(16))
+            blocks = bytes(self.pick(0, 1, 2, 3, 242, 243, 255) for _ in range(16))
         else:
             first = self.dice.randrange(0, 226)
             blocks = bytes(range(first, first + 16))[: self.dice.randrange(17)].ljust(16, b"\0")
@@ -155,7 +155,7 @@ class Maker:
 
     def function(self, before):
         """A function, which may be one that goes on with what the one before it did."""
-        follows = {17: [18], 18: [18], 15: [20, 21, 28, 33, 34, 40, 16], 22: [21, 21, 34, 40, 16], 28: [16, 16, 20, 33]}
+        follows = {17: [18], 18: [18], 15: [20, 21, 28, 33, 34, 40, 16], 22: [21, 21, 34, 40, 16], 28: [16, 16, 20, 33], 19: [27, 22]}
         for number in (20, 21, 33, 34, 40):
             follows[number] = [20, 21, 33, 34, 40, 16]
         if before in follows and self.dice.random() < 0.6:
