@@ -112,6 +112,8 @@ class Maker:
         ex = self.pick(0, 0, 0, 1, 2, 31, 0x3F, self.byte())
         s1 = self.pick(0, 0, self.byte())
         s2 = self.pick(0, 0, 0, 0, 1, 15, 16, self.byte())
+        if self.dice.random() < 0.1:
+            ex, s2 = 31, 15
         count = self.pick(0, 1, 5, 8, 9, 127, 128, 128, self.byte())
         kind = self.dice.randrange(6)
         if kind == 0:
@@ -155,7 +157,8 @@ class Maker:
 
     def function(self, before):
         """A function, which may be one that goes on with what the one before it did."""
-        follows = {17: [18], 18: [18], 15: [20, 21, 28, 33, 34, 40, 16], 22: [21, 21, 34, 40, 16], 28: [16, 16, 20, 33], 19: [27, 22]}
+        follows = {13: [18], 15: [20, 21, 28, 33, 34, 40, 16], 17: [18, 18, 18, 13, 37], 18: [18, 18, 24], 19: [27, 22]}
+        follows |= {22: [21, 21, 34, 40, 16], 28: [16, 16, 20, 33], 37: [18]}
         for number in (20, 21, 33, 34, 40):
             follows[number] = [20, 21, 33, 34, 40, 16]
         if before in follows and self.dice.random() < 0.6:
@@ -173,6 +176,8 @@ class Maker:
         if function in (13, 14, 24, 25, 28, 29, 31, 32, 37, 38, 39):
             words = (0, 1, 2, 3, 15, 16, 0xFF, 0xFF, 0xFFFF, 0x8001, 0xFC20, 0xFC40, self.dice.randrange(65536))
             return function, self.pick(*words), None, None, None
+        if function == 18:
+            return function, self.dice.randrange(65536), None, self.some(128), self.pick(None, *USERS)
         at = self.pick(0x5C, 0x5C, 0x5C, 0x5C, 0x6C, 0x70, 0x9A, 0xFFE8, self.dice.randrange(65536))
         record = self.pick(None, bytes([self.byte()]) * 128, self.some(128))
         if last is not None and self.dice.random() < 0.6:
