@@ -14,7 +14,8 @@ import subprocess
 import sys
 import tempfile
 
-from bdos import ENTRIES, P, SIZE, UNUSED, Disk, Session
+from bdos import Session
+from disk import ENTRIES, P, SIZE, Disk
 
 HERE = os.path.dirname(os.path.abspath(__file__))
 PROGRAM = os.path.join(HERE, "..", "crates", "cpm_interop", "out", "cpm_interop")
