@@ -1,0 +1,365 @@
+"""A slow reading of the BDOS function table on disks: functions 13 to 37 and 40.
+
+One bytearray stands for the memory and one for each disk; there is no cache, and nothing is shared with the Rattle code.
+"""
+
+from disk import ANY, DSM, ENTRIES, P, SKEW, UNUSED, Disk, extent_number, name_matches
+
+FCB_CALLS = {15, 16, 17, 18, 19, 20, 21, 22, 23, 30, 33, 34, 35, 36, 40}
+
+
+class Fault(Exception):
+    """A fault of the disk system: its name and the number of the drive."""
+
+
+def memory_at_opening():
+    memory = bytearray(65536)
+    memory[0:3] = b"\xc3\x03\xfa"
+    memory[5:8] = b"\xc3\x06\xec"
+    for at in (0x5C, 0x6C):
+        memory[at : at + 12] = b"\0" + 11 * b" "
+    for number in range(17):
+        memory[0xFA00 + 3 * number : 0xFA03 + 3 * number] = bytes([0xC3, number, 0xFB])
+    memory[0xFC00:0xFC1A] = bytes(SKEW)
+    memory[0xFC20:0xFC2F] = bytes([26, 0, 3, 7, 0, 242, 0, 63, 0, 0xC0, 0, 16, 0, 2, 0])
+    for place in range(5):
+        words = [0xFC00, 0, 0, 0, 0xFD00, 0xFC20, 0xFF40 + 16 * place, 0xFE00 + 64 * place]
+        header = b"".join(word.to_bytes(2, "little") for word in words)
+        memory[0xFC40 + 32 * place : 0xFC50 + 32 * place] = header
+    return memory
+
+
+class Session:
+    """A session as the function table says it."""
+
+    def __init__(self, images, system):
+        self.disks = dict(enumerate(map(Disk, images)))
+        self.disks[P] = Disk(system)
+        self.memory = memory_at_opening()
+        self.current = self.user = 0
+        self.dma = 0x80
+        self.search = None
+
+    # ---- memory
+
+    def load(self, at, count):
+        return bytearray(self.memory[(at + place) % 65536] for place in range(count))
+
+    def store(self, at, data):
+        for place, byte in enumerate(data):
+            self.memory[(at + place) % 65536] = byte
+
+    # ---- a call
+
+    def call(self, function, de, fcb, record):
+        """What the program has to print of this call."""
+        dma = self.dma
+        if fcb is not None:
+            self.store(de, fcb)
+        if record is not None:
+            self.store(dma, record)
+        try:
+            answer = f"{self.answer(function, de):04x}"
+            left = self.load(de, 36).hex(), self.load(dma, 128).hex()
+        except Fault as fault:
+            name, drive = fault.args
+            shown = b"\r\nBdos Err On " + bytes([65 + drive % 16]) + b": " + name
+            answer = "!" + shown.ljust(64, b"\0").hex()
+            left = self.load(de, 36).hex(), self.load(dma, 128).hex()
+            self.warm_boot()
+        return " ".join((answer, *left))
+
+    def warm_boot(self):
+        self.store(0, b"\xc3\x03\xfa")
+        self.store(5, b"\xc3\x06\xec")
+        for disk in self.disks.values():
+            disk.unmark()
+        self.search = None
+        self.dma = 0x80
+
+    def answer(self, function, de):
+        if function in FCB_CALLS:
+            return self.file_call(function, de)
+        e = de % 256
+        vector = lambda marked: sum(1 << number for number, disk in self.disks.items() if marked(disk))
+        if function == 13:
+            for disk in self.disks.values():
+                disk.unmark()
+            self.current, self.dma = 0, 0x80
+            self.disks[0].use()
+        elif function == 14:
+            if e not in self.disks:
+                raise Fault(b"Select", e)
+            self.disks[e].use()
+            self.current = e
+        elif function == 24:
+            return vector(lambda disk: disk.is_in)
+        elif function == 25:
+            return self.current
+        elif function == 26:
+            self.dma = de
+        elif function == 27:
+            return self.allocation()
+        elif function == 28:
+            self.disks[self.current].is_protected = True
+        elif function == 29:
+            return vector(lambda disk: disk.is_protected) | 0x8000
+        elif function == 31:
+            return 0xFC20
+        elif function == 32:
+            if e == 0xFF:
+                return self.user
+            self.user = e % 32
+        elif function == 37:
+            for number, disk in self.disks.items():
+                if de >> number & 1:
+                    disk.unmark()
+        return 0
+
+    def allocation(self):
+        disk = self.disks[self.current]
+        disk.use()
+        at = 0xFE00 + 64 * (4 if self.current == P else self.current)
+        bits = "".join("1" if block in disk.reserved else "0" for block in range(DSM + 1))
+        bits = bits.ljust(248, "0")
+        self.store(at, bytes(int(bits[place : place + 8], 2) for place in range(0, 248, 8)))
+        return at
+
+    # ---- files
+
+    def file_call(self, function, de):
+        before, self.fcb = self.load(de, 36), self.load(de, 36)
+        self.buffer = self.load(self.dma, 128)
+        try:
+            return self.with_fcb(function)
+        finally:
+            # the record first, then those bytes of the FCB that changed; also where there was a fault
+            self.store(self.dma, self.buffer)
+            for place in range(36):
+                if self.fcb[place] != before[place]:
+                    self.memory[(de + place) % 65536] = self.fcb[place]
+
+    def with_fcb(self, function):
+        if function == 18:
+            return self.search_next()
+        named = self.fcb[0]
+        self.number = named - 1 if named else self.current
+        if function == 17 and named == ANY:
+            self.number = self.current
+        if self.number not in self.disks:
+            raise Fault(b"Select", self.number)
+        self.disk = self.disks[self.number]
+        self.disk.use()
+        if function in {19, 21, 22, 23, 30, 34, 40} and self.is_read_only():
+            raise Fault(b"R/O", self.number)
+        if function in {21, 34, 40} and self.fcb[9] >= 128:
+            raise Fault(b"File R/O", self.number)
+        return {
+            15: lambda: self.code(self.open(self.fcb[12] % 32)),
+            16: lambda: self.code(self.close()),
+            17: self.search_first,
+            19: self.erase,
+            20: lambda: self.sequential(self.read),
+            21: lambda: self.sequential(self.write),
+            22: lambda: self.code(self.make(self.fcb[12] % 32)),
+            23: self.rename,
+            30: self.set_attributes,
+            33: lambda: self.random(self.read),
+            34: lambda: self.random(self.write),
+            35: self.size,
+            36: self.set_random,
+            40: lambda: self.random(self.write_cleared),
+        }[function]()
+
+    def is_read_only(self):
+        return self.disk.is_protected or self.number == P
+
+    @staticmethod
+    def code(index):
+        return 0xFF if index is None else index % 4
+
+    def x(self):
+        return extent_number(self.fcb[12], self.fcb[14])
+
+    def named(self):
+        """The indices of the entries of the FCB's name."""
+        for index in range(ENTRIES):
+            entry = self.disk.entry(index)
+            if entry[0] == self.user and name_matches(self.fcb[1:12], entry[1:12]):
+                yield index
+
+    def find(self, x):
+        for index in self.named():
+            entry = self.disk.entry(index)
+            if extent_number(entry[12], entry[14]) == x:
+                return index
+        return None
+
+    def open(self, x):
+        index = self.find(x)
+        if index is not None:
+            self.fcb[1:32] = self.disk.entry(index)[1:32]
+            self.fcb[12], self.fcb[14] = x % 32, x // 32
+        return index
+
+    def close(self):
+        index = self.find(self.x())
+        if index is None:
+            return None
+        if any(number > DSM for number in self.fcb[16:32]):
+            raise Fault(b"Bad Sector", self.number)
+        entry = self.disk.entry(index)
+        if any(a and b and a != b for a, b in zip(self.fcb[16:32], entry[16:32])):
+            return None
+        merged = bytes(a or b for a, b in zip(self.fcb[16:32], entry[16:32]))
+        after = bytearray(entry)
+        after[12], after[14], after[15] = self.fcb[12], self.fcb[14], self.fcb[15]
+        after[16:32] = merged
+        if after != entry:
+            if self.is_read_only():
+                raise Fault(b"R/O", self.number)
+            self.disk.put_entry(index, after)
+        self.fcb[16:32] = merged
+        return index
+
+    def make(self, x):
+        for index in range(ENTRIES):
+            if self.disk.entry(index)[0] == UNUSED:
+                self.fcb[12:16] = bytes([x % 32, 0, x // 32, 0])
+                self.fcb[16:32] = bytes(16)
+                self.disk.put_entry(index, bytes([self.user]) + self.fcb[1:32])
+                return index
+        return None
+
+    def search_first(self):
+        self.search = [self.number, bytes(self.fcb), 0]
+        return self.search_on()
+
+    def search_next(self):
+        if self.search is None:
+            return 0xFF
+        self.disks[self.search[0]].use()
+        return self.search_on()
+
+    def search_on(self):
+        number, fcb, place = self.search
+        disk = self.disks[number]
+        for index in range(place, ENTRIES):
+            entry = disk.entry(index)
+            is_it = entry[0] == self.user and name_matches(fcb[1:12], entry[1:12])
+            is_it = is_it and (fcb[12] == ANY or extent_number(entry[12], entry[14]) == fcb[12] % 32)
+            if is_it or fcb[0] == ANY:
+                self.search[2] = index + 1
+                self.buffer = bytearray(disk.read(index // 4))
+                return index % 4
+        self.search[2] = ENTRIES
+        return 0xFF
+
+    def changeable(self):
+        found = list(self.named())
+        if any(self.disk.entry(index)[9] >= 128 for index in found):
+            raise Fault(b"File R/O", self.number)
+        return found
+
+    def erase(self):
+        found = self.changeable()
+        for index in found:
+            entry = self.disk.entry(index)
+            self.disk.reserved -= set(entry[16:]) - {0, 1}
+            entry[0] = UNUSED
+            self.disk.put_entry(index, entry)
+        return self.code(found[0] if found else None)
+
+    def rename(self):
+        found = self.changeable()
+        for index in found:
+            entry = self.disk.entry(index)
+            entry[1:12] = self.fcb[17:28]
+            self.disk.put_entry(index, entry)
+        return self.code(found[0] if found else None)
+
+    def set_attributes(self):
+        found = list(self.named())
+        for index in found:
+            entry = self.disk.entry(index)
+            for place in range(1, 12):
+                entry[place] = entry[place] % 128 | self.fcb[place] & 128
+            self.disk.put_entry(index, entry)
+        return self.code(found[0] if found else None)
+
+    # ---- records
+
+    def next_extent(self, x, access):
+        """Whether extent x is had; a write makes it where there is none."""
+        if self.open(x) is not None:
+            return True
+        return access != self.read and self.make(x) is not None
+
+    def sequential(self, access):
+        if self.fcb[32] >= 128:
+            x = self.x()
+            if x == 511 or self.close() is None or not self.next_extent(x + 1, access):
+                return 1
+            self.fcb[32] = 0
+        code = access()
+        if code == 0:
+            self.fcb[32] += 1
+        return code
+
+    def random(self, access):
+        if self.fcb[35]:
+            return 6
+        number = self.fcb[33] + 256 * self.fcb[34]
+        if number // 128 != self.x():
+            if self.close() is None:
+                return 3
+            if not self.next_extent(number // 128, access):
+                return 4 if access == self.read else 5
+        self.fcb[32] = number % 128
+        return access()
+
+    def block(self):
+        number = self.fcb[16 + self.fcb[32] // 8]
+        if number > DSM:
+            raise Fault(b"Bad Sector", self.number)
+        return number
+
+    def read(self):
+        if self.fcb[32] >= self.fcb[15]:
+            return 1
+        block = self.block()
+        if block == 0:
+            return 1
+        self.buffer = bytearray(self.disk.read(8 * block + self.fcb[32] % 8))
+        return 0
+
+    def write(self, is_cleared=False):
+        block = self.block()
+        if block == 0:
+            block = self.disk.lowest()
+            if block is None:
+                return 2
+            self.disk.reserved.add(block)
+            self.fcb[16 + self.fcb[32] // 8] = block
+            if is_cleared:
+                for place in range(8):
+                    self.disk.write(8 * block + place, bytes(128))
+        self.disk.write(8 * block + self.fcb[32] % 8, self.buffer)
+        self.fcb[15] = max(self.fcb[15], self.fcb[32] + 1)
+        return 0
+
+    def write_cleared(self):
+        return self.write(is_cleared=True)
+
+    def put_random(self, number):
+        self.fcb[33:36] = number.to_bytes(3, "little")
+
+    def size(self):
+        entries = [self.disk.entry(index) for index in self.named()]
+        sizes = [128 * extent_number(entry[12], entry[14]) + entry[15] for entry in entries]
+        self.put_random(max(sizes, default=0))
+        return 0 if sizes else 0xFF
+
+    def set_random(self):
+        self.put_random(128 * self.x() + self.fcb[32])
+        return 0
