@@ -1,3 +1,6 @@
 pub mod TextLemmas
 pub mod CountLemmas
 pub mod OperandLemmas
+pub mod Texts
+pub mod ListingLemmas
+pub mod WaitLaws

@@ -1,0 +1,8 @@
+//! Laws of the command processor, as contracts.
+
+ghost use Rattle.cpm_ccp.specs.Laws.{WaitingLaw};
+
+/// A step waits exactly where it reads a line and finds no key, and then changes nothing.
+pub fn waits_for_keys_of_lines()
+    ensures { WaitingLaw }
+{}
