@@ -10,3 +10,4 @@ mod renaming;
 mod saving;
 mod trial;
 mod typing;
+mod words;

@@ -1,14 +1,13 @@
 //! Lines and what they are.
 
 use crate::capitals::capital;
-use crate::message::Message;
-use crate::words::{default_fcbs, first_word, tail};
+use crate::words::{first_word, tail};
 use crate::{Command, parse_command};
 use cpm_directory::{Extent, Fcb};
 use std::process::Abort;
 
 /// The file control block of a name, 1 for drive A.
-fn file(drive: u8, name: &[u8; 11]) -> Fcb {
+pub fn file(drive: u8, name: &[u8; 11]) -> Fcb {
     let extent = Extent {
         name: *name,
         ex: 0,
@@ -26,18 +25,18 @@ fn file(drive: u8, name: &[u8; 11]) -> Fcb {
 }
 
 /// Fails unless the line is this command where A is the current drive.
-fn check(rt: &impl Abort, line: &[u8], wanted: Command) {
+pub fn check(rt: &impl Abort, line: &[u8], wanted: Command) {
     assert_eq!(rt; parse_command(line, 0), wanted, "{line:?}");
 }
 
 /// Fails unless the line runs a program, with this tail.
-fn check_program(rt: &impl Abort, line: &[u8], program: Fcb, wanted_tail: &[u8]) {
+pub fn check_program(rt: &impl Abort, line: &[u8], program: Fcb, wanted_tail: &[u8]) {
     check(rt, line, Command::Program(program));
     assert_eq!(rt; tail(line), wanted_tail, "{line:?}");
 }
 
 /// Fails unless the line is refused by this first word.
-fn check_unknown(rt: &impl Abort, line: &[u8], word: &[u8]) {
+pub fn check_unknown(rt: &impl Abort, line: &[u8], word: &[u8]) {
     check(rt, line, Command::Unknown);
     assert_eq!(rt; first_word(line), word, "{line:?}");
 }
@@ -315,112 +314,4 @@ fn users_are_0_to_15(rt: HostRuntime) {
     check(&rt, b"USER 3.", Command::UserForm);
     check(&rt, b"USER=3", Command::UserForm);
     check_unknown(&rt, b"USER.3", b"USER.3");
-}
-
-#[test]
-fn other_names_are_programs(rt: HostRuntime) {
-    check_program(&rt, b"W=X", file(0, b"W       COM"), b"");
-    check_program(&rt, b" STAT  A:*.* ", file(0, b"STAT    COM"), b"  A:*.* ");
-    check_program(&rt, b"P:STAT", file(16, b"STAT    COM"), b"");
-    check_program(&rt, b"P:Q:R S", file(16, b"Q       COM"), b" S");
-    check_program(&rt, b"PROG. X", file(0, b"PROG    COM"), b" X");
-    check_program(&rt, b"PROG..X", file(0, b"PROG    COM"), b"");
-    check_program(&rt, b"PROG\x01.X", file(0, b"PROG    COM"), b"");
-    check_program(&rt, b"ABCDEFGHIJ", file(0, b"ABCDEFGHCOM"), b"");
-    check_program(&rt, b"A,B", file(0, b"A,B     COM"), b"");
-    check_program(&rt, b"\x7F\xFF", file(0, b"\x7F\xFF      COM"), b"");
-}
-
-#[test]
-fn words_that_name_no_program_are_refused(rt: HostRuntime) {
-    check_unknown(&rt, b"  PROG.COM X", b"PROG.COM");
-    check_unknown(&rt, b"PROG.*", b"PROG.*");
-    check_unknown(&rt, b"PR?G", b"PR?G");
-    check_unknown(&rt, b"P*", b"P*");
-    check_unknown(&rt, b"B:P? X", b"B:P?");
-    check_unknown(&rt, b"PR\xBFG", b"PR\xBFG");
-    check_unknown(&rt, b";X", b";X");
-    check_unknown(&rt, b".TYP", b".TYP");
-    check_unknown(&rt, b"=", b"=");
-    check_unknown(&rt, b"\t", b"\t");
-    check_unknown(&rt, b"\x00\x01 \x02", b"\x00\x01");
-}
-
-#[test]
-fn whole_lines_of_127_characters(rt: HostRuntime) {
-    let mut line = [b'A'; 127];
-    check_program(&rt, &line, file(0, b"AAAAAAAACOM"), b"");
-    line[1] = b' ';
-    check(&rt, &line, Command::Program(file(0, b"A       COM")));
-    assert_eq!(rt; tail(&line).len(), 126);
-    line[126] = b'?';
-    check(&rt, &line, Command::Program(file(0, b"A       COM")));
-    line[1] = b'A';
-    check(&rt, &line, Command::Program(file(0, b"AAAAAAAACOM")));
-    line[7] = b'?';
-    check_unknown(&rt, &line, &line);
-    let mut line = [b' '; 127];
-    line[126] = b'X';
-    check_program(&rt, &line, file(0, b"X       COM"), b"");
-    line[125] = b':';
-    line[124] = b'C';
-    check_program(&rt, &line, file(3, b"X       COM"), b"");
-    line[126] = b' ';
-    check(&rt, &line, Command::SelectDrive(2));
-}
-
-/// Fails unless the tail has these first two names.
-fn check_names(rt: &impl Abort, tail: &[u8], first: Fcb, second: Fcb) {
-    assert_eq!(rt; default_fcbs(tail), (first, second), "{tail:?}");
-}
-
-#[test]
-fn programs_find_two_names(rt: HostRuntime) {
-    let none = file(0, b"           ");
-    check_names(&rt, b"", none, none);
-    check_names(&rt, b"   ", none, none);
-    check_names(
-        &rt,
-        b" A:X.Y P:Z",
-        file(1, b"X       Y  "),
-        file(16, b"Z          "),
-    );
-    check_names(&rt, b" X=Y", file(0, b"X          "), none);
-    check_names(
-        &rt,
-        b"  X   A*.? Z",
-        file(0, b"X          "),
-        file(0, b"A????????  "),
-    );
-    check_names(
-        &rt,
-        b" B: C:",
-        file(2, b"           "),
-        file(3, b"           "),
-    );
-    check_names(&rt, b" X:Y", file(0, b"X          "), none);
-    check_names(&rt, b" =X Y", none, none);
-    check_names(
-        &rt,
-        b" X.Y.Z W",
-        file(0, b"X       Y  "),
-        file(0, b"        Z  "),
-    );
-}
-
-#[test]
-fn messages_have_their_texts(rt: HostRuntime) {
-    for (message, text) in [
-        (Message::NoFile, "NO FILE"),
-        (Message::FileExists, "FILE EXISTS"),
-        (Message::NoSpace, "NO SPACE"),
-        (Message::EraseAll, "ALL (Y/N)?"),
-        (Message::BadLoad, "BAD LOAD"),
-        (Message::RenameForm, "REN?"),
-        (Message::SaveForm, "SAVE?"),
-        (Message::TypeForm, "TYPE?"),
-        (Message::UserForm, "USER?"),
-    ] {
-        assert_eq!(rt; message.text(), text.as_bytes());
-    }
 }
