@@ -4,3 +4,5 @@ pub mod OperandLemmas
 pub mod Texts
 pub mod ListingLemmas
 pub mod WaitLaws
+pub mod BehindLaws
+pub mod BoundLaws

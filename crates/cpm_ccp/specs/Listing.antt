@@ -1,5 +1,5 @@
 -- DIR: CP/M 2.2 Operating System Manual, section 1 (DIR).
-use Rattle.std.specs.Prelude.{ℕ, ◌+◌, ◌%◌, ◌==◌, ◌&&◌, ◌||◌, Bool, false, not, nat_le, nat_lt, List, [], ◌∷◌, ◌++◌, length, map, take, drop, slice_index, if◌then◌else◌}
+use Rattle.std.specs.Prelude.{ℕ, ◌+◌, ◌%◌, ◌==◌, ◌&&◌, ◌||◌, Bool, false, not, nat_le, nat_lt, List, [], ◌∷◌, ◌++◌, length, map, take, drop, slice_index, slice_range, if◌then◌else◌}
 use Rattle.std.specs.List.{position_or_len}
 use Rattle.cpm_geom.specs.Disk.{Disk}
 use Rattle.cpm_geom.specs.Geometry.{dpb_of}
@@ -42,7 +42,7 @@ low_seven c = c % 128
 -- the name, a space and the type
 unfoldable pub file_text : ℕ → ℕ → List ℕ → List ℕ
 file_text column drive name =
-    before_file column drive ++ (map low_seven (take 8 name) ++ (32 ∷ map low_seven (drop 8 name)))
+    before_file column drive ++ (map low_seven (take 8 name) ++ (32 ∷ map low_seven (slice_range name 8 11)))
 
 -- the entries of the drive that is listed, and the next one
 abbrev pub entries_listed : Disk → Session → List Entry

@@ -89,7 +89,7 @@ fn say_file(console: &mut Console, column: u8, drive: u8, name: &[u8; 11])
     say_before(console, column, drive);
     say_low_seven(console, &name[..8]);
     console.say(b' ');
-    say_low_seven(console, &name[8..]);
+    say_low_seven(console, &name[8..11]);
 }
 
 /// Shows the file of an entry; the next entry is looked at then.

@@ -1,11 +1,11 @@
 //! The loader of programs.
 
-ghost use Rattle.std.specs.Prelude.{◌≡◌, ◌<◌, ◌≤◌, length, [], ◌∷◌, ◌++◌, List, ℕ};
+ghost use Rattle.std.specs.Prelude.{◌≡◌, ◌≤◌, ℕ, List, length};
 ghost use Rattle.cpm_memory.specs.Room.{HasRoom};
 ghost use Rattle.cpm_bdos.specs.Did.{did};
 ghost use Rattle.cpm_bdos.specs.Bounds.{IsBounded};
+ghost use Rattle.cpm_bdos.specs.Behind.{session_behind, did_behind};
 ghost use Rattle.cpm_ccp.specs.Loading.{unknown, load_begun, name_bytes, default_files, memory_started, started, loaded, load_record, load};
-ghost use Rattle.cpm_ccp.specs.Words.{tail_of};
 
 use crate::message::Message;
 use crate::parts::{NO_RECORD, NONE, fail, finish, go_to, line_of, say_below, tell};
@@ -162,6 +162,23 @@ pub(crate) fn load_record<M: Memory>(
 /// file, where the program starts. Where no program is loaded nothing changes. Both devices must have room for 4,096
 /// bytes.
 pub fn load_step<M: Memory>(session: &mut Session, memory: &mut M, system: &Image) -> Went
+    requires screen { length session.old.console.screen ≤ 4096 }
+    requires printer { length session.old.console.printer ≤ 4096 }
+    requires room { HasRoom (M.contents memory.old) }
+    ensures step { did session.new (M.contents memory.new) result ≡ load system.now session.old (M.contents memory.old) }
+    ensures surroundings { M.surroundings memory.new ≡ M.surroundings memory.old }
+    ensures leads { M.Leads memory.old memory.new }
+    ensures bounds { IsBounded session.old (M.contents memory.old) (did session.new (M.contents memory.new) result) }
+
+    // Output that waits already changes nothing in a step, which shows its own behind it.
+    ensures behind { (p q : List ℕ) → load system.now (session_behind p q session.old) (M.contents memory.old) ≡ did_behind p q (did session.new (M.contents memory.new) result) }
+{
+    session.numbers_fit();
+    do_load(session, memory, system)
+}
+
+/// One step of the loader, by the mode.
+fn do_load<M: Memory>(session: &mut Session, memory: &mut M, system: &Image) -> Went
     requires screen { length session.old.console.screen ≤ 4096 }
     requires printer { length session.old.console.printer ≤ 4096 }
     requires room { HasRoom (M.contents memory.old) }

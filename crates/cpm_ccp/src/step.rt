@@ -1,8 +1,10 @@
 //! One step of the command processor.
 
-ghost use Rattle.std.specs.Prelude.{◌≡◌, ◌≤◌, length};
+ghost use Rattle.std.specs.Prelude.{◌≡◌, ◌≤◌, ℕ, List, length};
 ghost use Rattle.cpm_memory.specs.Room.{HasRoom};
 ghost use Rattle.cpm_bdos.specs.Did.{did};
+ghost use Rattle.cpm_bdos.specs.Bounds.{IsBounded};
+ghost use Rattle.cpm_bdos.specs.Behind.{session_behind, did_behind};
 ghost use Rattle.cpm_ccp.specs.Command.{HasOperands, command_of};
 ghost use Rattle.cpm_ccp.specs.Parts.{line_of};
 ghost use Rattle.cpm_ccp.specs.Step.{looks_first, begun_by, begun, in_part, ccp};
@@ -24,6 +26,23 @@ use cpm_memory::Memory;
 /// names. Once a command is done the program's mode is left, and the prompt comes next; the calls of the BDOS go on by
 /// steps of their own. Both devices must have room for 4,096 bytes.
 pub fn ccp_step<M: Memory>(session: &mut Session, memory: &mut M, system: &Image) -> Went
+    requires screen { length session.old.console.screen ≤ 4096 }
+    requires printer { length session.old.console.printer ≤ 4096 }
+    requires room { HasRoom (M.contents memory.old) }
+    ensures step { did session.new (M.contents memory.new) result ≡ ccp system.now session.old (M.contents memory.old) }
+    ensures surroundings { M.surroundings memory.new ≡ M.surroundings memory.old }
+    ensures leads { M.Leads memory.old memory.new }
+    ensures bounds { IsBounded session.old (M.contents memory.old) (did session.new (M.contents memory.new) result) }
+
+    // Output that waits already changes nothing in a step, which shows its own behind it.
+    ensures behind { (p q : List ℕ) → ccp system.now (session_behind p q session.old) (M.contents memory.old) ≡ did_behind p q (did session.new (M.contents memory.new) result) }
+{
+    session.numbers_fit();
+    do_step(session, memory, system)
+}
+
+/// One step, by the mode.
+fn do_step<M: Memory>(session: &mut Session, memory: &mut M, system: &Image) -> Went
     requires screen { length session.old.console.screen ≤ 4096 }
     requires printer { length session.old.console.printer ≤ 4096 }
     requires room { HasRoom (M.contents memory.old) }
