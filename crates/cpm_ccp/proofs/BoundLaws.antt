@@ -2,7 +2,7 @@
 use Rattle.std.proofs.Common.{◌≡◌, ℕ, ◌+◌, ◌*◌, ◌%◌, ◌<◌, ◌≤◌, Bool, true, false, ◌&&◌, not, List, [], ◌∷◌, ◌++◌, length, take, map, refl, ◌∙◌, arith, Option, Some, None, Result, Ok, Err, inl, inr}
 use Rattle.std.specs.Prelude.{if◌then◌else◌, ◌==◌, nat_lt, slice_range}
 use Rattle.std.proofs.lemmas.List.{length-append, length-take, length-map}
-use Rattle.std.proofs.lemmas.Bool.Decides.{nat_tests}
+use Rattle.std.proofs.lemmas.Bool.{lt-ltb, le-ltb, cases_lt}
 use Rattle.cpm_geom.specs.Disk.{Disk}
 use Rattle.cpm_console.specs.Terminal.{Terminal, said, key_read, expanded, IsWithin}
 use Rattle.cpm_console.specs.Editing.{key_into_line}
@@ -134,7 +134,7 @@ bounded_drive_selected drive s m =
 length-before_file : (column drive : ℕ) → length (before_file column drive) ≤ 5
 length-before_file column drive = by_test (column == 0)
   where
-    by_test : (b : Bool) → length (if b then 13 ∷ 10 ∷ 65 + drive % 16 ∷ 58 ∷ 32 ∷ [] else 32 ∷ 58 ∷ 32 ∷ []) ≤ 5
+    by_test : (b : Bool) → length (if b then 13 ∷ 10 ∷ (65 + drive % 16) ∷ 58 ∷ 32 ∷ [] else 32 ∷ 58 ∷ 32 ∷ []) ≤ 5
     by_test true = omega arith
     by_test false = omega arith
 
@@ -341,17 +341,16 @@ bounded_started s m few =
     record { pages = pages_started tail m (omega arith); limit = limit_started tail m; output = within_same s }
 
 bounded_loaded : (next : ℕ) (bytes : List ℕ) (s : Session) (m : Contents) → length bytes ≤ 128 → IsBounded s m (loaded next bytes s m)
-bounded_loaded next bytes s m few = by_test (nat_lt 58240 next) refl
-  where
-    by_test : (b : Bool) → nat_lt 58240 next ≡ b → IsBounded s m (if b then did (told s message.BadLoad) m Returned else did (at_part s (part.Load (next + 128))) (after_run m next bytes) GoesOn)
-    by_test true e = record { pages = omega arith; limit = refl; output = within_told s message.BadLoad }
-    by_test false e =
-        let low : next ≤ 58240 = omega (arith, nat_tests, e) in
-        record {
-          pages = omega (arith, touched_of-run m next bytes (omega (arith, low)) (omega (arith, few)), pages-le next (length bytes));
-          limit = limit-run m next bytes;
-          output = within_same s;
-        }
+bounded_loaded next bytes s m few =
+    elim (cases_lt 58240 next) [
+      | inl lt ↦ rw (lt-ltb 58240 next lt) (record { pages = omega arith; limit = refl; output = within_told s message.BadLoad })
+      | inr ge ↦
+          rw (le-ltb 58240 next ge) (record {
+            pages = omega (arith, touched_of-run m next bytes (omega arith) (omega (arith, few)), pages-le next (length bytes));
+            limit = limit-run m next bytes;
+            output = within_same s;
+          })
+    ]
 
 bounded_read : (a : Result ℕ Failure) (next : ℕ) (bytes : List ℕ) (s : Session) (m : Contents) → length s.line.characters ≤ 255 → length bytes ≤ 128 → IsBounded s m (loading.after_read a next bytes s m)
 bounded_read (Err which) next bytes s m line few = bounded_faulted s m which (drive_of s)

@@ -6,7 +6,18 @@ use Rattle.std.proofs.lemmas.Bool.{lt-ltb, le-ltb, cases_lt}
 use Rattle.cpm_geom.specs.declared.dpb.Dpb.{Dpb}
 use Rattle.cpm_files.specs.declared.extent.Entry.{Entry}
 use Rattle.cpm_files.specs.Files.{entry_at, no_entry}
+use Rattle.cpm_geom.specs.Disk.{Disk}
+use Rattle.cpm_geom.specs.Geometry.{dpb_of}
+use Rattle.cpm_directory.specs.Directory.{entries_of}
+use Rattle.cpm_directory.proofs.DriveLemmas.{last_entry_small, entries_length}
 use Rattle.cpm_ccp.specs.Listing.{is_listed, listed_from}
+
+-- an index of an entry
+pub index_within : (disk : Disk) (i : ℕ) → i < length (entries_of disk) → i ≤ (dpb_of disk.format).last_entry
+index_within disk i h = omega (arith, h, entries_length disk)
+
+pub index_small : (disk : Disk) (i : ℕ) → i < length (entries_of disk) → i < 65535
+index_small disk i h = omega (arith, h, entries_length disk, last_entry_small disk.format)
 
 pub listed_is : (d : Dpb) (user : ℕ) (pattern : List ℕ) (es : List Entry) (from i : ℕ) → from ≤ i → i < length es → ((k : ℕ) → from ≤ k → k < i → is_listed d user pattern (entry_at es k) ≡ false) → is_listed d user pattern (entry_at es i) ≡ true → listed_from d user pattern es from ≡ i
 unfolding listed_from entry_at

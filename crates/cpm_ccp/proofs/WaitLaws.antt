@@ -23,9 +23,13 @@ use Rattle.cpm_bdos.specs.declared.session.Went.TheVariants.{Waits}
 use Rattle.cpm_ccp.specs.declared.command.Command.{Command as Typed}
 use Rattle.cpm_ccp.specs.declared.command.Command.TheVariants as typed
 use Rattle.cpm_ccp.specs.Command.{command_of}
-use Rattle.cpm_ccp.specs.Parts.{went_of, stepped, finished, is_stopped, line_of, own_record, record_of, with_call}
+use Rattle.cpm_ccp.specs.declared.message.Message.TheVariants as message
+use Rattle.cpm_ccp.specs.Parts.{went_of, stepped, finished, told, is_stopped, held_at_part, line_of, on_file, own_record, record_of, with_call}
+use Rattle.cpm_ccp.specs.Listing.{listed, listed_on}
+use Rattle.cpm_ccp.specs.FileCommands.{erased, asked, erased_all, renamed, save_begun, saved, closed}
+use Rattle.cpm_ccp.specs.Showing.{show_begun, shown_on}
 use Rattle.cpm_ccp.specs.Prompt.{prompted, after_key, take_key, edit_line, drive_selected}
-use Rattle.cpm_ccp.specs.Loading.{loaded, after_read, load_record}
+use Rattle.cpm_ccp.specs.Loading.{unknown, load_begun, loaded, after_read, load_record}
 use Rattle.cpm_ccp.specs.Step.{looks_first, begun_by, begun, in_part, in_mode, ccp}
 use Rattle.cpm_ccp.specs.Laws.{WaitsForKeys}
 
@@ -69,25 +73,25 @@ goes_load_record system next s m =
     goes_after_read c.answer next (record_of c) (with_call s c) m
 
 goes_begun_by : (command : Typed) (system : Disk) (s : Session) (m : Contents) → Goes (begun_by command system s m)
-goes_begun_by typed.Nothing system s m = goes_stepped _ m
+goes_begun_by typed.Nothing system s m = goes_stepped (finished s) m
 goes_begun_by (typed.SelectDrive drive) system s m = goes_drive_selected drive s m
-goes_begun_by (typed.Directory file) system s m = goes_stepped _ m
-goes_begun_by (typed.Erase file) system s m = goes_stepped _ m
-goes_begun_by (typed.EraseAll file) system s m = goes_stepped _ m
-goes_begun_by (typed.Rename old new) system s m = goes_stepped _ m
-goes_begun_by typed.RenameForm system s m = goes_stepped _ m
-goes_begun_by (typed.Save pages file) system s m = goes_stepped _ m
-goes_begun_by typed.SaveForm system s m = goes_stepped _ m
-goes_begun_by (typed.TypeFile file) system s m = goes_stepped _ m
-goes_begun_by typed.TypeForm system s m = goes_stepped _ m
+goes_begun_by (typed.Directory file) system s m = goes_stepped (listed system 0 0 true (on_file s file)) m
+goes_begun_by (typed.Erase file) system s m = goes_stepped (erased system file s) m
+goes_begun_by (typed.EraseAll file) system s m = goes_stepped (asked file s) m
+goes_begun_by (typed.Rename old new) system s m = goes_stepped (renamed system old new s) m
+goes_begun_by typed.RenameForm system s m = goes_stepped (told s message.RenameForm) m
+goes_begun_by (typed.Save pages file) system s m = goes_stepped (save_begun system pages file s) m
+goes_begun_by typed.SaveForm system s m = goes_stepped (told s message.SaveForm) m
+goes_begun_by (typed.TypeFile file) system s m = goes_stepped (show_begun system file s) m
+goes_begun_by typed.TypeForm system s m = goes_stepped (told s message.TypeForm) m
 goes_begun_by (typed.User user) system s m = λ e. cc
-goes_begun_by typed.UserForm system s m = goes_stepped _ m
-goes_begun_by (typed.Program file) system s m = goes_stepped _ m
-goes_begun_by typed.Unknown system s m = goes_stepped _ m
+goes_begun_by typed.UserForm system s m = goes_stepped (told s message.UserForm) m
+goes_begun_by (typed.Program file) system s m = goes_stepped (load_begun system file s) m
+goes_begun_by typed.Unknown system s m = goes_stepped (unknown s) m
 
 goes_begun : (command : Typed) (system : Disk) (s : Session) (m : Contents) → Goes (begun command system s m)
 goes_begun command system s m =
-    goes_if (is_stopped s && looks_first command) _ _ (goes_stepped _ m) (goes_begun_by command system s m)
+    goes_if (is_stopped s && looks_first command) _ _ (goes_stepped (held_at_part s part.Begin) m) (goes_begun_by command system s m)
 
 -- ---- lines
 
@@ -123,13 +127,13 @@ part_goes : (p : CommandPart) (system : Disk) (s : Session) (m : Contents) → (
 part_goes part.Line system s m h =
     line_goes part.Begin s m _ (is_open s.line) (first_key s) (λ e. cc) h
 part_goes part.Begin system s m h = goes_begun (command_of s.disks.current (line_of s)) system s m
-part_goes (part.Directory next column) system s m h = goes_stepped _ m
+part_goes (part.Directory next column) system s m h = goes_stepped (listed_on system next column s) m
 part_goes part.Answer system s m h =
     line_goes part.EraseAll s m _ (is_open s.line) (first_key s) (λ e. cc) h
-part_goes part.EraseAll system s m h = goes_stepped _ m
-part_goes (part.Save next left) system s m h = goes_stepped _ m
-part_goes part.Close system s m h = goes_stepped _ m
-part_goes part.Show system s m h = goes_stepped _ m
+part_goes part.EraseAll system s m h = goes_stepped (erased_all system s) m
+part_goes (part.Save next left) system s m h = goes_stepped (saved system next left (run_at m next 128) s) m
+part_goes part.Close system s m h = goes_stepped (closed system s) m
+part_goes part.Show system s m h = goes_stepped (shown_on system s) m
 part_goes (part.Load next) system s m h = goes_load_record system next s m
 
 -- ---- modes

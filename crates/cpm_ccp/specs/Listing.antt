@@ -34,7 +34,7 @@ listed_from d user pattern es from =
 -- own: four files on a line; in front of the first a fresh line, the drive's letter and a colon, in front of the others a colon
 abbrev pub before_file : ℕ → ℕ → List ℕ
 before_file column drive =
-    if column == 0 then 13 ∷ 10 ∷ 65 + drive % 16 ∷ 58 ∷ 32 ∷ [] else 32 ∷ 58 ∷ 32 ∷ []
+    if column == 0 then 13 ∷ 10 ∷ (65 + drive % 16) ∷ 58 ∷ 32 ∷ [] else 32 ∷ 58 ∷ 32 ∷ []
 
 abbrev pub low_seven : ℕ → ℕ
 low_seven c = c % 128

@@ -34,7 +34,7 @@ chosen disks system byte =
 
 -- a fresh line, the drive's letter and >; own: the buffer is again at 0080h
 abbrev pub prompt_text : ℕ → List ℕ
-prompt_text drive = 65 + drive ∷ 62 ∷ []
+prompt_text drive = (65 + drive) ∷ 62 ∷ []
 
 unfoldable pub prompted : Disk → ℕ → Session → Session
 prompted system byte s =

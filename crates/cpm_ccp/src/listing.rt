@@ -1,6 +1,6 @@
 //! DIR: the files of a drive, one a step.
 
-ghost use Rattle.std.specs.Prelude.{◌≡◌, ◌<◌, ◌≤◌, MatchOption, length, map};
+ghost use Rattle.std.specs.Prelude.{◌≡◌, ◌+◌, ◌<◌, ◌≤◌, MatchOption, length, map};
 ghost use Rattle.cpm_geom.specs.Geometry.{dpb_of};
 ghost use Rattle.cpm_console.specs.Terminal.{said};
 ghost use Rattle.cpm_directory.specs.Directory.{entries_of};
