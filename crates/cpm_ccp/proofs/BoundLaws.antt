@@ -325,7 +325,7 @@ pages_started tail m few =
     let d = touched_of-run three 60414 (6 ∷ 228 ∷ []) (omega arith) (omega arith) in
     omega (arith, a, b, c, d, pages-le 92 (length (default_files tail)), pages-le 128 1, pages-le 129 (length (tail ++ (0 ∷ []))), pages-le 60414 2)
 
-limit_started : (tail : List ℕ) (m : Contents) → (memory_started tail m).limit ≡ m.limit
+pub limit_started : (tail : List ℕ) (m : Contents) → (memory_started tail m).limit ≡ m.limit
 unfolding memory_started
 limit_started tail m =
     let one = after_run m 92 (default_files tail) in

@@ -6,3 +6,4 @@ pub mod ListingLemmas
 pub mod WaitLaws
 pub mod BehindLaws
 pub mod BoundLaws
+pub mod LimitLaws

@@ -1,4 +1,4 @@
--- When a step of the command processor waits for a key.
+-- When a step of the command processor waits for a key, and what it keeps.
 use Rattle.std.specs.Prelude.{◌≡◌, true, false}
 use Rattle.cpm_geom.specs.Disk.{Disk}
 use Rattle.cpm_memory.specs.Contents.{Contents}
@@ -17,3 +17,7 @@ pub record WaitsForKeys (system : Disk) (s : Session) (m : Contents) : Type 0 wh
 
 abbrev pub WaitingLaw : Type 0
 WaitingLaw = (system : Disk) (s : Session) (m : Contents) → WaitsForKeys system s m
+
+-- how many pages may be written stays
+abbrev pub LimitLaw : Type 0
+LimitLaw = (system : Disk) (s : Session) (m : Contents) → (ccp system s m).memory.limit ≡ m.limit
