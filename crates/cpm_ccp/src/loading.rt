@@ -1,7 +1,8 @@
 //! The loader of programs.
 
-ghost use Rattle.std.specs.Prelude.{◌≡◌, ◌≤◌, ℕ, List, length};
-ghost use Rattle.cpm_memory.specs.Room.{HasRoom};
+ghost use Rattle.std.specs.Prelude.{◌≡◌, ◌+◌, ◌≤◌, ℕ, List, [], ◌∷◌, ◌++◌, length};
+ghost use Rattle.cpm_memory.specs.Contents.{after_run};
+ghost use Rattle.cpm_memory.specs.Room.{HasRoom, HasRoomFor};
 ghost use Rattle.cpm_bdos.specs.Did.{did};
 ghost use Rattle.cpm_bdos.specs.Bounds.{IsBounded};
 ghost use Rattle.cpm_bdos.specs.Behind.{session_behind, did_behind};
@@ -29,6 +30,7 @@ const DEFAULT_FILES: u16 = 0x005C;
 const RETURN: u16 = 0xEBFE;
 
 /// Ends a command whose first word is none.
+#[tactic(auto, using(crate::proofs::Texts::texts))]
 pub(crate) fn refuse_word(session: &mut Session)
     requires screen { length session.old.console.screen ≤ 4096 }
     requires printer { length session.old.console.printer ≤ 4096 }
@@ -78,6 +80,20 @@ fn default_files(tail: &[u8]) -> [u8; 33]
     bytes
 }
 
+/// Puts the tail of a line into the buffer, its length in front and a 0 behind it.
+fn fill_buffer<M: Memory>(memory: &mut M, tail: &[u8])
+    requires short { length tail.now ≤ 255 }
+    requires room { HasRoomFor 5 (M.contents memory.old) }
+    ensures contents { M.contents memory.new ≡ after_run (after_run (M.contents memory.old) 128 (length tail.now ∷ [])) 129 (tail.now ++ (0 ∷ [])) }
+    ensures room { (n : ℕ) → HasRoomFor (n + 5) (M.contents memory.old) → HasRoomFor n (M.contents memory.new) }
+    ensures surroundings { M.surroundings memory.new ≡ M.surroundings memory.old }
+    ensures leads { M.Leads memory.old memory.new }
+{
+    change_run(memory, BUFFER, &[tail.len() as u8]);
+    change_run(memory, BUFFER + 1, tail);
+    change_run(memory, BUFFER + 1 + tail.len() as u16, &[0]);
+}
+
 /// Puts the tail of a line, and what a program finds of it, into memory.
 #[tactic(auto, unfolding(crate::specs::Loading::memory_started))]
 fn put_tail<M: Memory>(memory: &mut M, tail: &[u8])
@@ -87,11 +103,8 @@ fn put_tail<M: Memory>(memory: &mut M, tail: &[u8])
     ensures surroundings { M.surroundings memory.new ≡ M.surroundings memory.old }
     ensures leads { M.Leads memory.old memory.new }
 {
-    let mut bytes = [0; 256];
-    bytes[..tail.len()].copy_from_slice(tail);
     change_run(memory, DEFAULT_FILES, &default_files(tail));
-    change_run(memory, BUFFER, &[tail.len() as u8]);
-    change_run(memory, BUFFER + 1, &bytes[..tail.len() + 1]);
+    fill_buffer(memory, tail);
     change_run(memory, RETURN, &[0x06, 0xE4]);
 }
 
@@ -116,7 +129,7 @@ fn load_at<M: Memory>(session: &mut Session, memory: &mut M, next: u16, record: 
     requires screen { length session.old.console.screen ≤ 4096 }
     requires printer { length session.old.console.printer ≤ 4096 }
     requires room { HasRoom (M.contents memory.old) }
-    ensures step { did session.new (M.contents memory.new) result ≡ loaded next record.now session.old (M.contents memory.old) }
+    ensures step { did session.new (M.contents memory.new) result ≡ loaded next «record».now session.old (M.contents memory.old) }
     ensures surroundings { M.surroundings memory.new ≡ M.surroundings memory.old }
     ensures leads { M.Leads memory.old memory.new }
 {

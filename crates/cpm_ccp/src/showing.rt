@@ -1,7 +1,7 @@
 //! TYPE: the records of a file, one a step.
 
-ghost use Rattle.std.specs.Prelude.{◌≡◌, ◌+◌, ◌*◌, ◌≤◌, length};
-ghost use Rattle.std.specs.List.{before_first};
+ghost use Rattle.std.specs.Prelude.{◌≡◌, ◌≤◌, length, position};
+ghost use Rattle.std.specs.List.{position_or_len};
 ghost use Rattle.cpm_ccp.specs.Showing.{show_begun, is_end, text_of, ends_in, wrote_all, record_shown, next_shown, shows_record, shown_on};
 ghost use Rattle.cpm_disks.specs.Files.{next_ahead};
 
@@ -35,18 +35,28 @@ pub(crate) fn begin_show(session: &mut Session, system: &Image, file: &Fcb)
 
 /// The characters of a record up to the end of the text.
 fn text_of(record: &[u8]) -> &[u8]
-    ensures value { result.now ≡ text_of record.now }
-    ensures short { length result.now ≤ length record.now }
+    ensures value { result.now ≡ text_of «record».now }
+    ensures short { length result.now ≤ length «record».now }
 {
-    match record.iter().position(|c| *c == END_OF_TEXT) {
-        Some(end) => &record[..end],
-        None => record,
-    }
+    &record[..text_length(record)]
+}
+
+fn text_length(record: &[u8]) -> usize
+    ensures count { result ≡ position_or_len is_end «record».now }
+    ensures within { result ≤ length «record».now }
+{
+    first_end(record).unwrap_or(record.len())
+}
+
+fn first_end(record: &[u8]) -> Option<usize>
+    ensures { result ≡ position is_end «record».now }
+{
+    record.iter().position(|c| *c == END_OF_TEXT)
 }
 
 /// Whether the text ends in a record.
 fn ends_in(record: &[u8]) -> bool
-    ensures { result ≡ ends_in record.now }
+    ensures { result ≡ ends_in «record».now }
 {
     record.iter().any(|c| *c == END_OF_TEXT)
 }
@@ -67,7 +77,7 @@ fn write_all(console: &mut Console, text: &[u8])
 fn show_record(session: &mut Session, record: &[u8; 128])
     requires screen { length session.old.console.screen ≤ 4096 }
     requires printer { length session.old.console.printer ≤ 4096 }
-    ensures { session.new ≡ record_shown record.now session.old }
+    ensures { session.new ≡ record_shown «record».now session.old }
 {
     write_all(&mut session.console, text_of(record));
     if ends_in(record) {
