@@ -79,7 +79,7 @@ within_listed s byte = record { screen = omega arith; printer = omega (arith, le
 
 -- ---- warm boots, from a memory with one page more
 
-bounded_rebooted : (s t : Session) (m n : Contents) → touched_of n ≤ touched_of m + 1 → n.limit ≡ m.limit → IsWithin 4096 s.console t.console → IsBounded s m (rebooted t n)
+pub bounded_rebooted : (s t : Session) (m n : Contents) → touched_of n ≤ touched_of m + 1 → n.limit ≡ m.limit → IsWithin 4096 s.console t.console → IsBounded s m (rebooted t n)
 bounded_rebooted s t m n more same output =
     let first : touched_of (after_run n 0 (195 ∷ 3 ∷ 250 ∷ [])) ≤ touched_of n + 1 = touched_of-run n 0 (195 ∷ 3 ∷ 250 ∷ []) (omega arith) (omega arith) in
     let second : touched_of (after_run (after_run n 0 (195 ∷ 3 ∷ 250 ∷ [])) 5 (195 ∷ 6 ∷ 236 ∷ [])) ≤ touched_of (after_run n 0 (195 ∷ 3 ∷ 250 ∷ [])) + 1 = touched_of-run (after_run n 0 (195 ∷ 3 ∷ 250 ∷ [])) 5 (195 ∷ 6 ∷ 236 ∷ []) (omega arith) (omega arith) in

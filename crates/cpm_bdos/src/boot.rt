@@ -27,8 +27,9 @@ impl Session {
         self.return_from_call(memory)
     }
 
-    /// Boots the session anew.
-    pub(crate) fn reboot<M: Memory>(&mut self, memory: &mut M) -> Went
+    /// Boots the session anew, for which two pages may be written: the jumps at 0000h and 0005h are restored, and the
+    /// command processor comes next.
+    pub fn reboot<M: Memory>(&mut self, memory: &mut M) -> Went
         requires { HasRoomFor 2 (M.contents memory.old) }
         ensures step { did self.new (M.contents memory.new) result ≡ rebooted self.old (M.contents memory.old) }
         ensures surroundings { M.surroundings memory.new ≡ M.surroundings memory.old }

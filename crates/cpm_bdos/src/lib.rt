@@ -19,5 +19,7 @@ mod transfer;
 mod wait;
 
 pub use function::{BiosCall, Function};
+pub use line::is_open;
 pub use session::{CommandPart, Held, Mode, SectorPlace, Session, Went};
+pub use transfer::get_record;
 pub use wait::waits;

@@ -85,7 +85,7 @@ impl Session {
 }
 
 /// Whether a line may have a character more.
-pub(crate) fn is_open(line: &Line) -> bool
+pub fn is_open(line: &Line) -> bool
     ensures { result ≡ is_open line.now }
 {
     line.characters().len() < usize::from(line.limit())

@@ -60,14 +60,14 @@ impl Session {
     }
 
     /// Whether ^S is the first key.
-    fn is_stopped(&self) -> bool
+    pub fn is_stopped(&self) -> bool
         ensures { result ≡ is_stop (first_key self.now) }
     {
         self.console.first_key() == Some(STOP)
     }
 
     /// Takes ^S, and holds the output until another key.
-    fn hold(&mut self, held: Held) -> Went
+    pub fn hold(&mut self, held: Held) -> Went
         ensures session { self.new ≡ stopped self.old held }
         ensures went { result ≡ Went.GoesOn }
     {

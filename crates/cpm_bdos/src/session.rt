@@ -42,8 +42,8 @@ pub enum CommandPart {
     Line,
     /// The first part of the command on the line.
     Begin,
-    /// The files of a directory, from an entry on; so many were shown.
-    Directory { next: u16, shown: u16 },
+    /// The files of a directory, from an entry on; so many are shown on the last line, of four.
+    Directory { next: u16, column: u8 },
     /// A key of the answer whether all files are to be erased.
     Answer,
     /// The files are erased, if the answer is yes.

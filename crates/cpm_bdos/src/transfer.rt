@@ -8,7 +8,7 @@ ghost use Rattle.cpm_bdos.specs.Disks.{record_size, fcb_size, record_stored, cha
 use cpm_memory::{Memory, change_run, get_run};
 
 /// The record at an address.
-pub(crate) fn get_record<M: Memory>(memory: &M, address: u16) -> [u8; 128]
+pub fn get_record<M: Memory>(memory: &M, address: u16) -> [u8; 128]
     ensures { result ≡ run_at (M.contents memory.now) address record_size }
 {
     let mut record = [0; 128];

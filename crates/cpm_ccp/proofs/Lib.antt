@@ -1,3 +1,11 @@
 pub mod TextLemmas
 pub mod CountLemmas
 pub mod OperandLemmas
+pub mod Texts
+pub mod ShowingTexts
+pub mod LoadingTexts
+pub mod ListingLemmas
+pub mod WaitLaws
+pub mod BehindLaws
+pub mod BoundLaws
+pub mod LimitLaws

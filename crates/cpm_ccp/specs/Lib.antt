@@ -3,3 +3,11 @@ pub mod Words
 pub mod Names
 pub mod Command
 pub mod Message
+pub mod Parts
+pub mod Prompt
+pub mod Listing
+pub mod FileCommands
+pub mod Showing
+pub mod Loading
+pub mod Step
+pub mod Laws

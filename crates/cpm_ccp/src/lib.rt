@@ -1,21 +1,28 @@
-//! The command processor: what it makes of the lines that are typed.
+//! The command processor: what it makes of the lines that are typed, and its steps in a session.
 #![tactic(auto)]
 
 mod built_in;
 mod capitals;
 mod command;
+mod files;
+pub mod laws;
+mod listing;
+mod loading;
 mod message;
 mod names;
 mod number;
 mod operands;
 mod parse;
+mod parts;
+mod prompt;
+mod showing;
+mod step;
 mod words;
 
-pub use capitals::{capital, in_capitals};
 pub use command::Command;
-pub use message::Message;
+pub use loading::load_step;
 pub use parse::parse_command;
-pub use words::{default_fcbs, first_word, tail};
+pub use step::ccp_step;
 
 #[cfg(test)]
 mod tests;

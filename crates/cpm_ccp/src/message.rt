@@ -1,11 +1,11 @@
 //! What the command processor says.
 
-ghost use Rattle.std.specs.Prelude.{◌≡◌};
+ghost use Rattle.std.specs.Prelude.{◌≡◌, ◌≤◌, length};
 ghost use Rattle.cpm_ccp.specs.Message.{message_text};
 
 /// A message, which is shown on a fresh line.
 #[derive(Clone, Copy, PartialEq, Eq, Debug)]
-pub enum Message {
+pub(crate) enum Message {
     /// No file has the name.
     NoFile,
     /// The new name is that of a file.
@@ -24,8 +24,9 @@ pub enum Message {
 
 impl Message {
     /// Its text.
-    pub fn text(self) -> &'static [u8]
-        ensures { result.now ≡ message_text self }
+    pub(crate) fn text(self) -> &'static [u8]
+        ensures value { result.now ≡ message_text self }
+        ensures short { length result.now ≤ 16 }
     {
         match self {
             Message::NoFile => b"NO FILE",

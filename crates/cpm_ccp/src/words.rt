@@ -8,7 +8,7 @@ ghost use Rattle.cpm_ccp.specs.Words.{first_word, is_space, is_drive_alone, tail
 use cpm_directory::{Fcb, parse_fcb};
 
 /// The first word of a line: spaces in front are skipped, and a space ends it.
-pub fn first_word(line: &[u8]) -> &[u8]
+pub(crate) fn first_word(line: &[u8]) -> &[u8]
     ensures word { result.now ≡ first_word line.now }
     ensures length { length result.now ≤ length line.now }
 {
@@ -16,7 +16,7 @@ pub fn first_word(line: &[u8]) -> &[u8]
 }
 
 /// The tail of a line: all that stands behind its first word, its spaces too.
-pub fn tail(line: &[u8]) -> &[u8]
+pub(crate) fn tail(line: &[u8]) -> &[u8]
     ensures tail { result.now ≡ tail_of line.now }
     ensures length { length result.now ≤ length line.now }
 {
@@ -25,7 +25,7 @@ pub fn tail(line: &[u8]) -> &[u8]
 
 /// The file control blocks that a program finds at 005Ch and 006Ch: the first two names of its tail, of which the
 /// second begins where the first ends.
-pub fn default_fcbs(tail: &[u8]) -> (Fcb, Fcb)
+pub(crate) fn default_fcbs(tail: &[u8]) -> (Fcb, Fcb)
     ensures first { result.0 ≡ fcb_named tail.now }
     ensures second { result.1 ≡ fcb_named (rest_of tail.now) }
 {

@@ -9,6 +9,7 @@ use Rattle.cpm_drive.specs.Reads.{lent_drive}
 use Rattle.cpm_disks.specs.declared.disks.Disks.{Disks}
 use Rattle.cpm_disks.specs.Disks.{own_drive, system_drive, drive_at, with_drive}
 use Rattle.cpm_disks.specs.Selecting.{ready, used, protect}
+use Rattle.cpm_disks.specs.Files.{marked_drive}
 
 true_false : true ≡ false → ⊥
 true_false h = cc
@@ -190,3 +191,12 @@ ready_image_by d false h = rw h refl
 
 pub ready_image : (d : Drive) → (ready d).image ≡ d.image
 ready_image d = ready_image_by d d.marks.is_logged_in refl
+
+-- a drive with the marks that it has now
+pub marked-own : (disks : Disks) (system : Disk) (n : ℕ) (d : Drive) → own_drive disks n ≡ Some d → marked_drive disks system n ≡ d
+unfolding marked_drive
+marked-own disks system n d e = rw e refl
+
+pub marked-system : (disks : Disks) (system : Disk) (n : ℕ) → own_drive disks n ≡ None → marked_drive disks system n ≡ lent_drive system disks.system
+unfolding marked_drive
+marked-system disks system n e = rw e refl

@@ -1,10 +1,12 @@
 -- The calls on files. Each is a call of its drive's.
 -- CP/M 2.2 Operating System Manual, Operating System Call Conventions, functions 15, 16, 19 to 23, 30, 33 to 36 and 40; own: what the manual leaves open.
-use Rattle.std.specs.Prelude.{ℕ, ◌+◌, ◌*◌, ◌/◌, ◌%◌, ◌==◌, List, [], ◌∷◌, Option, Ok, Err, if◌then◌else◌, slice_index, unwrap_or, is_some}
+use Rattle.std.specs.Prelude.{ℕ, ◌+◌, ◌*◌, ◌/◌, ◌%◌, ◌==◌, List, [], ◌∷◌, Option, Result, Ok, Err, if◌then◌else◌, slice_index, unwrap_or, is_some}
 use Rattle.cpm_geom.specs.Disk.{Disk}
 use Rattle.cpm_geom.specs.Geometry.{dpb_of}
 use Rattle.cpm_files.specs.declared.fcb.Fcb.{Fcb}
-use Rattle.cpm_files.specs.declared.answer.Fault.TheVariants.{FileReadOnly}
+use Rattle.cpm_files.specs.declared.answer.Fault.TheVariants.{FileReadOnly, Select}
+use Rattle.cpm_files.specs.declared.answer.Answer.{Answer}
+use Rattle.cpm_files.specs.declared.answer.Answer.TheVariants as answer
 use Rattle.cpm_files.specs.Files.{extent_number, first_free}
 use Rattle.cpm_files.specs.Operations.{close_function, open_function, make_function, read_next, read_at, write_next, write_at, write_at_cleared}
 use Rattle.cpm_files.specs.Names.{Named, none_named, file_read_only, named, erase_function, rename_function, attributes_function, file_size}
@@ -12,8 +14,10 @@ use Rattle.cpm_directory.specs.Directory.{entries_of}
 use Rattle.cpm_drive.specs.declared.drive.Drive.{Drive}
 use Rattle.cpm_drive.specs.Drive.{volume_of, drive_after, Called, after_call}
 use Rattle.cpm_drive.specs.Calls.{ClosedFile, after_close, after_open, open_index, MadeFile, after_make}
+use Rattle.cpm_drive.specs.Reads.{ahead, lent_drive}
 use Rattle.cpm_disks.specs.declared.disks.Disks.{Disks}
-use Rattle.cpm_disks.specs.Calls.{code_of_answer, code_or_none, code_or_fault, OnDrive, on_drive, unless_protected, unless_read_only, FileCall, on_named_drive}
+use Rattle.cpm_disks.specs.Disks.{is_there, own_drive, drive_or}
+use Rattle.cpm_disks.specs.Calls.{code_of_answer, code_or_none, code_or_fault, OnDrive, on_drive, unless_protected, unless_read_only, FileCall, drive_named, on_named_drive}
 
 -- ---- on a drive
 
@@ -116,6 +120,16 @@ position_on fcb buffer drive =
     on_drive (Ok 0) drive (with_random fcb (128 * extent_number fcb.extent + fcb.current_record)) buffer
 
 -- ---- in a session
+
+-- a drive with the marks that it has now
+unfoldable pub marked_drive : Disks → Disk → ℕ → Drive
+marked_drive disks system n = drive_or (lent_drive system disks.system) (own_drive disks n)
+
+-- what READ SEQUENTIAL would give now, on a drive that was used before; one that is not there gives its fault
+unfoldable pub next_ahead : Disks → Disk → Fcb → Result (List ℕ) Answer
+next_ahead disks system fcb =
+    let n = drive_named disks fcb.drive in
+    if is_there disks n then ahead (marked_drive disks system n) disks.user fcb else Err (answer.Fault Select)
 
 unfoldable pub open_file : Disks → Disk → Fcb → List ℕ → FileCall
 open_file disks system fcb buffer = on_named_drive (open_on disks.user fcb buffer) disks system fcb buffer

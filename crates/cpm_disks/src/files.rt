@@ -1,15 +1,16 @@
 //! The calls on files over a file control block: the drive that it names is selected and logged in, protection is judged,
 //! and the drive does the rest. Each answers its code, or the fault of the drive that the file control block names.
 
-ghost use Rattle.std.specs.Prelude.{◌≡◌, ℕ, List};
+ghost use Rattle.std.specs.Prelude.{◌≡◌, ℕ, List, MatchResult, Ok, Err};
+ghost use Rattle.cpm_drive.specs.Reads.{ahead};
 ghost use Rattle.cpm_disks.specs.Calls.{file_call};
-ghost use Rattle.cpm_disks.specs.Files.{open_file, close_file, make_file, erase_files, rename_files, set_attributes, read_next_record, write_next_record, read_random, write_random, write_random_cleared, compute_size, set_random_record};
+ghost use Rattle.cpm_disks.specs.Files.{marked_drive, next_ahead, open_file, close_file, make_file, erase_files, rename_files, set_attributes, read_next_record, write_next_record, read_random, write_random, write_random_cleared, compute_size, set_random_record};
 
 use crate::codes::{NONE, code_or_none, put_random};
 use crate::disks::Disks;
 use crate::{lent, own};
-use cpm_drive::{file_size, open_lent};
-use cpm_files::{Fault, Fcb};
+use cpm_drive::{file_size, open_lent, peek_next};
+use cpm_files::{Answer, Fault, Fcb};
 use cpm_geom::Image;
 
 impl Disks {
@@ -115,6 +116,36 @@ impl Disks {
             unreachable!()
         };
         own::read_next(drive, self.user, fcb, buffer)
+    }
+
+    /// The record that READ SEQUENTIAL would give now, as it lies on its drive, or the answer without one. Nothing
+    /// changes.
+    #[tactic(auto, unfolding(crate::specs::Files::next_ahead))]
+    pub fn peek_next<'a>(&'a self, system: &'a Image, fcb: &Fcb) -> Result<&'a [u8], Answer>
+        ensures { MatchResult result
+            (λ bytes. Ok bytes.now ≡ next_ahead self.now system.now fcb.now)
+            (λ answer. Err answer ≡ next_ahead self.now system.now fcb.now) }
+    {
+        let number = self.drive_named(fcb.drive);
+        if !self.is_there(number) {
+            return Err(Answer::Fault(Fault::Select));
+        }
+        self.peek_on(system, number, fcb)
+    }
+
+    /// The same on a drive that is there.
+    fn peek_on<'a>(&'a self, system: &'a Image, drive: u8, fcb: &Fcb) -> Result<&'a [u8], Answer>
+        ensures { MatchResult result
+            (λ bytes. Ok bytes.now ≡ ahead (marked_drive self.now system.now drive) self.now.user fcb.now)
+            (λ answer. Err answer ≡ ahead (marked_drive self.now system.now drive) self.now.user fcb.now) }
+    {
+        if !self.is_own(drive) {
+            return peek_next(system, &self.system, self.user, fcb);
+        }
+        let Some(own) = &self.drives[usize::from(drive)] else {
+            unreachable!()
+        };
+        peek_next(&own.image, &own.marks, self.user, fcb)
     }
 
     /// WRITE SEQUENTIAL: 0, 1 where no extent can be had, or 2 where no block is free.

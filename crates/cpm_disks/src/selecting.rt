@@ -31,7 +31,7 @@ impl Disks {
     }
 
     /// The image of a drive that is there.
-    pub(crate) fn image_at<'a>(&'a self, system: &'a Image, drive: u8) -> &'a Image
+    pub fn image_at<'a>(&'a self, system: &'a Image, drive: u8) -> &'a Image
         ensures { result.now ≡ (drive_at self.now system.now drive).image }
     {
         if !self.is_own(drive) {

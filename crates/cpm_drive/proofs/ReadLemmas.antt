@@ -21,7 +21,7 @@ use Rattle.cpm_drive.specs.declared.drive.Drive.{Drive}
 use Rattle.cpm_drive.specs.declared.change.Change.{Change}
 use Rattle.cpm_drive.specs.declared.place.Arrival.{Arrival}
 use Rattle.cpm_drive.specs.Judged.{with_change, place_by, place_of_arrival}
-use Rattle.cpm_drive.specs.Reads.{RecordRead, record_found, answer_of, read_of, after_record, drive_read, after_reading, GivesRecord}
+use Rattle.cpm_drive.specs.Reads.{RecordRead, record_found, answer_of, read_of, after_record, record_ahead, ahead, drive_read, after_reading, GivesRecord}
 
 -- where a record of a block lies
 pub in_block_small : (f : Format) (b current : ℕ) → b ≤ (dpb_of f).last_block → b * ((dpb_of f).block_mask + 1) + current % ((dpb_of f).block_mask + 1) < 65536
@@ -181,3 +181,11 @@ mask_small Ibm3740 = omega arith
 pub place_small : (f : Format) (n current : ℕ) → current < 128 → (n % ((dpb_of f).extent_mask + 1)) * (128 / ((dpb_of f).block_mask + 1)) + current / ((dpb_of f).block_mask + 1) < 16
 unfolding dpb_of
 place_small Ibm3740 n current h = omega arith
+
+-- what a read comes to is what it would give
+pub peeked : (drive : Drive) (user : ℕ) (fcb new : Fcb) (found : Result ℕ Answer) → record_found found new ≡ after_record fcb (read_next (dpb_of drive.image.format) drive.marks.is_protected (volume_of drive.image drive.marks.reserved) user fcb.extent fcb.current_record) → record_ahead drive.image (answer_of found) (read_of found) ≡ ahead drive user fcb
+unfolding ahead after_record
+peeked drive user fcb new found h =
+    let answers = ap (λ (r : RecordRead). r.answer) h in
+    let reads = ap (λ (r : RecordRead). r.read) h in
+    rw (answers, reads) refl

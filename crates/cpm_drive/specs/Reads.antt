@@ -1,12 +1,12 @@
 -- What a read gives, and what it comes to before anything is written.
-use Rattle.std.specs.Prelude.{◌≡◌, ◌≢◌, ◌≤◌, ℕ, List, Option, Some, None, Result, Ok, Err}
+use Rattle.std.specs.Prelude.{◌≡◌, ◌≢◌, ◌≤◌, ℕ, List, [], Option, Some, None, Result, Ok, Err, slice_index_or}
 use Rattle.cpm_geom.specs.Geometry.{dpb_of}
 use Rattle.cpm_geom.specs.Disk.{Disk, records_of}
 use Rattle.cpm_files.specs.declared.fcb.Fcb.{Fcb}
 use Rattle.cpm_files.specs.declared.answer.Answer.{Answer}
 use Rattle.cpm_files.specs.declared.answer.Answer.TheVariants.{Done as done}
 use Rattle.cpm_files.specs.Files.{deleted, IsSound, open_file}
-use Rattle.cpm_files.specs.Operations.{Outcome}
+use Rattle.cpm_files.specs.Operations.{Outcome, read_next}
 use Rattle.cpm_directory.specs.Directory.{entries_of}
 use Rattle.cpm_drive.specs.declared.drive.Drive.{Drive}
 use Rattle.cpm_drive.specs.declared.drive.Marks.{Marks}
@@ -40,6 +40,16 @@ read_of (Err answer) = None
 
 abbrev pub record_found : Result ℕ Answer → Fcb → RecordRead
 record_found found fcb = record { answer = answer_of found; fcb = fcb; read = read_of found }
+
+-- what a sequential read would give now: the record as it lies on the disk, or the answer without one
+abbrev pub record_ahead : Disk → Answer → Option ℕ → Result (List ℕ) Answer
+record_ahead disk answer None = Err answer
+record_ahead disk answer (Some n) = Ok (slice_index_or (records_of disk) n [])
+
+unfoldable pub ahead : Drive → ℕ → Fcb → Result (List ℕ) Answer
+ahead drive user fcb =
+    let o = read_next (dpb_of drive.image.format) drive.marks.is_protected (volume_of drive.image drive.marks.reserved) user fcb.extent fcb.current_record in
+    record_ahead drive.image o.answer o.read
 
 -- a drive of an image and marks that are lent
 abbrev pub lent_drive : Disk → Marks → Drive

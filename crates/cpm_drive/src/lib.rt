@@ -16,7 +16,7 @@ pub use change::Change;
 pub use closing::{Closing, close_lent};
 pub use drive::{Drive, Marks, directory_code};
 pub use opening::open_lent;
-pub use reading::{read_at_protected, read_next_protected};
+pub use reading::{peek_next, read_at_protected, read_next_protected};
 pub use searching::{file_size, search};
 
 #[cfg(test)]

@@ -1,13 +1,13 @@
 //! READ SEQUENTIAL and READ RANDOM: a record of a file comes into the buffer.
 
-ghost use Rattle.std.specs.Prelude.{◌≡◌, ◌+◌, ◌<◌, ◌≤◌, ℕ, IfOk, List, true};
+ghost use Rattle.std.specs.Prelude.{◌≡◌, ◌+◌, ◌<◌, ◌≤◌, ℕ, IfOk, List, MatchResult, Ok, Err, true};
 ghost use Rattle.cpm_geom.specs.Geometry.{dpb_of, IsRecord};
 ghost use Rattle.cpm_files.specs.Files.{Volume};
 ghost use Rattle.cpm_files.specs.Laws.{position};
 ghost use Rattle.cpm_files.specs.Operations.{get_record, read_in, read_next, read_at, record_in_block};
 ghost use Rattle.cpm_drive.specs.Drive.{MarksEachBlock, volume_of, called, after_call, buffer_after};
 ghost use Rattle.cpm_drive.specs.Judged.{IsWithin, place_of_arrival};
-ghost use Rattle.cpm_drive.specs.Reads.{record_found, answer_of, read_of, after_record, after_reading, lent_drive, GivesRecord};
+ghost use Rattle.cpm_drive.specs.Reads.{record_found, ahead, answer_of, read_of, after_record, after_reading, lent_drive, GivesRecord};
 
 use crate::change::Change;
 use crate::drive::{Drive, Marks};
@@ -90,6 +90,7 @@ fn take_record(image: &Image, found: Result<u16, Answer>, buffer: &mut [u8; 128]
 /// What READ SEQUENTIAL comes to. Nothing is written.
 fn judge_read_next(image: &Image, marks: &Marks, user: u8, fcb: &mut Fcb) -> Reading
     ensures value { (buffer : List ℕ) → after_reading (lent_drive image.now marks.now) result fcb.new buffer ≡ after_call (lent_drive image.now marks.now) fcb.old buffer (read_next (dpb_of image.now.format) marks.now.is_protected (volume_of image.now marks.now.reserved) user fcb.old.extent fcb.old.current_record) }
+    ensures record { record_found result.found fcb.new ≡ after_record fcb.old (read_next (dpb_of image.now.format) marks.now.is_protected (volume_of image.now marks.now.reserved) user fcb.old.extent fcb.old.current_record) }
     ensures within { IsWithin (dpb_of image.now.format) result.closed }
     ensures there { IfOk result.found (λ number. IsRecord image.now.format number) }
 {
@@ -120,6 +121,24 @@ fn judge_read_at(image: &Image, marks: &Marks, user: u8, number: u16, fcb: &mut 
     Reading {
         found,
         closed: arrival.closed,
+    }
+}
+
+/// The record that READ SEQUENTIAL would give now, as it lies on the disk, or its answer without one. Nothing changes.
+pub fn peek_next<'a>(
+    image: &'a Image,
+    marks: &Marks,
+    user: u8,
+    fcb: &Fcb,
+) -> Result<&'a [u8], Answer>
+    ensures { MatchResult result
+        (λ bytes. Ok bytes.now ≡ ahead (lent_drive image.now marks.now) user fcb.now)
+        (λ answer. Err answer ≡ ahead (lent_drive image.now marks.now) user fcb.now) }
+{
+    let mut fcb = *fcb;
+    match judge_read_next(image, marks, user, &mut fcb).found {
+        Ok(number) => Ok(image.record(number).unwrap()),
+        Err(answer) => Err(answer),
     }
 }
 

@@ -13,3 +13,9 @@ returns-clause-value c = λ buffer.
     let none : arrival.result.made ≡ None = arrival.ensures.made refl in
     let value = rw c.format.ensures.format at c.find_arrived-found.ensures.value (volume_of c.args.image.now c.args.marks.now.reserved) in
     rw (← arrival.ensures.place) (reading_is (dpb_of c.args.image.now.format) (lent_drive c.args.image.now c.args.marks.now) c.args.fcb.now _ arrival.result 1 c.find_arrived-found.result buffer none value)
+
+pub returns-clause-record : goal.returns-clause-record
+unfolding read_next
+returns-clause-record c =
+    let value = rw c.format.ensures.format at c.find_arrived-found.ensures.value (volume_of c.args.image.now c.args.marks.now.reserved) in
+    rw (← c.next_place-arrival.ensures.place) value

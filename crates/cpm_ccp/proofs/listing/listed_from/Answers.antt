@@ -1,0 +1,37 @@
+use Rattle.std.proofs.Common.{◌≡◌, ◌<◌, length, true, refl, sym, ap, arith}
+use Rattle.cpm_geom.specs.Geometry.{dpb_of}
+use Rattle.cpm_geom.specs.declared.dpb.Dpb.{Dpb}
+use Rattle.cpm_files.specs.Files.{entry_at}
+use Rattle.cpm_directory.specs.Directory.{entries_of}
+use Rattle.cpm_directory.proofs.DriveLemmas.{last_entry_small, entries_length}
+use Rattle.cpm_ccp.specs.Listing.{is_listed}
+use Rattle.cpm_ccp.proofs.ListingLemmas.{listed_is, none_listed}
+use Rattle.cpm_ccp.proofs.listing.listed_from.Goals as goal
+
+pub overflow_add-index-end : goal.overflow_add-index-end
+overflow_add-index-end c =
+    let d : c.dpb-dpb.result ≡ dpb_of c.args.image.now.format = cc in
+    let last = ap (λ (p : Dpb). p.last_entry) d in
+    omega (arith, last_entry_small c.args.image.now.format)
+
+pub entry-requires : goal.entry-requires
+entry-requires c =
+    let d : c.dpb-dpb.result ≡ dpb_of c.args.image.now.format = cc in
+    let last = ap (λ (p : Dpb). p.last_entry) d in
+    omega arith
+
+pub returns-then-is_listed : goal.returns-then-is_listed
+returns-then-is_listed c =
+    let d : c.dpb-dpb.result ≡ dpb_of c.args.image.now.format = cc in
+    let last = ap (λ (p : Dpb). p.last_entry) d in
+    let size = entries_length c.args.image.now in
+    let below : c.loop-index.index < length (entries_of c.args.image.now) = omega arith in
+    let here : is_listed (dpb_of c.args.image.now.format) c.args.user c.args.pattern.now (entry_at (entries_of c.args.image.now) c.loop-index.index) ≡ true = cc in
+    (sym (listed_is _ c.args.user c.args.pattern.now (entries_of c.args.image.now) c.args.from c.loop-index.index c.loop-index.auto.index below c.loop-index.invariant here), below)
+
+pub returns : goal.returns
+returns c =
+    let d : c.dpb-dpb.result ≡ dpb_of c.args.image.now.format = cc in
+    let last = ap (λ (p : Dpb). p.last_entry) d in
+    let size = entries_length c.args.image.now in
+    none_listed _ c.args.user c.args.pattern.now (entries_of c.args.image.now) c.args.from (λ k low high. c.loop-index.invariant k low (omega arith))

@@ -1,0 +1,10 @@
+use Rattle.std.proofs.Common.{◌≡◌, ◌<◌, ◌≤◌, ℕ, false}
+use Rattle.cpm_geom.specs.Geometry.{dpb_of}
+use Rattle.cpm_files.specs.Files.{entry_at}
+use Rattle.cpm_directory.specs.Directory.{entries_of}
+use Rattle.cpm_ccp.specs.Listing.{is_listed}
+use Rattle.cpm_ccp.proofs.listing.listed_from.Given as goal
+
+abbrev pub invariant-loop-index : goal.invariant-loop-index
+invariant-loop-index l =
+    (k : ℕ) → l.from ≤ k → k < l.index → is_listed (dpb_of l.image.format) l.user l.pattern (entry_at (entries_of l.image) k) ≡ false

@@ -1,0 +1,149 @@
+//! A session with a memory and a system drive by itself, whose user types.
+
+use crate::ccp_step;
+use cpm_bdos::{Mode, Session, Went};
+use cpm_console::Console;
+use cpm_geom::Image;
+use cpm_memory::{FlatMemory, get_run, has_room, set_byte};
+use std::alloc::{AllocError, Global};
+use std::process::Abort;
+
+/// Where the command processor is called.
+pub const PROMPT: u16 = 0xE406;
+
+/// The image of a blank disk.
+pub fn blank(alloc: Global) -> Result<Image, AllocError> {
+    let bytes = vec![in alloc; 0xE5u8; 256_256]?;
+    Image::from_bytes(bytes).map_err(|_| AllocError)
+}
+
+/// A disk with these directory entries, of which all other bytes are 0.
+pub fn disk_of(rt: &impl Abort, alloc: Global, entries: &[&[u8]]) -> Image {
+    let mut image = blank(alloc).expect(rt, "memory");
+    for (index, start) in entries.iter().enumerate() {
+        put_entry(rt, &mut image, index as u16, start);
+    }
+    image
+}
+
+/// Puts an entry that begins so into a directory.
+pub fn put_entry(rt: &impl Abort, image: &mut Image, index: u16, start: &[u8]) {
+    let mut record = [0; 128];
+    record.copy_from_slice(image.record(index / 4).expect(rt, "a record"));
+    let place = 32 * usize::from(index % 4);
+    record[place..place + 32].fill(0);
+    record[place..place + start.len()].copy_from_slice(start);
+    image.put_record(index / 4, &record).expect(rt, "a record");
+}
+
+/// A session, its memory and the system drive.
+#[derive(Drop)]
+pub struct Trial {
+    pub session: Session,
+    pub memory: FlatMemory,
+    pub system: Image,
+}
+
+impl Trial {
+    /// A session with a blank drive A.
+    pub fn new(alloc: Global) -> Result<Self, AllocError> {
+        Trial::on(alloc, blank(alloc)?)
+    }
+
+    /// A session with this drive A.
+    pub fn on(alloc: Global, image: Image) -> Result<Self, AllocError> {
+        let session = Session::new(Console::new(alloc)?, vec![in alloc; image]?);
+        let memory = FlatMemory::new(alloc)?;
+        let system = blank(alloc)?;
+        Ok(Trial {
+            session,
+            memory,
+            system,
+        })
+    }
+
+    /// Puts bytes into memory.
+    pub fn store(&mut self, address: u16, bytes: &[u8]) {
+        let mut at = address;
+        for byte in bytes {
+            if has_room(&self.memory) {
+                set_byte(&mut self.memory, at, *byte);
+            }
+            at = at.wrapping_add(1);
+        }
+    }
+
+    /// The bytes from an address on.
+    pub fn bytes<const N: usize>(&self, address: u16) -> [u8; N] {
+        let mut bytes = [0; N];
+        get_run(&self.memory, address, &mut bytes);
+        bytes
+    }
+
+    /// One step.
+    pub fn step(&mut self, rt: &impl Abort) -> Went {
+        assert!(rt; self.session.console.has_room());
+        assert!(rt; has_room(&self.memory));
+        match self.session.mode {
+            Mode::Program | Mode::Command(_) => {
+                ccp_step(&mut self.session, &mut self.memory, &self.system)
+            }
+            _ => self.session.bdos_step(&mut self.memory, &self.system),
+        }
+    }
+
+    /// Whether a program is about to run.
+    fn is_in_program(&self) -> bool {
+        self.session.mode == Mode::Program && self.session.regs.pc != PROMPT
+    }
+
+    /// Presses keys.
+    pub fn press(&mut self, rt: &impl Abort, keys: &[u8]) {
+        for key in keys {
+            assert!(rt; self.session.console.give(*key));
+        }
+    }
+
+    /// Types keys, and gives the number of steps until a program runs or a key is waited for.
+    pub fn types(&mut self, rt: &impl Abort, keys: &[u8]) -> u32 {
+        self.press(rt, keys);
+        let mut steps = 0;
+        while !self.is_in_program() && steps < 10_000 && self.step(rt) != Went::Waits {
+            steps += 1;
+        }
+        steps
+    }
+
+    /// Takes all console bytes, which must be these.
+    pub fn shows(&mut self, rt: &impl Abort, expected: &[u8]) {
+        let mut out = [0; 1024];
+        let count = self.session.console.take(&mut out);
+        assert_eq!(rt; &out[..count], expected);
+        assert_eq!(rt; self.session.console.held(), 0);
+    }
+
+    /// Types keys at a prompt that was shown, which must show this in so many steps.
+    pub fn session(&mut self, rt: &impl Abort, keys: &[u8], steps: u32, expected: &[u8]) {
+        assert_eq!(rt; self.types(rt, keys), steps, "{keys:?}");
+        self.shows(rt, expected);
+    }
+
+    /// The first prompt.
+    pub fn prompts(&mut self, rt: &impl Abort) {
+        self.session(rt, b"", 1, b"\r\nA>");
+    }
+
+    /// An entry of drive A.
+    pub fn entry(&self, rt: &impl Abort, index: u16) -> [u8; 32] {
+        let mut entry = [0; 32];
+        match &self.session.disks.drives[0] {
+            Some(drive) => {
+                let record = drive.image.record(index / 4).expect(rt, "a record");
+                let start = 32 * usize::from(index % 4);
+                entry.copy_from_slice(&record[start..start + 32]);
+            }
+            None => panic!(rt; "drive A is not there"),
+        }
+        entry
+    }
+}
