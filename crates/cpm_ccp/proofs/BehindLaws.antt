@@ -1,5 +1,5 @@
 -- A step of the command processor is the same whatever output waits to be taken.
-use Rattle.std.proofs.Common.{◌≡◌, ℕ, Bool, true, false, ◌&&◌, ◌||◌, not, refl, ap, ◌∙◌, List, [], ◌∷◌, ◌++◌, Option, Some, None, Result, Ok, Err}
+use Rattle.std.proofs.Common.{◌≡◌, ℕ, Bool, true, false, ◌&&◌, not, refl, ap, ◌∙◌, List, [], ◌∷◌, ◌++◌, Option, Some, None, Result, Ok, Err}
 use Rattle.std.specs.Prelude.{if◌then◌else◌, ◌==◌, nat_lt, ◌+◌, ◌%◌, length}
 use Rattle.cpm_geom.specs.Disk.{Disk}
 use Rattle.cpm_console.specs.Terminal.{Terminal, said, key_read, expanded}
@@ -34,10 +34,10 @@ use Rattle.cpm_ccp.specs.declared.command.Command.{Command as Typed}
 use Rattle.cpm_ccp.specs.declared.command.Command.TheVariants as typed
 use Rattle.cpm_ccp.specs.Message.{message_text}
 use Rattle.cpm_ccp.specs.Command.{command_of}
-use Rattle.cpm_ccp.specs.Parts.{at_part, finished, stepped, says, says_below, told, is_stopped, held_at_part, reads_line, line_of, on_file, own_record, record_of, drive_of, failed, with_disks, with_call}
-use Rattle.cpm_ccp.specs.Prompt.{drive_asked, chosen, prompt_text, prompted, after_key, edited_with, take_key, edit_line, drive_selected, user_selected}
+use Rattle.cpm_ccp.specs.Parts.{at_part, finished, stepped, says, told, is_stopped, reads_line, line_of, on_file, own_record, record_of, drive_of, with_disks, with_call}
+use Rattle.cpm_ccp.specs.Prompt.{drive_asked, chosen, prompt_text, prompted, after_key, edited_with, take_key, edit_line, drive_selected}
 use Rattle.cpm_ccp.specs.Listing.{file_text, entries_listed, next_listed, has_next, file_shown, listing_ended, drive_used, listed, shows_file, listed_on}
-use Rattle.cpm_ccp.specs.FileCommands.{by_code, erased, asked, is_yes, erased_all, has_new_name, renamed, saving, after_make, made, after_erase, save_begun, after_write, saved, after_close, closed}
+use Rattle.cpm_ccp.specs.FileCommands.{by_code, erased, asked, is_yes, erased_all, has_new_name, renamed, after_make, made, after_erase, save_begun, after_write, saved, after_close, closed}
 use Rattle.cpm_ccp.specs.Showing.{after_open, show_begun, text_of, ends_in, wrote_all, record_shown, after_read, next_shown, shows_record, shown_on}
 use Rattle.cpm_ccp.specs.Loading.{unknown, load_begun, loaded, load_record, load_in, load}
 use Rattle.cpm_ccp.specs.Loading as loading

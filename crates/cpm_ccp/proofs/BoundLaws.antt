@@ -1,6 +1,6 @@
 -- Every step of the command processor is bounded.
-use Rattle.std.proofs.Common.{◌≡◌, ℕ, ◌+◌, ◌*◌, ◌%◌, ◌<◌, ◌≤◌, Bool, true, false, ◌&&◌, not, List, [], ◌∷◌, ◌++◌, length, take, map, refl, ◌∙◌, arith, Option, Some, None, Result, Ok, Err, inl, inr}
-use Rattle.std.specs.Prelude.{if◌then◌else◌, ◌==◌, nat_lt, slice_range}
+use Rattle.std.proofs.Common.{◌≡◌, ℕ, ◌+◌, ◌*◌, ◌%◌, ◌≤◌, Bool, true, false, ◌&&◌, not, List, [], ◌∷◌, ◌++◌, length, take, refl, ◌∙◌, arith, Option, Some, None, Result, Ok, Err, inl, inr}
+use Rattle.std.specs.Prelude.{if◌then◌else◌, ◌==◌}
 use Rattle.std.proofs.lemmas.List.{length-append, length-take, length-map}
 use Rattle.std.proofs.lemmas.Bool.{lt-ltb, le-ltb, cases_lt}
 use Rattle.cpm_geom.specs.Disk.{Disk}
@@ -23,7 +23,6 @@ use Rattle.cpm_disks.specs.Calls.{drive_named}
 use Rattle.cpm_disks.specs.Files.{open_file, close_file, make_file, erase_files, rename_files, read_next_record, write_next_record, next_ahead}
 use Rattle.cpm_bdos.specs.Bounds.{IsFit, IsBounded}
 use Rattle.cpm_bdos.specs.Did.{Did, did}
-use Rattle.cpm_bdos.specs.Faults.{in_fault}
 use Rattle.cpm_bdos.specs.Keys.{first_key}
 use Rattle.cpm_bdos.specs.ReadLine.{is_open, with_edited}
 use Rattle.cpm_bdos.specs.declared.session.Session.{Session}
@@ -42,11 +41,11 @@ use Rattle.cpm_ccp.specs.Capitals.{capital}
 use Rattle.cpm_ccp.specs.Message.{message_text}
 use Rattle.cpm_ccp.specs.Command.{command_of}
 use Rattle.cpm_ccp.specs.Words.{first_word, tail_of}
-use Rattle.cpm_ccp.specs.Parts.{at_part, finished, stepped, says, told, is_stopped, held_at_part, line_of, on_file, own_record, record_of, drive_of, with_disks, with_call}
-use Rattle.cpm_ccp.specs.Prompt.{drive_asked, chosen, prompt_text, prompted, with_drive, with_user, after_key, take_key, edit_line, drive_selected, user_selected}
-use Rattle.cpm_ccp.specs.Listing.{before_file, low_seven, file_text, entries_listed, next_listed, has_next, file_shown, listing_ended, drive_used, listed, shows_file, listed_on}
+use Rattle.cpm_ccp.specs.Parts.{finished, stepped, says, told, is_stopped, held_at_part, line_of, on_file, own_record, record_of, drive_of, with_disks, with_call}
+use Rattle.cpm_ccp.specs.Prompt.{drive_asked, chosen, prompt_text, prompted, with_drive, with_user, after_key, take_key, edit_line, drive_selected}
+use Rattle.cpm_ccp.specs.Listing.{before_file, file_text, entries_listed, next_listed, has_next, file_shown, listing_ended, drive_used, listed, shows_file, listed_on}
 use Rattle.cpm_ccp.specs.FileCommands.{by_code, erased, asked, is_yes, erased_all, has_new_name, renamed, after_make, made, after_erase, save_begun, after_write, saved, after_close, closed}
-use Rattle.cpm_ccp.specs.Showing.{after_open, show_begun, is_end, text_of, ends_in, wrote_all, record_shown, after_read, next_shown, shows_record, shown_on}
+use Rattle.cpm_ccp.specs.Showing.{after_open, show_begun, text_of, ends_in, wrote_all, record_shown, after_read, next_shown, shows_record, shown_on}
 use Rattle.cpm_ccp.specs.Loading.{unknown, load_begun, name_bytes, default_files, memory_started, started, loaded, load_record, load_in, load}
 use Rattle.cpm_ccp.specs.Loading as loading
 use Rattle.cpm_ccp.specs.Step.{looks_first, begun_by, begun, in_part, in_mode, ccp}

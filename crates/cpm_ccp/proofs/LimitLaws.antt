@@ -6,7 +6,7 @@ use Rattle.cpm_console.specs.Terminal.{key_read}
 use Rattle.cpm_console.specs.Editing.{key_into_line}
 use Rattle.cpm_console.specs.declared.line.Progress.{Progress}
 use Rattle.cpm_console.specs.declared.line.Progress.TheVariants as line
-use Rattle.cpm_memory.specs.Contents.{Contents, byte_at, after_run}
+use Rattle.cpm_memory.specs.Contents.{Contents, byte_at}
 use Rattle.cpm_memory.specs.Room.{limit-after_change}
 use Rattle.cpm_memory.proofs.Runs.{limit-run}
 use Rattle.cpm_files.specs.declared.answer.Fault.{Fault as Failure}
@@ -27,8 +27,8 @@ use Rattle.cpm_ccp.specs.Command.{command_of}
 use Rattle.cpm_ccp.specs.Words.{tail_of}
 use Rattle.cpm_ccp.specs.Parts.{is_stopped, line_of, own_record, record_of, with_call}
 use Rattle.cpm_ccp.specs.Prompt.{with_drive, with_user, after_key, take_key, edit_line, drive_selected}
-use Rattle.cpm_ccp.specs.Loading.{loaded, after_read, load_record}
-use Rattle.cpm_ccp.specs.Step.{looks_first, begun_by, begun, in_part, in_mode, ccp}
+use Rattle.cpm_ccp.specs.Loading.{after_read, load_record}
+use Rattle.cpm_ccp.specs.Step.{looks_first, begun_by, begun, in_part, in_mode}
 use Rattle.cpm_ccp.specs.Laws.{LimitLaw}
 use Rattle.cpm_ccp.proofs.BoundLaws.{limit_started}
 

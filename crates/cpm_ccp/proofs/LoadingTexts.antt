@@ -1,5 +1,5 @@
 -- What a program finds of its line: names put into an array, and runs of bytes one behind the other.
-use Rattle.std.proofs.Common.{◌≡◌, ℕ, ◌+◌, ◌%◌, ◌<◌, List, [], ◌∷◌, ◌++◌, length, replicate, refl, ap, ◌∙◌, arith}
+use Rattle.std.proofs.Common.{◌≡◌, ℕ, ◌+◌, ◌<◌, List, [], ◌∷◌, ◌++◌, length, replicate, refl, ap, ◌∙◌, arith}
 use Rattle.std.proofs.Math.Seq.{take_at, drop_at}
 use borrow.Rule.Slice.PartMut.{put_mid}
 use Rattle.cpm_memory.specs.Contents.{Contents, next, after_change, after_run}

@@ -1,5 +1,5 @@
 -- A step of the command processor waits exactly where it reads a line and finds no key.
-use Rattle.std.proofs.Common.{◌≡◌, ℕ, Bool, true, false, ◌&&◌, not, refl, ap, List, Option, Some, None, is_some, Result, Ok, Err}
+use Rattle.std.proofs.Common.{◌≡◌, ℕ, Bool, true, false, ◌&&◌, not, refl, List, Option, Some, None, is_some, Result, Ok, Err}
 use Rattle.std.specs.Prelude.{if◌then◌else◌, ◌==◌, nat_lt}
 use Rattle.cpm_geom.specs.Disk.{Disk}
 use Rattle.cpm_console.specs.Editing.{key_into_line}
@@ -28,9 +28,9 @@ use Rattle.cpm_ccp.specs.Parts.{went_of, stepped, finished, told, is_stopped, he
 use Rattle.cpm_ccp.specs.Listing.{listed, listed_on}
 use Rattle.cpm_ccp.specs.FileCommands.{erased, asked, erased_all, renamed, save_begun, saved, closed}
 use Rattle.cpm_ccp.specs.Showing.{show_begun, shown_on}
-use Rattle.cpm_ccp.specs.Prompt.{prompted, after_key, take_key, edit_line, drive_selected}
-use Rattle.cpm_ccp.specs.Loading.{unknown, load_begun, loaded, after_read, load_record}
-use Rattle.cpm_ccp.specs.Step.{looks_first, begun_by, begun, in_part, in_mode, ccp}
+use Rattle.cpm_ccp.specs.Prompt.{prompted, after_key, take_key, drive_selected}
+use Rattle.cpm_ccp.specs.Loading.{unknown, load_begun, after_read, load_record}
+use Rattle.cpm_ccp.specs.Step.{looks_first, begun_by, begun, in_part, in_mode}
 use Rattle.cpm_ccp.specs.Laws.{WaitsForKeys}
 
 abbrev Goes : Did → Type 0

@@ -1,5 +1,5 @@
 -- ERA, REN and SAVE: CP/M 2.2 Operating System Manual, section 1 (ERA, REN, SAVE).
-use Rattle.std.specs.Prelude.{ℕ, ◌+◌, ◌-◌, ◌*◌, ◌%◌, ◌==◌, ◌&&◌, ◌||◌, Bool, nat_lt, List, [], ◌∷◌, length, slice_index, Option, None, Result, Ok, Err, if◌then◌else◌}
+use Rattle.std.specs.Prelude.{ℕ, ◌+◌, ◌-◌, ◌*◌, ◌%◌, ◌==◌, ◌&&◌, ◌||◌, Bool, nat_lt, List, length, slice_index, None, Result, Ok, Err, if◌then◌else◌}
 use Rattle.cpm_geom.specs.Disk.{Disk}
 use Rattle.cpm_geom.specs.Geometry.{dpb_of}
 use Rattle.cpm_files.specs.declared.fcb.Fcb.{Fcb}
@@ -17,7 +17,7 @@ use Rattle.cpm_bdos.specs.declared.session.Session.{Session}
 use Rattle.cpm_bdos.specs.declared.session.CommandPart.{CommandPart}
 use Rattle.cpm_bdos.specs.declared.session.CommandPart.TheVariants as part
 use Rattle.cpm_ccp.specs.declared.message.Message.TheVariants as message
-use Rattle.cpm_ccp.specs.Parts.{at_part, finished, says_below, told, reads_line, line_of, own_record, on_file, failed, with_disks, with_call}
+use Rattle.cpm_ccp.specs.Parts.{at_part, finished, says_below, told, reads_line, own_record, on_file, failed, with_disks, with_call}
 use Rattle.cpm_ccp.specs.Message.{message_text}
 
 -- ERA and REN end by the code of their function: FFh is that no file has the name

@@ -3,7 +3,7 @@
 use Rattle.std.specs.Prelude.{ℕ, ◌+◌, ◌*◌, ◌/◌, ◌%◌, List, [], ◌∷◌, Option, Some, None, if◌then◌else◌}
 use Rattle.cpm_geom.specs.Disk.{Disk}
 use Rattle.cpm_files.specs.declared.answer.Fault.TheVariants.{Select}
-use Rattle.cpm_console.specs.Terminal.{said, key_read}
+use Rattle.cpm_console.specs.Terminal.{key_read}
 use Rattle.cpm_console.specs.Editing.{Edited, key_into_line}
 use Rattle.cpm_console.specs.declared.line.Progress.{Progress}
 use Rattle.cpm_console.specs.declared.line.Progress.TheVariants as line

@@ -1,5 +1,5 @@
 -- One step of the command processor, as a function of the system drive, the session and the memory.
-use Rattle.std.specs.Prelude.{ℕ, Bool, true, false, ◌&&◌, if◌then◌else◌}
+use Rattle.std.specs.Prelude.{Bool, true, false, ◌&&◌, if◌then◌else◌}
 use Rattle.cpm_geom.specs.Disk.{Disk}
 use Rattle.cpm_memory.specs.Contents.{Contents, byte_at, run_at}
 use Rattle.cpm_bdos.specs.Did.{Did, did}

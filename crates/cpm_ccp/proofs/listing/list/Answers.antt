@@ -1,4 +1,3 @@
-use Rattle.std.proofs.Common.{◌≡◌}
 use Rattle.cpm_disks.specs.Disks.{drive_at}
 use Rattle.cpm_ccp.specs.Parts.{drive_of}
 use Rattle.cpm_ccp.proofs.ListingLemmas.{index_within, index_small}

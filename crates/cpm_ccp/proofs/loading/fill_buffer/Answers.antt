@@ -1,4 +1,4 @@
-use Rattle.std.proofs.Common.{◌≡◌, ◌+◌, ℕ, [], ◌∷◌, length, refl, arith, ap, sym, ◌∙◌}
+use Rattle.std.proofs.Common.{◌≡◌, ◌+◌, [], ◌∷◌, length, refl, arith, ap, sym, ◌∙◌}
 use Rattle.cpm_memory.specs.Contents.{Contents, after_run}
 use Rattle.cpm_memory.specs.Room.{pages_of_run, room-less}
 use Rattle.cpm_bdos.proofs.Pages.{pages-le}
