@@ -61,7 +61,7 @@ executed_in (reply.Refused fault) = 0
 
 -- two grants to a slot, one after the other, are one of the sum
 abbrev pub Cutting : Type 0
-Cutting = (h : Host) (id a b : ℕ) → IsHost h →
+Cutting = (h : Host) (id a b : ℕ) →
     let first = after_ask h id (Calls (Grant a)) in
     (after_ask first id (Calls (Grant b)) ≡ after_ask h id (Calls (Grant (a + b))))
     × (executed_in (reply_at h id (Calls (Grant a))) + executed_in (reply_at first id (Calls (Grant b))) ≡ executed_in (reply_at h id (Calls (Grant (a + b)))))
