@@ -4,3 +4,8 @@ pub mod OrderLaws
 pub mod AccountLaws
 pub mod OpeningLaws
 pub mod CutLaws
+pub mod SeatLaws
+pub mod ServeLaws
+pub mod PlaceLaws
+pub mod CallLaws
+pub mod ViewLaws

@@ -154,8 +154,18 @@ fn replies_stand_at_their_events(rt: HostRuntime) -> Result<(), Fail> {
         ask(first, Request::Take),
         ask(second, Request::Look),
     ];
-    let mut replies = [const { Reply::Done }; 10];
-    replies[9] = Reply::Peeked(7);
+    let mut replies = [
+        Reply::Done,
+        Reply::Done,
+        Reply::Done,
+        Reply::Done,
+        Reply::Done,
+        Reply::Done,
+        Reply::Done,
+        Reply::Done,
+        Reply::Done,
+        Reply::Peeked(7),
+    ];
     host.run(&events, &mut replies);
     let three = Granted {
         executed: 3,
