@@ -9,3 +9,4 @@ pub mod ServeLaws
 pub mod PlaceLaws
 pub mod CallLaws
 pub mod ViewLaws
+pub mod RunLaws
