@@ -131,7 +131,7 @@ IsSeated-alone m seats i s runner k h sound quota = record {
 
 -- ---- a memory that goes on
 
-taken-within : (m : List (Option Contents)) (t : ℕ) → is_some (get_or m t None) ≡ true → t < length m
+pub taken-within : (m : List (Option Contents)) (t : ℕ) → is_some (get_or m t None) ≡ true → t < length m
 taken-within [] t h = cc
 taken-within (x ∷ xs) zero h = omega arith
 taken-within (x ∷ xs) (suc t) h = let l = taken-within xs t h in omega arith

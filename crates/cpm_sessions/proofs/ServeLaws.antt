@@ -1,31 +1,36 @@
 -- What the code does to a runner is what the machine's serving does.
-use Rattle.std.proofs.Common.{◌≡◌, ℕ, ◌<◌, Bool, true, false, List, ◌++◌, length, take, drop, min, refl, sym, ap, ◌∙◌, subst, arith, if◌then◌else◌, IsTrue, ◌↔◌}
-use Rattle.std.specs.Prelude.{nat_lt}
-use Rattle.std.proofs.lemmas.Bool.Decides.{nat_tests}
+use Rattle.std.proofs.Common.{◌≡◌, ℕ, Bool, true, false, List, ◌++◌, length, take, drop, min, sym, ap, ◌∙◌, subst, arith}
+use Rattle.std.specs.Prelude.{⊤, Result, Ok, Err, IfOk, IfErr}
 use Rattle.std.proofs.lemmas.List.{length-take}
 use Rattle.std.proofs.Math.Seq.{take-append_seam}
 use Rattle.cpm_geom.specs.Disk.{Disk}
-use Rattle.cpm_console.specs.Terminal.{pressed}
-use Rattle.cpm_console.specs.declared.console.Console.{Console}
+use Rattle.cpm_console.specs.Terminal.{Terminal, pressed}
 use Rattle.cpm_slots.specs.declared.reply.Granted.{Granted}
 use Rattle.cpm_slots.specs.MachineState.{MachineState}
 use Rattle.cpm_slots.specs.Step.{after}
-use Rattle.cpm_slots.specs.Serve.{executed, why, takes_key, keyed, taken, taken_list}
-use Rattle.cpm_slots.specs.Calls.{Key, Grant, Take, TakeList, serve}
+use Rattle.cpm_slots.specs.Serve.{executed, why, takes_key}
+use Rattle.cpm_slots.specs.Calls.{Key, Grant, Take, TakeList, served_key, serve}
 use Rattle.cpm_sessions.specs.declared.event.Reply.TheVariants as reply
+use Rattle.cpm_sessions.specs.declared.event.Refusal.{Refusal}
 use Rattle.cpm_sessions.specs.declared.event.Refusal.TheVariants as refusal
+use Rattle.cpm_sessions.specs.Serving.{reply_of}
+use Rattle.cpm_sessions.specs.Host.{key_reply}
 use Rattle.cpm_sessions.specs.Place.{Serves}
 
-pub accepted : (system : Disk) (key : ℕ) (s : MachineState) → takes_key s ≡ true → Serves system (Key key) reply.Done s (keyed key s)
+-- a key that was pressed
+pub key-result : (system : Disk) (key : ℕ) (s : MachineState) (r : Result ⊤ Refusal) (now : Terminal) →
+    IfOk r (λ _. (takes_key s ≡ true) × (now ≡ pressed s.session.console key)) →
+    IfErr r (λ fault. (fault ≡ refusal.KeysFull) × (takes_key s ≡ false) × (now ≡ s.session.console)) →
+    Serves system (Key key) (key_reply r) s (record s { session = record s.session { console = now } })
 unfolding serve
-accepted system key s t = rw t (record { replied = refl; state = refl })
-
-pub refused : (system : Disk) (key : ℕ) (s : MachineState) → takes_key s ≡ false → Serves system (Key key) (reply.Refused refusal.KeysFull) s s
-unfolding serve
-refused system key s t = rw t (record { replied = refl; state = refl })
-
-pub takes : (b : Bool) (keys : List ℕ) → IsTrue b ↔ (length keys < 4096) → nat_lt (length keys) 4096 ≡ b
-takes b keys h = grind (arith, nat_tests)
+key-result system key s (Ok done) now accepted refused = record {
+  replied = ap (λ b. reply_of (served_key b key s).answer) (sym accepted.0);
+  state = ap (λ con. record s { session = record s.session { console = con } }) accepted.1 ∙ ap (λ b. (served_key b key s).state) (sym accepted.0);
+}
+key-result system key s (Err fault) now accepted refused = record {
+  replied = ap (λ (x : Refusal). reply.Refused x) refused.0 ∙ ap (λ b. reply_of (served_key b key s).answer) (sym refused.1);
+  state = ap (λ con. record s { session = record s.session { console = con } }) refused.2 ∙ ap (λ b. (served_key b key s).state) (sym refused.1);
+}
 
 pub taken-front : (n k : ℕ) (xs ys : List ℕ) → k ≡ min n (length xs) → take k (take k xs ++ ys) ≡ take (min n (length xs)) xs
 taken-front n k xs ys h =
@@ -34,20 +39,22 @@ taken-front n k xs ys h =
     subst P long (take-append_seam (take k xs) ys) ∙ ap (λ m. take m xs) h
 
 -- bytes that were taken into some room
-pub takes-screen : (system : Disk) (room k : ℕ) (out : List ℕ) (s : MachineState) → k ≡ min room (length s.session.console.screen) → take k out ≡ take (min room (length s.session.console.screen)) s.session.console.screen →
-    Serves system (Take room) (reply.Bytes (record { items = take k out })) s (record s { session = record s.session { console = record s.session.console { screen = drop k s.session.console.screen } } })
+pub takes-screen : (system : Disk) (room k : ℕ) (out rest : List ℕ) (s : MachineState) (now : Terminal) → k ≡ min room (length s.session.console.screen) → out ≡ take k s.session.console.screen ++ rest → now ≡ record s.session.console { screen = drop k s.session.console.screen } →
+    Serves system (Take room) (reply.Bytes (record { items = take k out })) s (record s { session = record s.session { console = now } })
 unfolding serve
-takes-screen system room k out s e h = record {
-  replied = ap (λ bytes. reply.Bytes (record { items = bytes })) h;
-  state = ap (λ n. record s { session = record s.session { console = record s.session.console { screen = drop n s.session.console.screen } } }) e;
+takes-screen system room k out rest s now e h is = record {
+  replied = ap (λ bytes. reply.Bytes (record { items = bytes })) (ap (take k) h ∙ taken-front room k s.session.console.screen rest e);
+  state = ap (λ con. record s { session = record s.session { console = con } }) is
+      ∙ ap (λ n. record s { session = record s.session { console = record s.session.console { screen = drop n s.session.console.screen } } }) e;
 }
 
-pub takes-printer : (system : Disk) (room k : ℕ) (out : List ℕ) (s : MachineState) → k ≡ min room (length s.session.console.printer) → take k out ≡ take (min room (length s.session.console.printer)) s.session.console.printer →
-    Serves system (TakeList room) (reply.Bytes (record { items = take k out })) s (record s { session = record s.session { console = record s.session.console { printer = drop k s.session.console.printer } } })
+pub takes-printer : (system : Disk) (room k : ℕ) (out rest : List ℕ) (s : MachineState) (now : Terminal) → k ≡ min room (length s.session.console.printer) → out ≡ take k s.session.console.printer ++ rest → now ≡ record s.session.console { printer = drop k s.session.console.printer } →
+    Serves system (TakeList room) (reply.Bytes (record { items = take k out })) s (record s { session = record s.session { console = now } })
 unfolding serve
-takes-printer system room k out s e h = record {
-  replied = ap (λ bytes. reply.Bytes (record { items = bytes })) h;
-  state = ap (λ n. record s { session = record s.session { console = record s.session.console { printer = drop n s.session.console.printer } } }) e;
+takes-printer system room k out rest s now e h is = record {
+  replied = ap (λ bytes. reply.Bytes (record { items = bytes })) (ap (take k) h ∙ taken-front room k s.session.console.printer rest e);
+  state = ap (λ con. record s { session = record s.session { console = con } }) is
+      ∙ ap (λ n. record s { session = record s.session { console = record s.session.console { printer = drop n s.session.console.printer } } }) e;
 }
 
 pub grants : (system : Disk) (steps : ℕ) (g : Granted) (s now : MachineState) → g.executed ≡ executed system steps s → now ≡ after system g.executed s → g.why ≡ why steps g.executed now → Serves system (Grant steps) (reply.Granted g) s now

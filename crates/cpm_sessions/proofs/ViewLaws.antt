@@ -1,12 +1,14 @@
 -- What a view leaves of its store.
-use Rattle.std.proofs.Common.{◌≡◌, ℕ, List, Option, None, Some, is_some, unwrap_or, get_or, set, refl, sym, ap, ◌∙◌, true}
+use Rattle.std.proofs.Common.{◌≡◌, ℕ, ◌+◌, ◌*◌, ◌/◌, ◌%◌, ◌<◌, arith, subst, List, Option, None, Some, is_some, unwrap_or, get_or, set, refl, sym, ap, ◌∙◌, true}
 use Rattle.cpm_memory.specs.Contents.{Contents, Surroundings}
-use Rattle.cpm_memory.specs.Frames.{Frames, memories}
+use Rattle.cpm_memory.specs.Frames.{Frames, IsTaken, memories, memory_at, memory_of}
+use Rattle.cpm_memory.specs.Memories.{memory-reserved, HasReservation-taken}
+use Rattle.cpm_memory.specs.Tabulated.{length-tabulated}
 use Rattle.cpm_memory.specs.Opening.{opening}
 use Rattle.cpm_memory.specs.View.{store_of, table_of, contents_of, surroundings_of, memories-after_view}
 use Rattle.cpm_memory.specs.declared.view.View.{View}
 use Rattle.cpm_sessions.specs.Seating.{contents_at, ChangesAt}
-use Rattle.cpm_sessions.proofs.SeatLaws.{contents-set}
+use Rattle.cpm_sessions.proofs.SeatLaws.{taken-within, contents-set}
 
 -- what was lent, and what is left
 pub record Leaves (store new : Frames) (table : ℕ) (lent left : Contents) : Type 0 where
@@ -27,3 +29,9 @@ leaves v w store table e f g around =
 
 pub changes : (store new : Frames) (table : ℕ) (lent left : Contents) → Leaves store new table lent left → ChangesAt table (memories store) (memories new)
 changes store new table lent left k = record { memories = k.memories ∙ ap (λ c. set (memories store) table (Some c)) (sym k.now) }
+
+-- the memory of a table that is taken
+pub contents-of : (s : Frames) (t : ℕ) → IsTaken s t → contents_at (memories s) t ≡ memory_of s t
+contents-of s t taken =
+    let lt : t < 64 = subst (λ n. t < n) (length-tabulated 64 (memory_at s)) (taken-within (memories s) t taken) in
+    ap (λ o. unwrap_or o (opening 0)) (memory-reserved s t lt (HasReservation-taken s t lt taken))

@@ -1,7 +1,8 @@
 //! Sessions whose memories lie in one store of frames, by their places.
 
-ghost use Rattle.std.specs.Prelude.{◌≡◌, ◌<◌, ◌≤◌, ◌*◌, ◌+◌, List, Option, length, take, drop, sum_by, slice_get, remove, IfSome};
+ghost use Rattle.std.specs.Prelude.{◌≡◌, true, false, nat_lt, IfOk, IfErr, ◌<◌, ◌≤◌, ◌*◌, ◌+◌, List, Option, length, take, drop, sum_by, slice_get, remove, IfSome};
 ghost use Rattle.cpm_geom.specs.Disk.{Disk};
+ghost use Rattle.cpm_console.specs.Terminal.{pressed};
 ghost use Rattle.cpm_disks.specs.Disks.{images_of};
 ghost use Rattle.cpm_memory.specs.Contents.{Contents, byte_at};
 ghost use Rattle.cpm_memory.specs.Frames.{memories, IsTaken};
@@ -14,6 +15,7 @@ ghost use Rattle.cpm_sessions.specs.Place.{IsPlace, Serves, IsServed};
 ghost use Rattle.cpm_sessions.specs.Seating.{contents_at, slots_of, IsSeated, ChangesAt};
 
 use crate::event::{Refusal, Reply, SlotId};
+use cpm_console::Console;
 use cpm_geom::Image;
 use cpm_memory::{FrameStore, Memory, TableId};
 use cpm_slots::steps::{self, Runner};
@@ -52,17 +54,25 @@ pub fn quotas_of(seats: &[Seat]) -> u64
     total
 }
 
+/// Presses a key, which is refused where 4,096 are pending.
+fn give(console: &mut Console, key: u8) -> Result<(), Refusal>
+    ensures accepted { IfOk result (λ _. (nat_lt (length console.old.keys) 4096 ≡ true) × (console.new ≡ pressed console.old key)) }
+    ensures refused { IfErr result (λ refusal. (refusal ≡ Refusal.KeysFull) × (nat_lt (length console.old.keys) 4096 ≡ false) × (console.new ≡ console.old)) }
+{
+    if console.give(key) {
+        Ok(())
+    } else {
+        Err(Refusal::KeysFull)
+    }
+}
+
 /// Presses a key in a session.
 fn press(runner: &mut Runner, key: u8) -> Result<(), Refusal>
     ensures serves { (system : Disk) (memory : Contents) → Serves system (Key key) (key_reply result) (state_of runner.old memory) (state_of runner.new memory) }
     ensures sound { (memory : Contents) → IsSound (state_of runner.old memory) → IsSound (state_of runner.new memory) }
     ensures quota { runner.new.quota ≡ runner.old.quota }
 {
-    if runner.session.console.give(key) {
-        Ok(())
-    } else {
-        Err(Refusal::KeysFull)
-    }
+    give(&mut runner.session.console, key)
 }
 
 /// Moves out the first console bytes of a session.
@@ -183,8 +193,8 @@ pub fn peek_at(seats: &[Seat], store: &FrameStore, place: usize, address: u16) -
     requires seated { IsSeated (memories store.now) seats.now }
     ensures { IfSome (slice_get (slots_of (memories store.now) seats.now) place) (λ x. result ≡ byte_at x.state.memory address) }
 {
-    let table = seats[place].table;
-    let frame = store.place(table, (address / 256) as u8);
+    let seat = &seats[place];
+    let frame = store.place(seat.table, (address / 256) as u8);
     store.frame(frame)[(address % 256) as usize]
 }
 

@@ -208,3 +208,24 @@ fn grants_are_cut_alike(rt: HostRuntime) -> Result<(), Fail> {
     assert_eq!(rt; host.take_list(cut, &mut other)?, 0);
     Ok(())
 }
+
+/// Passes with any one allocation refused: the opening comes back, and can be tried again.
+#[test]
+fn want_of_memory_hands_the_opening_back(rt: HostRuntime) -> Result<(), Fail> {
+    let mut host = host_of(&rt, rt.alloc(), 16)?;
+    let opening = opening_of(rt.alloc(), 16, 2)?;
+    match host.open(rt.alloc(), opening) {
+        Ok(id) => assert_eq!(rt; id, SlotId(0)),
+        Err((back, error)) => {
+            assert_eq!(rt; error, OpenError::OutOfMemory);
+            assert_eq!(rt; back.quota, 16);
+            assert_eq!(rt; back.drives.len(), 2);
+            match host.open(rt.alloc(), back) {
+                Ok(id) => assert_eq!(rt; id, SlotId(0)),
+                Err((_, again)) => return Err(Fail::from(again)),
+            }
+        }
+    }
+    assert_eq!(rt; host.look(SlotId(0))?.count, 0);
+    Ok(())
+}
