@@ -10,3 +10,4 @@ pub mod PlaceLaws
 pub mod CallLaws
 pub mod ViewLaws
 pub mod RunLaws
+pub mod OpenPlaces

@@ -1,7 +1,7 @@
 use Rattle.std.proofs.Common.{◌≡◌, ◌++◌, length, map, take, drop}
 use Rattle.cpm_sessions.specs.Host.{happening_of, host_after}
 use Rattle.cpm_sessions.proofs.RunLaws.{replies_by}
-use Rattle.cpm_sessions.proofs.run.Host.serve_all.Given as goal
+use Rattle.cpm_sessions.proofs.host.Host.serve_all.Given as goal
 
 -- the host and the replies so far, and those to what is left, are those of the whole list
 abbrev pub invariant-loop-place : goal.invariant-loop-place

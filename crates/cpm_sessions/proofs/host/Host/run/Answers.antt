@@ -2,7 +2,7 @@ use Rattle.std.proofs.Common.{◌∙◌, map}
 use Rattle.cpm_sessions.specs.Host.{happening_of}
 use Rattle.cpm_sessions.proofs.RunLaws.{replies_to-told}
 use Rattle.cpm_sessions.proofs.EventLaws.{slot-after, told-after}
-use Rattle.cpm_sessions.proofs.run.Host.run.Goals as goal
+use Rattle.cpm_sessions.proofs.host.Host.run.Goals as goal
 
 pub returns-clause-own_replies : goal.returns-clause-own_replies
 returns-clause-own_replies c = λ id below.
