@@ -32,17 +32,20 @@ Alone = (system : Disk) (frames : ℕ) (before : List Happening) (opening : Open
     let now = with_opened h opening in
     StandsAlone system opening (own id events) (told_of id (told events now)) (slot_at id (host_after events now).slots)
 
--- each slot that is open was opened so
-pub record HasOpening (h : Host) (events : List Happening) (id : ℕ) : Type 0 where
+-- a slot that was opened after some of what happened, and stands alone by all that happened since
+pub record WasOpened (system : Disk) (frames : ℕ) (events : List Happening) (id : ℕ) (now : MachineState) : Type 0 where
   pub before : List Happening
   pub opening : Opening
   pub rest : List Happening
   pub parts : events ≡ before ++ Opens opening ∷ rest
-  pub number : (host_after before h).openings ≡ id
-  pub accepted : refusal_of (host_after before h) opening ≡ None
+  pub number : (host_after before (new_host system frames)).openings ≡ id
+  pub accepted : refusal_of (host_after before (new_host system frames)) opening ≡ None
+  pub stands : StandsAlone system opening (own id rest) (told_of id (told rest (with_opened (host_after before (new_host system frames)) opening))) (Some now)
 
-abbrev pub Opened : Type 0
-Opened = (system : Disk) (frames : ℕ) (events : List Happening) (id : ℕ) → let h = new_host system frames in IfSome (slot_at id (host_after events h).slots) (λ _. HasOpening h events id)
+-- and each slot that is open was opened so
+abbrev pub EachAlone : Type 0
+EachAlone = (system : Disk) (frames : ℕ) (events : List Happening) (id : ℕ) →
+    IfSome (slot_at id (host_after events (new_host system frames)).slots) (WasOpened system frames events id)
 
 -- two hosts that agree on the system drive, on a slot of each and on its own events agree on its replies and its state: whatever other slots do, and whatever their numbers, quotas and frames are
 abbrev pub TwoWorlds : Type 0

@@ -1,6 +1,6 @@
 //! The laws of a host, as contracts.
 
-ghost use Rattle.cpm_sessions.specs.Laws.{Apart, Isolation, Alone, Opened, TwoWorlds, Cutting, NeverAgain, Orderly};
+ghost use Rattle.cpm_sessions.specs.Laws.{Apart, Isolation, Alone, EachAlone, TwoWorlds, Cutting, NeverAgain, Orderly};
 
 /// What is asked of one slot leaves every other.
 pub fn apart()
@@ -18,9 +18,9 @@ pub fn alone()
     ensures { Alone }
 {}
 
-/// Each open slot was opened once.
-pub fn opened()
-    ensures { Opened }
+/// After anything that happens to a host, each open slot was opened, and stands alone since.
+pub fn each_alone()
+    ensures { EachAlone }
 {}
 
 /// Two hosts that agree on the system drive, on a slot of each and on its own events agree on its replies and its state.
