@@ -4,3 +4,6 @@ pub mod OrderLaws
 pub mod AccountLaws
 pub mod OpeningLaws
 pub mod CutLaws
+pub mod OpenPlaces
+pub mod OpenSeats
+pub mod CloseSeats
