@@ -11,3 +11,5 @@ pub mod CallLaws
 pub mod ViewLaws
 pub mod RunLaws
 pub mod OpenPlaces
+pub mod OpenSeats
+pub mod CloseSeats

@@ -1,10 +1,16 @@
 //! Up to 64 sessions over one system drive.
 
-ghost use Rattle.std.specs.Prelude.{◌≡◌, ◌≤◌, ◌<◌, length, drop, None, IfOk, IfErr, IfNone, IfSome, OnErr};
+ghost use Rattle.std.specs.Prelude.{◌≡◌, ◌≤◌, ◌<◌, [], length, drop, None, IfOk, IfErr, IfNone, IfSome, OnErr};
 ghost use Rattle.cpm_disks.specs.Disks.{images_of};
+ghost use Rattle.cpm_console.specs.Terminal.{blank};
+ghost use Rattle.cpm_memory.specs.Frames.{memories};
+ghost use Rattle.cpm_memory.specs.Opening.{opening as memory_opening};
+ghost use Rattle.cpm_memory.specs.Tabulated.{tabulated};
 ghost use Rattle.cpm_slots.specs.Opening.{IsRefusal};
+ghost use Rattle.cpm_slots.specs.Runner.{state_of};
 ghost use Rattle.cpm_slots.specs.Serve.{look_of};
 ghost use Rattle.cpm_slots.specs.Calls.{Key, Grant, Take, TakeList, LookAt, Peek};
+ghost use Rattle.cpm_sessions.specs.Host.{opened_slot};
 ghost use Rattle.cpm_sessions.specs.Serving.{Calls, Closes};
 
 use crate::event::{Refusal, SlotId};
@@ -55,6 +61,9 @@ impl Model for Host {
 /// What a host takes memory for: its frames, and its places.
 fn allocate(alloc: Global, frames: u16) -> Result<(FrameStore, Vec<Seat>), AllocError>
     requires { frames ≤ 16384 }
+    ensures frames { IfOk result (λ r. r.0.private ≡ frames) }
+    ensures memories { IfOk result (λ r. memories r.0 ≡ tabulated 64 (λ _. None)) }
+    ensures seats { IfOk result (λ r. r.1.items ≡ []) }
 {
     let store = FrameStore::new(alloc, frames)?;
     let seats = Vec::with_capacity(alloc, PLACES)?;
@@ -225,7 +234,10 @@ impl Host {
 }
 
 /// A session at its opening, with this console.
-fn opened(opening: Opening, console: Console) -> Runner {
+fn opened(opening: Opening, console: Console) -> Runner
+    requires { console ≡ blank }
+    ensures { state_of result (memory_opening opening.quota) ≡ opened_slot opening }
+{
     let Opening { cpu, quota, drives } = opening;
     Runner {
         cpu,
