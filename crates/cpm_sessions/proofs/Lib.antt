@@ -13,3 +13,4 @@ pub mod RunLaws
 pub mod OpenPlaces
 pub mod OpenSeats
 pub mod CloseSeats
+pub mod WithinLaws

@@ -1,5 +1,5 @@
 -- The laws of a host, for every list of what happens to it. (own)
-use Rattle.std.specs.Prelude.{◌≡◌, ◌≢◌, ℕ, ◌+◌, ◌<◌, List, [], ◌∷◌, ◌++◌, Option, Some, None, IfSome}
+use Rattle.std.specs.Prelude.{◌≡◌, ◌≢◌, ℕ, ◌+◌, ◌<◌, ◌≤◌, List, [], ◌∷◌, ◌++◌, sum_by, Option, Some, None, IfSome}
 use Rattle.cpm_geom.specs.Disk.{Disk}
 use Rattle.cpm_slots.specs.MachineState.{MachineState}
 use Rattle.cpm_slots.specs.Calls.{Grant, no_account}
@@ -8,7 +8,7 @@ use Rattle.cpm_sessions.specs.declared.event.Reply.{Reply}
 use Rattle.cpm_sessions.specs.declared.event.Reply.TheVariants as reply
 use Rattle.cpm_sessions.specs.Serving.{Ask, Calls}
 use Rattle.cpm_sessions.specs.Account.{account_by, slot_after, replies_of, IsAlone}
-use Rattle.cpm_sessions.specs.Host.{Host, Happening, Opens, new_host, slot_at, with_opened, opened_slot, refusal_of, reply_at, after_ask, host_after, told, told_of, own, IsHost}
+use Rattle.cpm_sessions.specs.Host.{Host, Happening, Opens, Asks, new_host, slot_at, with_opened, opened_slot, refusal_of, reply_at, after_ask, host_after, told, told_of, own, IsHost}
 
 -- what is asked of one slot leaves every other
 abbrev pub Apart : Type 0
@@ -61,6 +61,19 @@ executed_in (reply.Bytes bytes) = 0
 executed_in (reply.Looked look) = 0
 executed_in (reply.Peeked byte) = 0
 executed_in (reply.Refused fault) = 0
+
+-- the steps that are granted
+abbrev pub granted_in : Ask → ℕ
+granted_in (Calls (Grant steps)) = steps
+granted_in _ = 0
+
+abbrev pub granted_by : Happening → ℕ
+granted_by (Opens opening) = 0
+granted_by (Asks id ask) = granted_in ask
+
+-- no more steps are executed than are granted
+abbrev pub Within : Type 0
+Within = (h : Host) (events : List Happening) → sum_by (λ t. executed_in t.reply) (told events h) ≤ sum_by granted_by events
 
 -- two grants to a slot, one after the other, are one of the sum
 abbrev pub Cutting : Type 0

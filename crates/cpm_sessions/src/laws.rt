@@ -1,6 +1,6 @@
 //! The laws of a host, as contracts.
 
-ghost use Rattle.cpm_sessions.specs.Laws.{Apart, Isolation, Alone, EachAlone, TwoWorlds, Cutting, NeverAgain, Orderly};
+ghost use Rattle.cpm_sessions.specs.Laws.{Apart, Isolation, Alone, EachAlone, TwoWorlds, Within, Cutting, NeverAgain, Orderly};
 
 /// What is asked of one slot leaves every other.
 pub fn apart()
@@ -26,6 +26,11 @@ pub fn each_alone()
 /// Two hosts that agree on the system drive, on a slot of each and on its own events agree on its replies and its state.
 pub fn two_worlds()
     ensures { TwoWorlds }
+{}
+
+/// No more steps are executed than are granted.
+pub fn within()
+    ensures { Within }
 {}
 
 /// Cutting a grant to a slot changes nothing.
