@@ -4,6 +4,14 @@ pub mod OrderLaws
 pub mod AccountLaws
 pub mod OpeningLaws
 pub mod CutLaws
+pub mod SeatLaws
+pub mod ServeLaws
+pub mod PlaceLaws
+pub mod CallLaws
+pub mod ViewLaws
+pub mod RunLaws
 pub mod OpenPlaces
 pub mod OpenSeats
+pub mod OpenHost
 pub mod CloseSeats
+pub mod CloseHost

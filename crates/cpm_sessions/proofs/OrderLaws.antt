@@ -60,10 +60,10 @@ quotas-closed id (x ∷ xs) =
 
 quotas-set : (id n : ℕ) (s t : MachineState) (xs : List Slot) → IsOrdered n xs → slot_at id xs ≡ Some t → s.quota ≡ t.quota → quotas_of (with_slot id (Some s) xs) ≡ quotas_of xs
 quotas-set id n s t [] k h e = refl
-quotas-set id n s t (x ∷ xs) k h e = by_test (x.id == id) refl h
+quotas-set id n s t (x ∷ xs) k h e = by_test (x.id == id) refl h (λ g. quotas-set id (x.id + 1) s t xs k.1 g e)
   where
-    by_test : (b : Bool) → (x.id == id) ≡ b → (if b then Some x.state else slot_at id xs) ≡ Some t → quotas_of ((if b then record { id = id; state = s } else x) ∷ with_slot id (Some s) xs) ≡ quotas_of (x ∷ xs)
-    by_test true f g =
+    by_test : (b : Bool) → (x.id == id) ≡ b → (if b then Some x.state else slot_at id xs) ≡ Some t → (slot_at id xs ≡ Some t → quotas_of (with_slot id (Some s) xs) ≡ quotas_of xs) → quotas_of ((if b then record { id = id; state = s } else x) ∷ with_slot id (Some s) xs) ≡ quotas_of (x ∷ xs)
+    by_test true f g more =
         let same : x.state ≡ t = cc in
         let number = eqb-true x.id id f in
         let rest = ap quotas_of (with_slot-below id (x.id + 1) (Some s) xs k.1 (omega arith)) in
@@ -71,8 +71,8 @@ quotas-set id n s t (x ∷ xs) k h e = by_test (x.id == id) refl h
         let new = sum_by-cons quota_of (record { id = id; state = s }) (with_slot id (Some s) xs) in
         let old = sum_by-cons quota_of x xs in
         omega arith
-    by_test false f g =
-        let rest = quotas-set id (x.id + 1) s t xs k.1 g e in
+    by_test false f g more =
+        let rest = more g in
         let new = sum_by-cons quota_of x (with_slot id (Some s) xs) in
         let old = sum_by-cons quota_of x xs in
         omega arith

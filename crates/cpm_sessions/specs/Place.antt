@@ -2,7 +2,9 @@
 use Rattle.std.specs.Prelude.{◌≡◌, ℕ, zero, suc, ◌<◌, List, [], ◌∷◌, length, Option, Some, None, IfSome, slice_get}
 use Rattle.cpm_geom.specs.Disk.{Disk}
 use Rattle.cpm_slots.specs.MachineState.{MachineState}
-use Rattle.cpm_slots.specs.Calls.{Call, Answer, serve}
+use Rattle.cpm_slots.specs.Calls.{Call, serve}
+use Rattle.cpm_sessions.specs.declared.event.Reply.{Reply}
+use Rattle.cpm_sessions.specs.Serving.{reply_of}
 use Rattle.cpm_sessions.specs.Host.{Slot, slot_at}
 
 -- the slot of that number lies at that place
@@ -24,7 +26,12 @@ with_state_at place f [] = []
 with_state_at zero f (x ∷ xs) = record { id = x.id; state = f x.state } ∷ xs
 with_state_at (suc place) f (x ∷ xs) = x ∷ with_state_at place f xs
 
--- the slot at a place was called, and answered this
-pub record IsServed (system : Disk) (call : Call) (place : ℕ) (answer : Answer) (old new : List Slot) : Type 0 where
-  pub answered : IfSome (slice_get old place) (λ x. answer ≡ (serve system call x.state).answer)
+-- this is what the machine replies to a call, and what it is afterwards
+pub record Serves (system : Disk) (call : Call) (reply : Reply) (old new : MachineState) : Type 0 where
+  pub replied : reply ≡ reply_of (serve system call old).answer
+  pub state : new ≡ (serve system call old).state
+
+-- this is what the slot at a place replies to a call, and the slots afterwards
+pub record IsServed (system : Disk) (call : Call) (place : ℕ) (reply : Reply) (old new : List Slot) : Type 0 where
+  pub replied : IfSome (slice_get old place) (λ x. reply ≡ reply_of (serve system call x.state).answer)
   pub slots : new ≡ with_state_at place (λ s. (serve system call s).state) old

@@ -146,13 +146,7 @@ impl Host {
     {
         match place_of(&self.seats, id) {
             None => Err(Refusal::NoSuchSlot),
-            Some(place) => {
-                if key_at(&mut self.seats, place, key) {
-                    Ok(())
-                } else {
-                    Err(Refusal::KeysFull)
-                }
-            }
+            Some(place) => key_at(&mut self.seats, place, key),
         }
     }
 
@@ -177,7 +171,8 @@ impl Host {
     pub fn take(&mut self, id: SlotId, out: &mut [u8]) -> Result<usize, Refusal>
         ensures reply { take_reply result out.new ≡ reply_at self.old id.0 (Calls (Take (length out.old))) }
         ensures rest { IfOk result (λ count. drop count out.new ≡ drop count out.old) }
-        ensures count { IfOk result (λ count. count ≤ length out.new) }
+        ensures count { IfOk result (λ count. count ≤ length out.old) }
+        ensures length { length out.new ≡ length out.old }
         ensures refused { OnErr result (out.new ≡ out.old) }
         ensures host { self.new ≡ after_ask self.old id.0 (Calls (Take (length out.old))) }
     {
@@ -191,7 +186,8 @@ impl Host {
     pub fn take_list(&mut self, id: SlotId, out: &mut [u8]) -> Result<usize, Refusal>
         ensures reply { take_reply result out.new ≡ reply_at self.old id.0 (Calls (TakeList (length out.old))) }
         ensures rest { IfOk result (λ count. drop count out.new ≡ drop count out.old) }
-        ensures count { IfOk result (λ count. count ≤ length out.new) }
+        ensures count { IfOk result (λ count. count ≤ length out.old) }
+        ensures length { length out.new ≡ length out.old }
         ensures refused { OnErr result (out.new ≡ out.old) }
         ensures host { self.new ≡ after_ask self.old id.0 (Calls (TakeList (length out.old))) }
     {

@@ -4,8 +4,8 @@
 pub mod event;
 pub mod host;
 pub mod laws;
-pub mod run;
-pub mod seats;
+mod run;
+mod seats;
 
 pub use event::{Event, Refusal, Reply, Request, SlotId};
 pub use host::{Host, LEAST_FRAMES, MOST_FRAMES, PLACES};
