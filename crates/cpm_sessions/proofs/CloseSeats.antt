@@ -32,7 +32,8 @@ seat-at m (x ∷ xs) zero s k h =
 seat-at m (x ∷ xs) (suc i) s k h = seat-at m xs i s k.3 h
 
 NoneAt-removed : (table : ℕ) (seats : List Seat) (i : ℕ) → NoneAt table seats → NoneAt table (remove seats i)
-NoneAt-removed table [] i k = tt
+NoneAt-removed table [] zero k = tt
+NoneAt-removed table [] (suc i) k = tt
 NoneAt-removed table (x ∷ xs) zero k = k.1
 NoneAt-removed table (x ∷ xs) (suc i) k = (k.0, NoneAt-removed table xs i k.1)
 
@@ -55,12 +56,14 @@ NoneAt-rest m (x ∷ xs) (suc i) s k h =
     ((λ e. NoneAt-other x.table xs i s k.2 h (sym e)), NoneAt-rest m xs i s k.3 h)
 
 AllSeated-removed : (m : List (Option Contents)) (seats : List Seat) (i : ℕ) → AllSeated m seats → AllSeated m (remove seats i)
-AllSeated-removed m [] i k = tt
+AllSeated-removed m [] zero k = tt
+AllSeated-removed m [] (suc i) k = tt
 AllSeated-removed m (x ∷ xs) zero k = k.3
 AllSeated-removed m (x ∷ xs) (suc i) k = (k.0, k.1, NoneAt-removed x.table xs i k.2, AllSeated-removed m xs i k.3)
 
 slots-removed : (m : List (Option Contents)) (seats : List Seat) (i : ℕ) → slots_of m (remove seats i) ≡ remove (slots_of m seats) i
-slots-removed m [] i = refl
+slots-removed m [] zero = refl
+slots-removed m [] (suc i) = refl
 slots-removed m (x ∷ xs) zero = refl
 slots-removed m (x ∷ xs) (suc i) = ap (λ t. slot_of m x ∷ t) (slots-removed m xs i)
 

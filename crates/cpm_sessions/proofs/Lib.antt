@@ -12,5 +12,7 @@ pub mod ViewLaws
 pub mod RunLaws
 pub mod OpenPlaces
 pub mod OpenSeats
+pub mod OpenHost
 pub mod CloseSeats
 pub mod WithinLaws
+pub mod CloseHost
