@@ -47,4 +47,6 @@ abbrev pub host_error_of_opening : OpenError → HostError
 host_error_of_opening opening.BadQuota = OpeningRefused opening.BadQuota
 host_error_of_opening opening.BadDrives = OpeningRefused opening.BadDrives
 host_error_of_opening opening.ProgramTooLong = OpeningRefused opening.ProgramTooLong
+host_error_of_opening opening.NoSlot = OpeningRefused opening.NoSlot
+host_error_of_opening opening.NoFrames = OpeningRefused opening.NoFrames
 host_error_of_opening opening.OutOfMemory = OutOfMemory

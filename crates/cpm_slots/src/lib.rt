@@ -5,7 +5,7 @@ pub mod laws;
 pub mod machine;
 pub mod opening;
 pub mod reply;
-mod steps;
+pub mod steps;
 mod trap;
 
 pub use machine::Machine;

@@ -29,7 +29,7 @@ pub struct Opening {
     pub drives: Vec<Image>,
 }
 
-/// Why a machine can't be made.
+/// Why a machine can't be made, or a slot can't be opened.
 #[derive(Clone, Copy, Debug, PartialEq, Eq, Drop, Error)]
 pub enum OpenError {
     /// The quota is not 16 to 256 pages, or with a program not 256.
@@ -41,6 +41,12 @@ pub enum OpenError {
     /// The program has more than 58,112 bytes.
     #[error("the program has more than 58112 bytes")]
     ProgramTooLong,
+    /// As many slots are open as a host has, or it can number no more openings.
+    #[error("no slot is free")]
+    NoSlot,
+    /// The quotas of all open slots and this one exceed the host's frames.
+    #[error("the quotas of all open slots exceed the frames")]
+    NoFrames,
     #[error("out of memory")]
     OutOfMemory,
 }
@@ -58,7 +64,7 @@ impl Opening {
     }
 
     /// The first fault of an opening without a program.
-    pub(crate) fn fault(&self) -> Option<OpenError>
+    pub fn fault(&self) -> Option<OpenError>
         ensures { result ≡ opening_fault self.now }
     {
         if self.quota < LEAST_QUOTA || self.quota > MOST_QUOTA {

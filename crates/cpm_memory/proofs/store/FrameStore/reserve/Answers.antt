@@ -1,8 +1,9 @@
-use Rattle.std.proofs.Common.{◌≡◌, ◌+◌, ◌<◌, ◌≤◌, arith, ap, sym, ◌∙◌, subst, refl, Some, get_or, set, length, List, count_by, unwrap_or}
+use Rattle.std.proofs.Common.{◌≡◌, ◌+◌, ◌<◌, ◌≤◌, arith, ap, sym, ◌∙◌, subst, refl, Some, None, is_some, get_or, set, length, List, count_by, unwrap_or}
 use Rattle.std.proofs.lemmas.Bool.{false≢true}
-use Rattle.std.proofs.lemmas.List.{get_or_read}
+use Rattle.std.proofs.lemmas.List.{get_or_read, get_or-set_same}
 use Rattle.cpm_memory.specs.Opening.{opening}
-use Rattle.cpm_memory.specs.Frames.{Frames, Table, table_at, blank_table, is_taken, memories, used_by, reserved_by, reserved_of}
+use Rattle.cpm_memory.specs.Tabulated.{length-tabulated}
+use Rattle.cpm_memory.specs.Frames.{Frames, Table, table_at, blank_table, is_taken, memory_at, memories, used_by, reserved_by, reserved_of}
 use Rattle.cpm_memory.specs.Reserved.{taken_in, reserved_in}
 use Rattle.cpm_memory.specs.Kept.{IsKept}
 use Rattle.cpm_memory.proofs.Reservations.{memories-reserved, IsKept-reservation}
@@ -63,6 +64,13 @@ returns-clause-memories c =
     ∙ memories-reserved s t (Some c.args.pages) c.self.invariant.sound (within c) (free c) c.requires.pages (omega (arith, fits c)) c.args.pages refl
     ∙ ap (λ x. set (memories x) t (Some (opening c.args.pages))) c.self.view_is
     ∙ ap (λ k. set (memories c.args.self.now) k (Some (opening c.args.pages))) (sym c.at.ensures)
+
+pub returns-clause-taken : goal.returns-clause-taken
+returns-clause-taken c =
+    let t = c.at.result in
+    let old = memories c.args.self.now in
+    ap (λ m. is_some (get_or m t None)) (returns-clause-memories c)
+    ∙ ap is_some (get_or-set_same old t (Some (opening c.args.pages)) None (omega (arith, within c, c.at.ensures, length-tabulated 64 (memory_at c.args.self.now))))
 
 pub returns-clause-refused : goal.returns-clause-refused
 returns-clause-refused c =

@@ -1,0 +1,204 @@
+-- What is done to one seat, as what is done to its slot.
+use Rattle.std.proofs.Common.{◌≡◌, ◌≢◌, ℕ, zero, suc, ◌+◌, ◌<◌, ◌≤◌, Bool, true, false, List, [], ◌∷◌, ◌++◌, length, take, drop, min, map, get_or, set, sum_by, count_by, cond, Option, None, Some, is_some, unwrap_or, refl, sym, ap, ◌∙◌, subst, arith, ⊎_elim}
+use Rattle.std.specs.Prelude.{slice_get, IfSome}
+use Rattle.std.proofs.lemmas.Bool.{eq-eqb, false≢true, cases_lt}
+use Rattle.std.proofs.lemmas.List.{get_or-set_same, get_or-set_other, length-set}
+use Rattle.std.proofs.lemmas.List.Sums.{sum_by-cons, sum_by-set}
+use Rattle.cpm_geom.specs.Disk.{Disk}
+use Rattle.cpm_memory.specs.Contents.{Contents}
+use Rattle.cpm_memory.specs.Opening.{opening}
+use Rattle.cpm_memory.specs.Reserved.{limit_at, taken_in, reserved_in}
+use Rattle.cpm_slots.specs.declared.steps.Runner.{Runner}
+use Rattle.cpm_slots.specs.MachineState.{MachineState}
+use Rattle.cpm_slots.specs.Calls.{Call, serve}
+use Rattle.cpm_slots.specs.Runner.{state_of, IsSound}
+use Rattle.cpm_sessions.specs.declared.seats.Seat.{Seat}
+use Rattle.cpm_sessions.specs.Host.{Slot}
+use Rattle.cpm_sessions.specs.declared.event.Reply.{Reply}
+use Rattle.cpm_sessions.specs.Serving.{reply_of}
+use Rattle.cpm_sessions.specs.Place.{with_state_at, Serves, IsServed}
+use Rattle.cpm_sessions.specs.Seating.{contents_at, slot_of, slots_of, NoneAt, AllSeated, IsSeated, ChangesAt}
+
+-- the seat with another runner
+abbrev pub seated : Seat → Runner → Seat
+seated s runner = record { id = s.id; runner = runner; table = s.table }
+
+-- what holds of a seat at its place
+pub record IsSeat (m : List (Option Contents)) (s : Seat) : Type 0 where
+  pub taken : is_some (get_or m s.table None) ≡ true
+  pub sound : IsSound (state_of s.runner (contents_at m s.table))
+
+pub IsSeat-at : (m : List (Option Contents)) (seats : List Seat) (i : ℕ) (s : Seat) → AllSeated m seats → slice_get seats i ≡ Some s → IsSeat m s
+IsSeat-at m [] i s k h = cc
+IsSeat-at m (x ∷ xs) zero s k h =
+    let at : IsSeat m x = record { taken = k.0; sound = k.1 } in
+    let same : x ≡ s = cc in subst (IsSeat m) same at
+IsSeat-at m (x ∷ xs) (suc i) s k h = IsSeat-at m xs i s k.3 h
+
+-- the other memories are the same
+abbrev pub Others : ℕ → List (Option Contents) → List (Option Contents) → Type 0
+Others table old new = (t : ℕ) → t ≢ table → get_or new t None ≡ get_or old t None
+
+pub others-at : (table : ℕ) (old new : List (Option Contents)) → ChangesAt table old new → Others table old new
+others-at table old new h t ne =
+    ap (λ m. get_or m t None) h.memories ∙ get_or-set_other old table t (Some (contents_at new table)) None ne
+
+contents-other : (table t : ℕ) (old new : List (Option Contents)) → Others table old new → t ≢ table → contents_at new t ≡ contents_at old t
+contents-other table t old new same ne = ap (λ o. unwrap_or o (opening 0)) (same t ne)
+
+slots-kept : (table : ℕ) (old new : List (Option Contents)) (seats : List Seat) → Others table old new → NoneAt table seats → slots_of new seats ≡ slots_of old seats
+slots-kept table old new [] same k = refl
+slots-kept table old new (x ∷ xs) same k =
+    rw (contents-other table x.table old new same k.0) (ap (λ t. slot_of old x ∷ t) (slots-kept table old new xs same k.1))
+
+AllSeated-kept : (table : ℕ) (old new : List (Option Contents)) (seats : List Seat) → Others table old new → NoneAt table seats → AllSeated old seats → AllSeated new seats
+AllSeated-kept table old new [] same k a = tt
+AllSeated-kept table old new (x ∷ xs) same k a =
+    (rw (same x.table k.0) a.0, rw (contents-other table x.table old new same k.0) a.1, a.2, AllSeated-kept table old new xs same k.1 a.3)
+
+NoneAt-at : (table : ℕ) (seats : List Seat) (i : ℕ) (s : Seat) → NoneAt table seats → slice_get seats i ≡ Some s → s.table ≢ table
+NoneAt-at table [] i s k h = cc
+NoneAt-at table (x ∷ xs) zero s k h = let e : x ≡ s = cc in let P : Seat → Type 0 = λ t. t.table ≢ table in subst P e k.0
+NoneAt-at table (x ∷ xs) (suc i) s k h = NoneAt-at table xs i s k.1 h
+
+NoneAt-set : (table : ℕ) (seats : List Seat) (i : ℕ) (s : Seat) (runner : Runner) → NoneAt table seats → slice_get seats i ≡ Some s → NoneAt table (set seats i (seated s runner))
+NoneAt-set table [] i s runner k h = cc
+NoneAt-set table (x ∷ xs) zero s runner k h = (NoneAt-at table (x ∷ xs) 0 s k h, k.1)
+NoneAt-set table (x ∷ xs) (suc i) s runner k h = (k.0, NoneAt-set table xs i s runner k.1 h)
+
+NoneAt-same : (x s : Seat) (seats : List Seat) → x ≡ s → NoneAt x.table seats → NoneAt s.table seats
+NoneAt-same x s seats e k = let P : Seat → Type 0 = λ t. NoneAt t.table seats in subst P e k
+
+-- the slots after the session at a place went on, and its memory with it
+pub slots-set : (old new : List (Option Contents)) (seats : List Seat) (i : ℕ) (s : Seat) (runner : Runner) (f : MachineState → MachineState) →
+    AllSeated old seats → slice_get seats i ≡ Some s → Others s.table old new →
+    state_of runner (contents_at new s.table) ≡ f (state_of s.runner (contents_at old s.table)) →
+    slots_of new (set seats i (seated s runner)) ≡ with_state_at i f (slots_of old seats)
+slots-set old new [] i s runner f k h same is = cc
+slots-set old new (x ∷ xs) zero s runner f k h same is =
+    let e : x ≡ s = cc in
+    let none = NoneAt-same x s xs e k.2 in
+    let P : Seat → Type 0 = λ t. record { id = s.id; state = state_of runner (contents_at new s.table) } ∷ slots_of new xs ≡ record { id = t.id; state = f (state_of t.runner (contents_at old t.table)) } ∷ slots_of old xs in
+    subst P (sym e) (rw is (ap (λ t. record { id = s.id; state = f (state_of s.runner (contents_at old s.table)) } ∷ t) (slots-kept s.table old new xs same none)))
+slots-set old new (x ∷ xs) (suc i) s runner f k h same is =
+    let other = NoneAt-at x.table xs i s k.2 h in
+    rw (contents-other s.table x.table old new same (λ e. other (sym e))) (ap (λ t. slot_of old x ∷ t) (slots-set old new xs i s runner f k.3 h same is))
+
+-- the same, where no memory changed
+pub slots-set_alone : (m : List (Option Contents)) (seats : List Seat) (i : ℕ) (s : Seat) (runner : Runner) (f : MachineState → MachineState) →
+    slice_get seats i ≡ Some s → state_of runner (contents_at m s.table) ≡ f (state_of s.runner (contents_at m s.table)) →
+    slots_of m (set seats i (seated s runner)) ≡ with_state_at i f (slots_of m seats)
+slots-set_alone m [] i s runner f h is = cc
+slots-set_alone m (x ∷ xs) zero s runner f h is =
+    let e : x ≡ s = cc in
+    let P : Seat → Type 0 = λ t. record { id = s.id; state = state_of runner (contents_at m s.table) } ∷ slots_of m xs ≡ record { id = t.id; state = f (state_of t.runner (contents_at m t.table)) } ∷ slots_of m xs in
+    subst P (sym e) (ap (λ state. record { id = s.id; state = state } ∷ slots_of m xs) is)
+slots-set_alone m (x ∷ xs) (suc i) s runner f h is = ap (λ t. slot_of m x ∷ t) (slots-set_alone m xs i s runner f h is)
+
+AllSeated-set : (old new : List (Option Contents)) (seats : List Seat) (i : ℕ) (s : Seat) (runner : Runner) →
+    AllSeated old seats → slice_get seats i ≡ Some s → Others s.table old new →
+    IsSeat new (seated s runner) → AllSeated new (set seats i (seated s runner))
+AllSeated-set old new [] i s runner k h same now = cc
+AllSeated-set old new (x ∷ xs) zero s runner k h same now =
+    let e : x ≡ s = cc in
+    let none = NoneAt-same x s xs e k.2 in
+    (now.taken, now.sound, none, AllSeated-kept s.table old new xs same none k.3)
+AllSeated-set old new (x ∷ xs) (suc i) s runner k h same now =
+    let other = NoneAt-at x.table xs i s k.2 h in
+    let apart : x.table ≢ s.table = λ e. other (sym e) in
+    (rw (same x.table apart) k.0, rw (contents-other s.table x.table old new same apart) k.1, NoneAt-set x.table xs i s runner k.2 h, AllSeated-set old new xs i s runner k.3 h same now)
+
+abbrev pub quota_of : Seat → ℕ
+quota_of x = x.runner.quota
+
+quotas-set : (seats : List Seat) (i : ℕ) (s : Seat) (runner : Runner) → slice_get seats i ≡ Some s → runner.quota ≡ s.runner.quota → sum_by quota_of (set seats i (seated s runner)) ≡ sum_by quota_of seats
+quotas-set [] i s runner h e = cc
+quotas-set (x ∷ xs) zero s runner h e =
+    let same : x ≡ s = cc in
+    sum_by-cons quota_of (seated s runner) xs ∙ ap (λ n. n + sum_by quota_of xs) (e ∙ sym (ap quota_of same)) ∙ sym (sum_by-cons quota_of x xs)
+quotas-set (x ∷ xs) (suc i) s runner h e =
+    sum_by-cons quota_of x (set xs i (seated s runner)) ∙ ap (λ n. x.runner.quota + n) (quotas-set xs i s runner h e) ∙ sym (sum_by-cons quota_of x xs)
+
+-- a session went on in its own memory
+pub IsSeated-alone : (m : List (Option Contents)) (seats : List Seat) (i : ℕ) (s : Seat) (runner : Runner) →
+    IsSeated m seats → slice_get seats i ≡ Some s → IsSound (state_of runner (contents_at m s.table)) → runner.quota ≡ s.runner.quota →
+    IsSeated m (set seats i (seated s runner))
+IsSeated-alone m seats i s runner k h sound quota = record {
+  all = AllSeated-set m m seats i s runner k.all h (λ t ne. refl) (record { taken = (IsSeat-at m seats i s k.all h).taken; sound = sound });
+  taken = k.taken ∙ sym (length-set seats i (seated s runner));
+  reserved = k.reserved ∙ sym (quotas-set seats i s runner h quota);
+}
+
+-- ---- a memory that goes on
+
+pub taken-within : (m : List (Option Contents)) (t : ℕ) → is_some (get_or m t None) ≡ true → t < length m
+taken-within [] t h = cc
+taken-within (x ∷ xs) zero h = omega arith
+taken-within (x ∷ xs) (suc t) h = let l = taken-within xs t h in omega arith
+
+-- the memory at a table that is taken
+pub some-contents : (m : List (Option Contents)) (t : ℕ) → is_some (get_or m t None) ≡ true → get_or m t None ≡ Some (contents_at m t)
+some-contents m t h = by_case (get_or m t None) h
+  where
+    by_case : (o : Option Contents) → is_some o ≡ true → o ≡ Some (unwrap_or o (opening 0))
+    by_case None q = absurd (false≢true q)
+    by_case (Some c) q = refl
+
+pub contents-set : (m : List (Option Contents)) (t : ℕ) (c : Contents) → is_some (get_or m t None) ≡ true → contents_at (set m t (Some c)) t ≡ c
+contents-set m t c h = ap (λ o. unwrap_or o (opening 0)) (get_or-set_same m t (Some c) None (taken-within m t h))
+
+still-taken : (t : ℕ) (old new : List (Option Contents)) → ChangesAt t old new → is_some (get_or old t None) ≡ true → is_some (get_or new t None) ≡ true
+still-taken t old new change h =
+    ap (λ m. is_some (get_or m t None)) change.memories ∙ ap is_some (get_or-set_same old t (Some (contents_at new t)) None (taken-within old t h))
+
+-- as many tables are taken, and as much is reserved
+taken-same : (t : ℕ) (old new : List (Option Contents)) → ChangesAt t old new → is_some (get_or old t None) ≡ true → taken_in new ≡ taken_in old
+taken-same t old new change h =
+    let before : cond {A = ℕ} (is_some (get_or old t None)) 1 0 ≡ 1 = ap (λ b. cond {A = ℕ} b 1 0) h in
+    let e = sum_by-set (λ (o : Option Contents). cond {A = ℕ} (is_some o) 1 0) old t (Some (contents_at new t)) None (taken-within old t h) in
+    ap taken_in change.memories ∙ omega (arith, e, before)
+
+reserved-same : (t : ℕ) (old new : List (Option Contents)) → ChangesAt t old new → is_some (get_or old t None) ≡ true → (contents_at new t).limit ≡ (contents_at old t).limit → reserved_in new ≡ reserved_in old
+reserved-same t old new change h same =
+    let before : limit_at (get_or old t None) ≡ (contents_at old t).limit = ap limit_at (some-contents old t h) in
+    let e = sum_by-set limit_at old t (Some (contents_at new t)) None (taken-within old t h) in
+    ap reserved_in change.memories ∙ omega (arith, e, before, same)
+
+-- a session went on, and its memory with it
+pub IsSeated-on : (old new : List (Option Contents)) (seats : List Seat) (i : ℕ) (s : Seat) (runner : Runner) →
+    IsSeated old seats → slice_get seats i ≡ Some s → ChangesAt s.table old new → IsSound (state_of runner (contents_at new s.table)) → runner.quota ≡ s.runner.quota →
+    IsSeated new (set seats i (seated s runner))
+IsSeated-on old new seats i s runner k h change sound quota =
+    let seat = IsSeat-at old seats i s k.all h in
+    record {
+      all = AllSeated-set old new seats i s runner k.all h (others-at s.table old new change) (record { taken = still-taken s.table old new change seat.taken; sound = sound });
+      taken = taken-same s.table old new change seat.taken ∙ k.taken ∙ sym (length-set seats i (seated s runner));
+      reserved = reserved-same s.table old new change seat.taken (sound.limit ∙ quota ∙ sym seat.sound.limit) ∙ k.reserved ∙ sym (quotas-set seats i s runner h quota);
+    }
+
+-- the slot at a place
+pub slot-at : (m : List (Option Contents)) (seats : List Seat) (i : ℕ) (s : Seat) → slice_get seats i ≡ Some s → slice_get (slots_of m seats) i ≡ Some (slot_of m s)
+slot-at m [] i s h = cc
+slot-at m (x ∷ xs) zero s h = let same : x ≡ s = cc in ap (λ t. Some (slot_of m t)) same
+slot-at m (x ∷ xs) (suc i) s h = slot-at m xs i s h
+
+pub IfSlot-at : (m : List (Option Contents)) (seats : List Seat) (i : ℕ) (s : Seat) (P : Slot → Type 0) → slice_get seats i ≡ Some s → P (slot_of m s) → IfSome (slice_get (slots_of m seats) i) P
+IfSlot-at m seats i s P h p = rw (slot-at m seats i s h) p
+
+-- a call to the session at a place
+pub served-alone : (system : Disk) (call : Call) (r : Reply) (m : List (Option Contents)) (seats : List Seat) (i : ℕ) (s : Seat) (runner : Runner) →
+    slice_get seats i ≡ Some s → Serves system call r (state_of s.runner (contents_at m s.table)) (state_of runner (contents_at m s.table)) →
+    IsServed system call i r (slots_of m seats) (slots_of m (set seats i (seated s runner)))
+served-alone system call r m seats i s runner h k = record {
+  replied = IfSlot-at m seats i s (λ x. r ≡ reply_of (serve system call x.state).answer) h k.replied;
+  slots = slots-set_alone m seats i s runner (λ t. (serve system call t).state) h k.state;
+}
+
+-- one by which its memory goes on
+pub served-on : (system : Disk) (call : Call) (r : Reply) (old new : List (Option Contents)) (seats : List Seat) (i : ℕ) (s : Seat) (runner : Runner) →
+    IsSeated old seats → slice_get seats i ≡ Some s → ChangesAt s.table old new → Serves system call r (state_of s.runner (contents_at old s.table)) (state_of runner (contents_at new s.table)) →
+    IsServed system call i r (slots_of old seats) (slots_of new (set seats i (seated s runner)))
+served-on system call r old new seats i s runner seating h change k = record {
+  replied = IfSlot-at old seats i s (λ x. r ≡ reply_of (serve system call x.state).answer) h k.replied;
+  slots = slots-set old new seats i s runner (λ t. (serve system call t).state) seating.all h (others-at s.table old new change) k.state;
+}

@@ -1,0 +1,47 @@
+use Rattle.std.proofs.Common.{◌≡◌, List, [], ◌∷◌, ◌++◌, ap, ◌∙◌}
+use Rattle.cpm_memory.specs.Frames.{Frames, memories}
+use Rattle.cpm_sessions.specs.declared.seats.Seat.{Seat}
+use Rattle.cpm_sessions.proofs.OpenHost.{IsOpening, opened-host, opened-seated, opened-is}
+use Rattle.cpm_sessions.proofs.OpenSeats.{none-at}
+use Rattle.cpm_sessions.proofs.host.Host.open.Goals as goal
+
+pub invariant_of-self-2 : goal.invariant_of-self-2
+invariant_of-self-2 c =
+    let i = c.self.inside in
+    let old = memories i.store in
+    let new = memories c.reserve.new.self in
+    let s : Seat = record { id = i.openings; runner = c.opened-runner.result; table = c.in-Ok-reserve.table } in
+    let k : IsOpening i.system i.frames c.args.self.now old new i.seats.items c.push_reserved.new.self.items s c.args.opening = record {
+      view = c.self.view_is;
+      accepted = c.in_default.ensures.refusal;
+      host = c.self.invariant.0;
+      seated = c.self.invariant.1;
+      free = none-at i.store s.table c.in-Ok-reserve.ensures.free;
+      memories = c.in-Ok-reserve.ensures.memories;
+      taken = c.in-Ok-reserve.ensures.taken;
+      state = c.opened-runner.ensures;
+      pushed = c.push_reserved.ensures.items ∙ ap (λ xs. xs ++ s ∷ []) c.try_reserve.ensures.items;
+    } in (
+      opened-host i.system i.frames c.args.self.now old new i.seats.items c.push_reserved.new.self.items s c.args.opening k,
+      opened-seated i.system i.frames c.args.self.now old new i.seats.items c.push_reserved.new.self.items s c.args.opening k,
+      ap (λ (x : Frames). x.private) c.in-Ok-reserve.ensures.reserved ∙ c.self.invariant.2,
+    )
+
+pub returns-clause-opened : goal.returns-clause-opened
+returns-clause-opened c =
+    let i = c.self.inside in
+    let old = memories i.store in
+    let new = memories c.reserve.new.self in
+    let s : Seat = record { id = i.openings; runner = c.opened-runner.result; table = c.in-Ok-reserve.table } in
+    let k : IsOpening i.system i.frames c.args.self.now old new i.seats.items c.push_reserved.new.self.items s c.args.opening = record {
+      view = c.self.view_is;
+      accepted = c.in_default.ensures.refusal;
+      host = c.self.invariant.0;
+      seated = c.self.invariant.1;
+      free = none-at i.store s.table c.in-Ok-reserve.ensures.free;
+      memories = c.in-Ok-reserve.ensures.memories;
+      taken = c.in-Ok-reserve.ensures.taken;
+      state = c.opened-runner.ensures;
+      pushed = c.push_reserved.ensures.items ∙ ap (λ xs. xs ++ s ∷ []) c.try_reserve.ensures.items;
+    } in
+    opened-is i.system i.frames c.args.self.now old new i.seats.items c.push_reserved.new.self.items s c.args.opening k

@@ -1,0 +1,12 @@
+use Rattle.std.proofs.Common.{◌≡◌, ◌++◌, length, map, take, drop}
+use Rattle.cpm_sessions.specs.Host.{happening_of, host_after}
+use Rattle.cpm_sessions.proofs.RunLaws.{replies_by}
+use Rattle.cpm_sessions.proofs.host.Host.serve_all.Given as goal
+
+-- the host and the replies so far, and those to what is left, are those of the whole list
+abbrev pub invariant-loop-place : goal.invariant-loop-place
+invariant-loop-place l = record {
+  host : host_after (map happening_of (drop l.place l.events)) l.self ≡ host_after (map happening_of l.events) l.fn.self;
+  replies : take l.place l.replies ++ replies_by (drop l.place l.events) l.self ≡ replies_by l.events l.fn.self;
+  rest : drop (length l.events) l.replies ≡ drop (length l.events) l.fn.replies;
+}

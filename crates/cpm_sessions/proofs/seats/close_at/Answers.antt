@@ -1,0 +1,44 @@
+use Rattle.std.proofs.Common.{◌≡◌, List, Option, None, true, is_some, get_or, set, refl, sym, ap, ◌∙◌, subst}
+use Rattle.std.proofs.lemmas.Option.{slice_get_read}
+use Rattle.cpm_memory.specs.Contents.{Contents}
+use Rattle.cpm_memory.specs.Frames.{memories}
+use Rattle.cpm_sessions.specs.Seating.{slots_of, IsSeated}
+use Rattle.cpm_sessions.proofs.CloseSeats.{seat-at, IsSeated-closed, slots-closed}
+use Rattle.cpm_sessions.proofs.CloseHost.{left-at}
+use Rattle.cpm_sessions.proofs.seats.close_at.Goals as goal
+
+pub release-requires : goal.release-requires
+release-requires c =
+    let s = c.remove-runner.result in
+    let items = c.args.seats.now.items in
+    let at = slice_get_read items _ c.args.place s refl c.requires.place c.remove-runner.ensures.value in
+    subst (λ (m : List (Option Contents)). is_some (get_or m s.table None) ≡ true) (sym c.look_at-look.ensures.memories)
+    (seat-at (memories c.args.store.now) items c.args.place s c.requires.seated.all at).taken
+
+pub returns-clause-closed : goal.returns-clause-closed
+returns-clause-closed c =
+    let s = c.remove-runner.result in
+    let items = c.args.seats.now.items in
+    let at = slice_get_read items _ c.args.place s refl c.requires.place c.remove-runner.ensures.value in
+    let old = memories c.args.store.now in
+    left-at old items c.args.place s c.look_at-look.result c.into_images-drives.result at (rw c.deref.ensures.value at c.look_at-look.ensures.look) c.into_images-drives.ensures
+
+pub returns-clause-slots : goal.returns-clause-slots
+returns-clause-slots c =
+    let s = c.remove-runner.result in
+    let items = c.args.seats.now.items in
+    let at = slice_get_read items _ c.args.place s refl c.requires.place c.remove-runner.ensures.value in
+    let old = memories c.args.store.now in
+    let new = memories c.release.new.self in
+    let is = c.release.ensures.memories ∙ ap (λ (m : List (Option Contents)). set m s.table None) c.look_at-look.ensures.memories in
+    ap (slots_of new) c.remove-runner.ensures.items ∙ slots-closed old new items c.args.place s c.requires.seated at is
+
+pub returns-clause-seated : goal.returns-clause-seated
+returns-clause-seated c =
+    let s = c.remove-runner.result in
+    let items = c.args.seats.now.items in
+    let at = slice_get_read items _ c.args.place s refl c.requires.place c.remove-runner.ensures.value in
+    let old = memories c.args.store.now in
+    let new = memories c.release.new.self in
+    let is = c.release.ensures.memories ∙ ap (λ (m : List (Option Contents)). set m s.table None) c.look_at-look.ensures.memories in
+    subst (IsSeated new) (sym c.remove-runner.ensures.items) (IsSeated-closed old new items c.args.place s c.requires.seated at is)

@@ -1,0 +1,6 @@
+pub mod Serving
+pub mod Host
+pub mod Account
+pub mod Place
+pub mod Seating
+pub mod Laws

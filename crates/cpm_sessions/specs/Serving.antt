@@ -1,0 +1,49 @@
+-- What a slot of a host replies to what is asked of it. A slot is a machine that may be open; it is served by its own state and the system drive alone. (own)
+use Rattle.std.specs.Prelude.{ℕ, List, Option, Some, None}
+use Rattle.cpm_geom.specs.Disk.{Disk}
+use Rattle.cpm_slots.specs.MachineState.{MachineState}
+use Rattle.cpm_slots.specs.Calls.{Call, Key, Grant, Take, TakeList, LookAt, Peek, Answer, Accepted, KeysFull, Grants, Bytes, Looked, Peeked, serve}
+use Rattle.cpm_sessions.specs.declared.event.Request.{Request}
+use Rattle.cpm_sessions.specs.declared.event.Request.TheVariants as asks
+use Rattle.cpm_sessions.specs.declared.event.Reply.{Reply}
+use Rattle.cpm_sessions.specs.declared.event.Reply.TheVariants as reply
+use Rattle.cpm_sessions.specs.declared.event.Refusal.TheVariants as refusal
+
+-- what is asked of a slot: a call to its machine, or that it be closed (own)
+pub data Ask : Type 0 where
+  Calls : (call : Call) → Ask
+  Closes : Ask
+
+-- a request of a list, which takes up to 128 bytes (own)
+abbrev pub ask_of : Request → Ask
+ask_of (asks.Key key) = Calls (Key key)
+ask_of (asks.Grant steps) = Calls (Grant steps)
+ask_of asks.Take = Calls (Take 128)
+ask_of asks.TakeList = Calls (TakeList 128)
+ask_of asks.Look = Calls LookAt
+ask_of (asks.Peek address) = Calls (Peek address)
+ask_of asks.Close = Closes
+
+-- the machine's answer as a reply (own)
+abbrev pub reply_of : Answer → Reply
+reply_of Accepted = reply.Done
+reply_of KeysFull = reply.Refused refusal.KeysFull
+reply_of (Grants granted) = reply.Granted granted
+reply_of (Bytes bytes) = reply.Bytes (record { items = bytes })
+reply_of (Looked look) = reply.Looked look
+reply_of (Peeked byte) = reply.Peeked byte
+
+-- the reply, and the slot after it, if it is still open (own)
+pub record Replied : Type 0 where
+  pub reply : Reply
+  pub slot : Option MachineState
+
+-- an open slot is served as its machine alone; closing it drops what was not taken (own)
+abbrev pub serve_open : Disk → Ask → MachineState → Replied
+serve_open system (Calls call) s = record { reply = reply_of (serve system call s).answer; slot = Some (serve system call s).state }
+serve_open system Closes s = record { reply = reply.Done; slot = None }
+
+-- a slot that is not open refuses all that is asked of it (own)
+unfoldable pub serve_slot : Disk → Ask → Option MachineState → Replied
+serve_slot system ask None = record { reply = reply.Refused refusal.NoSuchSlot; slot = None }
+serve_slot system ask (Some s) = serve_open system ask s

@@ -1,0 +1,250 @@
+//! Up to 64 sessions over one system drive.
+
+ghost use Rattle.std.specs.Prelude.{◌≡◌, ◌≤◌, ◌<◌, [], length, drop, None, IfOk, IfErr, IfNone, IfSome, OnErr};
+ghost use Rattle.cpm_disks.specs.Disks.{images_of};
+ghost use Rattle.cpm_console.specs.Terminal.{blank};
+ghost use Rattle.cpm_memory.specs.Frames.{memories};
+ghost use Rattle.cpm_memory.specs.Opening.{opening as memory_opening};
+ghost use Rattle.cpm_memory.specs.Tabulated.{tabulated};
+ghost use Rattle.cpm_slots.specs.Opening.{IsRefusal};
+ghost use Rattle.cpm_slots.specs.Runner.{state_of};
+ghost use Rattle.cpm_slots.specs.Serve.{look_of};
+ghost use Rattle.cpm_slots.specs.Calls.{Key, Grant, Take, TakeList, LookAt, Peek};
+ghost use Rattle.cpm_sessions.specs.Host.{opened_slot};
+ghost use Rattle.cpm_sessions.specs.Serving.{Calls, Closes};
+
+use crate::event::{Refusal, SlotId};
+use crate::seats::{
+    Seat, close_at, grant_at, key_at, look_at, peek_at, place_of, quotas_of, take_at, take_list_at,
+};
+use cpm_bdos::Session;
+use cpm_console::Console;
+use cpm_geom::Image;
+use cpm_memory::FrameStore;
+use cpm_slots::steps::Runner;
+use cpm_slots::{Closed, End, Granted, Look, OpenError, Opening};
+use std::alloc::{AllocError, Global};
+use std::marker::Model;
+
+/// How many slots may be open.
+pub const PLACES: usize = 64;
+
+/// The fewest frames that a host may have: the least quota of one slot.
+pub const LEAST_FRAMES: u16 = 16;
+
+/// The most frames that a host may have: all pages of 64 slots.
+pub const MOST_FRAMES: u16 = 16_384;
+
+/// Up to 64 sessions over one system drive. Their memories are made of frames of one store.
+#[derive(Drop)]
+pub struct Host {
+    system: Image,
+    frames: u16,
+    openings: u64,
+    store: FrameStore,
+    seats: Vec<Seat>,
+}
+
+impl Model for Host {
+    ghost use Rattle.std.specs.Prelude.{◌≡◌};
+    ghost use Rattle.cpm_memory.specs.Frames.{memories};
+    ghost use Rattle.cpm_sessions.specs.Host.{Host as Hosted, IsHost};
+    ghost use Rattle.cpm_sessions.specs.Seating.{slots_of, IsSeated};
+
+    ghost Value = { Hosted };
+
+    ghost view = { λ h. record { system = h.system; frames = h.frames; openings = h.openings; slots = slots_of (memories h.store) h.seats.items } };
+
+    ghost invariant = { λ h. IsHost (record { system = h.system; frames = h.frames; openings = h.openings; slots = slots_of (memories h.store) h.seats.items }) × IsSeated (memories h.store) h.seats.items × (h.store.private ≡ h.frames) };
+}
+
+/// What a host takes memory for: its frames, and its places.
+fn allocate(alloc: Global, frames: u16) -> Result<(FrameStore, Vec<Seat>), AllocError>
+    requires { frames ≤ 16384 }
+    ensures frames { IfOk result (λ r. r.0.private ≡ frames) }
+    ensures memories { IfOk result (λ r. memories r.0 ≡ tabulated 64 (λ _. None)) }
+    ensures seats { IfOk result (λ r. r.1.items ≡ []) }
+{
+    let store = FrameStore::new(alloc, frames)?;
+    let seats = Vec::with_capacity(alloc, PLACES)?;
+    Ok((store, seats))
+}
+
+impl Host {
+    ghost use Rattle.cpm_sessions.specs.Host.{new_host, refusal_of, with_opened, slot_at, reply_at, after_ask, key_reply, grant_reply, take_reply, look_reply, peek_reply, close_reply};
+
+    /// A host with this system drive and so many frames, and no slot open. Want of memory hands the drive back.
+    pub fn new(alloc: Global, system: Image, frames: u16) -> Result<Host, (Image, OpenError)>
+        requires least { 16 ≤ frames }
+        requires most { frames ≤ 16384 }
+        ensures made { IfOk result (λ h. h ≡ new_host system frames) }
+        ensures refused { IfErr result (λ r. (r.0 ≡ system) × (r.1 ≡ OpenError.OutOfMemory)) }
+    {
+        match allocate(alloc, frames) {
+            Ok((store, seats)) => Ok(Host {
+                system,
+                frames,
+                openings: 0,
+                store,
+                seats,
+            }),
+            Err(_) => Err((system, OpenError::OutOfMemory)),
+        }
+    }
+
+    /// Why an opening is refused, want of memory aside.
+    fn refusal(&self, opening: &Opening) -> Option<OpenError>
+        ensures refusal { result ≡ refusal_of self.now opening.now }
+        ensures room { IfNone result (length self.now.slots < PLACES) }
+    {
+        if let Some(fault) = opening.fault() {
+            return Some(fault);
+        }
+        if self.seats.len() >= PLACES || self.openings == u64::MAX {
+            Some(OpenError::NoSlot)
+        } else if u64::from(self.frames) < quotas_of(&self.seats) + u64::from(opening.quota) {
+            Some(OpenError::NoFrames)
+        } else {
+            None
+        }
+    }
+
+    /// Opens a slot, and gives its number. What is refused comes back with the reason: a quota that is not 16 to 256 pages, then no drive
+    /// or more than four, then 64 slots open or no number left, then quotas of all open slots and this one that exceed the frames, then
+    /// want of memory. Nothing is changed then.
+    pub fn open(&mut self, alloc: Global, opening: Opening) -> Result<SlotId, (Opening, OpenError)>
+        ensures opened { IfOk result (λ id. self.new ≡ with_opened self.old opening) }
+        ensures number { IfOk result (λ id. id.0 ≡ self.old.openings) }
+        ensures fits { IfOk result (λ id. refusal_of self.old opening ≡ None) }
+        ensures refused { IfErr result (λ r. IsRefusal (refusal_of self.old opening) r.1) }
+        ensures handed_back { IfErr result (λ r. r.0 ≡ opening) }
+        ensures unchanged { OnErr result (self.new ≡ self.old) }
+    {
+        if let Some(fault) = self.refusal(&opening) {
+            return Err((opening, fault));
+        }
+        let Ok(console) = Console::new(alloc) else {
+            return Err((opening, OpenError::OutOfMemory));
+        };
+        if self.seats.try_reserve(1).is_err() {
+            return Err((opening, OpenError::OutOfMemory));
+        }
+        let Ok(table) = self.store.reserve(opening.quota) else {
+            return Err((opening, OpenError::NoFrames));
+        };
+        let id = self.openings;
+        let runner = opened(opening, console);
+        self.seats.push_reserved(Seat { id, runner, table });
+        self.openings += 1;
+        Ok(SlotId(id))
+    }
+
+    /// Presses a key in a slot. It is refused where 4,096 keys are pending.
+    pub fn key(&mut self, id: SlotId, key: u8) -> Result<(), Refusal>
+        ensures reply { key_reply result ≡ reply_at self.old id.0 (Calls (Key key)) }
+        ensures host { self.new ≡ after_ask self.old id.0 (Calls (Key key)) }
+    {
+        match place_of(&self.seats, id) {
+            None => Err(Refusal::NoSuchSlot),
+            Some(place) => key_at(&mut self.seats, place, key),
+        }
+    }
+
+    /// Executes the greatest number of steps of a slot, at most `steps`, that can be made.
+    pub fn grant(&mut self, id: SlotId, steps: u64) -> Result<Granted, Refusal>
+        ensures reply { grant_reply result ≡ reply_at self.old id.0 (Calls (Grant steps)) }
+        ensures host { self.new ≡ after_ask self.old id.0 (Calls (Grant steps)) }
+    {
+        match place_of(&self.seats, id) {
+            None => Err(Refusal::NoSuchSlot),
+            Some(place) => Ok(grant_at(
+                &mut self.seats,
+                &mut self.store,
+                &self.system,
+                place,
+                steps,
+            )),
+        }
+    }
+
+    /// Moves out the first console bytes of a slot, as many as fit, and says how many.
+    pub fn take(&mut self, id: SlotId, out: &mut [u8]) -> Result<usize, Refusal>
+        ensures reply { take_reply result out.new ≡ reply_at self.old id.0 (Calls (Take (length out.old))) }
+        ensures rest { IfOk result (λ count. drop count out.new ≡ drop count out.old) }
+        ensures count { IfOk result (λ count. count ≤ length out.old) }
+        ensures length { length out.new ≡ length out.old }
+        ensures refused { OnErr result (out.new ≡ out.old) }
+        ensures host { self.new ≡ after_ask self.old id.0 (Calls (Take (length out.old))) }
+    {
+        match place_of(&self.seats, id) {
+            None => Err(Refusal::NoSuchSlot),
+            Some(place) => Ok(take_at(&mut self.seats, place, out)),
+        }
+    }
+
+    /// Moves out the first list bytes of a slot, as many as fit, and says how many.
+    pub fn take_list(&mut self, id: SlotId, out: &mut [u8]) -> Result<usize, Refusal>
+        ensures reply { take_reply result out.new ≡ reply_at self.old id.0 (Calls (TakeList (length out.old))) }
+        ensures rest { IfOk result (λ count. drop count out.new ≡ drop count out.old) }
+        ensures count { IfOk result (λ count. count ≤ length out.old) }
+        ensures length { length out.new ≡ length out.old }
+        ensures refused { OnErr result (out.new ≡ out.old) }
+        ensures host { self.new ≡ after_ask self.old id.0 (Calls (TakeList (length out.old))) }
+    {
+        match place_of(&self.seats, id) {
+            None => Err(Refusal::NoSuchSlot),
+            Some(place) => Ok(take_list_at(&mut self.seats, place, out)),
+        }
+    }
+
+    /// What is seen of a slot. Its memory is lent for reading alone.
+    pub fn look(&mut self, id: SlotId) -> Result<Look, Refusal>
+        ensures reply { look_reply result ≡ reply_at self.old id.0 (Calls LookAt) }
+        ensures host { self.new ≡ after_ask self.old id.0 (Calls LookAt) }
+        ensures unchanged { self.new ≡ self.old }
+    {
+        match place_of(&self.seats, id) {
+            None => Err(Refusal::NoSuchSlot),
+            Some(place) => Ok(look_at(&self.seats, &mut self.store, place)),
+        }
+    }
+
+    /// The byte at an address of a slot's memory.
+    pub fn peek(&self, id: SlotId, address: u16) -> Result<u8, Refusal>
+        ensures reply { peek_reply result ≡ reply_at self.now id.0 (Calls (Peek address)) }
+        ensures unchanged { after_ask self.now id.0 (Calls (Peek address)) ≡ self.now }
+    {
+        match place_of(&self.seats, id) {
+            None => Err(Refusal::NoSuchSlot),
+            Some(place) => Ok(peek_at(&self.seats, &self.store, place, address)),
+        }
+    }
+
+    /// Closes a slot, whose number never comes again, and gives what is left of it. Bytes not taken are dropped.
+    pub fn close(&mut self, id: SlotId) -> Result<Closed, Refusal>
+        ensures reply { close_reply result ≡ reply_at self.old id.0 Closes }
+        ensures closed { IfOk result (λ c. IfSome (slot_at id.0 self.old.slots) (λ s. (c.look ≡ look_of s) × (c.drives ≡ images_of s.session.disks))) }
+        ensures host { self.new ≡ after_ask self.old id.0 Closes }
+    {
+        match place_of(&self.seats, id) {
+            None => Err(Refusal::NoSuchSlot),
+            Some(place) => Ok(close_at(&mut self.seats, &mut self.store, place)),
+        }
+    }
+}
+
+/// A session at its opening, with this console.
+fn opened(opening: Opening, console: Console) -> Runner
+    requires { console ≡ blank }
+    ensures { state_of result (memory_opening opening.quota) ≡ opened_slot opening }
+{
+    let Opening { cpu, quota, drives } = opening;
+    Runner {
+        cpu,
+        session: Session::new(console, drives),
+        quota,
+        count: 0,
+        ended: End::Running,
+        with_program: false,
+    }
+}

@@ -1,0 +1,49 @@
+//! The laws of a host, as contracts.
+
+ghost use Rattle.cpm_sessions.specs.Laws.{Apart, Isolation, Alone, EachAlone, TwoWorlds, Within, Cutting, NeverAgain, Orderly};
+
+/// What is asked of one slot leaves every other.
+pub fn apart()
+    ensures { Apart }
+{}
+
+/// A slot's state and its replies follow from its own events, whatever other slots do.
+pub fn isolation()
+    ensures { Isolation }
+{}
+
+/// After anything that happens to a host, each open slot is the machine run alone by its accepted keys and executed steps, and its
+/// replies are those of that machine.
+pub fn alone()
+    ensures { Alone }
+{}
+
+/// After anything that happens to a host, each open slot was opened, and stands alone since.
+pub fn each_alone()
+    ensures { EachAlone }
+{}
+
+/// Two hosts that agree on the system drive, on a slot of each and on its own events agree on its replies and its state.
+pub fn two_worlds()
+    ensures { TwoWorlds }
+{}
+
+/// No more steps are executed than are granted.
+pub fn within()
+    ensures { Within }
+{}
+
+/// Cutting a grant to a slot changes nothing.
+pub fn cutting()
+    ensures { Cutting }
+{}
+
+/// The number of a closed slot never comes again.
+pub fn never_again()
+    ensures { NeverAgain }
+{}
+
+/// A host that was made keeps its slots in order, at most 64, and their quotas within its frames.
+pub fn orderly()
+    ensures { Orderly }
+{}

@@ -1,0 +1,14 @@
+//! A host of up to 64 sessions over one system drive, each of which is a machine alone.
+#![tactic(auto)]
+
+pub mod event;
+pub mod host;
+pub mod laws;
+mod run;
+mod seats;
+
+pub use event::{Event, Refusal, Reply, Request, SlotId};
+pub use host::{Host, LEAST_FRAMES, MOST_FRAMES, PLACES};
+
+#[cfg(test)]
+mod tests;

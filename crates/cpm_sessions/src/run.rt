@@ -1,0 +1,108 @@
+//! Lists of events.
+
+ghost use Rattle.std.specs.Prelude.{◌≡◌, ℕ, ◌<◌, ◌≤◌, length, map, take, drop};
+ghost use Rattle.cpm_sessions.specs.Serving.{ask_of};
+ghost use Rattle.cpm_sessions.specs.Account.{slot_after, replies_of};
+
+use crate::event::{Event, Reply, Request, SlotId};
+use crate::host::Host;
+use arrayvec::ArrayVec;
+
+/// The bytes, in a vector that takes no memory.
+fn chunk(bytes: &[u8]) -> ArrayVec<u8, 128>
+    requires { length bytes.now ≤ 128 }
+    ensures { result.items ≡ bytes.now }
+{
+    let mut chunk = ArrayVec::new();
+    let _ = chunk.try_extend_from_slice(bytes);
+    chunk
+}
+
+impl Host {
+    ghost use Rattle.cpm_sessions.specs.Host.{reply_at, after_ask, happening_of, host_after, told, own, replies_to, slot_at};
+    ghost use Rattle.cpm_slots.specs.Calls.{Take, TakeList};
+    ghost use Rattle.cpm_sessions.specs.Serving.{Calls};
+
+    /// Gives up to 128 console bytes.
+    fn take_chunk(&mut self, id: SlotId) -> Reply
+        ensures reply { result ≡ reply_at self.old id.0 (Calls (Take 128)) }
+        ensures host { self.new ≡ after_ask self.old id.0 (Calls (Take 128)) }
+    {
+        let mut bytes = [0; 128];
+        match self.take(id, &mut bytes) {
+            Ok(count) => Reply::Bytes(chunk(&bytes[..count])),
+            Err(refusal) => Reply::Refused(refusal),
+        }
+    }
+
+    /// Gives up to 128 list bytes.
+    fn take_list_chunk(&mut self, id: SlotId) -> Reply
+        ensures reply { result ≡ reply_at self.old id.0 (Calls (TakeList 128)) }
+        ensures host { self.new ≡ after_ask self.old id.0 (Calls (TakeList 128)) }
+    {
+        let mut bytes = [0; 128];
+        match self.take_list(id, &mut bytes) {
+            Ok(count) => Reply::Bytes(chunk(&bytes[..count])),
+            Err(refusal) => Reply::Refused(refusal),
+        }
+    }
+
+    /// Serves one event.
+    fn serve(&mut self, event: &Event) -> Reply
+        ensures reply { result ≡ reply_at self.old event.now.slot.0 (ask_of event.now.request) }
+        ensures host { self.new ≡ after_ask self.old event.now.slot.0 (ask_of event.now.request) }
+    {
+        let id = event.slot;
+        match event.request {
+            Request::Key(key) => match self.key(id, key) {
+                Ok(()) => Reply::Done,
+                Err(refusal) => Reply::Refused(refusal),
+            },
+            Request::Grant(steps) => match self.grant(id, steps) {
+                Ok(granted) => Reply::Granted(granted),
+                Err(refusal) => Reply::Refused(refusal),
+            },
+            Request::Take => self.take_chunk(id),
+            Request::TakeList => self.take_list_chunk(id),
+            Request::Look => match self.look(id) {
+                Ok(look) => Reply::Looked(look),
+                Err(refusal) => Reply::Refused(refusal),
+            },
+            Request::Peek(address) => match self.peek(id, address) {
+                Ok(byte) => Reply::Peeked(byte),
+                Err(refusal) => Reply::Refused(refusal),
+            },
+            Request::Close => match self.close(id) {
+                Ok(_) => Reply::Done,
+                Err(refusal) => Reply::Refused(refusal),
+            },
+        }
+    }
+
+    /// Serves a list of events in order, and puts the reply to each in its place. A slot's replies and its state are those of the slot by
+    /// itself, by its own events. Places past the last event are left as they are.
+    pub fn run(&mut self, events: &[Event], replies: &mut [Reply])
+        requires { length events.now ≤ length replies.old }
+        ensures host { self.new ≡ host_after (map happening_of events.now) self.old }
+        ensures replies { take (length events.now) replies.new ≡ map (λ t. t.reply) (told (map happening_of events.now) self.old) }
+        ensures rest { drop (length events.now) replies.new ≡ drop (length events.now) replies.old }
+        ensures own_replies { (id : ℕ) → id < self.old.openings →
+            replies_to id events.now replies.new ≡ replies_of self.old.system (own id (map happening_of events.now)) (slot_at id self.old.slots) }
+        ensures own_state { (id : ℕ) → id < self.old.openings →
+            slot_at id self.new.slots ≡ slot_after self.old.system (own id (map happening_of events.now)) (slot_at id self.old.slots) }
+    {
+        self.serve_all(events, replies);
+    }
+
+    /// Serves a list of events in order.
+    fn serve_all(&mut self, events: &[Event], replies: &mut [Reply])
+        requires { length events.now ≤ length replies.old }
+        ensures host { self.new ≡ host_after (map happening_of events.now) self.old }
+        ensures replies { take (length events.now) replies.new ≡ map (λ t. t.reply) (told (map happening_of events.now) self.old) }
+        ensures rest { drop (length events.now) replies.new ≡ drop (length events.now) replies.old }
+    {
+        for (place, event) in events.iter().enumerate() {
+            replies[place] = self.serve(event);
+        }
+    }
+}

@@ -1,0 +1,281 @@
+//! Worked rows: which openings a host takes, what its slots reply, and what a refused allocation leaves.
+
+use crate::event::{Event, Refusal, Reply, Request, SlotId};
+use crate::host::Host;
+use cpm_flags::Cpu;
+use cpm_geom::{Format, Image};
+use cpm_slots::{End, Granted, OpenError, Opening, Why};
+use std::alloc::Global;
+use std::process::Abort;
+use std::test::Fail;
+
+/// A blank drive.
+fn blank(alloc: Global) -> Result<Image, Fail> {
+    Ok(Image::blank(alloc, Format::Ibm3740)?)
+}
+
+/// An opening with so many blank drives.
+fn opening_of(alloc: Global, quota: u16, count: usize) -> Result<Opening, Fail> {
+    let mut drives = Vec::with_capacity(alloc, count)?;
+    for _ in 0..count {
+        drives.push(blank(alloc)?)?;
+    }
+    Ok(Opening {
+        cpu: Cpu::I8080,
+        quota,
+        drives,
+    })
+}
+
+/// A host with a blank system drive.
+fn host_of(rt: &impl Abort, alloc: Global, frames: u16) -> Result<Host, Fail> {
+    assert!(rt; frames >= 16);
+    assert!(rt; frames <= 16_384);
+    match Host::new(alloc, blank(alloc)?, frames) {
+        Ok(host) => Ok(host),
+        Err((_, error)) => Err(Fail::from(error)),
+    }
+}
+
+/// Opens a slot with one blank drive.
+fn open(host: &mut Host, alloc: Global, quota: u16) -> Result<SlotId, Fail> {
+    match host.open(alloc, opening_of(alloc, quota, 1)?) {
+        Ok(id) => Ok(id),
+        Err((_, error)) => Err(Fail::from(error)),
+    }
+}
+
+/// The opening is refused for this reason, and comes back.
+fn refused(rt: &impl Abort, host: &mut Host, alloc: Global, opening: Opening, wanted: OpenError) {
+    let quota = opening.quota;
+    let count = opening.drives.len();
+    match host.open(alloc, opening) {
+        Ok(_) => panic!(rt; "{quota} pages and {count} drives are taken"),
+        Err((back, error)) => {
+            assert_eq!(rt; error, wanted);
+            assert_eq!(rt; back.quota, quota);
+            assert_eq!(rt; back.drives.len(), count);
+        }
+    }
+}
+
+#[test]
+fn frames_bound_the_quotas(rt: HostRuntime) -> Result<(), Fail> {
+    let mut host = host_of(&rt, rt.alloc(), 512)?;
+    for number in 0..32 {
+        assert_eq!(rt; open(&mut host, rt.alloc(), 16)?, SlotId(number));
+    }
+    let opening = opening_of(rt.alloc(), 16, 1)?;
+    refused(&rt, &mut host, rt.alloc(), opening, OpenError::NoFrames);
+    assert!(rt; host.close(SlotId(3)).is_ok());
+    assert_eq!(rt; open(&mut host, rt.alloc(), 16)?, SlotId(32));
+    let opening = opening_of(rt.alloc(), 16, 1)?;
+    refused(&rt, &mut host, rt.alloc(), opening, OpenError::NoFrames);
+    Ok(())
+}
+
+#[test]
+fn opens_64_slots(rt: HostRuntime) -> Result<(), Fail> {
+    let mut host = host_of(&rt, rt.alloc(), 1024)?;
+    for number in 0..64 {
+        assert_eq!(rt; open(&mut host, rt.alloc(), 16)?, SlotId(number));
+    }
+    for (quota, count, wanted) in [
+        (16, 1, OpenError::NoSlot),
+        (15, 1, OpenError::BadQuota),
+        (257, 0, OpenError::BadQuota),
+        (16, 0, OpenError::BadDrives),
+        (16, 5, OpenError::BadDrives),
+    ] {
+        let opening = opening_of(rt.alloc(), quota, count)?;
+        refused(&rt, &mut host, rt.alloc(), opening, wanted);
+    }
+    Ok(())
+}
+
+#[test]
+fn closed_numbers_are_refused(rt: HostRuntime) -> Result<(), Fail> {
+    let mut host = host_of(&rt, rt.alloc(), 16)?;
+    let first = open(&mut host, rt.alloc(), 16)?;
+    match host.close(first) {
+        Ok(closed) => {
+            assert_eq!(rt; closed.look.count, 0);
+            assert!(rt; closed.drives[0].is_some());
+            assert!(rt; closed.drives[1].is_none());
+        }
+        Err(refusal) => return Err(Fail::from(refusal)),
+    }
+    let second = open(&mut host, rt.alloc(), 16)?;
+    assert_eq!(rt; first, SlotId(0));
+    assert_eq!(rt; second, SlotId(1));
+    assert_eq!(rt; host.key(first, 0x41), Err(Refusal::NoSuchSlot));
+    assert_eq!(rt; host.look(first), Err(Refusal::NoSuchSlot));
+    assert_eq!(rt; host.peek(first, 0), Err(Refusal::NoSuchSlot));
+    assert_eq!(rt; host.grant(first, 1), Err(Refusal::NoSuchSlot));
+    assert!(rt; host.close(first).is_err());
+    let look = host.look(second)?;
+    assert_eq!(rt; look.keys, 0);
+    assert_eq!(rt; look.count, 0);
+    Ok(())
+}
+
+#[test]
+fn keys_are_bounded(rt: HostRuntime) -> Result<(), Fail> {
+    let mut host = host_of(&rt, rt.alloc(), 32)?;
+    let full = open(&mut host, rt.alloc(), 16)?;
+    let other = open(&mut host, rt.alloc(), 16)?;
+    for _ in 0..4096 {
+        assert_eq!(rt; host.key(full, 0x20), Ok(()));
+    }
+    assert_eq!(rt; host.key(full, 0x21), Err(Refusal::KeysFull));
+    assert_eq!(rt; host.look(full)?.keys, 4096);
+    assert_eq!(rt; host.key(other, 0x21), Ok(()));
+    assert_eq!(rt; host.look(other)?.keys, 1);
+    Ok(())
+}
+
+fn ask(slot: SlotId, request: Request) -> Event {
+    Event { slot, request }
+}
+
+#[test]
+fn replies_stand_at_their_events(rt: HostRuntime) -> Result<(), Fail> {
+    let mut host = host_of(&rt, rt.alloc(), 64)?;
+    let first = open(&mut host, rt.alloc(), 16)?;
+    let second = open(&mut host, rt.alloc(), 16)?;
+    let events = [
+        ask(second, Request::Grant(3)),
+        ask(first, Request::Peek(0x0005)),
+        ask(second, Request::Key(0x41)),
+        ask(first, Request::Look),
+        ask(first, Request::Close),
+        ask(first, Request::Grant(1)),
+        ask(second, Request::Grant(0)),
+        ask(first, Request::Take),
+        ask(second, Request::Look),
+    ];
+    let mut replies = [
+        Reply::Done,
+        Reply::Done,
+        Reply::Done,
+        Reply::Done,
+        Reply::Done,
+        Reply::Done,
+        Reply::Done,
+        Reply::Done,
+        Reply::Done,
+        Reply::Peeked(7),
+    ];
+    host.run(&events, &mut replies);
+    let three = Granted {
+        executed: 3,
+        why: Why::All,
+    };
+    let none = Granted {
+        executed: 0,
+        why: Why::All,
+    };
+    assert!(rt; matches!(&replies[0], Reply::Granted(granted) if *granted == three));
+    assert!(rt; matches!(&replies[1], Reply::Peeked(0xC3)));
+    assert!(rt; matches!(&replies[2], Reply::Done));
+    assert!(rt;
+        matches!(&replies[3], Reply::Looked(look) if look.count == 0 && look.ended == End::Running)
+    );
+    assert!(rt; matches!(&replies[4], Reply::Done));
+    assert!(rt; matches!(&replies[5], Reply::Refused(Refusal::NoSuchSlot)));
+    assert!(rt; matches!(&replies[6], Reply::Granted(granted) if *granted == none));
+    assert!(rt; matches!(&replies[7], Reply::Refused(Refusal::NoSuchSlot)));
+    assert!(rt; matches!(&replies[8], Reply::Looked(look) if look.count == 3));
+    assert!(rt; matches!(&replies[9], Reply::Peeked(7)));
+    Ok(())
+}
+
+#[test]
+fn grants_are_cut_alike(rt: HostRuntime) -> Result<(), Fail> {
+    let mut host = host_of(&rt, rt.alloc(), 64)?;
+    let whole = open(&mut host, rt.alloc(), 16)?;
+    let cut = open(&mut host, rt.alloc(), 16)?;
+    assert_eq!(rt; host.grant(whole, 50)?.executed, 50);
+    for _ in 0..50 {
+        assert_eq!(rt; host.grant(cut, 1)?.executed, 1);
+    }
+    assert_eq!(rt; host.look(whole)?, host.look(cut)?);
+    let mut one = [0; 8192];
+    let mut other = [0; 8192];
+    let taken = host.take(whole, &mut one)?;
+    assert_eq!(rt; host.take(cut, &mut other)?, taken);
+    assert_eq!(rt; one, other);
+    assert_eq!(rt; host.take_list(cut, &mut other)?, 0);
+    Ok(())
+}
+
+/// Passes with any one allocation refused: the opening comes back, and can be tried again.
+#[test]
+fn want_of_memory_hands_the_opening_back(rt: HostRuntime) -> Result<(), Fail> {
+    let mut host = host_of(&rt, rt.alloc(), 16)?;
+    let opening = opening_of(rt.alloc(), 16, 2)?;
+    match host.open(rt.alloc(), opening) {
+        Ok(id) => assert_eq!(rt; id, SlotId(0)),
+        Err((back, error)) => {
+            assert_eq!(rt; error, OpenError::OutOfMemory);
+            assert_eq!(rt; back.quota, 16);
+            assert_eq!(rt; back.drives.len(), 2);
+            match host.open(rt.alloc(), back) {
+                Ok(id) => assert_eq!(rt; id, SlotId(0)),
+                Err((_, again)) => return Err(Fail::from(again)),
+            }
+        }
+    }
+    assert_eq!(rt; host.look(SlotId(0))?.count, 0);
+    Ok(())
+}
+
+#[test]
+fn openings_are_refused_in_order(rt: HostRuntime) -> Result<(), Fail> {
+    let mut host = host_of(&rt, rt.alloc(), 40)?;
+    assert_eq!(rt; open(&mut host, rt.alloc(), 16)?, SlotId(0));
+    for (quota, count, wanted) in [
+        (257, 5, OpenError::BadQuota),
+        (256, 5, OpenError::BadDrives),
+        (256, 4, OpenError::NoFrames),
+        (25, 1, OpenError::NoFrames),
+    ] {
+        let opening = opening_of(rt.alloc(), quota, count)?;
+        refused(&rt, &mut host, rt.alloc(), opening, wanted);
+        assert_eq!(rt; host.look(SlotId(0))?.count, 0);
+    }
+    assert_eq!(rt; open(&mut host, rt.alloc(), 24)?, SlotId(1));
+    assert!(rt; host.close(SlotId(0)).is_ok());
+    assert_eq!(rt; open(&mut host, rt.alloc(), 16)?, SlotId(2));
+    Ok(())
+}
+
+#[test]
+fn full_hosts_number_on(rt: HostRuntime) -> Result<(), Fail> {
+    let mut host = host_of(&rt, rt.alloc(), 16_384)?;
+    for _ in 0..64 {
+        open(&mut host, rt.alloc(), 256)?;
+    }
+    let opening = opening_of(rt.alloc(), 256, 1)?;
+    refused(&rt, &mut host, rt.alloc(), opening, OpenError::NoSlot);
+    assert!(rt; host.close(SlotId(63)).is_ok());
+    assert_eq!(rt; open(&mut host, rt.alloc(), 256)?, SlotId(64));
+    Ok(())
+}
+
+/// Passes with any one allocation refused: the drive comes back, and can be used again.
+#[test]
+fn want_of_memory_hands_the_drive_back(rt: HostRuntime) -> Result<(), Fail> {
+    let mut host = match Host::new(rt.alloc(), blank(rt.alloc())?, 32) {
+        Ok(host) => host,
+        Err((system, error)) => {
+            assert_eq!(rt; error, OpenError::OutOfMemory);
+            match Host::new(rt.alloc(), system, 32) {
+                Ok(host) => host,
+                Err((_, again)) => return Err(Fail::from(again)),
+            }
+        }
+    };
+    assert_eq!(rt; open(&mut host, rt.alloc(), 32)?, SlotId(0));
+    Ok(())
+}
