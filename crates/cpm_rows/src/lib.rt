@@ -2,6 +2,8 @@
 #![tactic(auto)]
 
 #[cfg(test)]
+mod assembler;
+#[cfg(test)]
 mod console;
 #[cfg(test)]
 mod disks;
@@ -13,3 +15,5 @@ mod programs;
 mod programs_z80;
 #[cfg(test)]
 mod run;
+#[cfg(test)]
+mod stops;
