@@ -10,7 +10,7 @@ use Rattle.clap.specs.Kinds.{check_kinds}
 use Rattle.clap.specs.Faults.{check_fault, entered_fault, fault_of, level_fault}
 use Rattle.clap.specs.declared.builder.value_parser.ValueParser.TheVariants as parser
 use Rattle.clap.proofs.ValueTestLemmas.{accepts-Accepts}
-use Rattle.cpm_command.specs.CommandLine.{IsCount, IsPick, IsWhole, IsWholeCom, com_app, host_app, operand, steps_option, z80_flag}
+use Rattle.cpm_command.specs.CommandLine.{IsCount, IsPick, IsWhole, IsWholeAsm, IsWholeCom, IsWholeList, asm_app, com_app, host_app, list_app, operand, steps_option, z80_flag}
 use Rattle.cpm_flags.specs.declared.regs.Cpu.TheVariants.{I8080, Z80}
 use Rattle.cpm_command.proofs.FilledRows.{AllFilled, HasText, IsPlain, defaults_have, given_has, plain_by_ids, same_bytes, text_filled}
 use Rattle.cpm_command.proofs.WalkRows.{HasNoShorts, level_checked, level_filled}
@@ -20,11 +20,20 @@ use Rattle.cpm_command.proofs.WalkRows.{HasNoShorts, level_checked, level_filled
 abbrev host_built : App
 host_built = built host_app
 
-abbrev com_built : Shape
-com_built = built_leaf (inherited (with_leaf_noted (marked_built host_app.top)) com_app.top)
+abbrev leaf : Shape → Shape
+leaf s = built_leaf (inherited (with_leaf_noted (marked_built host_app.top)) s)
 
-only_com : host_built.subs ≡ com_built ∷ []
-only_com = refl
+abbrev com_built : Shape
+com_built = leaf com_app.top
+
+abbrev asm_built : Shape
+asm_built = leaf asm_app.top
+
+abbrev list_built : Shape
+list_built = leaf list_app.top
+
+all_subs : host_built.subs ≡ com_built ∷ asm_built ∷ list_built ∷ []
+all_subs = refl
 
 com_plain : IsPlain com_built.rules
 com_plain = plain_by_ids com_built.rules refl
@@ -82,7 +91,62 @@ com_whole words e = record {
     given true h = refl
     given false h = absurd (let bad : ⊥ = cc in bad)
 
+-- ---- subcommands with one word, and with two
+
+given_word : (b : Bool) → check_kinds false false ((true && not b) || false) ≡ [] → b ≡ true
+given_word true h = refl
+given_word false h = absurd (let bad : ⊥ = cc in bad)
+
+list_plain : IsPlain list_built.rules
+list_plain = plain_by_ids list_built.rules refl (record { action = inl refl; values = inl refl }, tt)
+
+list_no_shorts : HasNoShorts list_built.rules
+list_no_shorts x = refl
+
+list_whole : (words : List Text) → level_fault list_built [] nothing_held words false [] ≡ [] → IsWholeList (rows_after list_built.rules [] words)
+list_whole words e =
+    let rows = rows_after list_built.rules [] words in
+    let all = level_filled list_built list_plain list_no_shorts [] nothing_held words false [] e tt in
+    let checked : check_fault list_built rows false ≡ [] = (level_checked list_built [] nothing_held words false [] e).1 in
+    record {
+      file = subst IsSome (sym (text_filled list_built.rules list_plain file_rule (inl refl) rows all
+          (given_has (codes "file") rows (given_word (is_given (codes "file") rows) checked))).first) refl;
+    }
+
+asm_plain : IsPlain asm_built.rules
+asm_plain = plain_by_ids asm_built.rules refl
+    (record { action = inl refl; values = inl refl }, (record { action = inl refl; values = inl refl }, tt))
+
+asm_no_shorts : HasNoShorts asm_built.rules
+asm_no_shorts x = refl
+
+abbrev source_rule : Rule
+source_rule = with_index 1 (filled (operand (codes "source")))
+
+abbrev out_rule : Rule
+out_rule = with_index 2 (filled (operand (codes "out")))
+
+given_words : (a b : Bool) → check_kinds false false ((true && not a) || ((true && not b) || false)) ≡ [] → (a ≡ true) × (b ≡ true)
+given_words true true h = (refl, refl)
+given_words true false h = absurd (let bad : ⊥ = cc in bad)
+given_words false b h = absurd (let bad : ⊥ = cc in bad)
+
+asm_whole : (words : List Text) → level_fault asm_built [] nothing_held words false [] ≡ [] → IsWholeAsm (rows_after asm_built.rules [] words)
+asm_whole words e =
+    let rows = rows_after asm_built.rules [] words in
+    let all = level_filled asm_built asm_plain asm_no_shorts [] nothing_held words false [] e tt in
+    let checked : check_fault asm_built rows false ≡ [] = (level_checked asm_built [] nothing_held words false [] e).1 in
+    let given = given_words (is_given (codes "source") rows) (is_given (codes "out") rows) checked in
+    record {
+      source = subst IsSome (sym (text_filled asm_built.rules asm_plain source_rule (inl refl) rows all (given_has (codes "source") rows given.0)).first) refl;
+      out = subst IsSome (sym (text_filled asm_built.rules asm_plain out_rule (inr (inl refl)) rows all (given_has (codes "out") rows given.1)).first) refl;
+    }
+
 -- ---- the whole command line
+
+-- the subcommand that a word names, by whether it is the name of each
+abbrev found : Bool → Bool → Bool → Option Shape
+found a b d = cond a (Some com_built) (cond b (Some asm_built) (cond d (Some list_built) None))
 
 -- words with no fault name a subcommand, and give it whole entries
 pub faultless_whole : (words : List Text) → fault_of host_app words ≡ [] → IsWhole (subcommand_of host_app words)
@@ -96,12 +160,14 @@ faultless_whole words e =
     has true h = refl
     has false h = absurd (let bad : ⊥ = cc in bad)
 
-    named : (p : Text × List Text) (b : Bool) → is_some (option_map (λ s. rows_at s p.1) (cond b (Some com_built) None)) ≡ true
-        → option_map_or (λ s. level_fault s [] nothing_held p.1 false []) (cond b (Some com_built) None) [] ≡ []
-        → IsWhole (option_map (λ s. rows_at s p.1) (cond b (Some com_built) None))
-    named p true some h = (refl, com_whole p.1 h)
-    named p false some h = absurd (true≢false (sym some))
+    named : (p : Text × List Text) (a b d : Bool) → is_some (option_map (λ s. rows_at s p.1) (found a b d)) ≡ true
+        → option_map_or (λ s. level_fault s [] nothing_held p.1 false []) (found a b d) [] ≡ []
+        → IsWhole (option_map (λ s. rows_at s p.1) (found a b d))
+    named p true b d some h = inl (refl, com_whole p.1 h)
+    named p false true d some h = inr (inl (refl, asm_whole p.1 h))
+    named p false false true some h = inr (inr (refl, list_whole p.1 h))
+    named p false false false some h = absurd (true≢false (sym some))
 
     go : (at : Option (Text × List Text)) → is_some (entered host_built at) ≡ true → entered_fault host_built at ≡ [] → IsWhole (entered host_built at)
     go None some h = absurd (true≢false (sym some))
-    go (Some p) some h = named p (answers_to p.0 (label_of com_built)) some h
+    go (Some p) some h = named p (answers_to p.0 (label_of com_built)) (answers_to p.0 (label_of asm_built)) (answers_to p.0 (label_of list_built)) some h

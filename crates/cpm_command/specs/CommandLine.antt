@@ -1,5 +1,5 @@
 -- The program's subcommands, and the task that a subcommand's entries give.
-use Rattle.std.specs.Prelude.{◌≡◌, ◌∷◌, [], ◌^◌, ◌<◌, IsSome, IsSomeAnd, ℕ, List, Option, Some, true, false, codes}
+use Rattle.std.specs.Prelude.{◌≡◌, ◌⊎◌, ◌∷◌, [], ◌^◌, ◌<◌, IsSome, IsSomeAnd, ℕ, List, Option, Some, true, false, codes}
 use Rattle.std.specs.Str.Parse.{IsNumeral, digits_value, without_leading_plus}
 use Rattle.clap.specs.Words.{App, Row, Rule, Text, app_of, first_of, new_app, new_rule, one_of, rule_of, with_rule, with_subcommand}
 use Rattle.clap.specs.declared.builder.action.ArgAction.TheVariants.{SetTrue}
@@ -10,7 +10,7 @@ use Rattle.clap.specs.declared.builder.value_parser.ValueParser.TheVariants as p
 use Rattle.cpm_flags.specs.declared.regs.Cpu.{Cpu}
 use Rattle.cpm_flags.specs.declared.regs.Cpu.TheVariants.{I8080, Z80}
 use Rattle.cpm_command.specs.declared.task.Task.{Task}
-use Rattle.cpm_command.specs.declared.task.Task.TheVariants.{Com}
+use Rattle.cpm_command.specs.declared.task.Task.TheVariants.{Asm, Com, List as Listing}
 
 -- a word that has to be there, with a name in usage
 abbrev pub operand : List ℕ → Rule
@@ -36,6 +36,14 @@ abbrev pub com_app : App
 com_app = with_rule
     (with_rule (with_rule (new_app (codes "com")) (operand (codes "file"))) z80_flag) steps_option
 
+-- `asm SOURCE OUT`
+abbrev pub asm_app : App
+asm_app = with_rule (with_rule (new_app (codes "asm")) (operand (codes "source"))) (operand (codes "out"))
+
+-- `list FILE`
+abbrev pub list_app : App
+list_app = with_rule (new_app (codes "list")) (operand (codes "file"))
+
 -- the program's command without its subcommands: it wants one, and adds no help of its own
 abbrev pub top_app : App
 top_app = record (new_app (codes "cpmhost")) {
@@ -47,7 +55,7 @@ top_app = record (new_app (codes "cpmhost")) {
 }
 
 abbrev pub host_app : App
-host_app = with_subcommand top_app com_app.top
+host_app = with_subcommand (with_subcommand (with_subcommand top_app com_app.top) asm_app.top) list_app.top
 
 -- an argument of clap with this rule, which is the command's own
 pub record IsArgumentOf (r : Rule) (a : Arg) : Type 0 where
@@ -79,6 +87,11 @@ HasEntriesOf given (Com file cpu steps) =
     (given.0 ≡ codes "com") × (first_of (codes "file") given.1 ≡ Some file.now)
     × (one_of (codes "z80") given.1 ≡ Some (flag_text cpu))
     × ReadsCount (one_of (codes "steps") given.1) steps
+HasEntriesOf given (Asm source out) =
+    (given.0 ≡ codes "asm") × (first_of (codes "source") given.1 ≡ Some source.now)
+    × (first_of (codes "out") given.1 ≡ Some out.now)
+HasEntriesOf given (Listing file) =
+    (given.0 ≡ codes "list") × (first_of (codes "file") given.1 ≡ Some file.now)
 
 -- ---- entries that make a task
 
@@ -100,6 +113,20 @@ pub record IsWholeCom (rows : List Row) : Type 0 where
   pub z80 : IsPick (one_of (codes "z80") rows)
   pub steps : IsCount (one_of (codes "steps") rows)
 
+-- the entries of `asm` are whole
+pub record IsWholeAsm (rows : List Row) : Type 0 where
+  pub source : IsSome (first_of (codes "source") rows)
+  pub out : IsSome (first_of (codes "out") rows)
+
+-- the entries of `list` are whole
+pub record IsWholeList (rows : List Row) : Type 0 where
+  pub file : IsSome (first_of (codes "file") rows)
+
+-- the entries are whole as those of the subcommand of this name
+abbrev pub IsWholeOf : Text × List Row → Type 0
+IsWholeOf p = ((p.0 ≡ codes "com") × IsWholeCom p.1) ⊎ ((p.0 ≡ codes "asm") × IsWholeAsm p.1)
+    ⊎ ((p.0 ≡ codes "list") × IsWholeList p.1)
+
 -- the subcommand is one of the program's, and its entries are whole
 abbrev pub IsWhole : Option (Text × List Row) → Type 0
-IsWhole given = IsSomeAnd given (λ p. (p.0 ≡ codes "com") × IsWholeCom p.1)
+IsWhole given = IsSomeAnd given IsWholeOf

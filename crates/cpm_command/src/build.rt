@@ -1,7 +1,7 @@
 //! The command of `clap` that reads the words.
 ghost use Rattle.std.specs.Prelude.{◌≡◌, IfOk};
 ghost use Rattle.clap.specs.Words.{App, Rule, new_app, with_rule, with_subcommand};
-ghost use Rattle.cpm_command.specs.CommandLine.{IsArgumentOf, IsCommandOf, com_app, host_app, operand, steps_option, top_app, z80_flag};
+ghost use Rattle.cpm_command.specs.CommandLine.{IsArgumentOf, IsCommandOf, asm_app, com_app, host_app, list_app, operand, steps_option, top_app, z80_flag};
 
 use clap::{Arg, ArgAction, Command};
 use std::alloc::{AllocError, Global};
@@ -76,9 +76,29 @@ fn com_command<'a>(alloc: Global) -> Result<Command<'a>, AllocError>
     with_argument(with_flag, steps_argument(alloc))
 }
 
+/// `asm SOURCE OUT`
+fn asm_command<'a>(alloc: Global) -> Result<Command<'a>, AllocError>
+    ensures { IfOk result (IsCommandOf asm_app) }
+{
+    let with_source = with_argument(
+        named(alloc, "asm"),
+        required_word(alloc, "source", "SOURCE"),
+    )?;
+    with_argument(with_source, required_word(alloc, "out", "OUT"))
+}
+
+/// `list FILE`
+fn list_command<'a>(alloc: Global) -> Result<Command<'a>, AllocError>
+    ensures { IfOk result (IsCommandOf list_app) }
+{
+    with_argument(named(alloc, "list"), required_word(alloc, "file", "FILE"))
+}
+
 /// The program's command, with its subcommands.
 pub(crate) fn host_command<'a>(alloc: Global) -> Result<Command<'a>, AllocError>
     ensures { IfOk result (IsCommandOf host_app) }
 {
-    with_command(top_command(alloc), com_command(alloc)?)
+    let with_com = with_command(top_command(alloc), com_command(alloc)?)?;
+    let with_asm = with_command(with_com, asm_command(alloc)?)?;
+    with_command(with_asm, list_command(alloc)?)
 }

@@ -57,14 +57,38 @@ pub enum UsageError {
 pub fn shown(text: &str) -> Word {
     let mut word = Word::new();
     for c in text.chars() {
-        let c = if c.is_control() { '?' } else { c };
-        if word.remaining_capacity() < 8 || word.try_push(c).is_err() {
-            // There is room for the dots, since fewer than five bytes went in since the last look.
-            let _ = word.try_push_str("...");
+        if !add_shown(&mut word, c) {
             break;
         }
     }
     word
+}
+
+/// A line of a file as it is shown in a message of one line, without the blanks at its ends.
+pub fn shown_line(line: &[u8]) -> Word {
+    let mut word = Word::new();
+    for byte in line.trim_ascii() {
+        let c = if *byte == b'\t' {
+            ' '
+        } else {
+            char::from(*byte)
+        };
+        if !add_shown(&mut word, c) {
+            break;
+        }
+    }
+    word
+}
+
+/// Adds a character where there is room for more, else dots: it says which.
+fn add_shown(word: &mut Word, c: char) -> bool {
+    let c = if c.is_control() { '?' } else { c };
+    if word.remaining_capacity() < 8 || word.try_push(c).is_err() {
+        // There is room for the dots, since fewer than five bytes went in since the last look.
+        let _ = word.try_push_str("...");
+        return false;
+    }
+    true
 }
 
 /// What stands in the text from its first quote on, up to the last `end`.

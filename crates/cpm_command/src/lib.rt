@@ -7,7 +7,7 @@ mod read;
 mod task;
 mod usage;
 
-pub use fault::{Fault, UsageError, Word, shown};
+pub use fault::{Fault, UsageError, Word, shown, shown_line};
 pub use read::command;
 pub use task::Task;
 pub use usage::{HELP_TEXT, help};

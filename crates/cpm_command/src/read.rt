@@ -1,7 +1,7 @@
 //! Reading the entries that a command line gave.
 ghost use Rattle.std.specs.Prelude.{◌≡◌, [], IfOk, IfErr, IsSomeAnd, IsSome, Some, codes, map, true};
 ghost use Rattle.clap.specs.Words.{fault_of, first_of, found_of, one_of, rows_of, subcommand_of, subcommand_rows_of, takes};
-ghost use Rattle.cpm_command.specs.CommandLine.{HasEntriesOf, IsCount, IsPick, IsWhole, IsWholeCom, ReadsCount, flag_text, host_app};
+ghost use Rattle.cpm_command.specs.CommandLine.{HasEntriesOf, IsCount, IsPick, IsWhole, IsWholeAsm, IsWholeCom, IsWholeList, IsWholeOf, ReadsCount, flag_text, host_app};
 ghost use Rattle.cpm_command.specs.Refusals.{IsRefusalOf};
 
 use crate::build::host_command;
@@ -51,13 +51,46 @@ fn com_task<'a>(matches: &ArgMatches<'a>) -> Task<'a>
     }
 }
 
+/// The task of `asm`.
+fn asm_task<'a>(matches: &ArgMatches<'a>) -> Task<'a>
+    requires { IsWholeAsm (rows_of (found_of matches.now)) }
+    ensures { HasEntriesOf (codes "asm", rows_of (found_of matches.now)) result }
+{
+    Task::Asm {
+        source: text_of(matches, "source"),
+        out: text_of(matches, "out"),
+    }
+}
+
+/// The task of `list`.
+fn list_task<'a>(matches: &ArgMatches<'a>) -> Task<'a>
+    requires { IsWholeList (rows_of (found_of matches.now)) }
+    ensures { HasEntriesOf (codes "list", rows_of (found_of matches.now)) result }
+{
+    Task::List {
+        file: text_of(matches, "file"),
+    }
+}
+
+/// The task of a subcommand's entries.
+fn task_named<'a>(name: &str, matches: &ArgMatches<'a>) -> Task<'a>
+    requires { IsWholeOf (name.now, rows_of (found_of matches.now)) }
+    ensures { HasEntriesOf (name.now, rows_of (found_of matches.now)) result }
+{
+    match name {
+        "com" => com_task(matches),
+        "asm" => asm_task(matches),
+        _ => list_task(matches),
+    }
+}
+
 /// The task of a parse.
 fn task_of<'a>(matches: &ArgMatches<'a>) -> Task<'a>
     requires { IsWhole (subcommand_rows_of matches.now) }
     ensures { IsSomeAnd (subcommand_rows_of matches.now) (λ given. HasEntriesOf given result) }
 {
     match matches.subcommand() {
-        Some((_, inner)) => com_task(inner),
+        Some((name, inner)) => task_named(name, inner),
         None => unreachable!(),
     }
 }

@@ -85,10 +85,24 @@ fn takes_a_processor(rt: HostRuntime) {
 }
 
 #[test]
+fn takes_a_source_and_a_file_to_list(rt: HostRuntime) {
+    let asm = Ok(Task::Asm {
+        source: "a.asm",
+        out: "a.com",
+    });
+    assert_eq!(rt;
+        command(rt.alloc(), &["cpmhost", "asm", "a.asm", "a.com"]),
+        asm
+    );
+    let list = Ok(Task::List { file: "a.com" });
+    assert_eq!(rt; command(rt.alloc(), &["cpmhost", "list", "a.com"]), list);
+}
+
+#[test]
 fn names_what_is_wrong(rt: HostRuntime) {
     let number =
         "for '--steps': a number from 0 to 18446744073709551615 is wanted; try 'cpmhost --help'";
-    let lines: [(&[&str], &str, &str); 22] = [
+    let lines: [(&[&str], &str, &str); 28] = [
         (
             &[],
             "no command was given; try 'cpmhost com FILE' or 'cpmhost --help'",
@@ -199,6 +213,36 @@ fn names_what_is_wrong(rt: HostRuntime) {
             "unexpected argument '--z80'; try 'cpmhost --help'",
             "",
         ),
+        (
+            &["cpmhost", "asm"],
+            "the argument <SOURCE> is missing; try 'cpmhost --help'",
+            "",
+        ),
+        (
+            &["cpmhost", "asm", "a"],
+            "the argument <OUT> is missing; try 'cpmhost --help'",
+            "",
+        ),
+        (
+            &["cpmhost", "asm", "a", "b", "c"],
+            "unexpected argument 'c'; try 'cpmhost --help'",
+            "",
+        ),
+        (
+            &["cpmhost", "asm", "a", "b", "--z80"],
+            "unexpected argument '--z80'; try 'cpmhost --help'",
+            "",
+        ),
+        (
+            &["cpmhost", "list"],
+            "the argument <FILE> is missing; try 'cpmhost --help'",
+            "",
+        ),
+        (
+            &["cpmhost", "list", "a", "b"],
+            "unexpected argument 'b'; try 'cpmhost --help'",
+            "",
+        ),
     ];
     for (words, first, second) in lines {
         let shown = refusal(&rt, words);
@@ -222,7 +266,10 @@ fn cuts_a_long_word(rt: HostRuntime) {
 
 #[test]
 fn knows_who_asks_for_help(rt: HostRuntime) {
-    let lines: [(&[&str], bool); 17] = [
+    let lines: [(&[&str], bool); 20] = [
+        (&["cpmhost", "asm", "--help"], true),
+        (&["cpmhost", "list", "help"], true),
+        (&["cpmhost", "list", "a.com", "help"], false),
         (&["cpmhost", "help"], true),
         (&["cpmhost", "-h"], true),
         (&["cpmhost", "--help"], true),

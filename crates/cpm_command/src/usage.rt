@@ -12,6 +12,11 @@ Usage:
   cpmhost com FILE [--z80] [--steps N]
                    run the CP/M program in FILE, such as a .COM file, and print
                    what it writes to its console
+  cpmhost asm SOURCE OUT
+                   assemble the 8080 source in SOURCE and write the program,
+                   which begins at 0100h, to the file OUT
+  cpmhost list FILE
+                   list the program in FILE as instructions of the 8080
   cpmhost --help   print this help
 
 Options of com:
@@ -24,20 +29,23 @@ Examples:
   cpmhost com hello.com
   cpmhost com life.com --steps 50000000 > life.txt
   cpmhost com turbo.com --z80
+  cpmhost asm hello.asm hello.com
+  cpmhost list hello.com
 
-Standard output has what the program wrote to its console. The last line on
-standard error says how it ended, after how many steps, and where its program
-counter then stood, as in 'end Exited count 7 pc E406':
+For com, standard output has what the program wrote to its console. The last
+line on standard error says how it ended, after how many steps, and where its
+program counter then stood, as in 'end Exited count 7 pc E406':
   Exited    the program returned to the system
   Halted    it executed HLT
   Illegal   it came to an opcode that the processor does not have
   Running   it was cut off by --steps
 
 Exit status:
-  0   the program ran, however it ended
+  0   the program ran, however it ended, or OUT or the list was written
   1   the command line is wrong
-  4   FILE can't be read, or has more than 16777216 bytes
-  5   standard output can't be written
+  4   FILE or SOURCE can't be read, or has more than 16777216 bytes
+  5   standard output or OUT can't be written
+  7   SOURCE has a fault, which is named with its line; OUT isn't touched
   8   memory ran out
   9   the program in FILE has more than 58112 bytes
 
@@ -55,7 +63,7 @@ fn is_flag(word: &str) -> bool
 fn is_command(word: &str) -> bool
     ensures { result ≡ is_command_name word.now }
 {
-    word == "com"
+    word == "com" || word == "asm" || word == "list"
 }
 
 /// Whether a flag for help stands before any `--`.

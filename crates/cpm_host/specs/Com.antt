@@ -9,7 +9,7 @@ use Rattle.cpm_slots.specs.MachineState.{MachineState, opened_with}
 use Rattle.cpm_slots.specs.Step.{after}
 use Rattle.cpm_host.specs.declared.ending.Ending.{Ending}
 use Rattle.cpm_host.specs.declared.error.HostError.{HostError}
-use Rattle.cpm_host.specs.declared.error.HostError.TheVariants.{Usage, NotText, FileUnreadable, OutputUnwritable, OutOfMemory, OpeningRefused, ProgramTooLong}
+use Rattle.cpm_host.specs.declared.error.HostError.TheVariants.{OutputUnwritable, OutOfMemory, ProgramTooLong}
 
 -- the console bytes of a machine from which none was taken
 abbrev pub text_of : MachineState → List ℕ
@@ -60,7 +60,4 @@ IsComRefusal {W} cpu program steps (ProgramTooLong count) old new =
 IsComRefusal {W} cpu program steps OutOfMemory old new = (length program ≤ 58112) × (new ≡ old)
 IsComRefusal {W} cpu program steps (OutputUnwritable reason) old new =
     (length program ≤ 58112) × HasText (ran_alone cpu program steps)
-IsComRefusal {W} cpu program steps (OpeningRefused fault) old new = ⊥
-IsComRefusal {W} cpu program steps (Usage fault) old new = ⊥
-IsComRefusal {W} cpu program steps NotText old new = ⊥
-IsComRefusal {W} cpu program steps (FileUnreadable name reason) old new = ⊥
+IsComRefusal {W} cpu program steps _ old new = ⊥

@@ -1,2 +1,4 @@
+pub mod Asm
 pub mod Com
+pub mod Listing
 pub mod Refusals

@@ -3,7 +3,7 @@ use Rattle.std.specs.Prelude.{⊤, ℕ}
 use Rattle.cpm_command.specs.declared.fault.UsageError.{UsageError}
 use Rattle.cpm_command.specs.declared.fault.UsageError.TheVariants as usage
 use Rattle.cpm_host.specs.declared.error.HostError.{HostError}
-use Rattle.cpm_host.specs.declared.error.HostError.TheVariants.{Usage, NotText, FileUnreadable, OutputUnwritable, OutOfMemory, OpeningRefused, ProgramTooLong}
+use Rattle.cpm_host.specs.declared.error.HostError.TheVariants.{Usage, NotText, FileUnreadable, FileUnwritable, OutputUnwritable, SourceRefused, OutOfMemory, OpeningRefused, ProgramTooLong}
 use Rattle.cpm_slots.specs.declared.opening.OpenError.{OpenError}
 use Rattle.cpm_slots.specs.declared.opening.OpenError.TheVariants as opening
 
@@ -13,6 +13,8 @@ status_of (Usage fault) = 1
 status_of NotText = 1
 status_of (FileUnreadable name reason) = 4
 status_of (OutputUnwritable reason) = 5
+status_of (FileUnwritable name reason) = 5
+status_of (SourceRefused line kind found) = 7
 status_of OutOfMemory = 8
 status_of (OpeningRefused fault) = 9
 status_of (ProgramTooLong count) = 9
@@ -21,21 +23,18 @@ status_of (ProgramTooLong count) = 9
 abbrev pub IsFileRefusal : HostError → Type 0
 IsFileRefusal (FileUnreadable name reason) = ⊤
 IsFileRefusal OutOfMemory = ⊤
-IsFileRefusal (OpeningRefused fault) = ⊥
-IsFileRefusal (Usage fault) = ⊥
-IsFileRefusal NotText = ⊥
-IsFileRefusal (OutputUnwritable reason) = ⊥
-IsFileRefusal (ProgramTooLong count) = ⊥
+IsFileRefusal _ = ⊥
+
+-- what a file that is not written comes to
+abbrev pub IsOutRefusal : HostError → Type 0
+IsOutRefusal (FileUnwritable name reason) = ⊤
+IsOutRefusal _ = ⊥
 
 -- what words that can't be read come to
 abbrev pub IsWordRefusal : HostError → Type 0
 IsWordRefusal NotText = ⊤
 IsWordRefusal OutOfMemory = ⊤
-IsWordRefusal (OpeningRefused fault) = ⊥
-IsWordRefusal (Usage fault) = ⊥
-IsWordRefusal (FileUnreadable name reason) = ⊥
-IsWordRefusal (OutputUnwritable reason) = ⊥
-IsWordRefusal (ProgramTooLong count) = ⊥
+IsWordRefusal _ = ⊥
 
 -- what a refused command line comes to
 abbrev pub host_error_of : UsageError → HostError

@@ -3,6 +3,7 @@ ghost use Rattle.std.specs.Prelude.{◌≡◌};
 ghost use Rattle.cpm_host.specs.declared.error.HostError.TheVariants.{OutOfMemory};
 ghost use Rattle.cpm_host.specs.Refusals.{status_of, host_error_of, host_error_of_opening};
 
+use cpm_asm::AsmErrorKind;
 use cpm_command::{Fault, UsageError, Word};
 use cpm_slots::OpenError;
 use std::alloc::{AllocError, AllocFailed};
@@ -20,10 +21,26 @@ pub enum HostError {
     NotText,
     /// A file can't be read.
     #[error("HO4 can't read '{name}': {reason}")]
-    FileUnreadable { name: Word, reason: io::Error },
+    FileUnreadable {
+        name: Word,
+        reason: io::Error,
+    },
     /// Standard output can't be written.
     #[error("HO5 can't write to standard output: {0}")]
     OutputUnwritable(io::Error),
+    /// A file can't be written.
+    #[error("HO5 can't write '{name}': {reason}")]
+    FileUnwritable {
+        name: Word,
+        reason: io::Error,
+    },
+    /// The source has a fault in this line, where this was found.
+    #[error("HO7 line {line}, '{found}': {kind}")]
+    SourceRefused {
+        line: u64,
+        kind: AsmErrorKind,
+        found: Word,
+    },
     /// Memory was refused.
     #[error("HO8 out of memory")]
     OutOfMemory,
@@ -43,7 +60,8 @@ impl HostError {
         match self {
             HostError::Usage(_) | HostError::NotText => 1,
             HostError::FileUnreadable { .. } => 4,
-            HostError::OutputUnwritable(_) => 5,
+            HostError::OutputUnwritable(_) | HostError::FileUnwritable { .. } => 5,
+            HostError::SourceRefused { .. } => 7,
             HostError::OutOfMemory => 8,
             HostError::OpeningRefused(_) | HostError::ProgramTooLong(_) => 9,
         }

@@ -2,7 +2,10 @@
 //! and the texts and statuses of refusals.
 ghost use Rattle.std.specs.Prelude.{Some};
 
-use crate::{Ending, Fault, HostError, MOST_FILE, UsageError, read_whole, run_com, shown};
+use crate::{
+    Ending, Fault, HostError, MOST_FILE, UsageError, read_whole, run_asm, run_com, run_list, shown,
+};
+use cpm_asm::AsmErrorKind;
 use cpm_flags::Cpu;
 use cpm_slots::OpenError;
 use std::alloc::Global;
@@ -160,6 +163,93 @@ fn refuses_a_program_that_is_too_long(rt: HostRuntime) {
     assert_eq!(rt; end.count, 10);
 }
 
+#[test]
+fn assembles_a_source(rt: HostRuntime) {
+    let source = b"CPM EQU 5\n MVI C,9\n LXI D,MSG\n CALL CPM\n RET\nMSG: DB 'HI$'\n";
+    let image = run_asm(rt.alloc(), source).expect(&rt, "an image");
+    let wanted: &[u8] = &[
+        0x0E, 0x09, 0x11, 0x09, 0x01, 0xCD, 0x05, 0x00, 0xC9, 0x48, 0x49, 0x24,
+    ];
+    assert_eq!(rt; image.as_slice(), wanted);
+    assert!(rt; run_asm(rt.alloc(), b"").expect(&rt, "an image").is_empty());
+}
+
+#[test]
+fn names_the_line_and_what_stands_there(rt: HostRuntime) {
+    let sources: [(&[u8], &str); 6] = [
+        (
+            b" JMP Q1",
+            "HO7 line 1, 'JMP Q1': AS2: a name in an operand is defined nowhere",
+        ),
+        (
+            b"L1:\tNOP\r\nL1:\tNOP ; again\r\n RET\r\n",
+            "HO7 line 2, 'L1: NOP ; again': AS3: the label is defined by an earlier statement too",
+        ),
+        (
+            b" NOP\n\n ORG 0\n",
+            "HO7 line 3, 'ORG 0': AS6: ORG is below the present address",
+        ),
+        (
+            b" DS X\nX EQU 1",
+            "HO7 line 1, 'DS X': AS5: a name in ORG, EQU, IF or DS has to be defined by an earlier statement",
+        ),
+        (
+            b" DB '\xE9\x01",
+            "HO7 line 1, 'DB '\u{E9}?': AS1: syntax: [label[:]] [operation [operands]] is wanted, each IF with its ENDIF, at most 8 deep",
+        ),
+        (
+            b" DB 'AB",
+            "HO7 line 1, 'DB 'AB': AS1: syntax: [label[:]] [operation [operands]] is wanted, each IF with its ENDIF, at most 8 deep",
+        ),
+    ];
+    for (source, wanted) in sources {
+        let error = run_asm(rt.alloc(), source).expect_err(&rt, "a refusal");
+        assert_eq!(rt; error.status(), 7, "at {wanted}");
+        let text = error.to_string(rt.alloc()).expect(&rt, "memory");
+        assert_eq!(rt; text.as_str(), wanted);
+    }
+}
+
+/// What is listed of a program.
+fn listed(rt: &(impl Abort + AllocGlobal), program: &[u8]) -> Recorder {
+    let mut out = Recorder::new(rt.alloc());
+    if let Err(error) = run_list(program, &mut out) {
+        panic!(rt; "refused: {error}");
+    }
+    out
+}
+
+#[test]
+fn lists_a_program(rt: HostRuntime) {
+    let wanted: &[u8] = b"0100  0E 02     MVI  C,002H
+0102  1E 41     MVI  E,041H
+0104  CD 05 00  CALL 00005H
+0107  C9        RET
+";
+    assert_eq!(rt; listed(&rt, LETTER).bytes.as_slice(), wanted);
+    assert_eq!(rt; listed(&rt, &[]).bytes.len(), 0);
+}
+
+#[test]
+fn lists_behind_the_end_zeros_and_behind_ffff_0000(rt: HostRuntime) {
+    let wanted: &[u8] = b"0100  08        DB   008H\n0101  C3 01 00  JMP  00001H\n";
+    assert_eq!(rt; listed(&rt, &[0x08, 0xC3, 0x01]).bytes.as_slice(), wanted);
+    let mut bytes = Vec::new(rt.alloc());
+    bytes.resize(0xFF01, 0).expect(&rt, "memory");
+    let out = listed(&rt, bytes.as_slice());
+    let wanted: &[u8] = b"FFFF  00        NOP\n0000  00        NOP\n";
+    assert!(rt; out.bytes.as_slice().ends_with(wanted));
+}
+
+#[test]
+fn a_listing_stops_where_the_writer_fails(rt: HostRuntime) {
+    let mut out = Recorder::new(rt.alloc());
+    out.fails_at = Some(30);
+    let error = run_list(LETTER, &mut out).expect_err(&rt, "a refusal");
+    assert_eq!(rt; error.status(), 5);
+    assert_eq!(rt; out.bytes.len(), 30);
+}
+
 /// Gives zeros without end, and counts them, but fails once at the read that begins at `fails_at`.
 #[derive(Drop)]
 struct Zeros {
@@ -249,6 +339,23 @@ fn names_code_and_status(rt: HostRuntime) {
             HostError::ProgramTooLong(60_000),
             9,
             "HO9 the program has 60000 bytes, and a machine takes at most 58112",
+        ),
+        (
+            HostError::FileUnwritable {
+                name: shown("a.com"),
+                reason,
+            },
+            5,
+            "HO5 can't write 'a.com': the disk is gone",
+        ),
+        (
+            HostError::SourceRefused {
+                line: 7,
+                kind: AsmErrorKind::OutOfRange,
+                found: shown("RST 8"),
+            },
+            7,
+            "HO7 line 7, 'RST 8': AS4: a value is out of range (bytes 0 to 255 or FF80H to FFFFH, RST 0 to 7), an address is past FFFFH, or something is divided by 0",
         ),
     ];
     for (error, status, wanted) in errors {

@@ -2,6 +2,8 @@
 #![tactic(auto)]
 
 #[cfg(test)]
+mod assembler;
+#[cfg(test)]
 mod commands;
 #[cfg(test)]
 mod console;
@@ -15,3 +17,5 @@ mod programs;
 mod programs_z80;
 #[cfg(test)]
 mod run;
+#[cfg(test)]
+mod stops;

@@ -17,7 +17,8 @@ use Rattle.cpm_slots.specs.MachineState.{MachineState}
 use Rattle.cpm_slots.specs.Step.{Part, part, part_in, at_trap, by_call, after_part, step_if, is_running, step, after}
 use Rattle.cpm_slots.specs.Serve.{executed, taken, taken_list, takes_key, keyed}
 use Rattle.cpm_slots.specs.Alone.{alone}
-use Rattle.cpm_slots.specs.Calls.{Call, Key, Grant, Take, TakeList, LookAt, Peek, Account, no_account, served_key, serve, entered, state_after, account_after, state_behind}
+use Rattle.cpm_slots.specs.Calls.{Call, Key, Grant, GrantUntil, Take, TakeList, LookAt, Peek, Account, no_account, served_key, serve, entered, state_after, account_after, state_behind}
+use Rattle.cpm_slots.specs.Until.{executed_until}
 use Rattle.cpm_slots.proofs.PressLaws.{AllCame, with_keys-nil, alone-add, alone-pressed, AllCame-pressed, AllCame-later}
 
 module _ (system : Disk) (p q : List ℕ) where
@@ -90,6 +91,11 @@ after-call system (Key key) a s start h = after-key system (takes_key s) key a s
 after-call system (Grant steps) a s start h = record {
   state = sym (after-behind system a.screen a.printer (executed system steps s) s) ∙ ap (after system (executed system steps s)) h.state ∙ sym (alone-add system a.presses a.executed (executed system steps s) start h.came);
   came = AllCame-later a.presses a.executed (executed system steps s) h.came;
+}
+after-call system (GrantUntil steps pc) a s start h = record {
+  state = sym (after-behind system a.screen a.printer (executed_until system pc steps s) s) ∙ ap (after system (executed_until system pc steps s)) h.state
+      ∙ sym (alone-add system a.presses a.executed (executed_until system pc steps s) start h.came);
+  came = AllCame-later a.presses a.executed (executed_until system pc steps s) h.came;
 }
 after-call system (Take room) a s start h = record { state = taken-behind a.screen a.printer room s ∙ h.state; came = h.came }
 after-call system (TakeList room) a s start h = record { state = taken_list-behind a.screen a.printer room s ∙ h.state; came = h.came }

@@ -1,4 +1,5 @@
 pub mod StepLaws
+pub mod UntilLaws
 pub mod GrantLaws
 pub mod PressLaws
 pub mod AloneLaws

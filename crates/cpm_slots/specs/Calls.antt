@@ -9,11 +9,13 @@ use Rattle.cpm_slots.specs.MachineState.{MachineState}
 use Rattle.cpm_slots.specs.Step.{after}
 use Rattle.cpm_slots.specs.Serve.{executed, why, look_of, taken, taken_list, takes_key, keyed}
 use Rattle.cpm_slots.specs.Alone.{Press}
+use Rattle.cpm_slots.specs.Until.{executed_until, granted_until}
 
--- a call: a key pressed, steps granted, bytes taken into so much room, a look, a byte of the memory
+-- a call: a key pressed, steps granted, steps granted up to an address, bytes taken into so much room, a look, a byte of the memory
 pub data Call : Type 0 where
   Key : (key : ℕ) → Call
   Grant : (steps : ℕ) → Call
+  GrantUntil : (steps pc : ℕ) → Call
   Take : (room : ℕ) → Call
   TakeList : (room : ℕ) → Call
   LookAt : Call
@@ -43,6 +45,7 @@ served_key false key s = record { answer = KeysFull; state = s }
 unfoldable pub serve : Disk → Call → MachineState → Served
 serve system (Key key) s = served_key (takes_key s) key s
 serve system (Grant steps) s = record { answer = Grants (granted system steps s); state = after system (executed system steps s) s }
+serve system (GrantUntil steps pc) s = record { answer = Grants (granted_until system pc steps s); state = after system (executed_until system pc steps s) s }
 serve system (Take room) s = record { answer = Bytes (take (min room (length s.session.console.screen)) s.session.console.screen); state = taken room s }
 serve system (TakeList room) s = record { answer = Bytes (take (min room (length s.session.console.printer)) s.session.console.printer); state = taken_list room s }
 serve system LookAt s = record { answer = Looked (look_of s); state = s }
@@ -62,6 +65,7 @@ no_account = record { presses = []; executed = 0; screen = []; printer = [] }
 abbrev pub entered : Account → Call → Answer → Account
 entered a (Key key) Accepted = record a { presses = a.presses ++ record { after = a.executed; key = key } ∷ [] }
 entered a (Grant steps) (Grants granted) = record a { executed = a.executed + granted.executed }
+entered a (GrantUntil steps pc) (Grants granted) = record a { executed = a.executed + granted.executed }
 entered a (Take room) (Bytes bytes) = record a { screen = a.screen ++ bytes }
 entered a (TakeList room) (Bytes bytes) = record a { printer = a.printer ++ bytes }
 entered a _ _ = a

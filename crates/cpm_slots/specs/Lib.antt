@@ -1,5 +1,6 @@
 pub mod Processor
 pub mod Trap
+pub mod Until
 pub mod MachineState
 pub mod Step
 pub mod Serve

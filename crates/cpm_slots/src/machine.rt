@@ -10,11 +10,13 @@ ghost use Rattle.cpm_slots.specs.MachineState.{loaded, opened_machine, opened_wi
 ghost use Rattle.cpm_slots.specs.Step.{can_step, step, after};
 ghost use Rattle.cpm_slots.specs.Laws.{IsBounded};
 ghost use Rattle.cpm_slots.specs.Serve.{executed, why, look_of, taken, taken_list, takes_key, keyed};
+ghost use Rattle.cpm_slots.specs.Until.{executed_until, why_until};
 ghost use Rattle.cpm_slots.specs.Opening.{opening_fault, program_fault, IsRefusal};
 
 use crate::opening::{OpenError, Opening};
 use crate::reply::{Closed, End, Granted, KeysFull, Look};
 use crate::steps::{self, Runner};
+use crate::until;
 use cpm_bdos::Session;
 use cpm_console::Console;
 use cpm_geom::Image;
@@ -133,6 +135,17 @@ impl Machine {
         ensures within { result.executed ≤ steps }
     {
         steps::grant(system, &mut self.runner, &mut self.memory, steps)
+    }
+
+    /// Executes the greatest number of steps, at most `steps`, that can be made with this system drive and of which none but
+    /// the first begins in the program at `pc`.
+    pub fn grant_until(&mut self, system: &Image, steps: u64, pc: u16) -> Granted
+        ensures executed { result.executed ≡ executed_until system.now pc steps self.old }
+        ensures why { result.why ≡ why_until pc steps result.executed self.new }
+        ensures state { self.new ≡ after system.now result.executed self.old }
+        ensures within { result.executed ≤ steps }
+    {
+        until::grant_until(system, &mut self.runner, &mut self.memory, steps, pc)
     }
 
     /// Presses a key, which the next step can read. Refused, with nothing changed, where 4,096 keys are pending.

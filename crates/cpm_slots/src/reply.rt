@@ -27,6 +27,8 @@ pub enum Why {
     All,
     /// The session ended.
     Stopped,
+    /// The next step begins in the program at the address before which the grant was to stop.
+    Break,
     /// The console or the list device has no room for what a step may put: take some output.
     Blocked,
 }

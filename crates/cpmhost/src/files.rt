@@ -1,6 +1,6 @@
 //! The files of the machine that the program runs on.
 ghost use Rattle.std.specs.Prelude.{◌≤◌, IfErr, IfOk, vec_len};
-ghost use Rattle.cpm_host.specs.Refusals.{IsFileRefusal};
+ghost use Rattle.cpm_host.specs.Refusals.{IsFileRefusal, IsOutRefusal};
 
 use cpm_host::{HostError, read_whole, shown};
 use std::io::ErrorKind;
@@ -18,6 +18,23 @@ pub fn read_file(rt: &(impl Files + AllocGlobal), name: &str) -> Result<Vec<u8>,
         Err(reason) => Err(reason),
     };
     whole.map_err(|reason| unreadable(name, reason))
+}
+
+/// Makes a file hold these bytes, which replace all that it held.
+pub fn write_file(rt: &impl Files, name: &str, bytes: &[u8]) -> Result<(), HostError>
+    ensures refusal { IfErr result IsOutRefusal }
+{
+    fs::write(rt, name, bytes).map_err(|reason| unwritable(name, reason))
+}
+
+/// Why a file was not written.
+fn unwritable(name: &str, reason: io::Error) -> HostError
+    ensures { IsOutRefusal result }
+{
+    HostError::FileUnwritable {
+        name: shown(name),
+        reason,
+    }
 }
 
 /// Why a file was not read.

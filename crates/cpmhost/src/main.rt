@@ -7,10 +7,10 @@ ghost use Rattle.cpm_host.specs.Refusals.{IsWordRefusal};
 mod files;
 
 use cpm_flags::Cpu;
-use cpm_host::{HostError, Task, command, help, run_com};
-use files::read_file;
+use cpm_host::{HostError, Task, command, help, run_asm, run_com, run_list};
+use files::{read_file, write_file};
 use std::env::Env;
-use std::io::ErrorKind;
+use std::io::{BufWriter, ErrorKind};
 use std::process::ExitCode;
 use std::rt::Files;
 use std::{env, io};
@@ -40,6 +40,22 @@ fn com(
     Ok(())
 }
 
+/// Assembles the source in a file, and writes its image to another.
+fn asm(rt: &(impl Files + AllocGlobal), source: &str, out: &str) -> Result<(), HostError> {
+    let text = read_file(rt, source)?;
+    let image = run_asm(rt.alloc(), text.as_slice())?;
+    write_file(rt, out, image.as_slice())
+}
+
+/// Prints the program in a file as instructions of the 8080.
+fn list(rt: &(impl Files + Print + AllocGlobal), file: &str) -> Result<(), HostError> {
+    let program = read_file(rt, file)?;
+    match BufWriter::new(rt.alloc(), io::writer(rt)) {
+        Ok(mut out) => run_list(program.as_slice(), &mut out),
+        Err(_) => Err(HostError::OutOfMemory),
+    }
+}
+
 /// Does what the words of the command line ask for.
 fn run(rt: &(impl Env + Files + Print + Eprint + AllocGlobal)) -> Result<(), HostError> {
     let words = arguments(rt)?;
@@ -52,6 +68,8 @@ fn run(rt: &(impl Env + Files + Print + Eprint + AllocGlobal)) -> Result<(), Hos
     }
     match command(rt.alloc(), texts.as_slice())? {
         Task::Com { file, cpu, steps } => com(rt, file, cpu, steps),
+        Task::Asm { source, out } => asm(rt, source, out),
+        Task::List { file } => list(rt, file),
     }
 }
 

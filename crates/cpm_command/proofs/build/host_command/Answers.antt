@@ -3,4 +3,6 @@ use Rattle.cpm_command.proofs.build.host_command.Goals as goal
 
 pub returns : goal.returns
 returns c =
-    IfOk-weaker c.with_command.result _ _ (λ m h. h _ _ c.top_command.ensures c.in_ok-com_command.ensures) c.with_command.ensures
+    let program = c.in_ok-with_com.ensures _ _ c.top_command.ensures c.in_ok-com_command.ensures in
+    let asm = c.in_ok-with_asm.ensures _ _ program c.in_ok-asm_command.ensures in
+    IfOk-weaker c.with_command-3.result _ _ (λ m h. h _ _ asm c.in_ok-list_command.ensures) c.with_command-3.ensures
