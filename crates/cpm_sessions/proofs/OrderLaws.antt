@@ -12,7 +12,8 @@ use Rattle.cpm_slots.specs.MachineState.{MachineState}
 use Rattle.cpm_slots.specs.Opening.{opening_fault, first_fault}
 use Rattle.cpm_slots.specs.Step.{step_if, is_running, step, after}
 use Rattle.cpm_slots.specs.Serve.{executed, takes_key}
-use Rattle.cpm_slots.specs.Calls.{Call, Key, Grant, Take, TakeList, LookAt, Peek, served_key, serve}
+use Rattle.cpm_slots.specs.Until.{executed_until}
+use Rattle.cpm_slots.specs.Calls.{Call, Key, Grant, GrantUntil, Take, TakeList, LookAt, Peek, served_key, serve}
 use Rattle.cpm_sessions.specs.Serving.{Ask, Calls, Closes, serve_slot}
 use Rattle.cpm_sessions.specs.Host.{Host, Slot, Happening, Opens, Asks, opened_slot, place_fault, refusal_of, opened_if, with_opened, slot_at, with_slot, after_ask, after_one, host_after, quotas_of, IsOrdered, IsHost}
 use Rattle.cpm_sessions.proofs.SlotLaws.{AllBelow-with, AllBelow-added, IsOrdered-with, IsOrdered-added, with_slot-below, with_slot-none}
@@ -39,6 +40,7 @@ pub quota-serve : (system : Disk) (call : Call) (s : MachineState) → (serve sy
 unfolding serve
 quota-serve system (Key key) s = quota-key (takes_key s) key s
 quota-serve system (Grant steps) s = quota-after system (executed system steps s) s
+quota-serve system (GrantUntil steps pc) s = quota-after system (executed_until system pc steps s) s
 quota-serve system (Take room) s = refl
 quota-serve system (TakeList room) s = refl
 quota-serve system LookAt s = refl

@@ -5,7 +5,8 @@ use Rattle.cpm_geom.specs.Disk.{Disk}
 use Rattle.cpm_slots.specs.MachineState.{MachineState}
 use Rattle.cpm_slots.specs.Step.{after, can_step}
 use Rattle.cpm_slots.specs.Serve.{executed, takes_key}
-use Rattle.cpm_slots.specs.Calls.{Call, Key, Grant, Take, TakeList, LookAt, Peek, served_key, serve}
+use Rattle.cpm_slots.specs.Until.{can_go_on, executed_until}
+use Rattle.cpm_slots.specs.Calls.{Call, Key, Grant, GrantUntil, Take, TakeList, LookAt, Peek, served_key, serve}
 use Rattle.cpm_slots.proofs.GrantLaws.{longest-is}
 use Rattle.cpm_sessions.specs.Serving.{Ask, Calls, Closes, reply_of, serve_slot}
 use Rattle.cpm_sessions.specs.Host.{Host, Happening, Opens, Asks, Told, slot_at, reply_at, after_one, told}
@@ -15,6 +16,10 @@ executed-within : (system : Disk) (n : ℕ) (s : MachineState) → executed syst
 unfolding executed
 executed-within system n s = (longest-is (λ k. can_step (after system k s)) n).within
 
+until-within : (system : Disk) (pc n : ℕ) (s : MachineState) → executed_until system pc n s ≤ n
+unfolding executed_until
+until-within system pc n s = (longest-is (λ k. can_go_on pc k (after system k s)) n).within
+
 key-within : (b : Bool) (key : ℕ) (s : MachineState) → executed_in (reply_of (served_key b key s).answer) ≤ 0
 key-within true key s = omega arith
 key-within false key s = omega arith
@@ -23,6 +28,7 @@ call-within : (system : Disk) (call : Call) (s : MachineState) → executed_in (
 unfolding serve
 call-within system (Key key) s = key-within (takes_key s) key s
 call-within system (Grant steps) s = executed-within system steps s
+call-within system (GrantUntil steps pc) s = until-within system pc steps s
 call-within system (Take room) s = omega arith
 call-within system (TakeList room) s = omega arith
 call-within system LookAt s = omega arith

@@ -2,7 +2,7 @@
 use Rattle.std.specs.Prelude.{◌≡◌, ◌≢◌, ℕ, ◌+◌, ◌<◌, ◌≤◌, List, [], ◌∷◌, ◌++◌, sum_by, Option, Some, None, IfSome}
 use Rattle.cpm_geom.specs.Disk.{Disk}
 use Rattle.cpm_slots.specs.MachineState.{MachineState}
-use Rattle.cpm_slots.specs.Calls.{Grant, no_account}
+use Rattle.cpm_slots.specs.Calls.{Grant, GrantUntil, no_account}
 use Rattle.cpm_slots.specs.declared.opening.Opening.{Opening}
 use Rattle.cpm_sessions.specs.declared.event.Reply.{Reply}
 use Rattle.cpm_sessions.specs.declared.event.Reply.TheVariants as reply
@@ -65,6 +65,7 @@ executed_in (reply.Refused fault) = 0
 -- the steps that are granted
 abbrev pub granted_in : Ask → ℕ
 granted_in (Calls (Grant steps)) = steps
+granted_in (Calls (GrantUntil steps pc)) = steps
 granted_in _ = 0
 
 abbrev pub granted_by : Happening → ℕ
