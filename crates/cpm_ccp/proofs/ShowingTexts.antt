@@ -1,12 +1,9 @@
--- Characters shown one after the other, and the place where a text ends.
-use Rattle.std.proofs.Common.{◌≡◌, ℕ, ◌+◌, ◌<◌, ◌≤◌, Bool, List, [], ◌∷◌, length, take, drop, get_or, replicate, true, false, refl, inl, inr, arith}
-use Rattle.std.specs.Prelude.{◌==◌, ◌-◌, ◌%◌, if◌then◌else◌, position, Option, Some, None}
-use Rattle.std.specs.List.{before_first, position_or_len}
-use Rattle.std.proofs.lemmas.List.{drop_more, length-replicate, take_all}
-use Rattle.std.proofs.lemmas.Bool.{lt-ltb, le-ltb, cases_lt}
+-- Characters shown one after the other.
+use Rattle.std.proofs.Common.{◌≡◌, ℕ, ◌+◌, ◌<◌, ◌≤◌, Bool, true, false, List, [], ◌∷◌, length, drop, get_or, replicate, refl, arith}
+use Rattle.std.specs.Prelude.{◌==◌, ◌-◌, ◌%◌, if◌then◌else◌}
+use Rattle.std.proofs.lemmas.List.{drop_more, length-replicate}
 use Rattle.cpm_console.specs.Terminal.{Terminal, said, expanded}
 use Rattle.cpm_ccp.specs.Showing.{wrote_all}
-use Rattle.cpm_ccp.proofs.TextLemmas.{within}
 
 -- one character, and the rest of them
 pub wrote_all-more : (t : Terminal) (xs : List ℕ) (i : ℕ) → i < length xs → wrote_all t (drop i xs) ≡ wrote_all (said t (expanded t.column (get_or xs i 0))) (drop (i + 1) xs)
