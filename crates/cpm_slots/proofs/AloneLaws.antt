@@ -6,6 +6,7 @@ use Rattle.cpm_geom.specs.Disk.{Disk}
 use Rattle.cpm_memory.specs.Contents.{Contents}
 use Rattle.cpm_bdos.specs.Behind.{session_behind}
 use Rattle.cpm_bdos.proofs.Waiting.{bdos-behind, bios-behind}
+use Rattle.cpm_ccp.proofs.BehindLaws.{ccp-behind}
 use Rattle.cpm_bdos.specs.declared.session.Session.{Session}
 use Rattle.cpm_bdos.specs.declared.session.Mode.{Mode}
 use Rattle.cpm_bdos.specs.declared.session.Mode.TheVariants.{Program, Text, Line, Hold, Fault, Command}
@@ -27,7 +28,7 @@ module _ (system : Disk) (p q : List ℕ) where
   unfolding part_behind
   at_trap-behind cpu with_program None s m = refl
   at_trap-behind cpu true (Some CommandProcessor) s m = refl
-  at_trap-behind cpu false (Some CommandProcessor) s m = refl
+  at_trap-behind cpu false (Some CommandProcessor) s m = ap by_call (ccp-behind p q system s m)
   at_trap-behind cpu with_program (Some Bdos) s m = ap by_call (bdos-behind p q system s m)
   at_trap-behind cpu with_program (Some (Bios number)) s m = ap by_call (bios-behind p q number system s m)
 
@@ -38,7 +39,7 @@ module _ (system : Disk) (p q : List ℕ) where
   part_in-behind cpu with_program Line s m = ap by_call (bdos-behind p q system s m)
   part_in-behind cpu with_program (Hold held) s m = ap by_call (bdos-behind p q system s m)
   part_in-behind cpu with_program Fault s m = ap by_call (bdos-behind p q system s m)
-  part_in-behind cpu with_program (Command part) s m = ap by_call (bdos-behind p q system s m)
+  part_in-behind cpu with_program (Command part) s m = ap by_call (ccp-behind p q system s m)
 
   part-behind : (cpu : Cpu) (with_program : Bool) (s : Session) (m : Contents) → part system cpu with_program (session_behind p q s) m ≡ part_behind (part system cpu with_program s m)
   unfolding part

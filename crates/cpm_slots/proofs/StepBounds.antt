@@ -12,7 +12,9 @@ use Rattle.cpm_exec8080.proofs.FewStores.{few_stores as few_stores_8080}
 use Rattle.cpm_execz80.proofs.FewStores.{few_step as few_stores_z80}
 use Rattle.cpm_slots.specs.Processor.{effect_at}
 use Rattle.cpm_bdos.proofs.Bounded.{IsBounded-bdos, IsBounded-bios}
+use Rattle.cpm_ccp.proofs.BoundLaws.{IsBounded-ccp}
 use Rattle.cpm_bdos.specs.Step.{bdos}
+use Rattle.cpm_ccp.specs.Step.{ccp}
 use Rattle.cpm_bdos.specs.Bounds.{IsFit}
 use Rattle.cpm_bdos.specs.declared.session.Session.{Session}
 use Rattle.cpm_bdos.specs.declared.session.Mode.{Mode}
@@ -35,13 +37,16 @@ record IsBoundedPart (s : Session) (m : Contents) (x : Part) : Type 0 where
 bounded_call : (system : Disk) (s : Session) (m : Contents) → IsFit s → IsBoundedPart s m (by_call (bdos system s m))
 bounded_call system s m fit = let b = IsBounded-bdos system s m fit in record { pages = b.pages; output = b.output }
 
+bounded_command : (system : Disk) (s : Session) (m : Contents) → IsFit s → IsBoundedPart s m (by_call (ccp system s m))
+bounded_command system s m fit = let b = IsBounded-ccp system s m fit in record { pages = b.pages; output = b.output }
+
 bounded_trap : (system : Disk) (cpu : Cpu) (with_program : Bool) (t : Option Trap) (s : Session) (m : Contents) → IsFit s → IsBoundedPart s m (at_trap system cpu with_program t s m)
 bounded_trap system cpu with_program None s m fit = record {
   pages = omega (arith, few_stores cpu m s.regs, touched_of-after_sets m (effect_at cpu m s.regs).stores);
   output = IsWithin-same 4096 s.console;
 }
 bounded_trap system cpu true (Some CommandProcessor) s m fit = record { pages = omega arith; output = IsWithin-same 4096 s.console }
-bounded_trap system cpu false (Some CommandProcessor) s m fit = record { pages = omega arith; output = IsWithin-same 4096 s.console }
+bounded_trap system cpu false (Some CommandProcessor) s m fit = bounded_command system s m fit
 bounded_trap system cpu with_program (Some Bdos) s m fit = bounded_call system s m fit
 bounded_trap system cpu with_program (Some (Bios number)) s m fit =
     let b = IsBounded-bios number system s m fit in record { pages = b.pages; output = b.output }
@@ -52,7 +57,7 @@ bounded_mode system cpu with_program (Text next) s m fit = bounded_call system s
 bounded_mode system cpu with_program Line s m fit = bounded_call system s m fit
 bounded_mode system cpu with_program (Hold held) s m fit = bounded_call system s m fit
 bounded_mode system cpu with_program Fault s m fit = bounded_call system s m fit
-bounded_mode system cpu with_program (Command part) s m fit = bounded_call system s m fit
+bounded_mode system cpu with_program (Command part) s m fit = bounded_command system s m fit
 
 bounded_part : (system : Disk) (cpu : Cpu) (with_program : Bool) (s : Session) (m : Contents) → IsFit s → IsBoundedPart s m (part system cpu with_program s m)
 unfolding part

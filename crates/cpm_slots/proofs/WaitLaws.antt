@@ -7,9 +7,10 @@ use Rattle.cpm_flags.specs.declared.regs.Cpu.{Cpu}
 use Rattle.cpm_geom.specs.Disk.{Disk}
 use Rattle.cpm_memory.specs.Contents.{Contents}
 use Rattle.cpm_bdos.specs.Did.{Did, did}
-use Rattle.cpm_bdos.specs.Step.{in_mode, bdos, bios}
+use Rattle.cpm_bdos.specs.Step.{bdos, bios}
 use Rattle.cpm_bdos.specs.Waiting.{is_waiting, call_in, is_command}
 use Rattle.cpm_bdos.proofs.WaitLaws.{IsWaiting-now}
+use Rattle.cpm_ccp.proofs.WaitLaws.{WaitsForKeys-now}
 use Rattle.cpm_bdos.specs.declared.session.Session.{Session}
 use Rattle.cpm_bdos.specs.declared.session.Mode.{Mode}
 use Rattle.cpm_bdos.specs.declared.session.Mode.TheVariants.{Program, Text, Line, Hold, Fault, Command}
@@ -50,9 +51,9 @@ by_call-waits : (system : Disk) (cpu : Cpu) (with_program : Bool) (mode : Mode) 
 by_call-waits system cpu with_program mode s m e plain h =
     call-part_in system cpu with_program mode s m (did s m Waits) (ap (λ mode. call_in mode system s m) (sym e) ∙ (IsWaiting-now s m).changes_nothing h (ap is_command e ∙ plain) system)
 
--- a part of the command processor is left as it is
+-- and neither does a part of the command processor
 part-waits_in : (system : Disk) (cpu : Cpu) (with_program : Bool) (mode : Mode) (s : Session) (m : Contents) → s.mode ≡ mode → is_waiting s m ≡ true → part_in system cpu with_program mode s m ≡ made s m outcome.GoesOn
-part-waits_in system cpu with_program (Command part) s m e h = ap by_call (ap (λ mode. in_mode mode system s m) e)
+part-waits_in system cpu with_program (Command part) s m e h = ap by_call ((WaitsForKeys-now system s m).changes_nothing (ap is_command e) h)
 part-waits_in system cpu with_program Program s m e h = by_call-waits system cpu with_program Program s m e refl h
 part-waits_in system cpu with_program (Text next) s m e h = by_call-waits system cpu with_program (Text next) s m e refl h
 part-waits_in system cpu with_program Line s m e h = by_call-waits system cpu with_program Line s m e refl h
