@@ -297,3 +297,38 @@ fn a_program_is_saved_and_run(rt: HostRuntime) -> Result<(), Fail> {
     assert_eq!(rt; &entry[12..18], [0u8, 0, 0, 2, 3, 0].as_slice());
     Ok(())
 }
+
+#[test]
+fn a_stopped_listing_goes_on(rt: HostRuntime) -> Result<(), Fail> {
+    let system = blank(rt.alloc())?;
+    let image = disk_of(&rt, rt.alloc(), b"ONE     TXT", b"")?;
+    let mut machine = machine_on(rt.alloc(), 256, image)?;
+    types(&rt, &mut machine, &system, b"", 1, b"\r\nA>");
+    // ^S, and then a space or ^C
+    types(&rt, &mut machine, &system, b"DIR\r\x13", 5, b"DIR\r");
+    types(
+        &rt,
+        &mut machine,
+        &system,
+        b" ",
+        4,
+        b"\r\nA: ONE      TXT\r\nA>",
+    );
+    types(&rt, &mut machine, &system, b"DIR\r\x13", 5, b"DIR\r");
+    types(&rt, &mut machine, &system, b"\x03", 2, b"\r\nA>");
+    // ^C at the prompt
+    types(&rt, &mut machine, &system, b"\x03", 2, b"^C\r\nA>");
+    Ok(())
+}
+
+#[test]
+fn a_program_ends_by_a_warm_boot(rt: HostRuntime) -> Result<(), Fail> {
+    let system = blank(rt.alloc())?;
+    // JMP 0000H
+    let image = disk_of(&rt, rt.alloc(), b"W       COM", b"\xC3\x00\x00")?;
+    let mut machine = machine_on(rt.alloc(), 256, image)?;
+    types(&rt, &mut machine, &system, b"", 1, b"\r\nA>");
+    types(&rt, &mut machine, &system, b"W\r", 10, b"W\r\r\nA>");
+    assert_eq!(rt; machine.look().ended, End::Running);
+    Ok(())
+}
