@@ -1,13 +1,12 @@
 -- A slot stays the machine alone, by the account of its replies.
-use Rattle.std.proofs.Common.{◌≡◌, ℕ, List, [], ◌∷◌, Option, Some, None, refl, sym, ap, ◌∙◌, subst}
+use Rattle.std.proofs.Common.{◌≡◌, List, [], ◌∷◌, Option, Some, None, refl, sym, ap, ◌∙◌, subst}
 use Rattle.std.specs.Prelude.{IfSome}
 use Rattle.cpm_geom.specs.Disk.{Disk}
 use Rattle.cpm_slots.specs.MachineState.{MachineState}
-use Rattle.cpm_slots.specs.Alone.{alone}
-use Rattle.cpm_slots.specs.Calls.{Call, Answer, Accepted, KeysFull, Grants, Bytes, Looked, Peeked, Account, no_account, entered, serve, state_after, account_after, state_behind}
+use Rattle.cpm_slots.specs.Calls.{Call, Answer, Accepted, KeysFull, Grants, Bytes, Looked, Peeked, Account, no_account, entered, serve, state_after, account_after}
 use Rattle.cpm_slots.proofs.AloneLaws.{alone-after}
 use Rattle.cpm_sessions.specs.Serving.{Ask, Calls, Closes, reply_of, serve_slot}
-use Rattle.cpm_sessions.specs.Account.{answer_of, entered_by, account_by, slot_after, replies_of, IsAlone}
+use Rattle.cpm_sessions.specs.Account.{answer_of, account_by, slot_after, replies_of, IsAlone}
 use Rattle.cpm_sessions.proofs.EventLaws.{slot_after-none}
 
 -- no answer is lost in its reply

@@ -1,11 +1,11 @@
 -- What a call leaves of a host.
-use Rattle.std.proofs.Common.{◌≡◌, ℕ, ◌++◌, List, [], ◌∷◌, sym, ap, ◌∙◌, subst, Option, None}
+use Rattle.std.proofs.Common.{◌≡◌, ℕ, List, sym, ap, ◌∙◌, subst, None}
 use Rattle.cpm_slots.specs.Calls.{Call}
 use Rattle.cpm_sessions.specs.declared.event.Reply.{Reply}
 use Rattle.cpm_sessions.specs.declared.event.Reply.TheVariants as reply
 use Rattle.cpm_sessions.specs.declared.event.Refusal.TheVariants as refusal
-use Rattle.cpm_sessions.specs.Serving.{Ask, Calls, serve_slot}
-use Rattle.cpm_sessions.specs.Host.{Host, Slot, slot_at, with_slot, reply_at, after_ask, IsHost}
+use Rattle.cpm_sessions.specs.Serving.{Ask, Calls}
+use Rattle.cpm_sessions.specs.Host.{Host, Slot, slot_at, reply_at, after_ask, IsHost}
 use Rattle.cpm_sessions.specs.Place.{LiesAt, IsServed}
 use Rattle.cpm_sessions.proofs.OrderLaws.{IsHost-ask}
 use Rattle.cpm_sessions.proofs.PlaceLaws.{refused-reply, refused-slots, served-reply, served-slots}

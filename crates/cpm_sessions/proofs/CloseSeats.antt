@@ -1,6 +1,6 @@
 -- A session less in the store.
-use Rattle.std.proofs.Common.{◌≡◌, ◌≢◌, ℕ, zero, suc, ◌+◌, ◌<◌, ◌≤◌, Bool, true, false, not, ◌==◌, List, [], ◌∷◌, length, get_or, set, sum_by, cond, Option, None, Some, is_some, unwrap_or, refl, sym, ap, ◌∙◌, subst, arith}
-use Rattle.std.specs.Prelude.{slice_get, remove, IfSome}
+use Rattle.std.proofs.Common.{◌≡◌, ◌≢◌, ℕ, zero, suc, ◌+◌, ◌≤◌, true, false, ◌==◌, List, [], ◌∷◌, length, get_or, set, sum_by, cond, Option, None, Some, is_some, unwrap_or, refl, sym, ap, ◌∙◌, subst, arith}
+use Rattle.std.specs.Prelude.{slice_get, remove}
 use Rattle.std.proofs.lemmas.Bool.Decides.{nat_tests}
 use Rattle.std.proofs.lemmas.Bool.{eq-eqb, false≢true}
 use Rattle.std.proofs.lemmas.List.Sums.{sum_by-cons, sum_by-set}
@@ -16,7 +16,7 @@ use Rattle.cpm_sessions.specs.Place.{LiesAt}
 use Rattle.cpm_sessions.specs.Serving.{Closes, serve_slot}
 use Rattle.cpm_sessions.specs.Seating.{contents_at, slot_of, slots_of, NoneAt, AllSeated, IsSeated}
 use Rattle.cpm_sessions.proofs.SlotLaws.{with_slot-below}
-use Rattle.cpm_sessions.proofs.OpenSeats.{quota_of, Kept, kept-set, slots-kept, AllSeated-kept, taken-within}
+use Rattle.cpm_sessions.proofs.OpenSeats.{quota_of, kept-set, slots-kept, AllSeated-kept, taken-within}
 
 -- what holds of a seat at its place
 pub record IsSeatAt (m : List (Option Contents)) (s : Seat) : Type 0 where

@@ -1,13 +1,12 @@
 -- What happens to a host, event by event, is to each slot its own events alone.
-use Rattle.std.proofs.Common.{◌≡◌, ◌≢◌, ℕ, ◌+◌, ◌<◌, ◌≤◌, Bool, true, false, ◌==◌, List, [], ◌∷◌, ◌++◌, Option, Some, None, refl, sym, ap, ◌∙◌, arith, if◌then◌else◌}
+use Rattle.std.proofs.Common.{◌≡◌, ◌≢◌, ℕ, ◌<◌, ◌≤◌, true, false, ◌==◌, List, [], ◌∷◌, ◌++◌, Option, Some, None, refl, sym, ap, ◌∙◌, arith, if◌then◌else◌}
 use Rattle.std.proofs.lemmas.Bool.Decides.{nat_tests}
 use Rattle.std.proofs.lemmas.Bool.{eqb-true}
 use Rattle.cpm_geom.specs.Disk.{Disk}
 use Rattle.cpm_slots.specs.MachineState.{MachineState}
-use Rattle.cpm_slots.specs.declared.opening.Opening.{Opening}
 use Rattle.cpm_sessions.specs.Serving.{Ask, serve_slot}
 use Rattle.cpm_sessions.specs.Account.{slot_after, replies_of}
-use Rattle.cpm_sessions.specs.Host.{Host, Happening, Opens, Asks, Told, opened_slot, refusal_of, opened_if, slot_at, with_slot, after_ask, reply_at, after_one, host_after, told_by, told, told_of, asked_of, own, AllBelow}
+use Rattle.cpm_sessions.specs.Host.{Host, Happening, Opens, Asks, Told, opened_slot, refusal_of, opened_if, slot_at, after_ask, after_one, host_after, told_by, told, told_of, asked_of, own, AllBelow}
 use Rattle.cpm_sessions.proofs.SlotLaws.{slot_at-other, slot_at-same, slot_at-added, AllBelow-added, AllBelow-with}
 
 pub apart : (h : Host) (id other : ℕ) (ask : Ask) → other ≢ id → slot_at other (after_ask h id ask).slots ≡ slot_at other h.slots

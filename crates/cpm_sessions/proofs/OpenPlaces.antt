@@ -4,7 +4,7 @@ use Rattle.std.specs.Prelude.{slice_get}
 use Rattle.std.proofs.lemmas.Bool.{eq-eqb}
 use Rattle.cpm_memory.specs.Contents.{Contents}
 use Rattle.cpm_sessions.specs.declared.seats.Seat.{Seat}
-use Rattle.cpm_sessions.specs.Host.{Slot, slot_at}
+use Rattle.cpm_sessions.specs.Host.{slot_at}
 use Rattle.cpm_sessions.specs.Place.{LiesAt}
 use Rattle.cpm_sessions.specs.Seating.{slot_of, slots_of}
 

@@ -1,5 +1,5 @@
 -- A host stays orderly.
-use Rattle.std.proofs.Common.{◌≡◌, ℕ, zero, suc, ◌+◌, ◌<◌, ◌≤◌, Bool, true, false, ◌==◌, ◌||◌, not, List, [], ◌∷◌, ◌++◌, length, sum_by, Option, Some, None, refl, sym, ap, ◌∙◌, arith, if◌then◌else◌, cond, length-append}
+use Rattle.std.proofs.Common.{◌≡◌, ℕ, zero, suc, ◌+◌, ◌<◌, ◌≤◌, Bool, true, false, ◌==◌, ◌||◌, not, List, [], ◌∷◌, length, Option, Some, None, refl, sym, ap, ◌∙◌, arith, if◌then◌else◌, cond, length-append}
 use Rattle.std.specs.Prelude.{nat_lt, nat_le}
 use Rattle.std.proofs.lemmas.Bool.Decides.{nat_tests}
 use Rattle.std.proofs.lemmas.Bool.{eqb-true}
@@ -16,7 +16,7 @@ use Rattle.cpm_slots.specs.Until.{executed_until}
 use Rattle.cpm_slots.specs.Calls.{Call, Key, Grant, GrantUntil, Take, TakeList, LookAt, Peek, served_key, serve}
 use Rattle.cpm_sessions.specs.Serving.{Ask, Calls, Closes, serve_slot}
 use Rattle.cpm_sessions.specs.Host.{Host, Slot, Happening, Opens, Asks, opened_slot, place_fault, refusal_of, opened_if, with_opened, slot_at, with_slot, after_ask, after_one, host_after, quotas_of, IsOrdered, IsHost}
-use Rattle.cpm_sessions.proofs.SlotLaws.{AllBelow-with, AllBelow-added, IsOrdered-with, IsOrdered-added, with_slot-below, with_slot-none}
+use Rattle.cpm_sessions.proofs.SlotLaws.{AllBelow-with, AllBelow-added, IsOrdered-with, IsOrdered-added, with_slot-below}
 
 -- ---- the quota stays
 

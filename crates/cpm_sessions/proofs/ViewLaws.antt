@@ -1,5 +1,5 @@
 -- What a view leaves of its store.
-use Rattle.std.proofs.Common.{◌≡◌, ℕ, ◌+◌, ◌*◌, ◌/◌, ◌%◌, ◌<◌, arith, subst, List, Option, None, Some, is_some, unwrap_or, get_or, set, refl, sym, ap, ◌∙◌, true}
+use Rattle.std.proofs.Common.{◌≡◌, ℕ, ◌<◌, subst, None, Some, is_some, unwrap_or, get_or, set, sym, ap, ◌∙◌}
 use Rattle.cpm_memory.specs.Contents.{Contents, Surroundings}
 use Rattle.cpm_memory.specs.Frames.{Frames, IsTaken, memories, memory_at, memory_of}
 use Rattle.cpm_memory.specs.Memories.{memory-reserved, HasReservation-taken}

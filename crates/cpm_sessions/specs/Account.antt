@@ -1,9 +1,9 @@
 -- The account of a slot, by what was asked of it and what it replied. (own)
-use Rattle.std.specs.Prelude.{◌≡◌, ℕ, List, [], ◌∷◌, Option, Some, None, IfSome}
+use Rattle.std.specs.Prelude.{◌≡◌, List, [], ◌∷◌, Option, IfSome}
 use Rattle.cpm_geom.specs.Disk.{Disk}
 use Rattle.cpm_slots.specs.MachineState.{MachineState}
 use Rattle.cpm_slots.specs.Alone.{alone}
-use Rattle.cpm_slots.specs.Calls.{Answer, Accepted, KeysFull, Grants, Bytes, Looked, Peeked, Account, no_account, entered, state_behind}
+use Rattle.cpm_slots.specs.Calls.{Answer, Accepted, KeysFull, Grants, Bytes, Looked, Peeked, Account, entered, state_behind}
 use Rattle.cpm_sessions.specs.declared.event.Reply.{Reply}
 use Rattle.cpm_sessions.specs.declared.event.Reply.TheVariants as reply
 use Rattle.cpm_sessions.specs.Serving.{Ask, Calls, Closes, serve_slot}

@@ -1,5 +1,5 @@
 -- Sessions whose memories lie in one store, as the slots of a host. (own)
-use Rattle.std.specs.Prelude.{⊤, ◌≡◌, ◌≢◌, ℕ, ◌<◌, true, List, [], ◌∷◌, length, map, sum_by, Option, Some, None, is_some, unwrap_or, slice_index_or, slice_set}
+use Rattle.std.specs.Prelude.{⊤, ◌≡◌, ◌≢◌, ℕ, true, List, [], ◌∷◌, length, map, sum_by, Option, Some, None, is_some, unwrap_or, slice_index_or, slice_set}
 use Rattle.cpm_memory.specs.Contents.{Contents}
 use Rattle.cpm_memory.specs.Opening.{opening}
 use Rattle.cpm_memory.specs.Reserved.{taken_in, reserved_in}

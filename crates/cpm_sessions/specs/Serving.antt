@@ -1,5 +1,5 @@
 -- What a slot of a host replies to what is asked of it. A slot is a machine that may be open; it is served by its own state and the system drive alone. (own)
-use Rattle.std.specs.Prelude.{ℕ, List, Option, Some, None}
+use Rattle.std.specs.Prelude.{Option, Some, None}
 use Rattle.cpm_geom.specs.Disk.{Disk}
 use Rattle.cpm_slots.specs.MachineState.{MachineState}
 use Rattle.cpm_slots.specs.Calls.{Call, Key, Grant, Take, TakeList, LookAt, Peek, Answer, Accepted, KeysFull, Grants, Bytes, Looked, Peeked, serve}

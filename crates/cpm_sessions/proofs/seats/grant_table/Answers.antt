@@ -1,4 +1,4 @@
-use Rattle.std.proofs.Common.{◌≡◌, arith, subst}
+use Rattle.std.proofs.Common.{arith, subst}
 use Rattle.std.proofs.lemmas.Grind.{common_steps}
 use Rattle.cpm_slots.specs.Runner.{state_of, IsSound}
 use Rattle.cpm_sessions.proofs.ViewLaws.{leaves}

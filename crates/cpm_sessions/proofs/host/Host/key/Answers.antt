@@ -2,7 +2,6 @@ use Rattle.std.proofs.Common.{◌≡◌, List, Option, None}
 use Rattle.cpm_memory.specs.Contents.{Contents}
 use Rattle.cpm_memory.specs.Frames.{memories}
 use Rattle.cpm_slots.specs.Calls.{Key}
-use Rattle.cpm_sessions.specs.declared.event.Reply.TheVariants as reply
 use Rattle.cpm_sessions.specs.Serving.{Calls}
 use Rattle.cpm_sessions.specs.Host.{Host, slot_at, key_reply}
 use Rattle.cpm_sessions.specs.Place.{LiesAt}

@@ -1,4 +1,4 @@
-use Rattle.std.proofs.Common.{◌≡◌, List, [], ◌∷◌, ◌++◌, ap, ◌∙◌}
+use Rattle.std.proofs.Common.{[], ◌∷◌, ◌++◌, ap, ◌∙◌}
 use Rattle.cpm_memory.specs.Frames.{Frames, memories}
 use Rattle.cpm_sessions.specs.declared.seats.Seat.{Seat}
 use Rattle.cpm_sessions.proofs.OpenHost.{IsOpening, opened-host, opened-seated, opened-is}

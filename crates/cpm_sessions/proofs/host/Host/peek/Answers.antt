@@ -1,4 +1,4 @@
-use Rattle.std.proofs.Common.{◌≡◌, ◌∙◌, sym, ap, List, Option, None}
+use Rattle.std.proofs.Common.{◌≡◌, ◌∙◌, sym, List, Option, None}
 use Rattle.std.specs.Prelude.{slice_get, IfSome}
 use Rattle.cpm_memory.specs.Contents.{Contents, byte_at}
 use Rattle.cpm_memory.specs.Frames.{memories}
