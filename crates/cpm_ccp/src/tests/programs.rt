@@ -20,6 +20,7 @@ fn disk(rt: &impl Abort, alloc: Global) -> Image {
 /// `BIG.COM` of so many records, all of them C9h, as the only file.
 fn big(rt: &impl Abort, alloc: Global, records: u16) -> Image {
     let mut image = blank(alloc).expect(rt, "memory");
+    assert!(rt; records <= 512);
     for record in 0..records {
         image
             .put_record(16 + record, &[0xC9; 128])
@@ -28,7 +29,7 @@ fn big(rt: &impl Abort, alloc: Global, records: u16) -> Image {
     for extent in 0..4 {
         let mut entry = *b"\x00BIG     COM\x00\x00\x00\x80................";
         entry[12] = extent;
-        entry[15] = (records - 128 * u16::from(extent)).min(128) as u8;
+        entry[15] = records.saturating_sub(128 * u16::from(extent)).min(128) as u8;
         for place in 0..16 {
             entry[16 + usize::from(place)] = 2 + 16 * extent + place;
         }

@@ -17,19 +17,8 @@ fn saves_pages_from_0100h_on(rt: HostRuntime) -> Result<(), Fail> {
     let mut entry = [0; 32];
     entry[..17].copy_from_slice(b"\x00T       DAT\x00\x00\x00\x02\x02");
     assert_eq!(rt; trial.entry(&rt, 0), entry);
-    match &trial.session.disks.drives[0] {
-        Some(drive) => {
-            assert_eq!(rt;
-                drive.image.record(16).expect(&rt, "record 16"),
-                [0x41; 128].as_slice()
-            );
-            assert_eq!(rt;
-                drive.image.record(17).expect(&rt, "record 17"),
-                [0x42; 128].as_slice()
-            );
-        }
-        None => panic!(&rt; "drive A is not there"),
-    }
+    assert_eq!(rt; trial.record(&rt, 16), [0x41; 128]);
+    assert_eq!(rt; trial.record(&rt, 17), [0x42; 128]);
     Ok(())
 }
 

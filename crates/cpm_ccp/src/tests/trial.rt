@@ -31,6 +31,7 @@ pub fn put_entry(rt: &impl Abort, image: &mut Image, index: u16, start: &[u8]) {
     let mut record = [0; 128];
     record.copy_from_slice(image.record(index / 4).expect(rt, "a record"));
     let place = 32 * usize::from(index % 4);
+    assert!(rt; start.len() <= 32);
     record[place..place + 32].fill(0);
     record[place..place + start.len()].copy_from_slice(start);
     image.put_record(index / 4, &record).expect(rt, "a record");
@@ -133,17 +134,24 @@ impl Trial {
         self.session(rt, b"", 1, b"\r\nA>");
     }
 
-    /// An entry of drive A.
-    pub fn entry(&self, rt: &impl Abort, index: u16) -> [u8; 32] {
-        let mut entry = [0; 32];
+    /// A record of drive A.
+    pub fn record(&self, rt: &impl Abort, number: u16) -> [u8; 128] {
+        let mut record = [0; 128];
         match &self.session.disks.drives[0] {
             Some(drive) => {
-                let record = drive.image.record(index / 4).expect(rt, "a record");
-                let start = 32 * usize::from(index % 4);
-                entry.copy_from_slice(&record[start..start + 32]);
+                record.copy_from_slice(drive.image.record(number).expect(rt, "a record"));
             }
             None => panic!(rt; "drive A is not there"),
         }
+        record
+    }
+
+    /// An entry of drive A.
+    pub fn entry(&self, rt: &impl Abort, index: u16) -> [u8; 32] {
+        let record = self.record(rt, index / 4);
+        let start = 32 * usize::from(index % 4);
+        let mut entry = [0; 32];
+        entry.copy_from_slice(&record[start..start + 32]);
         entry
     }
 }
