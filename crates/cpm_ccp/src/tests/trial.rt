@@ -21,6 +21,7 @@ pub fn blank(alloc: Global) -> Result<Image, AllocError> {
 pub fn disk_of(rt: &impl Abort, alloc: Global, entries: &[&[u8]]) -> Image {
     let mut image = blank(alloc).expect(rt, "memory");
     for (index, start) in entries.iter().enumerate() {
+        assert!(rt; index < 64);
         put_entry(rt, &mut image, index as u16, start);
     }
     image
@@ -108,11 +109,12 @@ impl Trial {
     /// Types keys, and gives the number of steps until a program runs or a key is waited for.
     pub fn types(&mut self, rt: &impl Abort, keys: &[u8]) -> u32 {
         self.press(rt, keys);
-        let mut steps = 0;
-        while !self.is_in_program() && steps < 10_000 && self.step(rt) != Went::Waits {
-            steps += 1;
+        for steps in 0..10_000 {
+            if self.is_in_program() || self.step(rt) == Went::Waits {
+                return steps;
+            }
         }
-        steps
+        10_000
     }
 
     /// Takes all console bytes, which must be these.
