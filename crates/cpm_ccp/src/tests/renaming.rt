@@ -64,17 +64,30 @@ fn every_entry_gets_the_new_name(rt: HostRuntime) -> Result<(), Fail> {
 #[test]
 fn bad_forms(rt: HostRuntime) -> Result<(), Fail> {
     let mut trial = trial(&rt, rt.alloc())?;
-    for line in [
-        *b"REN NEW=OLD.*\r",
-        *b"REN N?W=OLD.T\r",
-        *b"REN B:X=A:OLD\r",
-        *b"REN OLD NEW.X\r",
-    ] {
-        let mut expected = [0; 24];
-        expected[..14].copy_from_slice(&line);
-        expected[14..].copy_from_slice(b"\r\nREN?\r\nA>");
-        trial.session(&rt, &line, 14 + 2, &expected);
-    }
+    trial.session(
+        &rt,
+        b"REN NEW=OLD.*\r",
+        14 + 2,
+        b"REN NEW=OLD.*\r\r\nREN?\r\nA>",
+    );
+    trial.session(
+        &rt,
+        b"REN N?W=OLD.T\r",
+        14 + 2,
+        b"REN N?W=OLD.T\r\r\nREN?\r\nA>",
+    );
+    trial.session(
+        &rt,
+        b"REN B:X=A:OLD\r",
+        14 + 2,
+        b"REN B:X=A:OLD\r\r\nREN?\r\nA>",
+    );
+    trial.session(
+        &rt,
+        b"REN OLD NEW.X\r",
+        14 + 2,
+        b"REN OLD NEW.X\r\r\nREN?\r\nA>",
+    );
     assert_eq!(rt; name(&rt, &trial, 0), *b"OLD     TXT");
     Ok(())
 }
