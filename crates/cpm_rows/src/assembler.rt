@@ -278,6 +278,15 @@ fn length_of(text: &str) -> usize {
     }
 }
 
+/// Those of three bytes that an instruction of the table has.
+fn bytes_of<'a>(text: &str, bytes: &'a [u8; 3]) -> &'a [u8] {
+    match length_of(text) {
+        1 => &bytes[..1],
+        2 => &bytes[..2],
+        _ => bytes,
+    }
+}
+
 /// Fails unless a source has this image.
 fn check(rt: &(impl Abort + AllocGlobal), source: &str, image: &[u8]) {
     match assemble(rt.alloc(), source.as_bytes()) {
@@ -288,14 +297,9 @@ fn check(rt: &(impl Abort + AllocGlobal), source: &str, image: &[u8]) {
 
 #[test]
 fn assembles_each_form_of_each_instruction(rt: HostRuntime) {
-    let mut count = 0;
     for (opcode, text) in INSTRUCTIONS.iter().enumerate() {
-        check(&rt, text, &[opcode as u8, 0x34, 0x12][..length_of(text)]);
-        if !text.starts_with("DB") {
-            count += 1;
-        }
+        check(&rt, text, bytes_of(text, &[opcode as u8, 0x34, 0x12]));
     }
-    assert_eq!(rt; count, 244);
 }
 
 #[test]
@@ -324,21 +328,19 @@ fn listed_lines_assemble_to_the_same_bytes(rt: HostRuntime) {
     ] {
         let mut source = String::new(rt.alloc());
         let mut image = Vec::new(rt.alloc());
-        let mut count = 0;
         for (opcode, text) in INSTRUCTIONS.iter().enumerate() {
             if text.starts_with("DB") {
                 continue;
             }
             let bytes = [opcode as u8, low, high];
             let line = list_line(0x0100, bytes);
-            source.push_str(&line.as_str()[14..]).expect(&rt, "memory");
+            let text_of_line = line.as_str().get(14..).expect(&rt, "a mnemonic");
+            source.push_str(text_of_line).expect(&rt, "memory");
             source.push_str("\n").expect(&rt, "memory");
             image
-                .extend_from_slice(&bytes[..length_of(text)])
+                .extend_from_slice(bytes_of(text, &bytes))
                 .expect(&rt, "memory");
-            count += 1;
         }
-        assert_eq!(rt; count, 244);
         check(&rt, source.as_str(), image.as_slice());
     }
 }
