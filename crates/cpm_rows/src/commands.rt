@@ -93,11 +93,10 @@ fn saves_and_lists_in_26_steps(rt: HostRuntime) -> Result<(), Fail> {
     assert_eq!(rt; granted.executed, 26);
     assert_eq!(rt; granted.why, Why::All);
     assert!(rt; machine.look().waiting);
-    let mut out = [0; 64];
-    assert_eq!(rt; machine.take(&mut out), 46);
-    assert_eq!(rt;
-        &out[..46],
-        b"\r\nA>SAVE 1 T.DAT\r\r\nA>DIR\r\r\nA: T        DAT\r\nA>".as_slice()
+    shows(
+        &rt,
+        &mut machine,
+        b"\r\nA>SAVE 1 T.DAT\r\r\nA>DIR\r\r\nA: T        DAT\r\nA>",
     );
     let entry = entry_of(&rt, machine, 0);
     assert_eq!(rt; &entry[..12], b"\0T       DAT".as_slice());
