@@ -1,20 +1,57 @@
 //! The memory of one table of a store.
 
-ghost use Rattle.std.specs.Prelude.{◌≡◌, ◌<◌};
-ghost use Rattle.cpm_memory.specs.Frames.{IsSound, HasReservation};
+ghost use Rattle.std.specs.Prelude.{◌≡◌, ◌<◌, ℕ, length, slice_index};
+ghost use Rattle.cpm_memory.specs.Contents.{touched_of};
+ghost use Rattle.cpm_memory.specs.Frames.{IsSound, HasReservation, memory_of, place_of, reserved_by, table_at};
 
 use crate::memory::Memory;
 use crate::pages::TableId;
 use crate::store::FrameStore;
 
 /// The memory of one table. It lends the store, and changes no other memory.
+///
+/// It has its own copy of where the pages are, so that no access but the first store to a page looks into the table.
 #[derive(Drop)]
 pub struct View<'a> {
     pub(crate) store: &'a mut FrameStore,
     pub(crate) table: TableId,
+    /// The frame of each page.
+    pub(crate) places: [u16; 256],
+    /// How many pages were written, and how many may be.
+    pub(crate) touched: u16,
+    pub(crate) limit: u16,
     ghost taken: { HasReservation store.now table },
     ghost within: { table < 64 },
     ghost sound: { IsSound store.now },
+    ghost pages: { length places ≡ 256 },
+    ghost placed: { (page : ℕ) → page < 256 → slice_index places page ≡ place_of store.now table page },
+    ghost counted: { touched ≡ touched_of (memory_of store.now table) },
+    ghost limited: { limit ≡ reserved_by (table_at store.now table) },
+}
+
+impl View<'_> {
+    ghost use Rattle.std.specs.Prelude.{false, ◌/◌};
+    ghost use Rattle.cpm_memory.specs.Contents.{CanSet, after_set, is_written, page_of};
+    ghost use Rattle.cpm_memory.specs.Frames.{MovesAtMost};
+    ghost use Rattle.cpm_memory.specs.View.{contents_of, surroundings_of, store_of, table_of, ViewLeads};
+
+    /// Stores the first byte of a page, which is copied into a frame of its own.
+    #[cold]
+    #[inline(never)]
+    fn set_first(&mut self, address: u16, value: u8)
+        requires room { CanSet (contents_of self.old) address }
+        requires first { is_written (contents_of self.old) (page_of address) ≡ false }
+        ensures contents { contents_of self.new ≡ after_set (contents_of self.old) address value }
+        ensures surroundings { surroundings_of self.new ≡ surroundings_of self.old }
+        ensures moves { MovesAtMost (store_of self.old) (store_of self.new) (table_of self.old) (page_of address) }
+        ensures leads { ViewLeads self.old self.new }
+    {
+        let page = (address / 256) as u8;
+        let table = self.table.index();
+        self.store.set_byte(table, address, value);
+        self.places[page as usize] = self.store.place_at(table, page);
+        self.touched += 1;
+    }
 }
 
 impl Memory for View<'_> {
@@ -29,7 +66,8 @@ impl Memory for View<'_> {
     ghost Leads = { ViewLeads };
 
     fn get(&self, address: u16) -> u8 {
-        self.store.byte(self.table.index(), address)
+        let frame = self.places[(address / 256) as usize];
+        self.store.frame(frame)[(address % 256) as usize]
     }
 
     /// Stores a byte. At most the frame of its page is another one then; no page of another table moves.
@@ -40,15 +78,20 @@ impl Memory for View<'_> {
         ensures moves { MovesAtMost (store_of self.old) (store_of self.new) (table_of self.old) (page_of address) }
         ensures leads { ViewLeads self.old self.new }
     {
-        self.store.set_byte(self.table.index(), address, value);
+        let frame = self.places[(address / 256) as usize];
+        if !self.store.is_private(frame) {
+            self.set_first(address, value);
+            return;
+        }
+        self.store.write(frame, (address % 256) as u8, value);
     }
 
     fn touched(&self) -> u16 {
-        self.store.touched(self.table.index())
+        self.touched
     }
 
     fn room(&self) -> u16 {
-        self.store.room(self.table.index())
+        self.limit - self.touched
     }
 
     ghost sound = { IsContents-view };

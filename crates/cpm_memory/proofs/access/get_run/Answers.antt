@@ -1,4 +1,4 @@
-use Rattle.std.proofs.Common.{◌≡◌, ◌+◌, ◌%◌, ◌<◌, List, ℕ, [], ◌∷◌, ◌++◌, length, take, arith, refl, ap, sym, ◌∙◌}
+use Rattle.std.proofs.Common.{◌≡◌, List, ℕ, [], ◌∷◌, ◌++◌, length, arith, refl, ap, sym, ◌∙◌}
 use Rattle.std.proofs.lemmas.List.{take_more_set, take_all}
 use Rattle.cpm_memory.specs.Contents.{byte_at, run_at}
 use Rattle.cpm_memory.proofs.Runs.{run_at-more}

@@ -1,0 +1,60 @@
+use Rattle.std.proofs.Common.{◌≡◌, ◌/◌, arith, ap, ◌∙◌, subst}
+use Rattle.std.proofs.lemmas.List.{length-set}
+use Rattle.cpm_memory.specs.Contents.{after_set}
+use Rattle.cpm_memory.specs.Frames.{ChangesTable, MovesAtMost, memory_of, place_of}
+use Rattle.cpm_memory.specs.Memories.{surroundings_at-kept}
+use Rattle.cpm_memory.specs.Sets.{IsAfterSets-one}
+use Rattle.cpm_memory.proofs.Accesses.{taken-kept, limit-kept, placed-after, counted-after, touched-within}
+use Rattle.cpm_memory.proofs.view.View.set_first.Goals as goal
+use Rattle.cpm_memory.proofs.view.View.set_first.Goals.{After-place_at}
+
+changes : (c : After-place_at) → ChangesTable c.args.self.now.store.now c.set_byte.new.self c.args.self.now.table
+changes c = subst (λ t. ChangesTable c.args.self.now.store.now c.set_byte.new.self t) c.index-table.ensures.index c.set_byte.ensures.others
+
+moves : (c : After-place_at) → MovesAtMost c.args.self.now.store.now c.set_byte.new.self c.args.self.now.table (c.args.address / 256)
+moves c = subst (λ t. MovesAtMost c.args.self.now.store.now c.set_byte.new.self t (c.args.address / 256)) c.index-table.ensures.index c.set_byte.ensures.moves
+
+memory : (c : After-place_at) → memory_of c.set_byte.new.self c.args.self.now.table ≡ after_set (memory_of c.args.self.now.store.now c.args.self.now.table) c.args.address c.args.value
+memory c = subst (λ t. memory_of c.set_byte.new.self t ≡ after_set (memory_of c.args.self.now.store.now t) c.args.address c.args.value) c.index-table.ensures.index c.set_byte.ensures.memory
+
+pub overflow_add-self : goal.overflow_add-self
+overflow_add-self c = let v = c.args.self.now in omega (arith, touched-within v.store.now v.table v.touched v.limit v.sound v.within v.counted v.limited)
+
+pub returns-clause-contents : goal.returns-clause-contents
+returns-clause-contents c = memory (goal.at.returns-clause-contents c).After-place_at
+
+pub returns-clause-surroundings : goal.returns-clause-surroundings
+returns-clause-surroundings c =
+    let v = c.args.self.now in
+    surroundings_at-kept v.store.ghost_name v.store.now c.set_byte.new.self v.table (changes (goal.at.returns-clause-surroundings c).After-place_at)
+
+pub returns-clause-moves : goal.returns-clause-moves
+returns-clause-moves c = moves (goal.at.returns-clause-moves c).After-place_at
+
+pub returns-clause-leads : goal.returns-clause-leads
+returns-clause-leads c =
+    let o = (goal.at.returns-clause-leads c).After-place_at in
+    record {
+      stores = IsAfterSets-one _ _ _ _ c.args.address c.args.value (memory o) (returns-clause-surroundings c);
+      places = λ t page ne. moves o t page (λ e _. ne e);
+    }
+
+pub invariant_of-self-clause-taken : goal.invariant_of-self-clause-taken
+invariant_of-self-clause-taken c = let v = c.args.self.now in taken-kept v.store.now c.set_byte.new.self v.table (changes c) v.taken
+
+pub invariant_of-self-clause-pages : goal.invariant_of-self-clause-pages
+invariant_of-self-clause-pages c = let v = c.args.self.now in length-set v.places (c.args.address / 256) c.place_at.result ∙ v.pages
+
+pub invariant_of-self-clause-placed : goal.invariant_of-self-clause-placed
+invariant_of-self-clause-placed c =
+    let v = c.args.self.now in
+    placed-after v.store.now c.set_byte.new.self v.table (c.args.address / 256) c.place_at.result v.places v.pages (omega arith) v.placed (moves c)
+    (c.place_at.ensures.place ∙ ap (λ t. place_of c.set_byte.new.self t (c.args.address / 256)) c.index-table.ensures.index)
+
+pub invariant_of-self-clause-counted : goal.invariant_of-self-clause-counted
+invariant_of-self-clause-counted c =
+    let v = c.args.self.now in
+    counted-after v.store.now c.set_byte.new.self v.table c.args.address c.args.value v.touched v.sound v.within (omega arith) v.counted c.requires.first (memory c)
+
+pub invariant_of-self-clause-limited : goal.invariant_of-self-clause-limited
+invariant_of-self-clause-limited c = let v = c.args.self.now in limit-kept v.store.now c.set_byte.new.self v.table v.limit (changes c) v.limited
