@@ -1,14 +1,14 @@
 use Rattle.std.proofs.Common.{sym, ◌∙◌, arith}
-use Rattle.cpm_slots.proofs.UntilLaws.{IsRunUntil-executed, IsRunUntil-more}
+use Rattle.cpm_slots.proofs.UntilLaws.{IsRunUntil-executed, IsRunUntil-on}
 use Rattle.cpm_slots.proofs.until.grant_until.Goals as goal
 use Rattle.cpm_slots.proofs.until.grant_until.Goals.{then-loop-executed-test+else-can_go_on, else-loop-executed-test}
 
 pub loop-executed-preserved : goal.loop-executed-preserved
 loop-executed-preserved g c = record {
-  run = IsRunUntil-more _ _ _ _ _ _ c.loop-executed.invariant.run (sym c.can_go_on.ensures ∙ c.if-can_go_on.true) c.step.ensures.state (g.met.M.Memory.sound c.step.new.memory);
+  run = IsRunUntil-on _ _ _ _ _ _ _ c.loop-executed.invariant.run (sym c.can_go_on.ensures ∙ c.if-can_go_on.true) c.step_or_wait-executed.ensures.run ?;
   within = omega arith;
-  surroundings = c.step.ensures.surroundings ∙ c.loop-executed.invariant.surroundings;
-  leads = g.met.M.Memory.leads_on _ _ _ c.loop-executed.invariant.leads c.step.ensures.leads;
+  surroundings = c.step_or_wait-executed.ensures.surroundings ∙ c.loop-executed.invariant.surroundings;
+  leads = g.met.M.Memory.leads_on _ _ _ c.loop-executed.invariant.leads c.step_or_wait-executed.ensures.leads;
 }
 
 pub returns-clause-executed : goal.returns-clause-executed
