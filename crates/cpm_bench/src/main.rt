@@ -2,12 +2,20 @@
 //! `flat FILE STEPS` or `view FILE STEPS`. It prints how many instructions were done. Or makes memories to see what room
 //! they take: `sessions NUMBER` in one store, each with one written page, or `flats NUMBER` of their own. It prints what
 //! Linux says of its own memory then.
+//!
+//! Or it runs a program by one grant of a machine, `machine CPU FILE STEPS`, or RUN.COM of a system drive in the sessions of a host by
+//! grants in turn, `host CPU IMAGE SESSIONS QUOTA STEPS ROUNDS`, and prints how many steps were executed; or it opens and closes a slot,
+//! `slots TIMES`. CPU is `8080` or `z80`.
 #![tactic(auto)]
+
+mod sessions;
 
 use cpm_decode::Ran;
 use cpm_exec8080::quick_step8080;
-use cpm_flags::{Alternate, Flags, Regs};
+use cpm_flags::{Alternate, Cpu, Flags, Regs};
+use cpm_geom::Image;
 use cpm_memory::{FlatMemory, FrameStore, Memory, has_room};
+use sessions::{Turns, open_and_close, run_host, run_machine};
 use std::process::ExitCode;
 use std::{env, fs};
 
@@ -144,22 +152,59 @@ fn own(rt: &HostRuntime, number: u16) -> Option<u64> {
     resident(rt)
 }
 
-fn compare(rt: &HostRuntime) -> Option<u64> {
-    let mut words = env::args(rt).ok()?;
-    let _name = words.next()?;
-    let kind = words.next()?;
-    match kind.as_str() {
-        "sessions" => return share(rt, words.next()?.as_str().parse().ok()?),
-        "flats" => return own(rt, words.next()?.as_str().parse().ok()?),
-        _ => {}
+/// The processor of that name.
+fn cpu_of(name: &str) -> Option<Cpu> {
+    match name {
+        "8080" => Some(Cpu::I8080),
+        "z80" => Some(Cpu::Z80),
+        _ => None,
     }
-    let program = fs::read(rt, words.next()?.as_str()).ok()?;
-    let steps = words.next()?.as_str().parse::<u64>().ok()?;
-    run_over(rt, kind.as_str(), program.as_slice(), steps)
+}
+
+/// The system drive in a file.
+fn system_of(rt: &HostRuntime, file: &str) -> Option<Image> {
+    Image::from_bytes(fs::read(rt, file).ok()?).ok()
+}
+
+/// Does what the words ask for, and gives the number to print.
+fn measure(rt: &HostRuntime, words: &[&str]) -> Option<u64> {
+    match words {
+        ["sessions", number] => share(rt, number.parse().ok()?),
+        ["flats", number] => own(rt, number.parse().ok()?),
+        ["machine", cpu, file, steps] => {
+            let program = fs::read(rt, file).ok()?;
+            run_machine(rt.alloc(), cpu_of(cpu)?, program, steps.parse().ok()?)
+        }
+        ["host", cpu, file, sessions, quota, steps, rounds] => {
+            let turns = Turns {
+                sessions: sessions.parse().ok()?,
+                quota: quota.parse().ok()?,
+                steps: steps.parse().ok()?,
+                rounds: rounds.parse().ok()?,
+            };
+            run_host(rt.alloc(), cpu_of(cpu)?, system_of(rt, file)?, &turns)
+        }
+        ["slots", times] => open_and_close(rt.alloc(), times.parse().ok()?),
+        [kind, file, steps] => {
+            let program = fs::read(rt, file).ok()?;
+            run_over(rt, kind, program.as_slice(), steps.parse().ok()?)
+        }
+        _ => None,
+    }
+}
+
+/// The same for the words of the command line behind the program's own name.
+fn measure_words(rt: &HostRuntime) -> Option<u64> {
+    let words: Vec<String> = env::args(rt).ok()?.skip(1).collect(rt.alloc()).ok()?;
+    let mut texts = Vec::new(rt.alloc());
+    for word in &words {
+        texts.push(word.as_str()).ok()?;
+    }
+    measure(rt, texts.as_slice())
 }
 
 fn main(rt: HostRuntime) -> ExitCode {
-    match compare(&rt) {
+    match measure_words(&rt) {
         Some(done) => {
             let _ = println!(rt; "{done}");
             ExitCode::SUCCESS

@@ -19,3 +19,5 @@ mod programs_z80;
 mod run;
 #[cfg(test)]
 mod stops;
+#[cfg(test)]
+mod waits;

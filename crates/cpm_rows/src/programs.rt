@@ -221,3 +221,21 @@ fn steps_one_by_one(rt: HostRuntime) -> Result<(), Fail> {
     assert_eq!(rt; machine.look().ended, End::Exited);
     Ok(())
 }
+
+#[test]
+fn runs_what_it_stored_over_an_instruction(rt: HostRuntime) -> Result<(), Fail> {
+    // INR A at 0100h is done once, made INR B, and done again
+    let ran = run(
+        rt.alloc(),
+        Cpu::I8080,
+        &[
+            0x3C, 0x21, 0x00, 0x01, 0x36, 0x04, 0x78, 0xB7, 0xCA, 0x00, 0x01, 0x76,
+        ],
+    )?;
+    assert_eq!(rt; ran.granted.executed, 13);
+    let look = ran.machine.look();
+    assert_eq!(rt; look.ended, End::Halted);
+    assert_eq!(rt; look.regs.a, 0x01);
+    assert_eq!(rt; look.regs.b, 0x01);
+    Ok(())
+}

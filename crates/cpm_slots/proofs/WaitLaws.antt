@@ -1,11 +1,14 @@
 -- A step that is a wait.
-use Rattle.std.proofs.Common.{◌≡◌, ℕ, ◌-◌, Bool, true, false, ◌&&◌, ◌==◌, Some, None, refl, ap, sym, ◌∙◌, arith, if◌then◌else◌}
+use Rattle.std.proofs.Common.{◌≡◌, ℕ, zero, suc, ◌+◌, ◌-◌, ◌<◌, ◌≤◌, Bool, true, false, ◌&&◌, ◌==◌, Some, None, refl, ap, sym, ◌∙◌, arith, nat_lt, if◌then◌else◌, subst, ⊎_elim, add-zero}
 use Rattle.std.specs.Prelude.{nat_le}
 use Rattle.std.proofs.lemmas.Bool.Decides.{nat_tests}
-use Rattle.cpm_slots.proofs.StepLaws.{and-left, and-right}
+use Rattle.std.proofs.lemmas.Bool.{cases_lt}
+use Rattle.cpm_slots.proofs.StepLaws.{and-left, and-right, running-is, runs}
 use Rattle.cpm_flags.specs.declared.regs.Cpu.{Cpu}
 use Rattle.cpm_geom.specs.Disk.{Disk}
-use Rattle.cpm_memory.specs.Contents.{Contents}
+use Rattle.cpm_memory.specs.Contents.{Contents, touched_of}
+use Rattle.cpm_memory.specs.Room.{HasRoom}
+use Rattle.cpm_console.specs.Terminal.{has_room}
 use Rattle.cpm_bdos.specs.Did.{Did, did}
 use Rattle.cpm_bdos.specs.Step.{bdos, bios}
 use Rattle.cpm_bdos.specs.Waiting.{is_waiting, call_in, is_command}
@@ -15,12 +18,15 @@ use Rattle.cpm_bdos.specs.declared.session.Session.{Session}
 use Rattle.cpm_bdos.specs.declared.session.Mode.{Mode}
 use Rattle.cpm_bdos.specs.declared.session.Mode.TheVariants.{Program, Text, Line, Hold, Fault, Command}
 use Rattle.cpm_bdos.specs.declared.session.Went.TheVariants.{Waits}
+use Rattle.cpm_slots.specs.declared.reply.End.{End}
+use Rattle.cpm_slots.specs.declared.reply.End.TheVariants.{Running, Quota, CountEnd}
 use Rattle.cpm_slots.specs.declared.steps.Outcome.TheVariants as outcome
 use Rattle.cpm_slots.specs.declared.trap.Trap.TheVariants.{CommandProcessor, Bdos, Bios}
 use Rattle.cpm_slots.specs.Trap.{trap_at}
 use Rattle.cpm_slots.specs.MachineState.{MachineState}
 use Rattle.cpm_slots.specs.Serve.{look_of}
-use Rattle.cpm_slots.specs.Step.{part, part_in, at_trap, by_call, made, after_part, step_if, is_running, step}
+use Rattle.cpm_slots.specs.Runner.{IsSound, IsRun}
+use Rattle.cpm_slots.specs.Step.{part, part_in, at_trap, by_call, made, end_of, after_part, step_if, is_running, step, after, can_step}
 
 -- the call that PC names is that of the trap there
 call-at_trap : (system : Disk) (cpu : Cpu) (with_program : Bool) (s : Session) (m : Contents) (d : Did) → call_in Program system s m ≡ Some d → at_trap system cpu with_program (trap_at s.regs.pc) s m ≡ by_call d
@@ -70,3 +76,55 @@ step-waits system s h =
     let runs : is_running s.ended ≡ true = and-left (is_running s.ended) (is_waiting s.session s.memory) h in
     let waits : is_waiting s.session s.memory ≡ true = and-right (is_running s.ended) (is_waiting s.session s.memory) h in
     ap (λ b. step_if system b s) runs ∙ ap (after_part s) (part-waits system s.cpu s.with_program s.session s.memory waits)
+
+-- ---- waits in one stroke
+
+-- the state after so many waits
+abbrev pub waited : MachineState → ℕ → MachineState
+waited s k = record s { count = s.count + k; ended = end_of outcome.GoesOn (s.count + k) (touched_of s.memory) s.quota }
+
+goes-by_tests : (last short : Bool) (n : ℕ) (m : Contents) → n < 18446744073709551615 → HasRoom m → (n == 18446744073709551615) ≡ last → (nat_lt m.limit 256 && nat_lt m.limit (touched_of m + 8)) ≡ short → (if last then CountEnd else if short then Quota else Running) ≡ Running
+goes-by_tests true short n m below room e f = absurd (grind (arith, nat_tests))
+goes-by_tests false true n m below room e f =
+    let few : nat_lt m.limit 256 ≡ true = and-left (nat_lt m.limit 256) (nat_lt m.limit (touched_of m + 8)) f in
+    let full : nat_lt m.limit (touched_of m + 8) ≡ true = and-right (nat_lt m.limit 256) (nat_lt m.limit (touched_of m + 8)) f in
+    ⊎_elim (λ (left : touched_of m + 8 ≤ m.limit). absurd (grind (arith, nat_tests))) (λ (all : m.limit ≡ 256). absurd (grind (arith, nat_tests))) room
+goes-by_tests false false n m below room e f = refl
+
+-- a part that writes nothing leaves the room for a step, and so ends a session by its count alone
+goes_on : (n : ℕ) (s : MachineState) → IsSound s → is_running s.ended ≡ true → n < 18446744073709551615 → end_of outcome.GoesOn n (touched_of s.memory) s.quota ≡ Running
+goes_on n s sound h below =
+    subst (λ q. end_of outcome.GoesOn n (touched_of s.memory) q ≡ Running) sound.limit (goes-by_tests (n == 18446744073709551615) (nat_lt s.memory.limit 256 && nat_lt s.memory.limit (touched_of s.memory + 8)) n s.memory below (sound.room h) refl refl)
+
+-- a session that waits does so up to the greatest count
+pub after-waits : (system : Disk) (k : ℕ) (s : MachineState) → IsSound s → is_running s.ended ≡ true → is_waiting s.session s.memory ≡ true → s.count + k ≤ 18446744073709551615 → after system k s ≡ waited s k
+unfolding look_of
+after-waits system zero s sound h waits most =
+    sym (ap (λ (e : End). record s { count = s.count + 0; ended = e }) (goes_on (s.count + 0) s sound h (omega (arith, sound.count h)))
+    ∙ ap (λ n. record s { count = n; ended = Running }) (add-zero s.count)
+    ∙ ap (λ (e : End). record s { ended = e }) (sym (running-is s.ended h)))
+after-waits system (suc k) s sound h waits most =
+    let goes : end_of outcome.GoesOn (s.count + k) (touched_of s.memory) s.quota ≡ Running = goes_on (s.count + k) s sound h (omega arith) in
+    let next : s.count + k + 1 ≡ s.count + suc k = omega arith in
+    ap (step system) (after-waits system k s sound h waits (omega arith))
+    ∙ step-waits system (waited s k) (ap (λ (e : End). is_running e && is_waiting s.session s.memory) goes ∙ waits)
+    ∙ ap (λ n. record s { count = n; ended = end_of outcome.GoesOn n (touched_of s.memory) s.quota }) next
+
+-- and each of these steps may be made
+pub IsRun-waits : (system : Disk) (k : ℕ) (s : MachineState) → IsSound s → can_step s ≡ true → is_waiting s.session s.memory ≡ true → s.count + k ≤ 18446744073709551615 → IsRun system k s (waited s k)
+IsRun-waits system k s sound can waits most = record {
+  now_is = sym (after-waits system k s sound (runs s can) waits most);
+  each = λ i below. ap can_step (after-waits system i s sound (runs s can) waits (omega arith))
+      ∙ ap (λ (e : End). is_running e && has_room s.session.console) (goes_on (s.count + i) s sound (runs s can) (omega arith))
+      ∙ and-right (is_running s.ended) (has_room s.session.console) can;
+  sound = record {
+    limit = sound.limit;
+    count = λ h. ⊎_elim (λ (lt : s.count + k < 18446744073709551615). lt)
+        (λ ge.
+        let last : s.count + k ≡ 18446744073709551615 = omega arith in
+        let ended : is_running (end_of outcome.GoesOn (s.count + k) (touched_of s.memory) s.quota) ≡ false = ap (λ n. is_running (end_of outcome.GoesOn n (touched_of s.memory) s.quota)) last in
+        absurd cc)
+        (cases_lt (s.count + k) 18446744073709551615);
+    room = λ h. sound.room (runs s can);
+  };
+}

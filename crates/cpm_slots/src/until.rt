@@ -6,7 +6,7 @@ ghost use Rattle.cpm_slots.specs.Step.{after};
 ghost use Rattle.cpm_slots.specs.Until.{begins_at, can_go_on, executed_until, why_until};
 
 use crate::reply::{End, Granted, Why};
-use crate::steps::{Runner, can_step, step};
+use crate::steps::{Runner, can_step, step_or_wait};
 use cpm_bdos::{Mode, Session};
 use cpm_geom::Image;
 use cpm_memory::Memory;
@@ -61,8 +61,13 @@ pub fn grant_until<M: Memory>(
 {
     let mut executed = 0;
     while executed < steps && can_go_on(runner, memory, pc, executed) {
-        step(system, runner, memory);
-        executed += 1;
+        // Of steps that begin at the address only the first may be made.
+        let most = if begins_at(&runner.session, pc) {
+            1
+        } else {
+            steps - executed
+        };
+        executed += step_or_wait(system, runner, memory, most);
     }
     let why = why_ended(runner, memory, pc, steps, executed);
     Granted { executed, why }

@@ -1,15 +1,23 @@
-use Rattle.std.proofs.Common.{sym, ◌∙◌, arith}
-use Rattle.cpm_slots.proofs.UntilLaws.{IsRunUntil-executed, IsRunUntil-more}
+use Rattle.std.proofs.Common.{ap, sym, ◌∙◌, arith}
+use Rattle.cpm_slots.specs.Until.{begins_at}
+use Rattle.cpm_slots.proofs.UntilLaws.{IsRunUntil-executed, IsRunUntil-on}
 use Rattle.cpm_slots.proofs.until.grant_until.Goals as goal
-use Rattle.cpm_slots.proofs.until.grant_until.Goals.{then-loop-executed-test+else-can_go_on, else-loop-executed-test}
+use Rattle.cpm_slots.proofs.until.grant_until.Goals.{then-begins_at, else-begins_at, then-loop-executed-test+else-can_go_on, else-loop-executed-test}
 
+-- a step that begins at the address is made alone, and where the steps wait the session doesn't come to it
 pub loop-executed-preserved : goal.loop-executed-preserved
-loop-executed-preserved g c = record {
-  run = IsRunUntil-more _ _ _ _ _ _ c.loop-executed.invariant.run (sym c.can_go_on.ensures ∙ c.if-can_go_on.true) c.step.ensures.state (g.met.M.Memory.sound c.step.new.memory);
-  within = omega arith;
-  surroundings = c.step.ensures.surroundings ∙ c.loop-executed.invariant.surroundings;
-  leads = g.met.M.Memory.leads_on _ _ _ c.loop-executed.invariant.leads c.step.ensures.leads;
-}
+loop-executed-preserved g c =
+    let within = c.step_or_wait-executed.ensures.within in
+    record {
+      run = IsRunUntil-on _ _ _ _ _ _ _ c.loop-executed.invariant.run (sym c.can_go_on.ensures ∙ c.if-can_go_on.true) c.step_or_wait-executed.ensures.run
+          (λ i some below. elim c.if-begins_at.branch [
+            | then-begins_at w ↦ let alone = w.most-is in absurd (omega arith)
+            | else-begins_at w ↦ ap (begins_at c.args.pc) (c.step_or_wait-executed.ensures.still i below) ∙ sym c.begins_at.ensures ∙ w.if-begins_at.false
+          ]);
+      within = omega arith;
+      surroundings = c.step_or_wait-executed.ensures.surroundings ∙ c.loop-executed.invariant.surroundings;
+      leads = g.met.M.Memory.leads_on _ _ _ c.loop-executed.invariant.leads c.step_or_wait-executed.ensures.leads;
+    }
 
 pub returns-clause-executed : goal.returns-clause-executed
 returns-clause-executed g c = IsRunUntil-executed _ _ _ _ _ _ c.loop-executed.invariant.run c.loop-executed.invariant.within

@@ -1,0 +1,40 @@
+"""What the measurements of sessions share: the program of crate cpm_bench, and a system drive with one program."""
+import os
+import shutil
+import subprocess
+
+from disk import SIZE, Disk
+
+BENCH = os.path.dirname(os.path.realpath(__file__))
+CRATE = f"{os.path.dirname(BENCH)}/crates/cpm_bench"
+FIRST_BLOCK = 2
+RECORDS_IN_BLOCK = 8
+
+
+def build(to):
+    """Has rt prove and build cpm_bench, where that is to do, and copies its program to this path. Whether it is there."""
+    if not shutil.which("rt"):
+        return False
+    ran = subprocess.run(["rt", "run", "--", "view", "data/loop.com", "1000"], cwd=CRATE, stdin=subprocess.DEVNULL, capture_output=True)
+    if ran.returncode:
+        return False
+    shutil.copy2(f"{CRATE}/out/cpm_bench", to)
+    return True
+
+
+def system_drive(program, to):
+    """Writes a system drive that is blank but for this program, as RUN.COM of user 0."""
+    with open(program, "rb") as it:
+        data = it.read()
+    records = -(-len(data) // 128)
+    blocks = -(-records // RECORDS_IN_BLOCK)
+    if records > 128:
+        raise ValueError(f"{program} needs more than one entry")
+    disk = Disk(bytearray([0xE5]) * SIZE)
+    numbers = bytes(range(FIRST_BLOCK, FIRST_BLOCK + blocks))
+    disk.put_entry(0, bytes([0]) + b"RUN     COM" + bytes([0, 0, 0, records]) + numbers.ljust(16, b"\0"))
+    padded = data.ljust(128 * records, b"\x1a")
+    for number in range(records):
+        disk.write(FIRST_BLOCK * RECORDS_IN_BLOCK + number, padded[128 * number : 128 * number + 128])
+    with open(to, "wb") as it:
+        it.write(disk.image)

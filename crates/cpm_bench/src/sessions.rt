@@ -1,0 +1,87 @@
+//! Sessions of one machine, or of a host: programs that they run, and slots that are opened and closed.
+
+use cpm_flags::Cpu;
+use cpm_geom::{Format, Image};
+use cpm_sessions::{Host, SlotId};
+use cpm_slots::{Closed, Machine, Opening};
+use std::alloc::Global;
+
+/// What starts the program RUN.COM of the system drive.
+const KEYS: [u8; 6] = *b"P:RUN\r";
+
+/// What a host's sessions do: so many of them, with a quota each, by grants in turn.
+#[derive(Drop)]
+pub struct Turns {
+    pub sessions: u16,
+    pub quota: u16,
+    pub steps: u64,
+    pub rounds: u64,
+}
+
+/// An opening with one blank drive.
+fn opening_of(alloc: Global, cpu: Cpu, quota: u16) -> Option<Opening> {
+    let mut drives = Vec::new(alloc);
+    drives.push(Image::blank(alloc, Format::Ibm3740).ok()?).ok()?;
+    Some(Opening { cpu, quota, drives })
+}
+
+/// Runs a program by one grant, and says how many steps were executed.
+pub fn run_machine(alloc: Global, cpu: Cpu, program: Vec<u8>, steps: u64) -> Option<u64> {
+    let system = Image::blank(alloc, Format::Ibm3740).ok()?;
+    let opening = opening_of(alloc, cpu, 256)?;
+    let mut machine = Machine::with_program(alloc, opening, program).ok()?;
+    Some(machine.grant(&system, steps).executed)
+}
+
+/// A host with this system drive, whose frames are enough for all pages of so many sessions.
+fn host_of(alloc: Global, system: Image, sessions: u16) -> Option<Host> {
+    if sessions == 0 || sessions > 64 {
+        return None;
+    }
+    Host::new(alloc, system, 256 * sessions).ok()
+}
+
+/// Opens a session that starts the program RUN.COM of the system drive.
+fn start(alloc: Global, host: &mut Host, cpu: Cpu, quota: u16) -> Option<SlotId> {
+    let id = host.open(alloc, opening_of(alloc, cpu, quota)?).ok()?;
+    for key in KEYS {
+        host.key(id, key).ok()?;
+    }
+    Some(id)
+}
+
+/// Runs the program RUN.COM of the system drive in sessions in turn, and says how many steps were executed in all.
+pub fn run_host(alloc: Global, cpu: Cpu, system: Image, turns: &Turns) -> Option<u64> {
+    let mut host = host_of(alloc, system, turns.sessions)?;
+    let mut slots = Vec::new(alloc);
+    for _ in 0..turns.sessions {
+        slots.push(start(alloc, &mut host, cpu, turns.quota)?).ok()?;
+    }
+    let mut total = 0u64;
+    for _ in 0..turns.rounds {
+        for id in &slots {
+            let granted = host.grant(*id, turns.steps).ok()?;
+            total = total.saturating_add(granted.executed);
+        }
+    }
+    Some(total)
+}
+
+/// Opens and closes a slot so many times, always with the same drive.
+pub fn open_and_close(alloc: Global, times: u64) -> Option<u64> {
+    let mut host = host_of(alloc, Image::blank(alloc, Format::Ibm3740).ok()?, 1)?;
+    let mut opening = opening_of(alloc, Cpu::I8080, 256)?;
+    for _ in 0..times {
+        let id = host.open(alloc, opening).ok()?;
+        let Closed { drives, .. } = host.close(id).ok()?;
+        let [first, ..] = drives;
+        let mut drives = Vec::new(alloc);
+        drives.push(first?).ok()?;
+        opening = Opening {
+            cpu: Cpu::I8080,
+            quota: 256,
+            drives,
+        };
+    }
+    Some(times)
+}
