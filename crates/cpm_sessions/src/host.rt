@@ -9,13 +9,14 @@ ghost use Rattle.cpm_memory.specs.Tabulated.{tabulated};
 ghost use Rattle.cpm_slots.specs.Opening.{IsRefusal};
 ghost use Rattle.cpm_slots.specs.Runner.{state_of};
 ghost use Rattle.cpm_slots.specs.Serve.{look_of};
-ghost use Rattle.cpm_slots.specs.Calls.{Key, Grant, Take, TakeList, LookAt, Peek};
+ghost use Rattle.cpm_slots.specs.Calls.{Key, Grant, GrantUntil, Take, TakeList, LookAt, Peek};
 ghost use Rattle.cpm_sessions.specs.Host.{opened_slot};
 ghost use Rattle.cpm_sessions.specs.Serving.{Calls, Closes};
 
 use crate::event::{Refusal, SlotId};
 use crate::seats::{
-    Seat, close_at, grant_at, key_at, look_at, peek_at, place_of, quotas_of, take_at, take_list_at,
+    Seat, close_at, grant_at, grant_until_at, key_at, look_at, peek_at, place_of, quotas_of,
+    take_at, take_list_at,
 };
 use cpm_bdos::Session;
 use cpm_console::Console;
@@ -163,6 +164,25 @@ impl Host {
                 &self.system,
                 place,
                 steps,
+            )),
+        }
+    }
+
+    /// Executes the greatest number of steps of a slot, at most `steps`, that can be made and of which none but the first begins
+    /// in the program at `pc`.
+    pub fn grant_until(&mut self, id: SlotId, steps: u64, pc: u16) -> Result<Granted, Refusal>
+        ensures reply { grant_reply result ≡ reply_at self.old id.0 (Calls (GrantUntil steps pc)) }
+        ensures host { self.new ≡ after_ask self.old id.0 (Calls (GrantUntil steps pc)) }
+    {
+        match place_of(&self.seats, id) {
+            None => Err(Refusal::NoSuchSlot),
+            Some(place) => Ok(grant_until_at(
+                &mut self.seats,
+                &mut self.store,
+                &self.system,
+                place,
+                steps,
+                pc,
             )),
         }
     }

@@ -62,6 +62,10 @@ impl Host {
                 Ok(granted) => Reply::Granted(granted),
                 Err(refusal) => Reply::Refused(refusal),
             },
+            Request::GrantUntil { steps, pc } => match self.grant_until(id, steps, pc) {
+                Ok(granted) => Reply::Granted(granted),
+                Err(refusal) => Reply::Refused(refusal),
+            },
             Request::Take => self.take_chunk(id),
             Request::TakeList => self.take_list_chunk(id),
             Request::Look => match self.look(id) {
