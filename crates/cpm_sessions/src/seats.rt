@@ -5,7 +5,7 @@ ghost use Rattle.cpm_geom.specs.Disk.{Disk};
 ghost use Rattle.cpm_console.specs.Terminal.{pressed};
 ghost use Rattle.cpm_disks.specs.Disks.{images_of};
 ghost use Rattle.cpm_memory.specs.Contents.{Contents, byte_at};
-ghost use Rattle.cpm_memory.specs.Frames.{memories, IsTaken};
+ghost use Rattle.cpm_memory.specs.Frames.{memories, IsTaken, IsSound as IsSoundStore};
 ghost use Rattle.cpm_slots.specs.Step.{after};
 ghost use Rattle.cpm_slots.specs.Serve.{executed, why, look_of};
 ghost use Rattle.cpm_slots.specs.Until.{executed_until, why_until};
@@ -20,8 +20,7 @@ use cpm_console::Console;
 use cpm_geom::Image;
 use cpm_memory::{FrameStore, Memory, TableId};
 use cpm_slots::steps::{self, Runner};
-use cpm_slots::until;
-use cpm_slots::{Closed, Granted, Look};
+use cpm_slots::{Closed, Granted, Look, until};
 
 /// A session under the number of its opening, with the table of its memory.
 #[derive(Drop)]
@@ -153,6 +152,7 @@ fn grant_table(
     ensures others { ChangesAt table (memories store.old) (memories store.new) }
     ensures sound { IsSound (state_of runner.new (contents_at (memories store.new) table)) }
     ensures frames { store.new.private ≡ store.old.private }
+    ensures store { IsSoundStore store.new }
 {
     let mut view = store.view(table);
     steps::grant(system, runner, &mut view, steps)
@@ -171,6 +171,7 @@ pub fn grant_at(
     ensures served { IsServed system.now (Grant steps) place (Reply.Granted result) (slots_of (memories store.old) seats.old.items) (slots_of (memories store.new) seats.new.items) }
     ensures seated { IsSeated (memories store.new) seats.new.items }
     ensures frames { store.new.private ≡ store.old.private }
+    ensures store { IsSoundStore store.new }
 {
     let seat = &mut seats[place];
     grant_table(&mut seat.runner, store, seat.table, system, steps)
@@ -194,6 +195,7 @@ fn grant_table_until(
     ensures others { ChangesAt table (memories store.old) (memories store.new) }
     ensures sound { IsSound (state_of runner.new (contents_at (memories store.new) table)) }
     ensures frames { store.new.private ≡ store.old.private }
+    ensures store { IsSoundStore store.new }
 {
     let mut view = store.view(table);
     until::grant_until(system, runner, &mut view, steps, pc)
@@ -214,6 +216,7 @@ pub fn grant_until_at(
     ensures served { IsServed system.now (GrantUntil steps pc) place (Reply.Granted result) (slots_of (memories store.old) seats.old.items) (slots_of (memories store.new) seats.new.items) }
     ensures seated { IsSeated (memories store.new) seats.new.items }
     ensures frames { store.new.private ≡ store.old.private }
+    ensures store { IsSoundStore store.new }
 {
     let seat = &mut seats[place];
     grant_table_until(&mut seat.runner, store, seat.table, system, steps, pc)
@@ -224,8 +227,7 @@ pub fn look_at(seats: &[Seat], store: &mut FrameStore, place: usize) -> Look
     requires place { place < length seats.now }
     requires seated { IsSeated (memories store.old) seats.now }
     ensures look { IfSome (slice_get (slots_of (memories store.old) seats.now) place) (λ x. result ≡ look_of x.state) }
-    ensures memories { memories store.new ≡ memories store.old }
-    ensures frames { store.new.private ≡ store.old.private }
+    ensures unchanged { store.new ≡ store.old }
 {
     let seat = &seats[place];
     let view = store.view(seat.table);
@@ -243,6 +245,15 @@ pub fn peek_at(seats: &[Seat], store: &FrameStore, place: usize, address: u16) -
     store.frame(frame)[(address % 256) as usize]
 }
 
+/// The table of the session at a place.
+pub fn table_at(seats: &[Seat], place: usize) -> TableId
+    requires { place < length seats.now }
+    ensures { IfSome (slice_get seats.now place) (λ seat. result ≡ seat.table) }
+{
+    let seat = &seats[place];
+    seat.table
+}
+
 /// Takes the session at a place away, and gives its frames up. Bytes not taken are dropped.
 pub fn close_at(seats: &mut Vec<Seat>, store: &mut FrameStore, place: usize) -> Closed
     requires place { place < length seats.old.items }
@@ -251,6 +262,7 @@ pub fn close_at(seats: &mut Vec<Seat>, store: &mut FrameStore, place: usize) -> 
     ensures slots { slots_of (memories store.new) seats.new.items ≡ remove (slots_of (memories store.old) seats.old.items) place }
     ensures seated { IsSeated (memories store.new) seats.new.items }
     ensures frames { store.new.private ≡ store.old.private }
+    ensures store { IsSoundStore store.new }
 {
     let look = look_at(seats, store, place);
     let Seat { runner, table, .. } = seats.remove(place);

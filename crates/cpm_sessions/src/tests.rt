@@ -1,5 +1,6 @@
 //! Worked rows: which openings a host takes, what its slots reply, and what a refused allocation leaves.
 
+mod frames;
 mod stops;
 
 use crate::event::{Event, Refusal, Reply, Request, SlotId};
@@ -160,11 +161,28 @@ fn closed_numbers_are_refused(rt: HostRuntime) -> Result<(), Fail> {
     assert_eq!(rt; host.peek(first, 0), Err(Refusal::NoSuchSlot));
     assert_eq!(rt; host.grant(first, 1), Err(Refusal::NoSuchSlot));
     assert_eq!(rt; host.grant_until(first, 1, 0), Err(Refusal::NoSuchSlot));
+    assert_eq!(rt; host.table(first), Err(Refusal::NoSuchSlot));
     assert!(rt; host.close(first).is_err());
     let look = host.look(second)?;
     assert_eq!(rt; look.keys, 0);
     assert_eq!(rt; look.count, 0);
     Ok(())
+}
+
+/// Runs until all keys are read: the bytes 21h that were refused are not among what is shown, and 22h is its last key.
+fn echoes_no_refused_key(host: &mut Host, id: SlotId) -> Result<bool, Refusal> {
+    let mut out = [0; 8192];
+    for _ in 0..8 {
+        host.grant(id, 1000)?;
+        let count = host.take(id, &mut out)?;
+        if out[..count].contains(&0x21) {
+            return Ok(false);
+        }
+        if host.look(id)?.waiting {
+            return Ok(out[..count].ends_with(b"\""));
+        }
+    }
+    Ok(false)
 }
 
 #[test]
@@ -177,6 +195,11 @@ fn keys_are_bounded(rt: HostRuntime) -> Result<(), Fail> {
     }
     assert_eq!(rt; host.key(full, 0x21), Err(Refusal::KeysFull));
     assert_eq!(rt; host.look(full)?.keys, 4096);
+    // The prompt, and the first key.
+    assert_eq!(rt; host.grant(full, 2)?.executed, 2);
+    assert_eq!(rt; host.key(full, 0x22), Ok(()));
+    assert_eq!(rt; host.key(full, 0x21), Err(Refusal::KeysFull));
+    assert!(rt; echoes_no_refused_key(&mut host, full)?);
     assert_eq!(rt; host.key(other, 0x21), Ok(()));
     assert_eq!(rt; host.look(other)?.keys, 1);
     Ok(())
