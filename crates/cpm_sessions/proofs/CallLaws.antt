@@ -6,9 +6,14 @@ use Rattle.cpm_sessions.specs.declared.event.Reply.TheVariants as reply
 use Rattle.cpm_sessions.specs.declared.event.Refusal.TheVariants as refusal
 use Rattle.cpm_sessions.specs.Serving.{Ask, Calls}
 use Rattle.cpm_sessions.specs.Host.{Host, Slot, slot_at, reply_at, after_ask, IsHost}
+use Rattle.cpm_sessions.specs.Housed.{Housed}
 use Rattle.cpm_sessions.specs.Place.{LiesAt, IsServed}
 use Rattle.cpm_sessions.proofs.OrderLaws.{IsHost-ask}
 use Rattle.cpm_sessions.proofs.PlaceLaws.{refused-reply, refused-slots, served-reply, served-slots}
+
+-- the host of what is seen with its store
+pub same-host : {a b : Housed} → a ≡ b → a.host ≡ b.host
+same-host e = ap (λ (x : Housed). x.host) e
 
 -- a host with these slots
 abbrev pub with_slots : Host → List Slot → Host

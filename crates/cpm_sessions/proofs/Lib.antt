@@ -16,3 +16,6 @@ pub mod OpenHost
 pub mod CloseSeats
 pub mod WithinLaws
 pub mod CloseHost
+pub mod Lodgings
+pub mod FreeFrames
+pub mod HousedLaws

@@ -31,7 +31,7 @@ IsOrdered-at n (x ∷ xs) (suc i) e k h =
 first-is : (x e : Slot) (xs : List Slot) (id : ℕ) → slice_get (x ∷ xs) 0 ≡ Some e → e.id ≡ id → x.id ≡ id
 first-is x e xs id h same = let at : x ≡ e = cc in ap (λ (t : Slot). t.id) at ∙ same
 
-first-other : (n : ℕ) (x e : Slot) (xs : List Slot) (i id : ℕ) → IsOrdered n (x ∷ xs) → slice_get (x ∷ xs) (suc i) ≡ Some e → e.id ≡ id → (x.id == id) ≡ false
+pub first-other : (n : ℕ) (x e : Slot) (xs : List Slot) (i id : ℕ) → IsOrdered n (x ∷ xs) → slice_get (x ∷ xs) (suc i) ≡ Some e → e.id ≡ id → (x.id == id) ≡ false
 first-other n x e xs i id k h same =
     let rest : x.id + 1 ≤ e.id = IsOrdered-at (x.id + 1) xs i e k.1 h in grind (arith, nat_tests)
 

@@ -9,7 +9,8 @@ use Rattle.cpm_slots.specs.declared.reply.Granted.{Granted}
 use Rattle.cpm_slots.specs.MachineState.{MachineState}
 use Rattle.cpm_slots.specs.Step.{after}
 use Rattle.cpm_slots.specs.Serve.{executed, why, takes_key}
-use Rattle.cpm_slots.specs.Calls.{Key, Grant, Take, TakeList, served_key, serve}
+use Rattle.cpm_slots.specs.Until.{executed_until, why_until}
+use Rattle.cpm_slots.specs.Calls.{Key, Grant, GrantUntil, Take, TakeList, served_key, serve}
 use Rattle.cpm_sessions.specs.declared.event.Reply.TheVariants as reply
 use Rattle.cpm_sessions.specs.declared.event.Refusal.{Refusal}
 use Rattle.cpm_sessions.specs.declared.event.Refusal.TheVariants as refusal
@@ -63,6 +64,17 @@ grants system steps g s now e is w =
     let k = executed system steps s in
     let state : now ≡ after system k s = is ∙ ap (λ n. after system n s) e in
     let reason : g.why ≡ why steps k (after system k s) = w ∙ ap (λ n. why steps n now) e ∙ ap (why steps k) state in
+    record {
+      replied = ap (λ (x : Granted). reply.Granted x) (ap (λ n. let x : Granted = record { executed = n; why = g.why } in x) e ∙ ap (λ r. let x : Granted = record { executed = k; why = r } in x) reason);
+      state = state;
+    }
+
+pub grants_until : (system : Disk) (steps pc : ℕ) (g : Granted) (s now : MachineState) → g.executed ≡ executed_until system pc steps s → now ≡ after system g.executed s → g.why ≡ why_until pc steps g.executed now → Serves system (GrantUntil steps pc) (reply.Granted g) s now
+unfolding serve
+grants_until system steps pc g s now e is w =
+    let k = executed_until system pc steps s in
+    let state : now ≡ after system k s = is ∙ ap (λ n. after system n s) e in
+    let reason : g.why ≡ why_until pc steps k (after system k s) = w ∙ ap (λ n. why_until pc steps n now) e ∙ ap (why_until pc steps k) state in
     record {
       replied = ap (λ (x : Granted). reply.Granted x) (ap (λ n. let x : Granted = record { executed = n; why = g.why } in x) e ∙ ap (λ r. let x : Granted = record { executed = k; why = r } in x) reason);
       state = state;

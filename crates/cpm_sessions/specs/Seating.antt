@@ -1,11 +1,14 @@
 -- Sessions whose memories lie in one store, as the slots of a host. (own)
 use Rattle.std.specs.Prelude.{⊤, ◌≡◌, ◌≢◌, ℕ, true, List, [], ◌∷◌, length, map, sum_by, Option, Some, None, is_some, unwrap_or, slice_index_or, slice_set}
 use Rattle.cpm_memory.specs.Contents.{Contents}
+use Rattle.cpm_geom.specs.Disk.{Disk}
+use Rattle.cpm_memory.specs.Frames.{Frames, memories}
 use Rattle.cpm_memory.specs.Opening.{opening}
 use Rattle.cpm_memory.specs.Reserved.{taken_in, reserved_in}
 use Rattle.cpm_slots.specs.Runner.{state_of, IsSound}
 use Rattle.cpm_sessions.specs.declared.seats.Seat.{Seat}
 use Rattle.cpm_sessions.specs.Host.{Slot}
+use Rattle.cpm_sessions.specs.Housed.{Lodging, Housed}
 
 -- the memory of a table
 abbrev pub contents_at : List (Option Contents) → ℕ → Contents
@@ -17,6 +20,14 @@ slot_of memories seat = record { id = seat.id; state = state_of seat.runner (con
 -- the slots of the seats, with their memories from the store
 abbrev pub slots_of : List (Option Contents) → List Seat → List Slot
 slots_of memories seats = map (slot_of memories) seats
+
+-- the tables of the seats
+abbrev pub lodgings_of : List Seat → List Lodging
+lodgings_of seats = map (λ seat. record { id = seat.id; table = seat.table }) seats
+
+-- the host that these parts make, with its store
+abbrev pub housed_of : Disk → ℕ → ℕ → Frames → List Seat → Housed
+housed_of system frames openings store seats = record { host = record { system = system; frames = frames; openings = openings; slots = slots_of (memories store) seats }; store = store; tables = lodgings_of seats }
 
 -- none of the seats has that table
 abbrev pub NoneAt : ℕ → List Seat → Type 0

@@ -2,7 +2,7 @@
 use Rattle.std.specs.Prelude.{Option, Some, None}
 use Rattle.cpm_geom.specs.Disk.{Disk}
 use Rattle.cpm_slots.specs.MachineState.{MachineState}
-use Rattle.cpm_slots.specs.Calls.{Call, Key, Grant, Take, TakeList, LookAt, Peek, Answer, Accepted, KeysFull, Grants, Bytes, Looked, Peeked, serve}
+use Rattle.cpm_slots.specs.Calls.{Call, Key, Grant, GrantUntil, Take, TakeList, LookAt, Peek, Answer, Accepted, KeysFull, Grants, Bytes, Looked, Peeked, serve}
 use Rattle.cpm_sessions.specs.declared.event.Request.{Request}
 use Rattle.cpm_sessions.specs.declared.event.Request.TheVariants as asks
 use Rattle.cpm_sessions.specs.declared.event.Reply.{Reply}
@@ -18,6 +18,7 @@ pub data Ask : Type 0 where
 abbrev pub ask_of : Request → Ask
 ask_of (asks.Key key) = Calls (Key key)
 ask_of (asks.Grant steps) = Calls (Grant steps)
+ask_of (asks.GrantUntil steps pc) = Calls (GrantUntil steps pc)
 ask_of asks.Take = Calls (Take 128)
 ask_of asks.TakeList = Calls (TakeList 128)
 ask_of asks.Look = Calls LookAt

@@ -15,6 +15,8 @@ pub enum Request {
     Key(u8),
     /// Execute at most so many steps.
     Grant(u64),
+    /// Execute at most so many steps, of which none but the first begins in the program at an address.
+    GrantUntil { steps: u64, pc: u16 },
     /// Give up to 128 console bytes.
     Take,
     /// Give up to 128 list bytes.

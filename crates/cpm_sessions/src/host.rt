@@ -3,24 +3,25 @@
 ghost use Rattle.std.specs.Prelude.{◌≡◌, ◌≤◌, ◌<◌, [], length, drop, None, IfOk, IfErr, IfNone, IfSome, OnErr};
 ghost use Rattle.cpm_disks.specs.Disks.{images_of};
 ghost use Rattle.cpm_console.specs.Terminal.{blank};
-ghost use Rattle.cpm_memory.specs.Frames.{memories};
+ghost use Rattle.cpm_memory.specs.Frames.{memories, IsSound, IsTaken};
 ghost use Rattle.cpm_memory.specs.Opening.{opening as memory_opening};
 ghost use Rattle.cpm_memory.specs.Tabulated.{tabulated};
 ghost use Rattle.cpm_slots.specs.Opening.{IsRefusal};
 ghost use Rattle.cpm_slots.specs.Runner.{state_of};
 ghost use Rattle.cpm_slots.specs.Serve.{look_of};
-ghost use Rattle.cpm_slots.specs.Calls.{Key, Grant, Take, TakeList, LookAt, Peek};
+ghost use Rattle.cpm_slots.specs.Calls.{Key, Grant, GrantUntil, Take, TakeList, LookAt, Peek};
 ghost use Rattle.cpm_sessions.specs.Host.{opened_slot};
 ghost use Rattle.cpm_sessions.specs.Serving.{Calls, Closes};
 
 use crate::event::{Refusal, SlotId};
 use crate::seats::{
-    Seat, close_at, grant_at, key_at, look_at, peek_at, place_of, quotas_of, take_at, take_list_at,
+    Seat, close_at, grant_at, grant_until_at, key_at, look_at, peek_at, place_of, quotas_of,
+    table_at, take_at, take_list_at,
 };
 use cpm_bdos::Session;
 use cpm_console::Console;
 use cpm_geom::Image;
-use cpm_memory::FrameStore;
+use cpm_memory::{FrameStore, TableId};
 use cpm_slots::steps::Runner;
 use cpm_slots::{Closed, End, Granted, Look, OpenError, Opening};
 use std::alloc::{AllocError, Global};
@@ -47,21 +48,23 @@ pub struct Host {
 
 impl Model for Host {
     ghost use Rattle.std.specs.Prelude.{◌≡◌};
-    ghost use Rattle.cpm_memory.specs.Frames.{memories};
-    ghost use Rattle.cpm_sessions.specs.Host.{Host as Hosted, IsHost};
-    ghost use Rattle.cpm_sessions.specs.Seating.{slots_of, IsSeated};
+    ghost use Rattle.cpm_memory.specs.Frames.{memories, IsSound};
+    ghost use Rattle.cpm_sessions.specs.Host.{IsHost};
+    ghost use Rattle.cpm_sessions.specs.Housed.{Housed};
+    ghost use Rattle.cpm_sessions.specs.Seating.{housed_of, IsSeated};
 
-    ghost Value = { Hosted };
+    ghost Value = { Housed };
 
-    ghost view = { λ h. record { system = h.system; frames = h.frames; openings = h.openings; slots = slots_of (memories h.store) h.seats.items } };
+    ghost view = { λ h. housed_of h.system h.frames h.openings h.store h.seats.items };
 
-    ghost invariant = { λ h. IsHost (record { system = h.system; frames = h.frames; openings = h.openings; slots = slots_of (memories h.store) h.seats.items }) × IsSeated (memories h.store) h.seats.items × (h.store.private ≡ h.frames) };
+    ghost invariant = { λ h. IsHost (housed_of h.system h.frames h.openings h.store h.seats.items).host × IsSeated (memories h.store) h.seats.items × (h.store.private ≡ h.frames) × IsSound h.store };
 }
 
 /// What a host takes memory for: its frames, and its places.
 fn allocate(alloc: Global, frames: u16) -> Result<(FrameStore, Vec<Seat>), AllocError>
     requires { frames ≤ 16384 }
     ensures frames { IfOk result (λ r. r.0.private ≡ frames) }
+    ensures sound { IfOk result (λ r. IsSound r.0) }
     ensures memories { IfOk result (λ r. memories r.0 ≡ tabulated 64 (λ _. None)) }
     ensures seats { IfOk result (λ r. r.1.items ≡ []) }
 {
@@ -72,12 +75,13 @@ fn allocate(alloc: Global, frames: u16) -> Result<(FrameStore, Vec<Seat>), Alloc
 
 impl Host {
     ghost use Rattle.cpm_sessions.specs.Host.{new_host, refusal_of, with_opened, slot_at, reply_at, after_ask, key_reply, grant_reply, take_reply, look_reply, peek_reply, close_reply};
+    ghost use Rattle.cpm_sessions.specs.Housed.{table_of, table_reply, LivesIn, IsHoused};
 
     /// A host with this system drive and so many frames, and no slot open. Want of memory hands the drive back.
     pub fn new(alloc: Global, system: Image, frames: u16) -> Result<Host, (Image, OpenError)>
         requires least { 16 ≤ frames }
         requires most { frames ≤ 16384 }
-        ensures made { IfOk result (λ h. h ≡ new_host system frames) }
+        ensures made { IfOk result (λ h. h.host ≡ new_host system frames) }
         ensures refused { IfErr result (λ r. (r.0 ≡ system) × (r.1 ≡ OpenError.OutOfMemory)) }
     {
         match allocate(alloc, frames) {
@@ -94,8 +98,8 @@ impl Host {
 
     /// Why an opening is refused, want of memory aside.
     fn refusal(&self, opening: &Opening) -> Option<OpenError>
-        ensures refusal { result ≡ refusal_of self.now opening.now }
-        ensures room { IfNone result (length self.now.slots < PLACES) }
+        ensures refusal { result ≡ refusal_of self.now.host opening.now }
+        ensures room { IfNone result (length self.now.host.slots < PLACES) }
     {
         if let Some(fault) = opening.fault() {
             return Some(fault);
@@ -113,10 +117,10 @@ impl Host {
     /// or more than four, then 64 slots open or no number left, then quotas of all open slots and this one that exceed the frames, then
     /// want of memory. Nothing is changed then.
     pub fn open(&mut self, alloc: Global, opening: Opening) -> Result<SlotId, (Opening, OpenError)>
-        ensures opened { IfOk result (λ id. self.new ≡ with_opened self.old opening) }
-        ensures number { IfOk result (λ id. id.0 ≡ self.old.openings) }
-        ensures fits { IfOk result (λ id. refusal_of self.old opening ≡ None) }
-        ensures refused { IfErr result (λ r. IsRefusal (refusal_of self.old opening) r.1) }
+        ensures opened { IfOk result (λ id. self.new.host ≡ with_opened self.old.host opening) }
+        ensures number { IfOk result (λ id. id.0 ≡ self.old.host.openings) }
+        ensures fits { IfOk result (λ id. refusal_of self.old.host opening ≡ None) }
+        ensures refused { IfErr result (λ r. IsRefusal (refusal_of self.old.host opening) r.1) }
         ensures handed_back { IfErr result (λ r. r.0 ≡ opening) }
         ensures unchanged { OnErr result (self.new ≡ self.old) }
     {
@@ -141,8 +145,8 @@ impl Host {
 
     /// Presses a key in a slot. It is refused where 4,096 keys are pending.
     pub fn key(&mut self, id: SlotId, key: u8) -> Result<(), Refusal>
-        ensures reply { key_reply result ≡ reply_at self.old id.0 (Calls (Key key)) }
-        ensures host { self.new ≡ after_ask self.old id.0 (Calls (Key key)) }
+        ensures reply { key_reply result ≡ reply_at self.old.host id.0 (Calls (Key key)) }
+        ensures host { self.new.host ≡ after_ask self.old.host id.0 (Calls (Key key)) }
     {
         match place_of(&self.seats, id) {
             None => Err(Refusal::NoSuchSlot),
@@ -152,8 +156,8 @@ impl Host {
 
     /// Executes the greatest number of steps of a slot, at most `steps`, that can be made.
     pub fn grant(&mut self, id: SlotId, steps: u64) -> Result<Granted, Refusal>
-        ensures reply { grant_reply result ≡ reply_at self.old id.0 (Calls (Grant steps)) }
-        ensures host { self.new ≡ after_ask self.old id.0 (Calls (Grant steps)) }
+        ensures reply { grant_reply result ≡ reply_at self.old.host id.0 (Calls (Grant steps)) }
+        ensures host { self.new.host ≡ after_ask self.old.host id.0 (Calls (Grant steps)) }
     {
         match place_of(&self.seats, id) {
             None => Err(Refusal::NoSuchSlot),
@@ -167,14 +171,33 @@ impl Host {
         }
     }
 
+    /// Executes the greatest number of steps of a slot, at most `steps`, that can be made and of which none but the first begins
+    /// in the program at `pc`.
+    pub fn grant_until(&mut self, id: SlotId, steps: u64, pc: u16) -> Result<Granted, Refusal>
+        ensures reply { grant_reply result ≡ reply_at self.old.host id.0 (Calls (GrantUntil steps pc)) }
+        ensures host { self.new.host ≡ after_ask self.old.host id.0 (Calls (GrantUntil steps pc)) }
+    {
+        match place_of(&self.seats, id) {
+            None => Err(Refusal::NoSuchSlot),
+            Some(place) => Ok(grant_until_at(
+                &mut self.seats,
+                &mut self.store,
+                &self.system,
+                place,
+                steps,
+                pc,
+            )),
+        }
+    }
+
     /// Moves out the first console bytes of a slot, as many as fit, and says how many.
     pub fn take(&mut self, id: SlotId, out: &mut [u8]) -> Result<usize, Refusal>
-        ensures reply { take_reply result out.new ≡ reply_at self.old id.0 (Calls (Take (length out.old))) }
+        ensures reply { take_reply result out.new ≡ reply_at self.old.host id.0 (Calls (Take (length out.old))) }
         ensures rest { IfOk result (λ count. drop count out.new ≡ drop count out.old) }
         ensures count { IfOk result (λ count. count ≤ length out.old) }
         ensures length { length out.new ≡ length out.old }
         ensures refused { OnErr result (out.new ≡ out.old) }
-        ensures host { self.new ≡ after_ask self.old id.0 (Calls (Take (length out.old))) }
+        ensures host { self.new.host ≡ after_ask self.old.host id.0 (Calls (Take (length out.old))) }
     {
         match place_of(&self.seats, id) {
             None => Err(Refusal::NoSuchSlot),
@@ -184,12 +207,12 @@ impl Host {
 
     /// Moves out the first list bytes of a slot, as many as fit, and says how many.
     pub fn take_list(&mut self, id: SlotId, out: &mut [u8]) -> Result<usize, Refusal>
-        ensures reply { take_reply result out.new ≡ reply_at self.old id.0 (Calls (TakeList (length out.old))) }
+        ensures reply { take_reply result out.new ≡ reply_at self.old.host id.0 (Calls (TakeList (length out.old))) }
         ensures rest { IfOk result (λ count. drop count out.new ≡ drop count out.old) }
         ensures count { IfOk result (λ count. count ≤ length out.old) }
         ensures length { length out.new ≡ length out.old }
         ensures refused { OnErr result (out.new ≡ out.old) }
-        ensures host { self.new ≡ after_ask self.old id.0 (Calls (TakeList (length out.old))) }
+        ensures host { self.new.host ≡ after_ask self.old.host id.0 (Calls (TakeList (length out.old))) }
     {
         match place_of(&self.seats, id) {
             None => Err(Refusal::NoSuchSlot),
@@ -199,8 +222,8 @@ impl Host {
 
     /// What is seen of a slot. Its memory is lent for reading alone.
     pub fn look(&mut self, id: SlotId) -> Result<Look, Refusal>
-        ensures reply { look_reply result ≡ reply_at self.old id.0 (Calls LookAt) }
-        ensures host { self.new ≡ after_ask self.old id.0 (Calls LookAt) }
+        ensures reply { look_reply result ≡ reply_at self.old.host id.0 (Calls LookAt) }
+        ensures host { self.new.host ≡ after_ask self.old.host id.0 (Calls LookAt) }
         ensures unchanged { self.new ≡ self.old }
     {
         match place_of(&self.seats, id) {
@@ -211,8 +234,8 @@ impl Host {
 
     /// The byte at an address of a slot's memory.
     pub fn peek(&self, id: SlotId, address: u16) -> Result<u8, Refusal>
-        ensures reply { peek_reply result ≡ reply_at self.now id.0 (Calls (Peek address)) }
-        ensures unchanged { after_ask self.now id.0 (Calls (Peek address)) ≡ self.now }
+        ensures reply { peek_reply result ≡ reply_at self.now.host id.0 (Calls (Peek address)) }
+        ensures unchanged { after_ask self.now.host id.0 (Calls (Peek address)) ≡ self.now.host }
     {
         match place_of(&self.seats, id) {
             None => Err(Refusal::NoSuchSlot),
@@ -220,11 +243,32 @@ impl Host {
         }
     }
 
+    /// The table of a slot's memory, which no other slot has.
+    pub fn table(&self, id: SlotId) -> Result<TableId, Refusal>
+        ensures table { result ≡ table_reply (table_of id.0 self.now.tables) }
+        ensures taken { IfOk result (λ t. IsTaken self.now.store t) }
+        ensures lives { IfOk result (λ t. IfSome (slot_at id.0 self.now.host.slots) (λ s. LivesIn self.now id.0 s t)) }
+        ensures refused { IfErr result (λ fault. slot_at id.0 self.now.host.slots ≡ None) }
+    {
+        match place_of(&self.seats, id) {
+            None => Err(Refusal::NoSuchSlot),
+            Some(place) => Ok(table_at(&self.seats, place)),
+        }
+    }
+
+    /// The store of which the memories of all slots are made.
+    pub fn store(&self) -> &FrameStore
+        ensures store { result.now ≡ self.now.store }
+        ensures frames { IsHoused self.now }
+    {
+        &self.store
+    }
+
     /// Closes a slot, whose number never comes again, and gives what is left of it. Bytes not taken are dropped.
     pub fn close(&mut self, id: SlotId) -> Result<Closed, Refusal>
-        ensures reply { close_reply result ≡ reply_at self.old id.0 Closes }
-        ensures closed { IfOk result (λ c. IfSome (slot_at id.0 self.old.slots) (λ s. (c.look ≡ look_of s) × (c.drives ≡ images_of s.session.disks))) }
-        ensures host { self.new ≡ after_ask self.old id.0 Closes }
+        ensures reply { close_reply result ≡ reply_at self.old.host id.0 Closes }
+        ensures closed { IfOk result (λ c. IfSome (slot_at id.0 self.old.host.slots) (λ s. (c.look ≡ look_of s) × (c.drives ≡ images_of s.session.disks))) }
+        ensures host { self.new.host ≡ after_ask self.old.host id.0 Closes }
     {
         match place_of(&self.seats, id) {
             None => Err(Refusal::NoSuchSlot),

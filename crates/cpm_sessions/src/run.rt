@@ -25,8 +25,8 @@ impl Host {
 
     /// Gives up to 128 console bytes.
     fn take_chunk(&mut self, id: SlotId) -> Reply
-        ensures reply { result ≡ reply_at self.old id.0 (Calls (Take 128)) }
-        ensures host { self.new ≡ after_ask self.old id.0 (Calls (Take 128)) }
+        ensures reply { result ≡ reply_at self.old.host id.0 (Calls (Take 128)) }
+        ensures host { self.new.host ≡ after_ask self.old.host id.0 (Calls (Take 128)) }
     {
         let mut bytes = [0; 128];
         match self.take(id, &mut bytes) {
@@ -37,8 +37,8 @@ impl Host {
 
     /// Gives up to 128 list bytes.
     fn take_list_chunk(&mut self, id: SlotId) -> Reply
-        ensures reply { result ≡ reply_at self.old id.0 (Calls (TakeList 128)) }
-        ensures host { self.new ≡ after_ask self.old id.0 (Calls (TakeList 128)) }
+        ensures reply { result ≡ reply_at self.old.host id.0 (Calls (TakeList 128)) }
+        ensures host { self.new.host ≡ after_ask self.old.host id.0 (Calls (TakeList 128)) }
     {
         let mut bytes = [0; 128];
         match self.take_list(id, &mut bytes) {
@@ -49,8 +49,8 @@ impl Host {
 
     /// Serves one event.
     fn serve(&mut self, event: &Event) -> Reply
-        ensures reply { result ≡ reply_at self.old event.now.slot.0 (ask_of event.now.request) }
-        ensures host { self.new ≡ after_ask self.old event.now.slot.0 (ask_of event.now.request) }
+        ensures reply { result ≡ reply_at self.old.host event.now.slot.0 (ask_of event.now.request) }
+        ensures host { self.new.host ≡ after_ask self.old.host event.now.slot.0 (ask_of event.now.request) }
     {
         let id = event.slot;
         match event.request {
@@ -59,6 +59,10 @@ impl Host {
                 Err(refusal) => Reply::Refused(refusal),
             },
             Request::Grant(steps) => match self.grant(id, steps) {
+                Ok(granted) => Reply::Granted(granted),
+                Err(refusal) => Reply::Refused(refusal),
+            },
+            Request::GrantUntil { steps, pc } => match self.grant_until(id, steps, pc) {
                 Ok(granted) => Reply::Granted(granted),
                 Err(refusal) => Reply::Refused(refusal),
             },
@@ -83,13 +87,13 @@ impl Host {
     /// itself, by its own events. Places past the last event are left as they are.
     pub fn run(&mut self, events: &[Event], replies: &mut [Reply])
         requires { length events.now ≤ length replies.old }
-        ensures host { self.new ≡ host_after (map happening_of events.now) self.old }
-        ensures replies { take (length events.now) replies.new ≡ map (λ t. t.reply) (told (map happening_of events.now) self.old) }
+        ensures host { self.new.host ≡ host_after (map happening_of events.now) self.old.host }
+        ensures replies { take (length events.now) replies.new ≡ map (λ t. t.reply) (told (map happening_of events.now) self.old.host) }
         ensures rest { drop (length events.now) replies.new ≡ drop (length events.now) replies.old }
-        ensures own_replies { (id : ℕ) → id < self.old.openings →
-            replies_to id events.now replies.new ≡ replies_of self.old.system (own id (map happening_of events.now)) (slot_at id self.old.slots) }
-        ensures own_state { (id : ℕ) → id < self.old.openings →
-            slot_at id self.new.slots ≡ slot_after self.old.system (own id (map happening_of events.now)) (slot_at id self.old.slots) }
+        ensures own_replies { (id : ℕ) → id < self.old.host.openings →
+            replies_to id events.now replies.new ≡ replies_of self.old.host.system (own id (map happening_of events.now)) (slot_at id self.old.host.slots) }
+        ensures own_state { (id : ℕ) → id < self.old.host.openings →
+            slot_at id self.new.host.slots ≡ slot_after self.old.host.system (own id (map happening_of events.now)) (slot_at id self.old.host.slots) }
     {
         self.serve_all(events, replies);
     }
@@ -97,8 +101,8 @@ impl Host {
     /// Serves a list of events in order.
     fn serve_all(&mut self, events: &[Event], replies: &mut [Reply])
         requires { length events.now ≤ length replies.old }
-        ensures host { self.new ≡ host_after (map happening_of events.now) self.old }
-        ensures replies { take (length events.now) replies.new ≡ map (λ t. t.reply) (told (map happening_of events.now) self.old) }
+        ensures host { self.new.host ≡ host_after (map happening_of events.now) self.old.host }
+        ensures replies { take (length events.now) replies.new ≡ map (λ t. t.reply) (told (map happening_of events.now) self.old.host) }
         ensures rest { drop (length events.now) replies.new ≡ drop (length events.now) replies.old }
     {
         for (place, event) in events.iter().enumerate() {

@@ -5,10 +5,11 @@ ghost use Rattle.cpm_geom.specs.Disk.{Disk};
 ghost use Rattle.cpm_console.specs.Terminal.{pressed};
 ghost use Rattle.cpm_disks.specs.Disks.{images_of};
 ghost use Rattle.cpm_memory.specs.Contents.{Contents, byte_at};
-ghost use Rattle.cpm_memory.specs.Frames.{memories, IsTaken};
+ghost use Rattle.cpm_memory.specs.Frames.{memories, IsTaken, IsSound as IsSoundStore};
 ghost use Rattle.cpm_slots.specs.Step.{after};
 ghost use Rattle.cpm_slots.specs.Serve.{executed, why, look_of};
-ghost use Rattle.cpm_slots.specs.Calls.{Key, Grant, Take, TakeList};
+ghost use Rattle.cpm_slots.specs.Until.{executed_until, why_until};
+ghost use Rattle.cpm_slots.specs.Calls.{Key, Grant, GrantUntil, Take, TakeList};
 ghost use Rattle.cpm_slots.specs.Runner.{state_of, IsSound};
 ghost use Rattle.cpm_sessions.specs.Host.{key_reply};
 ghost use Rattle.cpm_sessions.specs.Place.{IsPlace, Serves, IsServed};
@@ -19,7 +20,7 @@ use cpm_console::Console;
 use cpm_geom::Image;
 use cpm_memory::{FrameStore, Memory, TableId};
 use cpm_slots::steps::{self, Runner};
-use cpm_slots::{Closed, Granted, Look};
+use cpm_slots::{Closed, Granted, Look, until};
 
 /// A session under the number of its opening, with the table of its memory.
 #[derive(Drop)]
@@ -151,6 +152,7 @@ fn grant_table(
     ensures others { ChangesAt table (memories store.old) (memories store.new) }
     ensures sound { IsSound (state_of runner.new (contents_at (memories store.new) table)) }
     ensures frames { store.new.private ≡ store.old.private }
+    ensures store { IsSoundStore store.new }
 {
     let mut view = store.view(table);
     steps::grant(system, runner, &mut view, steps)
@@ -169,9 +171,55 @@ pub fn grant_at(
     ensures served { IsServed system.now (Grant steps) place (Reply.Granted result) (slots_of (memories store.old) seats.old.items) (slots_of (memories store.new) seats.new.items) }
     ensures seated { IsSeated (memories store.new) seats.new.items }
     ensures frames { store.new.private ≡ store.old.private }
+    ensures store { IsSoundStore store.new }
 {
     let seat = &mut seats[place];
     grant_table(&mut seat.runner, store, seat.table, system, steps)
+}
+
+/// Executes the greatest number of steps, at most `steps`, that can be made and of which none but the first begins in the
+/// program at `pc`, in a session whose memory is a table of the store.
+fn grant_table_until(
+    runner: &mut Runner,
+    store: &mut FrameStore,
+    table: TableId,
+    system: &Image,
+    steps: u64,
+    pc: u16,
+) -> Granted
+    requires taken { IsTaken store.old table }
+    requires sound { IsSound (state_of runner.old (contents_at (memories store.old) table)) }
+    ensures executed { result.executed ≡ executed_until system.now pc steps (state_of runner.old (contents_at (memories store.old) table)) }
+    ensures why { result.why ≡ why_until pc steps result.executed (state_of runner.new (contents_at (memories store.new) table)) }
+    ensures state { state_of runner.new (contents_at (memories store.new) table) ≡ after system.now result.executed (state_of runner.old (contents_at (memories store.old) table)) }
+    ensures others { ChangesAt table (memories store.old) (memories store.new) }
+    ensures sound { IsSound (state_of runner.new (contents_at (memories store.new) table)) }
+    ensures frames { store.new.private ≡ store.old.private }
+    ensures store { IsSoundStore store.new }
+{
+    let mut view = store.view(table);
+    until::grant_until(system, runner, &mut view, steps, pc)
+}
+
+/// Executes the greatest number of steps, at most `steps`, that can be made and of which none but the first begins in the
+/// program at `pc`, in the session at a place.
+pub fn grant_until_at(
+    seats: &mut Vec<Seat>,
+    store: &mut FrameStore,
+    system: &Image,
+    place: usize,
+    steps: u64,
+    pc: u16,
+) -> Granted
+    requires place { place < length seats.old.items }
+    requires seated { IsSeated (memories store.old) seats.old.items }
+    ensures served { IsServed system.now (GrantUntil steps pc) place (Reply.Granted result) (slots_of (memories store.old) seats.old.items) (slots_of (memories store.new) seats.new.items) }
+    ensures seated { IsSeated (memories store.new) seats.new.items }
+    ensures frames { store.new.private ≡ store.old.private }
+    ensures store { IsSoundStore store.new }
+{
+    let seat = &mut seats[place];
+    grant_table_until(&mut seat.runner, store, seat.table, system, steps, pc)
 }
 
 /// What is seen of the session at a place. The store is lent for reading alone.
@@ -179,8 +227,7 @@ pub fn look_at(seats: &[Seat], store: &mut FrameStore, place: usize) -> Look
     requires place { place < length seats.now }
     requires seated { IsSeated (memories store.old) seats.now }
     ensures look { IfSome (slice_get (slots_of (memories store.old) seats.now) place) (λ x. result ≡ look_of x.state) }
-    ensures memories { memories store.new ≡ memories store.old }
-    ensures frames { store.new.private ≡ store.old.private }
+    ensures unchanged { store.new ≡ store.old }
 {
     let seat = &seats[place];
     let view = store.view(seat.table);
@@ -198,6 +245,15 @@ pub fn peek_at(seats: &[Seat], store: &FrameStore, place: usize, address: u16) -
     store.frame(frame)[(address % 256) as usize]
 }
 
+/// The table of the session at a place.
+pub fn table_at(seats: &[Seat], place: usize) -> TableId
+    requires { place < length seats.now }
+    ensures { IfSome (slice_get seats.now place) (λ seat. result ≡ seat.table) }
+{
+    let seat = &seats[place];
+    seat.table
+}
+
 /// Takes the session at a place away, and gives its frames up. Bytes not taken are dropped.
 pub fn close_at(seats: &mut Vec<Seat>, store: &mut FrameStore, place: usize) -> Closed
     requires place { place < length seats.old.items }
@@ -206,6 +262,7 @@ pub fn close_at(seats: &mut Vec<Seat>, store: &mut FrameStore, place: usize) -> 
     ensures slots { slots_of (memories store.new) seats.new.items ≡ remove (slots_of (memories store.old) seats.old.items) place }
     ensures seated { IsSeated (memories store.new) seats.new.items }
     ensures frames { store.new.private ≡ store.old.private }
+    ensures store { IsSoundStore store.new }
 {
     let look = look_at(seats, store, place);
     let Seat { runner, table, .. } = seats.remove(place);

@@ -1,5 +1,8 @@
 //! Worked rows: which openings a host takes, what its slots reply, and what a refused allocation leaves.
 
+mod frames;
+mod stops;
+
 use crate::event::{Event, Refusal, Reply, Request, SlotId};
 use crate::host::Host;
 use cpm_flags::Cpu;
@@ -27,6 +30,22 @@ fn opening_of(alloc: Global, quota: u16, count: usize) -> Result<Opening, Fail> 
     })
 }
 
+/// A disk of the file `W.COM` of user 0, whose one record in block 2 begins so.
+fn disk_of(rt: &impl Abort, alloc: Global, program: &[u8]) -> Result<Image, Fail> {
+    let mut image = blank(alloc)?;
+    let mut entries = [0xE5; 128];
+    entries[..32].fill(0);
+    entries[1..12].copy_from_slice(b"W       COM");
+    entries[15] = 1;
+    entries[16] = 2;
+    image.put_record(0, &entries).expect(rt, "the directory");
+    let mut record = [0; 128];
+    assert!(rt; program.len() <= 128);
+    record[..program.len()].copy_from_slice(program);
+    image.put_record(16, &record).expect(rt, "the record");
+    Ok(image)
+}
+
 /// A host with a blank system drive.
 fn host_of(rt: &impl Abort, alloc: Global, frames: u16) -> Result<Host, Fail> {
     assert!(rt; frames >= 16);
@@ -42,6 +61,35 @@ fn open(host: &mut Host, alloc: Global, quota: u16) -> Result<SlotId, Fail> {
     match host.open(alloc, opening_of(alloc, quota, 1)?) {
         Ok(id) => Ok(id),
         Err((_, error)) => Err(Fail::from(error)),
+    }
+}
+
+/// Opens a slot with the program as `W.COM` on drive A, and types its name.
+fn open_with(
+    rt: &impl Abort,
+    host: &mut Host,
+    alloc: Global,
+    quota: u16,
+    program: &[u8],
+) -> Result<SlotId, Fail> {
+    let opening = Opening {
+        cpu: Cpu::I8080,
+        quota,
+        drives: vec![in alloc; disk_of(rt, alloc, program)?]?,
+    };
+    match host.open(alloc, opening) {
+        Ok(id) => {
+            press(rt, host, id, b"W\r");
+            Ok(id)
+        }
+        Err((_, error)) => Err(Fail::from(error)),
+    }
+}
+
+/// Presses keys, all of which must be accepted.
+fn press(rt: &impl Abort, host: &mut Host, id: SlotId, keys: &[u8]) {
+    for key in keys {
+        assert_eq!(rt; host.key(id, *key), Ok(()));
     }
 }
 
@@ -112,11 +160,29 @@ fn closed_numbers_are_refused(rt: HostRuntime) -> Result<(), Fail> {
     assert_eq!(rt; host.look(first), Err(Refusal::NoSuchSlot));
     assert_eq!(rt; host.peek(first, 0), Err(Refusal::NoSuchSlot));
     assert_eq!(rt; host.grant(first, 1), Err(Refusal::NoSuchSlot));
+    assert_eq!(rt; host.grant_until(first, 1, 0), Err(Refusal::NoSuchSlot));
+    assert_eq!(rt; host.table(first), Err(Refusal::NoSuchSlot));
     assert!(rt; host.close(first).is_err());
     let look = host.look(second)?;
     assert_eq!(rt; look.keys, 0);
     assert_eq!(rt; look.count, 0);
     Ok(())
+}
+
+/// Runs until all keys are read: the bytes 21h that were refused are not among what is shown, and 22h is its last key.
+fn echoes_no_refused_key(host: &mut Host, id: SlotId) -> Result<bool, Refusal> {
+    let mut out = [0; 8192];
+    for _ in 0..8 {
+        host.grant(id, 1000)?;
+        let count = host.take(id, &mut out)?;
+        if out[..count].contains(&0x21) {
+            return Ok(false);
+        }
+        if host.look(id)?.waiting {
+            return Ok(out[..count].ends_with(b"\""));
+        }
+    }
+    Ok(false)
 }
 
 #[test]
@@ -129,6 +195,11 @@ fn keys_are_bounded(rt: HostRuntime) -> Result<(), Fail> {
     }
     assert_eq!(rt; host.key(full, 0x21), Err(Refusal::KeysFull));
     assert_eq!(rt; host.look(full)?.keys, 4096);
+    // The prompt, and the first key.
+    assert_eq!(rt; host.grant(full, 2)?.executed, 2);
+    assert_eq!(rt; host.key(full, 0x22), Ok(()));
+    assert_eq!(rt; host.key(full, 0x21), Err(Refusal::KeysFull));
+    assert!(rt; echoes_no_refused_key(&mut host, full)?);
     assert_eq!(rt; host.key(other, 0x21), Ok(()));
     assert_eq!(rt; host.look(other)?.keys, 1);
     Ok(())

@@ -7,7 +7,7 @@ pub mod opening;
 pub mod reply;
 pub mod steps;
 mod trap;
-mod until;
+pub mod until;
 
 pub use machine::Machine;
 pub use opening::{LEAST_QUOTA, MOST_DRIVES, MOST_PROGRAM, MOST_QUOTA, OpenError, Opening};

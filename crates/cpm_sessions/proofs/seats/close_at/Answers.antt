@@ -12,7 +12,7 @@ release-requires c =
     let s = c.remove-runner.result in
     let items = c.args.seats.now.items in
     let at = slice_get_read items _ c.args.place s refl c.requires.place c.remove-runner.ensures.value in
-    subst (λ (m : List (Option Contents)). is_some (get_or m s.table None) ≡ true) (sym c.look_at-look.ensures.memories)
+    subst (λ (m : List (Option Contents)). is_some (get_or m s.table None) ≡ true) (sym (ap memories c.look_at-look.ensures.unchanged))
     (seat-at (memories c.args.store.now) items c.args.place s c.requires.seated.all at).taken
 
 pub returns-clause-closed : goal.returns-clause-closed
@@ -30,7 +30,7 @@ returns-clause-slots c =
     let at = slice_get_read items _ c.args.place s refl c.requires.place c.remove-runner.ensures.value in
     let old = memories c.args.store.now in
     let new = memories c.release.new.self in
-    let is = c.release.ensures.memories ∙ ap (λ (m : List (Option Contents)). set m s.table None) c.look_at-look.ensures.memories in
+    let is = c.release.ensures.memories ∙ ap (λ (m : List (Option Contents)). set m s.table None) (ap memories c.look_at-look.ensures.unchanged) in
     ap (slots_of new) c.remove-runner.ensures.items ∙ slots-closed old new items c.args.place s c.requires.seated at is
 
 pub returns-clause-seated : goal.returns-clause-seated
@@ -40,5 +40,5 @@ returns-clause-seated c =
     let at = slice_get_read items _ c.args.place s refl c.requires.place c.remove-runner.ensures.value in
     let old = memories c.args.store.now in
     let new = memories c.release.new.self in
-    let is = c.release.ensures.memories ∙ ap (λ (m : List (Option Contents)). set m s.table None) c.look_at-look.ensures.memories in
+    let is = c.release.ensures.memories ∙ ap (λ (m : List (Option Contents)). set m s.table None) (ap memories c.look_at-look.ensures.unchanged) in
     subst (IsSeated new) (sym c.remove-runner.ensures.items) (IsSeated-closed old new items c.args.place s c.requires.seated at is)

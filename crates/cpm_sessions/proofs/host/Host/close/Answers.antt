@@ -5,7 +5,7 @@ use Rattle.cpm_sessions.specs.Serving.{Closes}
 use Rattle.cpm_sessions.specs.Host.{Host, slot_at}
 use Rattle.cpm_sessions.specs.Place.{LiesAt}
 use Rattle.cpm_sessions.specs.Seating.{slots_of}
-use Rattle.cpm_sessions.proofs.CallLaws.{no-slot-reply, no-slot-host}
+use Rattle.cpm_sessions.proofs.CallLaws.{same-host, no-slot-reply, no-slot-host}
 use Rattle.cpm_sessions.proofs.CloseHost.{close-reply, close-host, close-keeps}
 use Rattle.cpm_sessions.proofs.host.Host.close.Goals as goal
 
@@ -15,7 +15,7 @@ returns-in-None-clause-reply c =
     let m = memories s.store in
     let h : Host = record { system = s.system; frames = s.frames; openings = s.openings; slots = slots_of m s.seats.items } in
     let all : (m : List (Option Contents)) → slot_at c.args.id.0 (slots_of m s.seats.items) ≡ None = rw c.deref.ensures.value at c.in-None.ensures in
-    no-slot-reply h c.args.self.now c.args.id.0 Closes c.self.view_is (all m)
+    no-slot-reply h c.args.self.now.host c.args.id.0 Closes (same-host c.self.view_is) (all m)
 
 pub returns-in-None-clause-host : goal.returns-in-None-clause-host
 returns-in-None-clause-host c =
@@ -23,7 +23,7 @@ returns-in-None-clause-host c =
     let m = memories s.store in
     let h : Host = record { system = s.system; frames = s.frames; openings = s.openings; slots = slots_of m s.seats.items } in
     let all : (m : List (Option Contents)) → slot_at c.args.id.0 (slots_of m s.seats.items) ≡ None = rw c.deref.ensures.value at c.in-None.ensures in
-    no-slot-host h c.args.self.now c.args.id.0 Closes c.self.view_is (all m)
+    no-slot-host h c.args.self.now.host c.args.id.0 Closes (same-host c.self.view_is) (all m)
 
 pub returns-in-Some-clause-reply : goal.returns-in-Some-clause-reply
 returns-in-Some-clause-reply c =
@@ -31,7 +31,7 @@ returns-in-Some-clause-reply c =
     let m = memories s.store in
     let h : Host = record { system = s.system; frames = s.frames; openings = s.openings; slots = slots_of m s.seats.items } in
     let all : (m : List (Option Contents)) → LiesAt c.args.id.0 (slots_of m s.seats.items) c.in-Some.place = rw c.deref.ensures.value at c.in-Some.ensures in
-    close-reply h c.args.self.now c.args.id.0 c.in-Some.place c.self.view_is (all m)
+    close-reply h c.args.self.now.host c.args.id.0 c.in-Some.place (same-host c.self.view_is) (all m)
 
 pub returns-in-Some-clause-host : goal.returns-in-Some-clause-host
 returns-in-Some-clause-host c =
@@ -39,7 +39,7 @@ returns-in-Some-clause-host c =
     let m = memories s.store in
     let h : Host = record { system = s.system; frames = s.frames; openings = s.openings; slots = slots_of m s.seats.items } in
     let all : (m : List (Option Contents)) → LiesAt c.args.id.0 (slots_of m s.seats.items) c.in-Some.place = rw c.deref.ensures.value at c.in-Some.ensures in
-    close-host h c.args.self.now c.args.id.0 c.in-Some.place (slots_of (memories c.close_at.new.store) c.close_at.new.seats.items) c.self.view_is c.self.invariant.0 (all m) c.close_at.ensures.slots
+    close-host h c.args.self.now.host c.args.id.0 c.in-Some.place (slots_of (memories c.close_at.new.store) c.close_at.new.seats.items) (same-host c.self.view_is) c.self.invariant.0 (all m) c.close_at.ensures.slots
 
 pub invariant_of-self : goal.invariant_of-self
 invariant_of-self c =
@@ -50,4 +50,5 @@ invariant_of-self c =
       close-keeps h c.args.id.0 c.in-Some.place (slots_of (memories c.close_at.new.store) c.close_at.new.seats.items) c.self.invariant.0 (all m) c.close_at.ensures.slots,
       c.close_at.ensures.seated,
       c.close_at.ensures.frames ∙ c.self.invariant.2,
+      c.close_at.ensures.store,
     )

@@ -7,7 +7,7 @@ use Rattle.cpm_sessions.specs.Serving.{Calls}
 use Rattle.cpm_sessions.specs.Host.{Host, slot_at}
 use Rattle.cpm_sessions.specs.Place.{LiesAt}
 use Rattle.cpm_sessions.specs.Seating.{slots_of}
-use Rattle.cpm_sessions.proofs.CallLaws.{no-slot-reply, no-slot-host, call-reply, call-host, call-keeps}
+use Rattle.cpm_sessions.proofs.CallLaws.{same-host, no-slot-reply, no-slot-host, call-reply, call-host, call-keeps}
 use Rattle.cpm_sessions.proofs.host.Host.grant.Goals as goal
 
 pub returns-in-None-clause-reply : goal.returns-in-None-clause-reply
@@ -16,7 +16,7 @@ returns-in-None-clause-reply c =
     let m = memories s.store in
     let h : Host = record { system = s.system; frames = s.frames; openings = s.openings; slots = slots_of m s.seats.items } in
     let all : (m : List (Option Contents)) → slot_at c.args.id.0 (slots_of m s.seats.items) ≡ None = rw c.deref.ensures.value at c.in-None.ensures in
-    no-slot-reply h c.args.self.now c.args.id.0 (Calls (Grant c.args.steps)) c.self.view_is (all m)
+    no-slot-reply h c.args.self.now.host c.args.id.0 (Calls (Grant c.args.steps)) (same-host c.self.view_is) (all m)
 
 pub returns-in-None-clause-host : goal.returns-in-None-clause-host
 returns-in-None-clause-host c =
@@ -24,7 +24,7 @@ returns-in-None-clause-host c =
     let m = memories s.store in
     let h : Host = record { system = s.system; frames = s.frames; openings = s.openings; slots = slots_of m s.seats.items } in
     let all : (m : List (Option Contents)) → slot_at c.args.id.0 (slots_of m s.seats.items) ≡ None = rw c.deref.ensures.value at c.in-None.ensures in
-    no-slot-host h c.args.self.now c.args.id.0 (Calls (Grant c.args.steps)) c.self.view_is (all m)
+    no-slot-host h c.args.self.now.host c.args.id.0 (Calls (Grant c.args.steps)) (same-host c.self.view_is) (all m)
 
 pub returns-in-Some-clause-reply : goal.returns-in-Some-clause-reply
 returns-in-Some-clause-reply c =
@@ -32,7 +32,7 @@ returns-in-Some-clause-reply c =
     let m = memories s.store in
     let h : Host = record { system = s.system; frames = s.frames; openings = s.openings; slots = slots_of m s.seats.items } in
     let all : (m : List (Option Contents)) → LiesAt c.args.id.0 (slots_of m s.seats.items) c.in-Some.place = rw c.deref.ensures.value at c.in-Some.ensures in
-    call-reply h c.args.self.now c.args.id.0 c.in-Some.place (Grant c.args.steps) (reply.Granted c.grant_at.result) (slots_of (memories c.grant_at.new.store) c.grant_at.new.seats.items) c.self.view_is (all m) (c.grant_at.ensures.served)
+    call-reply h c.args.self.now.host c.args.id.0 c.in-Some.place (Grant c.args.steps) (reply.Granted c.grant_at.result) (slots_of (memories c.grant_at.new.store) c.grant_at.new.seats.items) (same-host c.self.view_is) (all m) (c.grant_at.ensures.served)
 
 pub returns-in-Some-clause-host : goal.returns-in-Some-clause-host
 returns-in-Some-clause-host c =
@@ -40,7 +40,7 @@ returns-in-Some-clause-host c =
     let m = memories s.store in
     let h : Host = record { system = s.system; frames = s.frames; openings = s.openings; slots = slots_of m s.seats.items } in
     let all : (m : List (Option Contents)) → LiesAt c.args.id.0 (slots_of m s.seats.items) c.in-Some.place = rw c.deref.ensures.value at c.in-Some.ensures in
-    call-host h c.args.self.now c.args.id.0 c.in-Some.place (Grant c.args.steps) (reply.Granted c.grant_at.result) (slots_of (memories c.grant_at.new.store) c.grant_at.new.seats.items) c.self.view_is c.self.invariant.0 (all m) (c.grant_at.ensures.served)
+    call-host h c.args.self.now.host c.args.id.0 c.in-Some.place (Grant c.args.steps) (reply.Granted c.grant_at.result) (slots_of (memories c.grant_at.new.store) c.grant_at.new.seats.items) (same-host c.self.view_is) c.self.invariant.0 (all m) (c.grant_at.ensures.served)
 
 pub invariant_of-self : goal.invariant_of-self
 invariant_of-self c =
@@ -48,4 +48,4 @@ invariant_of-self c =
     let m = memories s.store in
     let h : Host = record { system = s.system; frames = s.frames; openings = s.openings; slots = slots_of m s.seats.items } in
     let all : (m : List (Option Contents)) → LiesAt c.args.id.0 (slots_of m s.seats.items) c.in-Some.place = rw c.deref.ensures.value at c.in-Some.ensures in
-    (call-keeps h c.args.id.0 c.in-Some.place (Grant c.args.steps) (reply.Granted c.grant_at.result) (slots_of (memories c.grant_at.new.store) c.grant_at.new.seats.items) c.self.invariant.0 (all m) (c.grant_at.ensures.served), c.grant_at.ensures.seated, c.grant_at.ensures.frames ∙ c.self.invariant.2)
+    (call-keeps h c.args.id.0 c.in-Some.place (Grant c.args.steps) (reply.Granted c.grant_at.result) (slots_of (memories c.grant_at.new.store) c.grant_at.new.seats.items) c.self.invariant.0 (all m) (c.grant_at.ensures.served), c.grant_at.ensures.seated, c.grant_at.ensures.frames ∙ c.self.invariant.2, c.grant_at.ensures.store)

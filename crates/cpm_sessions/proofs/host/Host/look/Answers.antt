@@ -10,7 +10,7 @@ use Rattle.cpm_sessions.specs.Host.{Host, slot_at}
 use Rattle.cpm_sessions.specs.Place.{LiesAt}
 use Rattle.cpm_sessions.specs.Seating.{slots_of}
 use Rattle.cpm_sessions.proofs.PlaceLaws.{looked}
-use Rattle.cpm_sessions.proofs.CallLaws.{with_slots, no-slot-reply, no-slot-host, call-reply, call-host}
+use Rattle.cpm_sessions.proofs.CallLaws.{same-host, with_slots, no-slot-reply, no-slot-host, call-reply, call-host}
 use Rattle.cpm_sessions.proofs.host.Host.look.Goals as goal
 
 pub returns-in-None-clause-reply : goal.returns-in-None-clause-reply
@@ -19,7 +19,7 @@ returns-in-None-clause-reply c =
     let m = memories s.store in
     let h : Host = record { system = s.system; frames = s.frames; openings = s.openings; slots = slots_of m s.seats.items } in
     let all : (m : List (Option Contents)) → slot_at c.args.id.0 (slots_of m s.seats.items) ≡ None = rw c.deref.ensures.value at c.in-None.ensures in
-    no-slot-reply h c.args.self.now c.args.id.0 (Calls (LookAt)) c.self.view_is (all m)
+    no-slot-reply h c.args.self.now.host c.args.id.0 (Calls (LookAt)) (same-host c.self.view_is) (all m)
 
 pub returns-in-None-clause-host : goal.returns-in-None-clause-host
 returns-in-None-clause-host c =
@@ -27,7 +27,7 @@ returns-in-None-clause-host c =
     let m = memories s.store in
     let h : Host = record { system = s.system; frames = s.frames; openings = s.openings; slots = slots_of m s.seats.items } in
     let all : (m : List (Option Contents)) → slot_at c.args.id.0 (slots_of m s.seats.items) ≡ None = rw c.deref.ensures.value at c.in-None.ensures in
-    no-slot-host h c.args.self.now c.args.id.0 (Calls (LookAt)) c.self.view_is (all m)
+    no-slot-host h c.args.self.now.host c.args.id.0 (Calls (LookAt)) (same-host c.self.view_is) (all m)
 
 pub returns-in-Some-clause-reply : goal.returns-in-Some-clause-reply
 returns-in-Some-clause-reply c =
@@ -37,7 +37,7 @@ returns-in-Some-clause-reply c =
     let h : Host = record { system = s.system; frames = s.frames; openings = s.openings; slots = slots } in
     let all : (m : List (Option Contents)) → LiesAt c.args.id.0 (slots_of m s.seats.items) c.in-Some.place = rw c.deref.ensures.value at c.in-Some.ensures in
     let seen : IfSome (slice_get slots c.in-Some.place) (λ x. c.look_at.result ≡ look_of x.state) = rw c.deref-in-Some.ensures.value at c.look_at.ensures.look in
-    call-reply h c.args.self.now c.args.id.0 c.in-Some.place (LookAt) (reply.Looked c.look_at.result) slots c.self.view_is (all m) (looked s.system c.in-Some.place c.look_at.result slots seen)
+    call-reply h c.args.self.now.host c.args.id.0 c.in-Some.place (LookAt) (reply.Looked c.look_at.result) slots (same-host c.self.view_is) (all m) (looked s.system c.in-Some.place c.look_at.result slots seen)
 
 pub returns-in-Some-clause-host : goal.returns-in-Some-clause-host
 returns-in-Some-clause-host c =
@@ -47,5 +47,5 @@ returns-in-Some-clause-host c =
     let h : Host = record { system = s.system; frames = s.frames; openings = s.openings; slots = slots } in
     let all : (m : List (Option Contents)) → LiesAt c.args.id.0 (slots_of m s.seats.items) c.in-Some.place = rw c.deref.ensures.value at c.in-Some.ensures in
     let seen : IfSome (slice_get slots c.in-Some.place) (λ x. c.look_at.result ≡ look_of x.state) = rw c.deref-in-Some.ensures.value at c.look_at.ensures.look in
-    ap (λ x. with_slots h (slots_of x s.seats.items)) c.look_at.ensures.memories
-    ∙ call-host h c.args.self.now c.args.id.0 c.in-Some.place (LookAt) (reply.Looked c.look_at.result) slots c.self.view_is c.self.invariant.0 (all m) (looked s.system c.in-Some.place c.look_at.result slots seen)
+    ap (λ x. with_slots h (slots_of (memories x) s.seats.items)) c.look_at.ensures.unchanged
+    ∙ call-host h c.args.self.now.host c.args.id.0 c.in-Some.place (LookAt) (reply.Looked c.look_at.result) slots (same-host c.self.view_is) c.self.invariant.0 (all m) (looked s.system c.in-Some.place c.look_at.result slots seen)

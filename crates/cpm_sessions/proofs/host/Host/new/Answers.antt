@@ -14,4 +14,5 @@ invariant_of-result c =
       subst (λ (seats : List Seat). IsHost (hosted c.args.system c.args.frames 0 (slots_of m seats))) (sym empty) (record { ordered = tt; below = tt; few = omega arith; quotas = omega arith }),
       subst (IsSeated m) (sym empty) (IsSeated-none m c.in-Ok.ensures.memories),
       c.in-Ok.ensures.frames,
+      c.in-Ok.ensures.sound,
     )

@@ -1,6 +1,7 @@
 use Rattle.std.proofs.Common.{[], ◌∷◌, ◌++◌, ap, ◌∙◌}
 use Rattle.cpm_memory.specs.Frames.{Frames, memories}
 use Rattle.cpm_sessions.specs.declared.seats.Seat.{Seat}
+use Rattle.cpm_sessions.proofs.CallLaws.{same-host}
 use Rattle.cpm_sessions.proofs.OpenHost.{IsOpening, opened-host, opened-seated, opened-is}
 use Rattle.cpm_sessions.proofs.OpenSeats.{none-at}
 use Rattle.cpm_sessions.proofs.host.Host.open.Goals as goal
@@ -11,8 +12,8 @@ invariant_of-self-2 c =
     let old = memories i.store in
     let new = memories c.reserve.new.self in
     let s : Seat = record { id = i.openings; runner = c.opened-runner.result; table = c.in-Ok-reserve.table } in
-    let k : IsOpening i.system i.frames c.args.self.now old new i.seats.items c.push_reserved.new.self.items s c.args.opening = record {
-      view = c.self.view_is;
+    let k : IsOpening i.system i.frames c.args.self.now.host old new i.seats.items c.push_reserved.new.self.items s c.args.opening = record {
+      view = same-host c.self.view_is;
       accepted = c.in_default.ensures.refusal;
       host = c.self.invariant.0;
       seated = c.self.invariant.1;
@@ -22,9 +23,10 @@ invariant_of-self-2 c =
       state = c.opened-runner.ensures;
       pushed = c.push_reserved.ensures.items ∙ ap (λ xs. xs ++ s ∷ []) c.try_reserve.ensures.items;
     } in (
-      opened-host i.system i.frames c.args.self.now old new i.seats.items c.push_reserved.new.self.items s c.args.opening k,
-      opened-seated i.system i.frames c.args.self.now old new i.seats.items c.push_reserved.new.self.items s c.args.opening k,
+      opened-host i.system i.frames c.args.self.now.host old new i.seats.items c.push_reserved.new.self.items s c.args.opening k,
+      opened-seated i.system i.frames c.args.self.now.host old new i.seats.items c.push_reserved.new.self.items s c.args.opening k,
       ap (λ (x : Frames). x.private) c.in-Ok-reserve.ensures.reserved ∙ c.self.invariant.2,
+      c.reserve.ensures.sound,
     )
 
 pub returns-clause-opened : goal.returns-clause-opened
@@ -33,8 +35,8 @@ returns-clause-opened c =
     let old = memories i.store in
     let new = memories c.reserve.new.self in
     let s : Seat = record { id = i.openings; runner = c.opened-runner.result; table = c.in-Ok-reserve.table } in
-    let k : IsOpening i.system i.frames c.args.self.now old new i.seats.items c.push_reserved.new.self.items s c.args.opening = record {
-      view = c.self.view_is;
+    let k : IsOpening i.system i.frames c.args.self.now.host old new i.seats.items c.push_reserved.new.self.items s c.args.opening = record {
+      view = same-host c.self.view_is;
       accepted = c.in_default.ensures.refusal;
       host = c.self.invariant.0;
       seated = c.self.invariant.1;
@@ -44,4 +46,4 @@ returns-clause-opened c =
       state = c.opened-runner.ensures;
       pushed = c.push_reserved.ensures.items ∙ ap (λ xs. xs ++ s ∷ []) c.try_reserve.ensures.items;
     } in
-    opened-is i.system i.frames c.args.self.now old new i.seats.items c.push_reserved.new.self.items s c.args.opening k
+    opened-is i.system i.frames c.args.self.now.host old new i.seats.items c.push_reserved.new.self.items s c.args.opening k

@@ -6,9 +6,9 @@ use Rattle.cpm_sessions.proofs.host.Host.run.Goals as goal
 
 pub returns-clause-own_replies : goal.returns-clause-own_replies
 returns-clause-own_replies c = λ id below.
-    replies_to-told id c.args.events.now c.args.self.now c.serve_all.new.replies c.serve_all.ensures.replies
-    ∙ told-after id (map happening_of c.args.events.now) c.args.self.now below
+    replies_to-told id c.args.events.now c.args.self.now.host c.serve_all.new.replies c.serve_all.ensures.replies
+    ∙ told-after id (map happening_of c.args.events.now) c.args.self.now.host below
 
 pub returns-clause-own_state : goal.returns-clause-own_state
 returns-clause-own_state c = λ id below.
-    rw c.serve_all.ensures.host (slot-after id (map happening_of c.args.events.now) c.args.self.now below)
+    rw c.serve_all.ensures.host (slot-after id (map happening_of c.args.events.now) c.args.self.now.host below)
