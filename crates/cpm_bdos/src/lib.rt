@@ -13,8 +13,6 @@ mod line;
 mod output;
 mod registers;
 mod session;
-#[cfg(test)]
-mod tests;
 mod transfer;
 mod wait;
 

@@ -23,6 +23,3 @@ pub use command::Command;
 pub use loading::load_step;
 pub use parse::parse_command;
 pub use step::ccp_step;
-
-#[cfg(test)]
-mod tests;

@@ -16,10 +16,3 @@ mod vectors;
 pub use disks::Disks;
 pub use function::FileFunction;
 pub use search::Search;
-
-#[cfg(test)]
-mod tests;
-#[cfg(test)]
-mod tests_of_drives;
-#[cfg(test)]
-mod tests_of_writes;

@@ -18,8 +18,3 @@ pub use drive::{Drive, Marks, directory_code};
 pub use opening::open_lent;
 pub use reading::{peek_next, read_at_protected, read_next_protected};
 pub use searching::{file_size, search};
-
-#[cfg(test)]
-mod tests;
-#[cfg(test)]
-mod tests_of_names;

@@ -12,6 +12,3 @@ pub mod registers;
 
 pub use exec::{execz80, stepz80};
 pub use quick::quick_stepz80;
-
-#[cfg(test)]
-mod tests;

@@ -1,0 +1,14 @@
+//! Calls of a session, step by step. What they leave was worked out from the tables of the CP/M 2.2 Operating System Manual.
+
+mod addresses;
+mod bios;
+mod disk;
+mod drives;
+mod faults;
+mod input;
+mod lines;
+mod output;
+mod reading;
+mod sectors;
+mod waiting;
+mod writing;

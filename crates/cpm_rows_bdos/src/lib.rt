@@ -1,0 +1,9 @@
+//! Sessions step by step: calls of the BDOS and the BIOS, and lines typed at the command processor.
+#![tactic(auto)]
+
+#[cfg(test)]
+mod calls;
+#[cfg(test)]
+mod commands;
+#[cfg(test)]
+mod trial;

@@ -1,0 +1,15 @@
+//! Worked calls on files: of one drive, and of a session with its drives.
+#![tactic(auto)]
+
+#[cfg(test)]
+mod drive;
+#[cfg(test)]
+mod drive_names;
+#[cfg(test)]
+mod images;
+#[cfg(test)]
+mod session;
+#[cfg(test)]
+mod session_drives;
+#[cfg(test)]
+mod session_writes;
