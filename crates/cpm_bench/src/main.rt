@@ -4,8 +4,8 @@
 //! Linux says of its own memory then.
 //!
 //! Or it runs a program by one grant of a machine, `machine CPU FILE STEPS`, or RUN.COM of a system drive in the sessions of a host by
-//! grants in turn, `host CPU IMAGE SESSIONS QUOTA STEPS ROUNDS`, and prints how many steps were executed; or it opens and closes a slot,
-//! `slots TIMES`. CPU is `8080` or `z80`.
+//! grants in turn, `host CPU IMAGE SESSIONS QUOTA STEPS ROUNDS`, and prints how many steps were executed. CPU is `8080` or `z80`. Or it
+//! opens and closes a slot with a new blank drive, `slots TIMES`, or makes such a drive alone, `openings TIMES`.
 #![tactic(auto)]
 
 mod sessions;
@@ -15,7 +15,7 @@ use cpm_exec8080::quick_step8080;
 use cpm_flags::{Alternate, Cpu, Flags, Regs};
 use cpm_geom::Image;
 use cpm_memory::{FlatMemory, FrameStore, Memory, has_room};
-use sessions::{Turns, open_and_close, run_host, run_machine};
+use sessions::{Turns, make_openings, open_and_close, run_host, run_machine};
 use std::process::ExitCode;
 use std::{env, fs};
 
@@ -185,6 +185,7 @@ fn measure(rt: &HostRuntime, words: &[&str]) -> Option<u64> {
             run_host(rt.alloc(), cpu_of(cpu)?, system_of(rt, file)?, &turns)
         }
         ["slots", times] => open_and_close(rt.alloc(), times.parse().ok()?),
+        ["openings", times] => make_openings(rt.alloc(), times.parse().ok()?),
         [kind, file, steps] => {
             let program = fs::read(rt, file).ok()?;
             run_over(rt, kind, program.as_slice(), steps.parse().ok()?)

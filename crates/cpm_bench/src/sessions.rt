@@ -3,7 +3,7 @@
 use cpm_flags::Cpu;
 use cpm_geom::{Format, Image};
 use cpm_sessions::{Host, SlotId};
-use cpm_slots::{Closed, Machine, Opening};
+use cpm_slots::{Machine, Opening};
 use std::alloc::Global;
 
 /// What starts the program RUN.COM of the system drive.
@@ -67,21 +67,21 @@ pub fn run_host(alloc: Global, cpu: Cpu, system: Image, turns: &Turns) -> Option
     Some(total)
 }
 
-/// Opens and closes a slot so many times, always with the same drive.
+/// Opens and closes a slot so many times, each time with a new blank drive.
 pub fn open_and_close(alloc: Global, times: u64) -> Option<u64> {
     let mut host = host_of(alloc, Image::blank(alloc, Format::Ibm3740).ok()?, 1)?;
-    let mut opening = opening_of(alloc, Cpu::I8080, 256)?;
     for _ in 0..times {
+        let opening = opening_of(alloc, Cpu::I8080, 256)?;
         let id = host.open(alloc, opening).ok()?;
-        let Closed { drives, .. } = host.close(id).ok()?;
-        let [first, ..] = drives;
-        let mut drives = Vec::new(alloc);
-        drives.push(first?).ok()?;
-        opening = Opening {
-            cpu: Cpu::I8080,
-            quota: 256,
-            drives,
-        };
+        host.close(id).ok()?;
+    }
+    Some(times)
+}
+
+/// Makes so many openings with a blank drive, and drops them.
+pub fn make_openings(alloc: Global, times: u64) -> Option<u64> {
+    for _ in 0..times {
+        opening_of(alloc, Cpu::I8080, 256)?;
     }
     Some(times)
 }
