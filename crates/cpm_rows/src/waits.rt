@@ -47,7 +47,12 @@ fn takes_a_key_after_many_waits(rt: HostRuntime) -> Result<(), Fail> {
     let mut machine = machine_of(rt.alloc(), Cpu::I8080, READS)?;
     granted(&rt, machine.grant(&system, MANY), MANY, Why::All);
     // A further address than the program's is none where a wait would stop.
-    granted(&rt, machine.grant_until(&system, MANY / 2, 0x0105), MANY / 2, Why::All);
+    granted(
+        &rt,
+        machine.grant_until(&system, MANY / 2, 0x0105),
+        MANY / 2,
+        Why::All,
+    );
     assert_eq!(rt; machine.look().ended, End::Running);
     assert!(rt; machine.look().waiting);
     assert_eq!(rt; machine.key(b'k'), Ok(()));
