@@ -76,11 +76,11 @@ NEXT:   LXI  D,FROM
 DONE:   LXI  D,INTO
         MVI  C,CLOSE
         CALL BDOS
-        LXI  D,NEWLIN
+        LXI  D,COPIED
         CALL SAY
         LHLD COUNT
-        CALL NUMBER
-        LXI  D,COPIED
+        JMP  NUMBER
+
 ; Shows the text at DE.
 SAY:    MVI  C,PRINT
         JMP  BDOS
@@ -124,8 +124,7 @@ HELP:   DB   13,10,'COPY FROM.TYP TO.TYP$'
 SAME:   DB   13,10,'Both names are the same$'
 NONE:   DB   13,10,'There is no such file$'
 FULL:   DB   13,10,'The disk is full$'
-NEWLIN: DB   13,10,'$'
-COPIED: DB   ' records copied$'
+COPIED: DB   13,10,'Records copied: $'
 COUNT:  DW   0          ; the records that were copied
 INTO:   DS   33         ; the file control block of the copy
         END
