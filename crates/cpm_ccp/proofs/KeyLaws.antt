@@ -32,12 +32,12 @@ use Rattle.cpm_ccp.specs.declared.command.Command.TheVariants as typed
 use Rattle.cpm_ccp.specs.Command.{command_of}
 use Rattle.cpm_ccp.specs.Message.{message_text}
 use Rattle.cpm_ccp.specs.Words.{first_word}
-use Rattle.cpm_ccp.specs.Parts.{says, told, is_stopped, held_at_part, line_of, on_file, own_record, record_of, drive_of, with_disks, with_call}
+use Rattle.cpm_ccp.specs.Parts.{says, told, is_stopped, line_of, on_file, own_record, record_of, drive_of, with_disks, with_call}
 use Rattle.cpm_ccp.specs.Prompt.{prompted, after_key, take_key, edit_line, drive_selected}
 use Rattle.cpm_ccp.specs.Listing.{file_text, entries_listed, next_listed, has_next, file_shown, listing_ended, drive_used, listed, shows_file, listed_on}
 use Rattle.cpm_ccp.specs.FileCommands.{by_code, erased, asked, is_yes, erased_all, has_new_name, renamed, after_make, made, after_erase, save_begun, after_write, saved, after_close, closed}
 use Rattle.cpm_ccp.specs.Showing.{after_open, show_begun, text_of, ends_in, wrote_all, record_shown, after_read, next_shown, shows_record, shown_on}
-use Rattle.cpm_ccp.specs.Loading.{unknown, load_begun, loaded, load_record}
+use Rattle.cpm_ccp.specs.Loading.{unknown, load_begun, load_record}
 use Rattle.cpm_ccp.specs.Loading as loading
 use Rattle.cpm_ccp.specs.Step.{looks_first, begun_by, begun, in_part, in_mode, ccp}
 
