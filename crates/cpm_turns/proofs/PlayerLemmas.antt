@@ -192,11 +192,9 @@ nothing room out [] some t = refl
 nothing room out (x ∷ waiting) some t = let count = t.count in absurd (let no : ⊥ = omega arith in no)
 
 drop-nothing : (n : ℕ) (xs : List ℕ) → xs ≡ [] → drop n xs ≡ []
-drop-nothing n xs none = ap (drop n) none ∙ go n
-  where
-    go : (m : ℕ) → drop m [] ≡ []
-    go zero = refl
-    go (suc m) = refl
+drop-nothing zero xs none = none
+drop-nothing (suc n) [] none = refl
+drop-nothing (suc n) (x ∷ xs) none = absurd (let no : ⊥ = cc in no)
 
 pub read-last : (steps n room : ℕ) (start : MachineState) (out : List ℕ) (p : Player) (old new : Host) → ((s : MachineState) → slot_at p.id.0 old.slots ≡ Some s → AreTaken n room out s.session.console.screen) → n ≡ 0 → 0 < room →
     new ≡ after_ask old p.id.0 (Calls (Take room)) → IsPlaying steps start p old → IsRead steps start p new

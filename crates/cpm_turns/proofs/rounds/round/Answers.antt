@@ -1,4 +1,4 @@
-use Rattle.std.proofs.Common.{◌≡◌, ◌≢◌, ◌∙◌, ◌<◌, ◌≤◌, ℕ, List, length, get_or, subst, sym, arith, get_or-set_other, length-set}
+use Rattle.std.proofs.Common.{◌≡◌, ◌≢◌, ◌∙◌, ◌<◌, ◌≤◌, ℕ, List, length, get_or, subst, sym, ap, arith, get_or-set_other, length-set}
 use Rattle.cpm_turns.specs.declared.player.Player.{Player}
 use Rattle.cpm_turns.specs.Players.{ids_of, AreDifferent, LeavesOthers}
 use Rattle.cpm_turns.proofs.RoundLemmas.{ids-set, left-round, left-turn, others-turn, pairs-turn}
@@ -8,8 +8,8 @@ pub loop-player-preserved : goal.loop-player-preserved
 loop-player-preserved c =
     let l = c.loop-player in
     let i = l.player-index in
-    let q = c.player-item.result in
-    let is : q ≡ get_or l.players i q = c.player-item.is in
+    let q = get_or l.players i c.player-item.result in
+    let is : q ≡ get_or l.players i q = ap (λ (d : Player). get_or l.players i d) c.player-item.is in
     let below : i < length l.players = omega arith in
     let was : q ≡ get_or c.args.players.now i q = is ∙ l.invariant.rest i q (omega arith) in
     let moves = c.in_ok-turn.ensures.moves in
@@ -21,7 +21,7 @@ loop-player-preserved c =
           (others-turn i l.players q c.args.host.now l.host c.turn.new.host below is
           (subst (λ (ids : List ℕ). LeavesOthers ids c.args.host.now l.host) (sym l.invariant.ids) l.invariant.others) moves.others);
       ids = ids-set i l.players q c.turn.new.player below is moves.id ∙ l.invariant.ids;
-      rest = λ k d past. let other : i ≢ k = omega arith in rw get_or-set_other (l.invariant.rest k d (omega arith));
+      rest = λ k d past. let other : k ≢ i = omega arith in get_or-set_other l.players i k c.turn.new.player d other ∙ l.invariant.rest k d (omega arith);
       left = left-turn i c.args.players.now l.players q c.turn.new.player below l.invariant.long is was c.in_ok-turn.ensures.left l.invariant.left;
       long = length-set l.players i c.turn.new.player ∙ l.invariant.long;
     }
