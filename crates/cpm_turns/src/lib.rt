@@ -11,6 +11,3 @@ mod turn;
 pub use machine::play_machine;
 pub use player::Player;
 pub use rounds::play;
-
-#[cfg(test)]
-mod tests;
