@@ -20,8 +20,8 @@ fn goes_on(players: &[Player]) -> bool
 /// Gives each of the players a turn.
 fn round(host: &mut Host, players: &mut [Player], quantum: u64) -> Result<(), AllocError>
     requires { 1 ≤ quantum }
-    ensures pairs { OnOk result ((before : List Slot) (given : List Played) → AllDiffer players.old → AllPairs before host.old given players.old → AllPairs before host.new given players.new) }
-    ensures others { OnOk result (LeavesOthers (ids_of players.old) host.old host.new) }
+    ensures pairs { OnOk result ((before : List Slot) (given : List Played) → AllDiffer players.old → AllPairs before host.old.host given players.old → AllPairs before host.new.host given players.new) }
+    ensures others { OnOk result (LeavesOthers (ids_of players.old) host.old.host host.new.host) }
     ensures ids { OnOk result (ids_of players.new ≡ ids_of players.old) }
     ensures left { OnOk result (0 < left_of players.old → left_of players.new < left_of players.old) }
 {
@@ -35,10 +35,10 @@ fn round(host: &mut Host, players: &mut [Player], quantum: u64) -> Result<(), Al
 /// all that a session shows is taken after its turn, until each has executed its steps or ended.
 pub fn play(host: &mut Host, players: &mut [Player], quantum: u64) -> Result<(), AllocError>
     requires quantum { 1 ≤ quantum }
-    requires ready { AllReady host.old.slots players.old }
+    requires ready { AllReady host.old.host.slots players.old }
     requires differ { AllDiffer players.old }
-    ensures played { OnOk result (AllPlayed host.old.system host.old.slots host.new.slots players.old players.new) }
-    ensures others { OnOk result (LeavesOthers (ids_of players.old) host.old host.new) }
+    ensures played { OnOk result (AllPlayed host.old.host.system host.old.host.slots host.new.host.slots players.old players.new) }
+    ensures others { OnOk result (LeavesOthers (ids_of players.old) host.old.host host.new.host) }
 {
     while goes_on(players) {
         round(host, players, quantum)?;

@@ -18,8 +18,8 @@ const CHUNK: usize = 8192;
 
 /// Presses the keys that are due.
 fn press_due(host: &mut Host, player: &mut Player)
-    ensures playing { (steps : ℕ) (start : MachineState) → IsResting steps start player.old host.old → IsResting steps start player.new host.new }
-    ensures moves { Moves player.old player.new host.old host.new }
+    ensures playing { (steps : ℕ) (start : MachineState) → IsResting steps start player.old host.old.host → IsResting steps start player.new host.new.host }
+    ensures moves { Moves player.old player.new host.old.host host.new.host }
     ensures left { steps_of player.new ≡ steps_of player.old }
     ensures due { due_at player.new.pace.done (slice_get (keys_of player.new) player.new.pace.pressed) ≡ None }
 {
@@ -32,11 +32,11 @@ fn press_due(host: &mut Host, player: &mut Player)
 
 /// Moves out the first console bytes of a slot, as many as fit, and says how many.
 fn read_console(host: &mut Host, id: SlotId, chunk: &mut [u8]) -> usize
-    ensures bytes { (s : MachineState) → slot_at id.0 host.old.slots ≡ Some s → AreTaken result (length chunk.old) chunk.new s.session.console.screen }
+    ensures bytes { (s : MachineState) → slot_at id.0 host.old.host.slots ≡ Some s → AreTaken result (length chunk.old) chunk.new s.session.console.screen }
     ensures length { length chunk.new ≡ length chunk.old }
     ensures within { result ≤ length chunk.old }
-    ensures fewer { result ≢ 0 → console_in (slot_at id.0 host.new.slots) < console_in (slot_at id.0 host.old.slots) }
-    ensures host { host.new ≡ after_ask host.old id.0 (Calls (Take (length chunk.old))) }
+    ensures fewer { result ≢ 0 → console_in (slot_at id.0 host.new.host.slots) < console_in (slot_at id.0 host.old.host.slots) }
+    ensures host { host.new.host ≡ after_ask host.old.host id.0 (Calls (Take (length chunk.old))) }
 {
     match host.take(id, chunk) {
         Ok(count) => count,
@@ -46,11 +46,11 @@ fn read_console(host: &mut Host, id: SlotId, chunk: &mut [u8]) -> usize
 
 /// Moves out the first list bytes of a slot, as many as fit, and says how many.
 fn read_list(host: &mut Host, id: SlotId, chunk: &mut [u8]) -> usize
-    ensures bytes { (s : MachineState) → slot_at id.0 host.old.slots ≡ Some s → AreTaken result (length chunk.old) chunk.new s.session.console.printer }
+    ensures bytes { (s : MachineState) → slot_at id.0 host.old.host.slots ≡ Some s → AreTaken result (length chunk.old) chunk.new s.session.console.printer }
     ensures length { length chunk.new ≡ length chunk.old }
     ensures within { result ≤ length chunk.old }
-    ensures fewer { result ≢ 0 → list_in (slot_at id.0 host.new.slots) < list_in (slot_at id.0 host.old.slots) }
-    ensures host { host.new ≡ after_ask host.old id.0 (Calls (TakeList (length chunk.old))) }
+    ensures fewer { result ≢ 0 → list_in (slot_at id.0 host.new.host.slots) < list_in (slot_at id.0 host.old.host.slots) }
+    ensures host { host.new.host ≡ after_ask host.old.host id.0 (Calls (TakeList (length chunk.old))) }
 {
     match host.take_list(id, chunk) {
         Ok(count) => count,
@@ -60,8 +60,8 @@ fn read_list(host: &mut Host, id: SlotId, chunk: &mut [u8]) -> usize
 
 /// Takes all console bytes.
 fn take_console(host: &mut Host, player: &mut Player) -> Result<(), AllocError>
-    ensures playing { OnOk result ((steps : ℕ) (start : MachineState) → IsPlaying steps start player.old host.old → IsRead steps start player.new host.new) }
-    ensures moves { OnOk result (Moves player.old player.new host.old host.new) }
+    ensures playing { OnOk result ((steps : ℕ) (start : MachineState) → IsPlaying steps start player.old host.old.host → IsRead steps start player.new host.new.host) }
+    ensures moves { OnOk result (Moves player.old player.new host.old.host host.new.host) }
     ensures left { steps_of player.new ≡ steps_of player.old }
 {
     let mut chunk = [0u8; CHUNK];
@@ -76,8 +76,8 @@ fn take_console(host: &mut Host, player: &mut Player) -> Result<(), AllocError>
 
 /// Takes all list bytes.
 fn take_list(host: &mut Host, player: &mut Player) -> Result<(), AllocError>
-    ensures playing { OnOk result ((steps : ℕ) (start : MachineState) → IsRead steps start player.old host.old → IsResting steps start player.new host.new) }
-    ensures moves { OnOk result (Moves player.old player.new host.old host.new) }
+    ensures playing { OnOk result ((steps : ℕ) (start : MachineState) → IsRead steps start player.old host.old.host → IsResting steps start player.new host.new.host) }
+    ensures moves { OnOk result (Moves player.old player.new host.old.host host.new.host) }
     ensures left { steps_of player.new ≡ steps_of player.old }
 {
     let mut chunk = [0u8; CHUNK];
@@ -92,9 +92,9 @@ fn take_list(host: &mut Host, player: &mut Player) -> Result<(), AllocError>
 
 /// Executes steps of a slot, at most so many, and says how many.
 fn grant(host: &mut Host, id: SlotId, most: u64) -> u64
-    ensures executed { (s : MachineState) → slot_at id.0 host.old.slots ≡ Some s → result ≡ executed host.old.system most s }
+    ensures executed { (s : MachineState) → slot_at id.0 host.old.host.slots ≡ Some s → result ≡ executed host.old.host.system most s }
     ensures within { result ≤ most }
-    ensures host { host.new ≡ after_ask host.old id.0 (Calls (Grant most)) }
+    ensures host { host.new.host ≡ after_ask host.old.host id.0 (Calls (Grant most)) }
 {
     match host.grant(id, most) {
         Ok(granted) => granted.executed,
@@ -105,8 +105,8 @@ fn grant(host: &mut Host, id: SlotId, most: u64) -> u64
 /// Executes the steps of a turn: at most `quantum`, and none past the next key.
 fn execute(host: &mut Host, player: &mut Player, quantum: u64)
     requires { 1 ≤ quantum }
-    ensures playing { (steps : ℕ) (start : MachineState) → IsResting steps start player.old host.old → IsPlaying steps start player.new host.new }
-    ensures moves { Moves player.old player.new host.old host.new }
+    ensures playing { (steps : ℕ) (start : MachineState) → IsResting steps start player.old host.old.host → IsPlaying steps start player.new host.new.host }
+    ensures moves { Moves player.old player.new host.old.host host.new.host }
     ensures left { steps_of player.new ≤ steps_of player.old - 1 }
 {
     press_due(host, player);
@@ -118,8 +118,8 @@ fn execute(host: &mut Host, player: &mut Player, quantum: u64)
 /// Gives a player a turn of at most `quantum` steps, which ends at the count of its next key, and takes what it shows.
 pub(crate) fn turn(host: &mut Host, player: &mut Player, quantum: u64) -> Result<(), AllocError>
     requires { 1 ≤ quantum }
-    ensures playing { OnOk result ((steps : ℕ) (start : MachineState) → IsResting steps start player.old host.old → IsResting steps start player.new host.new) }
-    ensures moves { OnOk result (Moves player.old player.new host.old host.new) }
+    ensures playing { OnOk result ((steps : ℕ) (start : MachineState) → IsResting steps start player.old host.old.host → IsResting steps start player.new host.new.host) }
+    ensures moves { OnOk result (Moves player.old player.new host.old.host host.new.host) }
     ensures left { OnOk result (steps_of player.new ≤ steps_of player.old - 1) }
 {
     if player.pace.left() == 0 {

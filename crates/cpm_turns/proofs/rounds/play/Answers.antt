@@ -5,8 +5,8 @@ use Rattle.cpm_turns.proofs.rounds.play.Goals as goal
 
 pub loop-host-init : goal.loop-host-init
 loop-host-init c = record {
-  pairs = pairs-start c.args.host.now c.args.players.now c.requires.ready;
-  others = others-none (ids_of c.args.players.now) c.args.host.now;
+  pairs = pairs-start c.args.host.now.host c.args.players.now c.requires.ready;
+  others = others-none (ids_of c.args.players.now) c.args.host.now.host;
   ids = refl;
 }
 
@@ -15,4 +15,4 @@ loop-host-smaller c = c.in_ok-round.ensures.left (has-left c.loop-host.players (
 
 pub returns-clause-played : goal.returns-clause-played
 returns-clause-played c =
-    pairs-end c.args.host.now.slots c.args.host.now c.loop-host.host c.args.players.now c.loop-host.players c.loop-host.invariant.others.system (sym c.goes_on.ensures ∙ c.loop-host-test.false) c.loop-host.invariant.pairs
+    pairs-end c.args.host.now.host.slots c.args.host.now.host c.loop-host.host.host c.args.players.now c.loop-host.players c.loop-host.invariant.others.system (sym c.goes_on.ensures ∙ c.loop-host-test.false) c.loop-host.invariant.pairs

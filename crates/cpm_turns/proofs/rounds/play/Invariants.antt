@@ -4,8 +4,8 @@ use Rattle.cpm_turns.proofs.rounds.play.Given as goal
 
 abbrev pub invariant-loop-host : goal.invariant-loop-host
 invariant-loop-host l = record {
-  pairs : AllPairs l.fn.host.slots l.host l.fn.players l.players;
-  others : LeavesOthers (ids_of l.fn.players) l.fn.host l.host;
+  pairs : AllPairs l.fn.host.host.slots l.host.host l.fn.players l.players;
+  others : LeavesOthers (ids_of l.fn.players) l.fn.host.host l.host.host;
   ids : ids_of l.players ≡ ids_of l.fn.players;
 }
 

@@ -15,11 +15,11 @@ loop-player-preserved c =
     let moves = c.in_ok-turn.ensures.moves in
     record {
       pairs = λ before given differ all.
-          pairs-turn before i given l.players q c.turn.new.player l.host c.turn.new.host below is (subst AreDifferent (sym l.invariant.ids) differ) moves c.in_ok-turn.ensures.playing
+          pairs-turn before i given l.players q c.turn.new.player l.host.host c.turn.new.host.host below is (subst AreDifferent (sym l.invariant.ids) differ) moves c.in_ok-turn.ensures.playing
           (l.invariant.pairs before given differ all);
-      others = subst (λ (ids : List ℕ). LeavesOthers ids c.args.host.now c.turn.new.host) l.invariant.ids
-          (others-turn i l.players q c.args.host.now l.host c.turn.new.host below is
-          (subst (λ (ids : List ℕ). LeavesOthers ids c.args.host.now l.host) (sym l.invariant.ids) l.invariant.others) moves.others);
+      others = subst (λ (ids : List ℕ). LeavesOthers ids c.args.host.now.host c.turn.new.host.host) l.invariant.ids
+          (others-turn i l.players q c.args.host.now.host l.host.host c.turn.new.host.host below is
+          (subst (λ (ids : List ℕ). LeavesOthers ids c.args.host.now.host l.host.host) (sym l.invariant.ids) l.invariant.others) moves.others);
       ids = ids-set i l.players q c.turn.new.player below is moves.id ∙ l.invariant.ids;
       rest = λ k d past. let other : k ≢ i = omega arith in get_or-set_other l.players i k c.turn.new.player d other ∙ l.invariant.rest k d (omega arith);
       left = left-turn i c.args.players.now l.players q c.turn.new.player below l.invariant.long is was c.in_ok-turn.ensures.left l.invariant.left;

@@ -16,8 +16,8 @@ loop-key-preserved c =
     let due : due_at l.player.pace.done (slice_get (keys_of l.player) l.player.pace.pressed) ≡ Some c.in-Some.key =
     ap (λ (ks : List Key). due_at l.player.pace.done (slice_get ks l.player.pace.pressed)) (sym c.deref.ensures.value) ∙ sym c.in-Some.ensures in
     record {
-      playing = λ steps start r. resting-key steps c.in-Some.key start l.player next l.host c.key.new.self due c.key.ensures.host refl (l.invariant.playing steps start r);
-      moves = moves-on c.args.player.now l.player next c.args.host.now l.host c.key.new.self l.invariant.moves
-          (moves-ask l.player next l.host c.key.new.self (Calls (Pressed c.in-Some.key)) refl refl c.key.ensures.host);
+      playing = λ steps start r. resting-key steps c.in-Some.key start l.player next l.host.host c.key.new.self.host due c.key.ensures.host refl (l.invariant.playing steps start r);
+      moves = moves-on c.args.player.now l.player next c.args.host.now.host l.host.host c.key.new.self.host l.invariant.moves
+          (moves-ask l.player next l.host.host c.key.new.self.host (Calls (Pressed c.in-Some.key)) refl refl c.key.ensures.host);
       left = l.invariant.left;
     }

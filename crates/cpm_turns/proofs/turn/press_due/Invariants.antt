@@ -5,8 +5,8 @@ use Rattle.cpm_turns.proofs.turn.press_due.Given as goal
 
 abbrev pub invariant-loop-key : goal.invariant-loop-key
 invariant-loop-key l = record {
-  playing : (steps : ℕ) (start : MachineState) → IsResting steps start l.fn.player l.fn.host → IsResting steps start l.player l.host;
-  moves : Moves l.fn.player l.player l.fn.host l.host;
+  playing : (steps : ℕ) (start : MachineState) → IsResting steps start l.fn.player l.fn.host.host → IsResting steps start l.player l.host.host;
+  moves : Moves l.fn.player l.player l.fn.host.host l.host.host;
   left : steps_of l.player ≡ steps_of l.fn.player;
 }
 

@@ -6,11 +6,11 @@ use Rattle.cpm_turns.proofs.turn.take_console.Given as goal
 
 abbrev pub invariant-loop-chunk : goal.invariant-loop-chunk
 invariant-loop-chunk l = record {
-  playing : (steps : ℕ) (start : MachineState) → IsPlaying steps start l.fn.player l.fn.host → IsPlaying steps start l.player l.host;
-  moves : Moves l.fn.player l.player l.fn.host l.host;
+  playing : (steps : ℕ) (start : MachineState) → IsPlaying steps start l.fn.player l.fn.host.host → IsPlaying steps start l.player l.host.host;
+  moves : Moves l.fn.player l.player l.fn.host.host l.host.host;
   left : steps_of l.player ≡ steps_of l.fn.player;
   room : length l.chunk ≡ 8192;
 }
 
 abbrev pub decreases-loop-chunk : goal.decreases-loop-chunk
-decreases-loop-chunk l = console_in (slot_at l.player.id.0 l.host.slots)
+decreases-loop-chunk l = console_in (slot_at l.player.id.0 l.host.host.slots)
