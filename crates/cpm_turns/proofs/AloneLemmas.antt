@@ -1,12 +1,12 @@
 -- The machine run alone for keys of which the last are not pressed, or after it has ended.
-use Rattle.std.proofs.Common.{◌≡◌, ◌≢◌, ℕ, zero, suc, ◌+◌, ◌-◌, ◌<◌, ◌≤◌, ◌==◌, Bool, true, false, List, [], ◌∷◌, ◌++◌, length, take, drop, refl, sym, ap, ap₂, ◌∙◌, subst, arith, add-zero, add-suc, append-nil, if◌then◌else◌}
+use Rattle.std.proofs.Common.{◌≡◌, ℕ, zero, suc, ◌+◌, ◌<◌, ◌≤◌, ◌==◌, Bool, true, false, List, [], ◌∷◌, ◌++◌, refl, sym, ap, ◌∙◌, subst, arith, add-zero, add-suc, append-nil, if◌then◌else◌}
 use Rattle.std.proofs.lemmas.Bool.Decides.{nat_tests}
 use Rattle.cpm_geom.specs.Disk.{Disk}
 use Rattle.cpm_script.specs.declared.script.Key.{Key}
 use Rattle.cpm_slots.specs.Alone.{Press, due, alone}
 use Rattle.cpm_slots.specs.Calls.{state_behind}
 use Rattle.cpm_slots.specs.MachineState.{MachineState}
-use Rattle.cpm_slots.specs.Step.{step, step_if, after, is_running}
+use Rattle.cpm_slots.specs.Step.{step, step_if, is_running}
 use Rattle.cpm_slots.proofs.AloneLaws.{step-behind}
 use Rattle.cpm_slots.proofs.PressLaws.{alone-late}
 use Rattle.cpm_turns.specs.Playing.{presses_of, IsInOrder, HasText}

@@ -1,29 +1,14 @@
 -- A player's slot in its host: what is asked of it leaves the other slots.
-use Rattle.std.proofs.Common.{◌≡◌, ◌≢◌, ℕ, ◌+◌, ◌-◌, ◌<◌, ◌≤◌, min, Bool, true, false, Option, Some, None, Result, Ok, Err, List, [], ◌∷◌, ◌++◌, length, take, drop, refl, sym, ap, ap₂, ◌∙◌, subst, arith, if◌then◌else◌, slice_get}
-use Rattle.std.specs.Prelude.{⊤}
-use Rattle.std.proofs.lemmas.List.{length-take-le}
-use Rattle.std.proofs.lemmas.Option.{none-some, same_Some}
-use Rattle.cpm_geom.specs.Disk.{Disk}
-use Rattle.cpm_script.specs.declared.script.Key.{Key}
-use Rattle.cpm_sessions.specs.declared.event.Reply.{Reply}
-use Rattle.cpm_sessions.specs.declared.event.Reply.TheVariants as reply
-use Rattle.cpm_sessions.specs.declared.event.Refusal.{Refusal}
+use Rattle.std.proofs.Common.{◌≡◌, ℕ, Some, refl, sym, ap, ◌∙◌}
 use Rattle.cpm_sessions.specs.declared.event.SlotId.{SlotId}
-use Rattle.cpm_sessions.specs.Host.{Host, Slot, slot_at, with_slot, after_ask, reply_at, grant_reply, take_reply}
+use Rattle.cpm_sessions.specs.Host.{Host, slot_at, after_ask, reply_at}
 use Rattle.cpm_sessions.specs.Serving.{Ask, Calls, reply_of, serve_slot}
 use Rattle.cpm_sessions.proofs.EventLaws.{apart}
 use Rattle.cpm_sessions.proofs.SlotLaws.{slot_at-same}
-use Rattle.cpm_slots.specs.declared.reply.Granted.{Granted}
-use Rattle.cpm_slots.specs.Calls.{Call, Key as Pressed, Grant, Take, TakeList, serve, served_key}
+use Rattle.cpm_slots.specs.Calls.{Call, serve}
 use Rattle.cpm_slots.specs.MachineState.{MachineState}
-use Rattle.cpm_slots.specs.Serve.{executed, keyed, taken, taken_list, takes_key}
-use Rattle.cpm_slots.specs.Step.{after, is_running}
-use Rattle.cpm_turns.specs.declared.pace.Pace.{Pace}
 use Rattle.cpm_turns.specs.declared.player.Player.{Player}
-use Rattle.cpm_turns.specs.Pacing.{due_at, turn_of, IsOn}
-use Rattle.cpm_turns.specs.Playing.{IsQuiet}
-use Rattle.cpm_turns.specs.Players.{keys_of, steps_of, IsNoPlayer, IsPlaying, IsRead, IsResting, LeavesOthers, Moves}
-use Rattle.cpm_turns.proofs.PaceLemmas.{due-key, on-ended, on-key, on-take, on-take_list, on-turn, stopped, takes-due, IsDue}
+use Rattle.cpm_turns.specs.Players.{keys_of, Moves}
 
 -- ---- a call to an open slot
 
@@ -65,4 +50,3 @@ moves-on p q r old middle new a b = record {
     others = λ other away. b.others.others other (λ same. away.0 (sym (ap (λ (x : SlotId). x.0) a.id) ∙ same), tt) ∙ a.others.others other away;
   };
 }
-

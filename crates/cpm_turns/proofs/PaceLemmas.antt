@@ -1,5 +1,5 @@
 -- A session that is played: one more key, turn and take, and its end.
-use Rattle.std.proofs.Common.{◌≡◌, ◌≢◌, ℕ, zero, suc, ◌+◌, ◌-◌, ◌<◌, ◌≤◌, nat_le, ◌==◌, ◌&&◌, min, Bool, true, false, Option, Some, None, Result, Ok, Err, IfOk, IfErr, true≢false, ◌⊎◌, inl, inr, ⊎_elim, List, [], ◌∷◌, ◌++◌, length, take, drop, refl, sym, ap, ap₂, ◌∙◌, subst, arith, append-nil, take-append-drop, if◌then◌else◌, slice_get}
+use Rattle.std.proofs.Common.{◌≡◌, ℕ, zero, suc, ◌+◌, ◌-◌, ◌<◌, ◌≤◌, nat_le, ◌==◌, ◌&&◌, min, Bool, true, false, Option, Some, None, Result, Ok, Err, IfOk, IfErr, true≢false, ◌⊎◌, inl, inr, ⊎_elim, List, [], ◌∷◌, ◌++◌, length, take, drop, refl, sym, ap, ap₂, ◌∙◌, subst, arith, append-nil, take-append-drop, if◌then◌else◌, slice_get}
 use Rattle.std.specs.Prelude.{⊤}
 use Rattle.std.proofs.lemmas.Bool.Decides.{nat_tests}
 use Rattle.std.proofs.lemmas.Bool.{cases_lt}
@@ -10,12 +10,12 @@ use Rattle.std.proofs.lemmas.Option.{none-some, same_Some}
 use Rattle.cpm_geom.specs.Disk.{Disk}
 use Rattle.cpm_console.specs.Terminal.{Terminal, has_room}
 use Rattle.cpm_script.specs.declared.script.Key.{Key}
-use Rattle.cpm_slots.specs.Alone.{Press, due, alone}
+use Rattle.cpm_slots.specs.Alone.{due, alone}
 use Rattle.cpm_slots.specs.Calls.{state_behind}
 use Rattle.cpm_slots.specs.declared.reply.KeysFull.{KeysFull}
 use Rattle.cpm_slots.specs.MachineState.{MachineState}
 use Rattle.cpm_slots.specs.Serve.{executed, keyed, taken, taken_list, takes_key}
-use Rattle.cpm_slots.specs.Step.{after, can_step, is_running, step}
+use Rattle.cpm_slots.specs.Step.{after, can_step, is_running}
 use Rattle.cpm_slots.proofs.AloneLaws.{after-behind, taken-behind, taken_list-behind}
 use Rattle.cpm_slots.proofs.GrantLaws.{longest-is}
 use Rattle.cpm_slots.proofs.KeyLaws.{keys_leave-step}

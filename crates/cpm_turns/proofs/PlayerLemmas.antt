@@ -1,5 +1,5 @@
 -- What the parts of a turn leave of a player and its slot.
-use Rattle.std.proofs.Common.{◌≡◌, ℕ, zero, suc, ◌+◌, ◌-◌, ◌<◌, ◌≤◌, min, Bool, true, false, Option, Some, None, Result, Ok, Err, List, [], ◌∷◌, ◌++◌, length, take, drop, refl, sym, ap, ap₂, ◌∙◌, subst, arith, append-nil, slice_get, length-drop}
+use Rattle.std.proofs.Common.{◌≡◌, ℕ, zero, suc, ◌+◌, ◌-◌, ◌<◌, ◌≤◌, min, Bool, true, false, Option, Some, None, Ok, Err, List, [], ◌∷◌, ◌++◌, length, take, drop, refl, sym, ap, ◌∙◌, subst, arith, append-nil, slice_get, length-drop}
 use Rattle.std.proofs.lemmas.List.{length-take-le}
 use Rattle.cpm_geom.specs.Disk.{Disk}
 use Rattle.cpm_script.specs.declared.script.Key.{Key}
@@ -15,10 +15,8 @@ use Rattle.cpm_slots.specs.MachineState.{MachineState}
 use Rattle.cpm_slots.specs.Serve.{executed, keyed, taken, taken_list, takes_key}
 use Rattle.cpm_slots.specs.Step.{after, can_step}
 use Rattle.cpm_slots.proofs.GrantLaws.{longest-is}
-use Rattle.cpm_turns.specs.declared.pace.Pace.{Pace}
 use Rattle.cpm_turns.specs.declared.player.Player.{Player}
 use Rattle.cpm_turns.specs.Pacing.{due_at, turn_of, IsOn}
-use Rattle.cpm_turns.specs.Playing.{IsQuiet}
 use Rattle.cpm_turns.specs.Players.{console_in, keys_of, list_in, AreTaken, IsPlaying, IsRead, IsResting}
 use Rattle.cpm_turns.proofs.HostLemmas.{reply-served, slot-served}
 use Rattle.cpm_turns.proofs.PaceLemmas.{due-key, on-advance, on-key, on-take, on-take_list, takes-due, IsAdvanced, IsDue}

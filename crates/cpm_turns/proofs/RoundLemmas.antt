@@ -1,7 +1,6 @@
 -- All players of a host, between two turns.
-use Rattle.std.proofs.Common.{◌≡◌, ◌≢◌, ℕ, zero, suc, ◌+◌, ◌-◌, ◌<◌, ◌≤◌, min, Bool, true, false, ◌||◌, Some, List, [], ◌∷◌, length, take, drop, set, get_or, map, sum_by, refl, sym, ap, ◌∙◌, subst, arith, ⊎_elim, take_all}
+use Rattle.std.proofs.Common.{◌≡◌, ◌≢◌, ℕ, zero, suc, ◌+◌, ◌-◌, ◌<◌, ◌≤◌, min, Bool, true, false, ◌||◌, List, [], ◌∷◌, length, take, set, get_or, sum_by, refl, sym, ap, ◌∙◌, subst, arith, ⊎_elim, take_all}
 use Rattle.std.specs.Prelude.{nat_lt}
-use Rattle.std.specs.List.{list_any}
 use Rattle.std.proofs.lemmas.Bool.Decides.{nat_tests}
 use Rattle.std.proofs.lemmas.Bool.{cases_lt}
 use Rattle.std.proofs.lemmas.List.Sums.{sum_by_more, sum_by-cons, sum_by-set}
@@ -12,7 +11,7 @@ use Rattle.cpm_sessions.specs.Host.{Host, Slot, slot_at}
 use Rattle.cpm_slots.specs.MachineState.{MachineState}
 use Rattle.cpm_turns.specs.declared.pace.Pace.{Pace}
 use Rattle.cpm_turns.specs.declared.player.Player.{Player}
-use Rattle.cpm_turns.specs.Pacing.{first_pace, left_in, IsOn}
+use Rattle.cpm_turns.specs.Pacing.{first_pace, IsOn}
 use Rattle.cpm_turns.specs.Playing.{IsPlayed}
 use Rattle.cpm_turns.specs.Players.{has_steps, ids_of, keys_of, left_of, steps_of, AllPairs, AllPlayed, AllReady, AreDifferent, HasPlayed, IsNone, IsPair, IsPlaying, IsReady, IsResting, LeavesOthers, Moves}
 use Rattle.cpm_turns.proofs.PaceLemmas.{on-end, on-start}
@@ -87,14 +86,12 @@ pairs-turn before i (p ∷ ps) [] q r old new below is differ moves plays pairs 
 pairs-turn before i [] (x ∷ qs) q r old new below is differ moves plays pairs = absurd pairs
 pairs-turn before zero (p ∷ ps) (x ∷ qs) q r old new below is differ moves plays pairs =
     let first : IsPair before old p q = subst (λ (y : Player). IsPair before old p y) (sym is) pairs.0 in
-    let none : IsNone q.id.0 (ids_of qs) = subst (λ (y : Player). IsNone y.id.0 (ids_of qs)) (sym is) differ.0 in
-    (
+    let none : IsNone q.id.0 (ids_of qs) = subst (λ (y : Player). IsNone y.id.0 (ids_of qs)) (sym is) differ.0 in (
       record { id = moves.id ∙ first.id; keys = moves.keys ∙ first.keys; start = first.start; opened = first.opened; resting = plays (steps_of p) first.start first.resting },
       pairs-elsewhere before q.id.0 ps qs old new moves.others none pairs.1,
     )
 pairs-turn before (suc i) (p ∷ ps) (x ∷ qs) q r old new below is differ moves plays pairs =
-    let inside : i < length qs = omega arith in
-    (
+    let inside : i < length qs = omega arith in (
       pair-elsewhere before (q.id.0 ∷ []) p x old new moves.others (other-first x.id.0 q.id.0 (none-at x.id.0 i qs q differ.0 inside is)) pairs.0,
       pairs-turn before i ps qs q r old new inside is differ.1 moves plays pairs.1,
     )

@@ -1,15 +1,14 @@
 -- The keys of a script are in order, and not too many.
-use Rattle.std.proofs.Common.{◌≡◌, ℕ, suc, ◌+◌, ◌-◌, ◌≤◌, Bool, true, false, nat_le, Option, Some, None, Result, Ok, Err, IfOk, List, [], ◌∷◌, ◌++◌, length, map, refl, sym, ap, ◌∙◌, subst, arith, if◌then◌else◌, slice_get, length-append}
-use Rattle.std.specs.Prelude.{⊤}
+use Rattle.std.proofs.Common.{◌≡◌, ℕ, suc, ◌+◌, ◌-◌, ◌≤◌, Bool, true, false, nat_le, Option, Some, None, Result, Ok, Err, IfOk, List, [], ◌∷◌, ◌++◌, length, refl, sym, ap, ◌∙◌, arith, if◌then◌else◌, slice_get, length-append}
 use Rattle.std.specs.List.{before_first, after_first}
 use Rattle.std.specs.Option.{option_map_or}
 use Rattle.std.specs.Str.Lines.{lines}
 use Rattle.std.proofs.lemmas.Bool.Decides.{nat_tests}
 use Rattle.cpm_script.specs.declared.script.Key.{Key}
 use Rattle.cpm_script.specs.declared.fault.LineFault.{LineFault}
-use Rattle.cpm_script.specs.declared.fault.LineFault.TheVariants.{NoCount, CountFalls, NotAKey, NoKey, TooManyKeys}
+use Rattle.cpm_script.specs.declared.fault.LineFault.TheVariants.{NoCount, CountFalls, NotAKey, TooManyKeys}
 use Rattle.cpm_script.specs.KeyText.{count_of, keys_of}
-use Rattle.cpm_script.specs.Script.{is_after, is_skipped, is_space, keys_at, or_fault, with_keys, with_text, with_counted, with_line, numbered, script_from, script}
+use Rattle.cpm_script.specs.Script.{is_after, is_skipped, is_space, keys_at, or_fault, with_keys, with_text, with_counted, with_line, numbered, script_from}
 use Rattle.cpm_turns.specs.Playing.{IsInOrder}
 use Rattle.cpm_turns.specs.Laws.{ScriptsInOrder}
 

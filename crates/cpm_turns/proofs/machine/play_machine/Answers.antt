@@ -1,10 +1,9 @@
 use Rattle.std.proofs.Common.{◌≡◌, ◌∙◌, ◌≤◌, ℕ, ap, arith, subst, sym}
-use Rattle.cpm_slots.specs.MachineState.{MachineState}
 use Rattle.cpm_slots.specs.Serve.{executed}
 use Rattle.cpm_turns.specs.declared.pace.Pace.{Pace}
 use Rattle.cpm_turns.specs.Pacing.{left_in, turn_of, without_list, IsShown}
 use Rattle.cpm_turns.proofs.TextLemmas.{on_err}
-use Rattle.cpm_turns.proofs.PaceLemmas.{left-falls, shown-end, shown-start, shown-text, shown-turn}
+use Rattle.cpm_turns.proofs.PaceLemmas.{shown-end, shown-start, shown-text, shown-turn}
 use Rattle.cpm_turns.proofs.machine.play_machine.Goals as goal
 
 pub loop-pace-init : goal.loop-pace-init

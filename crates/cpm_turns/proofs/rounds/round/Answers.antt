@@ -1,6 +1,6 @@
 use Rattle.std.proofs.Common.{◌≡◌, ◌≢◌, ◌∙◌, ◌<◌, ◌≤◌, ℕ, List, length, get_or, subst, sym, ap, arith, get_or-set_other, length-set}
 use Rattle.cpm_turns.specs.declared.player.Player.{Player}
-use Rattle.cpm_turns.specs.Players.{ids_of, AreDifferent, LeavesOthers}
+use Rattle.cpm_turns.specs.Players.{AreDifferent, LeavesOthers}
 use Rattle.cpm_turns.proofs.RoundLemmas.{ids-set, left-round, left-turn, others-turn, pairs-turn}
 use Rattle.cpm_turns.proofs.rounds.round.Goals as goal
 

@@ -1,4 +1,4 @@
-use Rattle.std.proofs.Common.{◌≡◌, ◌∙◌, ◌<◌, refl, arith, length}
+use Rattle.std.proofs.Common.{◌∙◌, ◌<◌, refl, arith, length}
 use Rattle.cpm_sessions.specs.Serving.{Calls}
 use Rattle.cpm_slots.specs.Calls.{Take}
 use Rattle.cpm_turns.specs.declared.player.Player.{Player}
