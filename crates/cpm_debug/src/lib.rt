@@ -1,0 +1,7 @@
+//! The debugger.
+#![tactic(auto)]
+
+mod hear;
+mod order;
+
+pub use order::Order;
