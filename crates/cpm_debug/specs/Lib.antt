@@ -1,2 +1,4 @@
-pub mod Orders
+pub mod Debug
+pub mod Dialog
 pub mod Hearing
+pub mod Orders

@@ -1,8 +1,10 @@
 //! Hearing lines.
-ghost use Rattle.std.specs.Prelude.{◌≡◌, IfOk};
+ghost use Rattle.std.specs.Prelude.{◌≡◌, IfErr, IfOk};
 ghost use Rattle.std.specs.Str.Lines.{strip_carriage_return};
+ghost use Rattle.cpm_debug.specs.Debug.{IsReadFailure};
 ghost use Rattle.cpm_debug.specs.Hearing.{Hears, line_in, without_end};
 
+use crate::error::DebugError;
 use std::alloc::Global;
 use std::io;
 use std::io::BufRead;
@@ -28,7 +30,7 @@ pub(crate) fn without_end(line: &[u8]) -> &[u8]
 }
 
 /// The next line with its end, if it ends within so many bytes, which are then fewer.
-pub(crate) fn next_line<R: BufRead>(
+fn next_line<R: BufRead>(
     alloc: Global,
     input: &mut R,
     room: &mut usize,
@@ -45,4 +47,19 @@ pub(crate) fn next_line<R: BufRead>(
     }
     *room -= count;
     Ok(Some(line))
+}
+
+/// The next line with its end, if it ends within so many bytes, which are then fewer; an error says why it can't be read.
+pub(crate) fn hear<R: BufRead>(
+    alloc: Global,
+    input: &mut R,
+    room: &mut usize,
+) -> Result<Option<Vec<u8>>, DebugError>
+    ensures line { IfOk result (λ line. Hears room.old room.new (R.remaining input.old) (R.remaining input.new) (line_in line)) }
+    ensures failed { IfErr result IsReadFailure }
+{
+    match next_line(alloc, input, room) {
+        Ok(line) => Ok(line),
+        Err(error) => Err(DebugError::of_read(error)),
+    }
 }

@@ -1,9 +1,10 @@
 //! What a line orders.
 ghost use Rattle.std.specs.Prelude.{◌≡◌, ◌<◌, IfSome};
-ghost use Rattle.cpm_script.specs.KeyText.{count_of, keys_of};
-ghost use Rattle.cpm_debug.specs.Orders.{address_of, addressed_grant, asked, byte_of, digit_of, dump_of, grant_of, list_of, press_of, request_of, text_request, word_of};
+ghost use Rattle.cpm_script.specs.KeyText.{count_of};
+ghost use Rattle.cpm_debug.specs.Dialog.{is_quit};
+ghost use Rattle.cpm_debug.specs.Orders.{address_of, addressed_grant, asked, byte_of, digit_of, dump_of, grant_of, list_of, request_of, text_request, word_of};
 
-use cpm_script::{are_keys, count_of};
+use cpm_script::count_of;
 
 /// An order to the debugger.
 #[derive(Clone, Copy)]
@@ -114,20 +115,6 @@ impl<'a> Order<'a> {
         }
     }
 
-    /// The order of keys.
-    fn press(text: &'a [u8]) -> Order<'a>
-        ensures { asked result ≡ press_of (keys_of text.now) }
-    {
-        if text.is_empty() {
-            return Order::Unknown;
-        }
-        if are_keys(text) {
-            Order::Press(text)
-        } else {
-            Order::Unknown
-        }
-    }
-
     /// The order of a letter and the text behind its space.
     fn of_text(letter: u8, text: &'a [u8]) -> Order<'a>
         ensures { asked result ≡ text_request letter text.now }
@@ -137,7 +124,7 @@ impl<'a> Order<'a> {
             b'G' => Order::grant_until(text),
             b'D' => Order::dump(text),
             b'L' => Order::list_at(text),
-            b'K' => Order::press(text),
+            b'K' => Order::Press(text),
             _ => Order::Unknown,
         }
     }
@@ -152,6 +139,16 @@ impl<'a> Order<'a> {
             [b'Q'] => Order::Quit,
             [letter, b' ', text @ ..] => Order::of_text(*letter, text),
             _ => Order::Unknown,
+        }
+    }
+    /// Whether it ends the dialog.
+    #[tactic(auto, unfolding(crate::specs::Dialog::is_quit))]
+    pub(crate) fn is_quit(self) -> bool
+        ensures { result ≡ is_quit (asked self.entry) }
+    {
+        match self {
+            Order::Quit => true,
+            _ => false,
         }
     }
 }
