@@ -32,8 +32,9 @@ pub(crate) fn press_text(machine: &mut Machine, text: &[u8]) -> bool
     if text.is_empty() {
         return false;
     }
-    if !are_keys(text) {
-        return false;
+    if are_keys(text) {
+        press(machine, text)
+    } else {
+        false
     }
-    press(machine, text)
 }
