@@ -217,15 +217,6 @@ refusal_whole cpu program known before after_it old new (Unreadable reason) fits
 refusal_whole cpu program known before after_it old new (Unwritable reason) fits fails = (fits, unanswered_whole system_drive cpu (debugged cpu program) known fails)
 refusal_whole cpu program known before after_it old new OutOfMemory fits fails = (fits, cut_whole system_drive cpu (debugged cpu program) known before after_it fails)
 
--- a dialog doesn't end early because the program is too long
-pub not_too_long : {A : Type 0} (system : Disk) (cpu : Cpu) (start : MachineState) (known before after_it : Option (List ℕ)) (n : ℕ) (r : Result A DebugError)
-    → IfErr r (IsFailure system cpu start known before after_it) → r ≡ Err (ProgramTooLong n) → ⊥
-not_too_long system cpu start known before after_it n (Ok x) fails is = absurd (let bad : ⊥ = cc in bad)
-not_too_long system cpu start known before after_it n (Err (ProgramTooLong m)) fails is = fails
-not_too_long system cpu start known before after_it n (Err (Unreadable reason)) fails is = absurd (let bad : ⊥ = cc in bad)
-not_too_long system cpu start known before after_it n (Err (Unwritable reason)) fails is = absurd (let bad : ⊥ = cc in bad)
-not_too_long system cpu start known before after_it n (Err OutOfMemory) fails is = absurd (let bad : ⊥ = cc in bad)
-
 -- memory was refused before anything was read
 abbrev heard_of : Option (List ℕ) → List (List ℕ)
 heard_of None = []
@@ -237,3 +228,25 @@ all_heard (Some text) = refl
 
 pub at_once : (system : Disk) (cpu : Cpu) (start : MachineState) (known before : Option (List ℕ)) → IsCutShort system cpu start known before before
 at_once system cpu start known before = record { lines = []; more = heard_of known; heard = all_heard known; written = Appends-nil before }
+
+-- ---- what the debugger answers, from the dialog that it held
+
+pub held_result : {A E : Type 0} (r : Result A E) (system : Disk) (cpu : Cpu) (s : MachineState) (program : List ℕ) (known k before after_it : Option (List ℕ))
+    → system ≡ system_drive → s ≡ debugged cpu program → k ≡ option_map (take 16777217) known → OnOk r (IsHeld system cpu s k before after_it)
+    → OnOk r (IsHeld system_drive cpu (debugged cpu program) known before after_it)
+held_result (Err e) system cpu s program known k before after_it drive machine reader held = tt
+held_result (Ok x) system cpu s program known k before after_it drive machine reader held =
+    let on_drive = subst (λ (d : Disk). IsHeld d cpu s k before after_it) drive held in
+    let on_machine = subst (λ (m : MachineState). IsHeld system_drive cpu m k before after_it) machine on_drive in
+    held_whole system_drive cpu (debugged cpu program) known before after_it
+    (subst (λ (o : Option (List ℕ)). IsHeld system_drive cpu (debugged cpu program) o before after_it) reader on_machine)
+
+pub refused_result : {A W : Type 0} (r : Result A DebugError) (system : Disk) (cpu : Cpu) (s : MachineState) (program : List ℕ) (known k before after_it : Option (List ℕ)) (old new : W)
+    → system ≡ system_drive → s ≡ debugged cpu program → k ≡ option_map (take 16777217) known → length program ≤ 58112 → IfErr r (IsFailure system cpu s k before after_it)
+    → IfErr r (IsDebugRefusal cpu program known before after_it old new)
+refused_result (Ok x) system cpu s program known k before after_it old new drive machine reader fits failed = tt
+refused_result (Err e) system cpu s program known k before after_it old new drive machine reader fits failed =
+    let on_drive = subst (λ (d : Disk). IsFailure d cpu s k before after_it e) drive failed in
+    let on_machine = subst (λ (m : MachineState). IsFailure system_drive cpu m k before after_it e) machine on_drive in
+    refusal_whole cpu program known before after_it old new e fits
+    (subst (λ (o : Option (List ℕ)). IsFailure system_drive cpu (debugged cpu program) o before after_it e) reader on_machine)

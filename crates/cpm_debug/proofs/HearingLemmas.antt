@@ -142,8 +142,9 @@ bounded_step room text some within rest =
     ∙ sym (line_heard room text some within)
 
 bounded : (fuel room : ℕ) (text : List ℕ) → length text ≤ fuel → lines_within room (take (room + 1) text) ≡ lines_within room text
-bounded fuel room [] h = ap (lines_within room) (take-nil (room + 1))
+bounded zero room [] h = ap (lines_within room) (take-nil (room + 1))
 bounded zero room (b ∷ bs) h = absurd (omega arith)
+bounded (suc fuel) room [] h = ap (lines_within room) (take-nil (room + 1))
 bounded (suc fuel) room (b ∷ bs) h = ⊎_elim
     (λ (over : room < length (take_through 10 (b ∷ bs))). bounded_cut room (b ∷ bs) over)
     (λ (within : length (take_through 10 (b ∷ bs)) ≤ room).

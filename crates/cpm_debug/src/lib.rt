@@ -14,3 +14,6 @@ mod write;
 pub use debug::run_debug;
 pub use error::DebugError;
 pub use order::Order;
+
+#[cfg(test)]
+mod tests;
