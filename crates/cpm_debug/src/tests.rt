@@ -131,10 +131,31 @@ fn takes_either_case_zeros_and_either_end_of_line(rt: HostRuntime) {
 #[test]
 fn knows_no_other_form(rt: HostRuntime) {
     let lines: [&[u8]; 25] = [
-        b"\n", b"K \n", b"K\n", b"S\n", b"S \n", b"S  2\n", b"S 2 \n", b" S 2\n", b"S +2\n",
-        b"S 18446744073709551616\n", b"S 2h\n", b"s 2\n", b"q\n", b"R \n", b"D 100\n", b"D 01000\n",
-        b"D 010G\n", b"D  0100\n", b"L\n", b"L 10000\n", b"G 0100\n", b"G 0100 \n",
-        b"G 0100  1\n", b"G 100 1\n", b"X\r",
+        b"\n",
+        b"K \n",
+        b"K\n",
+        b"S\n",
+        b"S \n",
+        b"S  2\n",
+        b"S 2 \n",
+        b" S 2\n",
+        b"S +2\n",
+        b"S 18446744073709551616\n",
+        b"S 2h\n",
+        b"s 2\n",
+        b"q\n",
+        b"R \n",
+        b"D 100\n",
+        b"D 01000\n",
+        b"D 010G\n",
+        b"D  0100\n",
+        b"L\n",
+        b"L 10000\n",
+        b"G 0100\n",
+        b"G 0100 \n",
+        b"G 0100  1\n",
+        b"G 100 1\n",
+        b"X\r",
     ];
     for line in lines {
         check(&rt, LETTER, line, b"?\n");
@@ -160,7 +181,9 @@ fn refuses_keys_where_4096_are_pending(rt: HostRuntime) {
 
     let mut lines = copied(&rt, b"K ");
     lines.resize(4097, b'a').expect(&rt, "memory");
-    lines.extend_from_slice(b"\nK bc\nK d\n").expect(&rt, "memory");
+    lines
+        .extend_from_slice(b"\nK bc\nK d\n")
+        .expect(&rt, "memory");
     check(&rt, ECHO, lines.as_slice(), b"?\n?\n");
 }
 
