@@ -24,8 +24,8 @@ fn are_digits(text: &[u8]) -> bool
     text.iter().all(|b| b.is_ascii_digit())
 }
 
-/// The count that a text of decimal digits writes.
-pub(crate) fn count_of(text: &[u8]) -> Option<u64>
+/// The count that a text of decimal digits writes, where 64 bits hold it.
+pub fn count_of(text: &[u8]) -> Option<u64>
     ensures { result ≡ count_of text.now }
 {
     if !text.is_empty() && are_digits(text) {

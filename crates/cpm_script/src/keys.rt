@@ -26,7 +26,7 @@ fn control_key(byte: u8) -> Option<u8>
 }
 
 /// The first key of a text, and the text after it.
-pub(crate) fn first_key(text: &[u8]) -> Option<(u8, &[u8])>
+pub fn first_key(text: &[u8]) -> Option<(u8, &[u8])>
     ensures { option_map (λ p. (p.0, p.1.now)) result ≡ first_key text.now }
 {
     let (first, rest) = text.split_first()?;
@@ -37,7 +37,7 @@ pub(crate) fn first_key(text: &[u8]) -> Option<(u8, &[u8])>
 }
 
 /// Whether a text stands for keys and nothing else.
-pub(crate) fn are_keys(text: &[u8]) -> bool
+pub fn are_keys(text: &[u8]) -> bool
     ensures { result ≡ is_some (keys_of text.now) }
 {
     let mut rest = text;

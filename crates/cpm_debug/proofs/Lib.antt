@@ -1,0 +1,4 @@
+pub mod DialogLemmas
+pub mod HearingLemmas
+pub mod PressLemmas
+pub mod TextLemmas

@@ -1,0 +1,110 @@
+-- What the debugger answers, and the machine that each answer leaves. The form of the answers is own.
+use Rattle.std.specs.Prelude.{◌≡◌, ◌≢◌, ℕ, ◌+◌, ◌%◌, Bool, true, false, if◌then◌else◌, List, [], ◌∷◌, ◌++◌, codes, decimal, unwrap_or}
+use Rattle.cpm_flags.specs.declared.regs.Cpu.{Cpu}
+use Rattle.cpm_geom.specs.Disk.{Disk}
+use Rattle.cpm_lines.specs.Dump.{dump_line}
+use Rattle.cpm_lines.specs.Listing.{list_line}
+use Rattle.cpm_lines.specs.Registers.{regs_line}
+use Rattle.cpm_memory.specs.Contents.{Contents, byte_at}
+use Rattle.cpm_memory.specs.Tabulated.{tabulated}
+use Rattle.cpm_script.specs.KeyText.{keys_of}
+use Rattle.cpm_slots.specs.Calls.{granted}
+use Rattle.cpm_slots.specs.MachineState.{MachineState}
+use Rattle.cpm_slots.specs.Serve.{executed, keyed, takes_key}
+use Rattle.cpm_slots.specs.Step.{after}
+use Rattle.cpm_slots.specs.Until.{executed_until, granted_until}
+use Rattle.cpm_slots.specs.declared.reply.Granted.{Granted}
+use Rattle.cpm_slots.specs.declared.reply.Why.{Why}
+use Rattle.cpm_slots.specs.declared.reply.Why.TheVariants.{All, Stopped, Break, Blocked}
+use Rattle.cpm_debug.specs.Orders.{Request, Grant, GrantUntil, Dump, ListAt, Registers, Press, Output, Quit, Unknown, request_of}
+
+-- the text of an answer, and the state after it
+pub record Reply : Type 0 where
+  pub text : List ℕ
+  pub state : MachineState
+
+-- a text and the newline that ends it
+abbrev pub line_of : List ℕ → List ℕ
+line_of text = text ++ 10 ∷ []
+
+-- ---- grants
+
+unfoldable pub why_text : Why → List ℕ
+why_text All = codes "All"
+why_text Stopped = codes "Stopped"
+why_text Break = codes "Break"
+why_text Blocked = codes "Blocked"
+
+-- how many steps were executed, and why no more
+unfoldable pub grant_line : Granted → List ℕ
+grant_line g = decimal g.executed ++ codes " " ++ why_text g.why
+
+-- ---- bytes of the memory
+
+-- so many bytes from an address on; behind FFFFh comes 0000h
+abbrev pub bytes_from : Contents → ℕ → ℕ → List ℕ
+bytes_from m address n = tabulated n (λ k. byte_at m ((address + k) % 65536))
+
+-- ---- keys
+
+-- the state after keys, and whether all were accepted
+pub record Pressed : Type 0 where
+  pub accepted : Bool
+  pub state : MachineState
+
+-- keys in order; behind one that is refused they are dropped
+abbrev pub press : List ℕ → MachineState → Pressed
+press [] s = record { accepted = true; state = s }
+press (key ∷ keys) s = if takes_key s then press keys (keyed key s) else record { accepted = false; state = s }
+
+-- the keys that a text stands for; none where it stands for none
+abbrev pub keys_in : List ℕ → List ℕ
+keys_in text = unwrap_or (keys_of text) []
+
+-- what becomes of the keys of a request; where it has none, none is accepted
+abbrev pub pressed : Request → MachineState → Pressed
+pressed (Press keys) s = press keys s
+pressed _ s = record { accepted = false; state = s }
+
+-- ---- console bytes
+
+abbrev pub without_text : MachineState → MachineState
+without_text s =
+    record s { session = record s.session { console = record s.session.console { screen = [] } } }
+
+-- ---- answers
+
+-- the answer to what is no order, and to keys that are refused
+abbrev pub unknown_line : List ℕ
+unknown_line = line_of (codes "?")
+
+abbrev pub reply : List ℕ → MachineState → Reply
+reply text s = record { text = text; state = s }
+
+-- what is answered with this system drive, and the state after it
+unfoldable pub answer : Disk → Cpu → Request → MachineState → Reply
+answer system cpu (Grant steps) s = reply (line_of (grant_line (granted system steps s))) (after system (executed system steps s) s)
+answer system cpu (GrantUntil pc steps) s = reply (line_of (grant_line (granted_until system pc steps s))) (after system (executed_until system pc steps s) s)
+answer system cpu (Dump address) s = reply (line_of (dump_line address (bytes_from s.memory address 16))) s
+answer system cpu (ListAt address) s = reply (line_of (list_line address (bytes_from s.memory address 3))) s
+answer system cpu Registers s = reply (line_of (regs_line cpu s.session.regs s.count)) s
+answer system cpu (Press keys) s = reply (if (press keys s).accepted then [] else unknown_line) (press keys s).state
+answer system cpu Output s = reply (line_of s.session.console.screen) (without_text s)
+answer system cpu Quit s = reply [] s
+answer system cpu Unknown s = reply unknown_line s
+
+-- ---- dialogs
+
+unfoldable pub is_quit : Request → Bool
+is_quit Quit = true
+is_quit _ = false
+
+-- what is answered to a line
+abbrev pub answer_to : Disk → Cpu → List ℕ → MachineState → Reply
+answer_to system cpu line s = answer system cpu (request_of line) s
+
+-- what is answered to lines, one after another, up to the order that ends the dialog
+abbrev pub dialog : Disk → Cpu → List (List ℕ) → MachineState → List ℕ
+dialog system cpu [] s = []
+dialog system cpu (line ∷ lines) s = if is_quit (request_of line) then []
+    else (answer_to system cpu line s).text ++ dialog system cpu lines (answer_to system cpu line s).state

@@ -1,0 +1,4 @@
+pub mod Debug
+pub mod Dialog
+pub mod Hearing
+pub mod Orders

@@ -1,0 +1,104 @@
+-- The debugger's orders. All of it is own.
+use Rattle.std.specs.Prelude.{ℕ, ◌+◌, ◌-◌, ◌*◌, ◌==◌, Bool, true, false, if◌then◌else◌, List, [], ◌∷◌, Option, Some, None, option_map, option_and_then}
+use Rattle.cpm_script.specs.KeyText.{count_of, is_within, keys_of}
+use Rattle.cpm_debug.specs.declared.order.Order.{Order}
+use Rattle.cpm_debug.specs.declared.order.Order.TheVariants as order
+
+-- what a line asks for
+pub data Request : Type 0 where
+  Grant : (steps : ℕ) → Request
+  GrantUntil : (pc steps : ℕ) → Request
+  Dump : (address : ℕ) → Request
+  ListAt : (address : ℕ) → Request
+  Registers : Request
+  Press : (keys : List ℕ) → Request
+  Output : Request
+  Quit : Request
+  Unknown : Request
+
+-- ---- addresses
+
+-- a hexadecimal digit: 0 to 9, A to F, a to f
+abbrev pub digit_of : ℕ → Option ℕ
+digit_of c = if is_within 48 57 c then Some (c - 48)
+    else (if is_within 65 70 c then Some (c - 55) else (if is_within 97 102 c then Some (c - 87) else None))
+
+-- two numbers as one, the first of which counts so much
+abbrev pub joined : ℕ → Option ℕ → Option ℕ → Option ℕ
+joined base high low = option_and_then (λ h. option_map (λ l. h * base + l) low) high
+
+abbrev pub byte_of : ℕ → ℕ → Option ℕ
+byte_of high low = joined 16 (digit_of high) (digit_of low)
+
+abbrev pub word_of : ℕ → ℕ → ℕ → ℕ → Option ℕ
+word_of a b c d = joined 256 (byte_of a b) (byte_of c d)
+
+-- an address has four digits
+abbrev pub address_of : List ℕ → Option ℕ
+address_of (a ∷ b ∷ c ∷ d ∷ []) = word_of a b c d
+address_of _ = None
+
+-- ---- the text of an order
+
+-- S and a count
+abbrev pub grant_of : Option ℕ → Request
+grant_of (Some steps) = Grant steps
+grant_of None = Unknown
+
+-- G, an address, a space and a count
+abbrev pub grant_until_of : Option ℕ → Option ℕ → Request
+grant_until_of (Some pc) (Some steps) = GrantUntil pc steps
+grant_until_of (Some pc) None = Unknown
+grant_until_of None steps = Unknown
+
+abbrev pub addressed_grant : List ℕ → Request
+addressed_grant (a ∷ b ∷ c ∷ d ∷ e ∷ count) = if e == 32 then grant_until_of (word_of a b c d) (count_of count) else Unknown
+addressed_grant _ = Unknown
+
+-- D and an address
+abbrev pub dump_of : Option ℕ → Request
+dump_of (Some address) = Dump address
+dump_of None = Unknown
+
+-- L and an address
+abbrev pub list_of : Option ℕ → Request
+list_of (Some address) = ListAt address
+list_of None = Unknown
+
+-- K and keys as a key script writes them, at least one
+abbrev pub press_of : Option (List ℕ) → Request
+press_of (Some (key ∷ keys)) = Press (key ∷ keys)
+press_of (Some []) = Unknown
+press_of None = Unknown
+
+-- ---- orders
+
+-- an order of a letter: R, O, Q
+abbrev pub letter_request : ℕ → Request
+letter_request c = if c == 82 then Registers else (if c == 79 then Output else (if c == 81 then Quit else Unknown))
+
+-- an order of a letter, a space and a text: S, G, D, L, K
+abbrev pub text_request : ℕ → List ℕ → Request
+text_request c text = if c == 83 then grant_of (count_of text)
+    else (if c == 71 then addressed_grant text
+    else (if c == 68 then dump_of (address_of text)
+    else (if c == 76 then list_of (address_of text)
+    else (if c == 75 then press_of (keys_of text) else Unknown))))
+
+-- what a line asks for; a line of no other form is unknown
+abbrev pub request_of : List ℕ → Request
+request_of [] = Unknown
+request_of (c ∷ []) = letter_request c
+request_of (c ∷ space ∷ text) = if space == 32 then text_request c text else Unknown
+
+-- what an order that was read asks for
+abbrev pub asked : Order → Request
+asked (order.Grant steps) = Grant steps
+asked (order.GrantUntil pc steps) = GrantUntil pc steps
+asked (order.Dump address) = Dump address
+asked (order.ListAt address) = ListAt address
+asked order.Registers = Registers
+asked (order.Press text) = press_of (keys_of text.now)
+asked order.Output = Output
+asked order.Quit = Quit
+asked order.Unknown = Unknown

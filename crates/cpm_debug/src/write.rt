@@ -1,0 +1,47 @@
+//! Writing answers.
+ghost use Rattle.std.specs.Prelude.{◌≡◌, ◌++◌, OnOk};
+ghost use Rattle.std.specs.Io.KnownBytes.{Appends};
+ghost use Rattle.cpm_debug.specs.Dialog.{line_of, without_text};
+
+use cpm_slots::Machine;
+use std::io;
+use std::io::Write;
+
+/// How many bytes are taken at once.
+const CHUNK: usize = 8192;
+
+/// Writes a line and its end.
+pub(crate) fn write_line<W: Write>(out: &mut W, line: &str) -> io::Result<()>
+    ensures { OnOk result (Appends (W.contents out.old) (W.contents out.new) (line_of line.now)) }
+{
+    out.write_all(line.as_bytes())?;
+    out.write_all(b"\n")?;
+    out.flush()?;
+    Ok(())
+}
+
+/// Moves all console bytes to the writer.
+fn move_text<W: Write>(machine: &mut Machine, out: &mut W) -> io::Result<()>
+    ensures state { OnOk result (machine.new ≡ without_text machine.old) }
+    ensures text { OnOk result (Appends (W.contents out.old) (W.contents out.new)
+        machine.old.session.console.screen) }
+{
+    let mut chunk = [0u8; CHUNK];
+    loop {
+        let count = machine.take(&mut chunk);
+        if count == 0 {
+            return Ok(());
+        }
+        out.write_all(&chunk[..count])?;
+    }
+}
+
+/// Writes all console bytes and a line's end.
+pub(crate) fn write_text<W: Write>(machine: &mut Machine, out: &mut W) -> io::Result<()>
+    ensures state { OnOk result (machine.new ≡ without_text machine.old) }
+    ensures text { OnOk result (Appends (W.contents out.old) (W.contents out.new)
+        (line_of machine.old.session.console.screen)) }
+{
+    move_text(machine, out)?;
+    write_line(out, "")
+}
