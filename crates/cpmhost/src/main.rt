@@ -7,7 +7,7 @@ ghost use Rattle.cpm_host.specs.Refusals.{IsWordRefusal};
 mod files;
 
 use cpm_flags::Cpu;
-use cpm_host::{HostError, Task, command, help, run_asm, run_com, run_list};
+use cpm_host::{Fault, HostError, Task, command, help, run_asm, run_com, run_list, shown};
 use files::{read_file, write_file};
 use std::env::Env;
 use std::io::{BufWriter, ErrorKind};
@@ -67,9 +67,19 @@ fn run(rt: &(impl Env + Files + Print + Eprint + AllocGlobal)) -> Result<(), Hos
         return rt.print(text).map_err(HostError::OutputUnwritable);
     }
     match command(rt.alloc(), texts.as_slice())? {
-        Task::Com { file, cpu, steps } => com(rt, file, cpu, steps),
+        Task::Com {
+            file,
+            cpu,
+            steps,
+            keys: None,
+        } => com(rt, file, cpu, steps),
+        Task::Com { keys: Some(_), .. } => Err(HostError::Usage(Fault::UnexpectedArgument(
+            shown("--keys"),
+        ))),
         Task::Asm { source, out } => asm(rt, source, out),
         Task::List { file } => list(rt, file),
+        Task::Run { .. } => Err(HostError::Usage(Fault::UnknownCommand(shown("run")))),
+        Task::Debug { .. } => Err(HostError::Usage(Fault::UnknownCommand(shown("debug")))),
     }
 }
 
