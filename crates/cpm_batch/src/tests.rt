@@ -1,0 +1,1 @@
+//! What is read for sessions, and what is written after them.

@@ -1,0 +1,1 @@
+//! Worked rows: what sessions show when they are played by their keys.
