@@ -1,1 +1,0 @@
-//! Worked rows: what sessions show when they are played by their keys.
