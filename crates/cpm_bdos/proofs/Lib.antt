@@ -4,6 +4,7 @@ pub mod FcbChanges
 pub mod Marks
 pub mod ConsoleBehind
 pub mod Limits
+pub mod KeyLaws
 pub mod Bounded
 pub mod Waiting
 pub mod Showing

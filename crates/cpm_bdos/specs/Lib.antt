@@ -2,6 +2,7 @@ pub mod Function
 pub mod Registers
 pub mod Did
 pub mod Keys
+pub mod KeysTaken
 pub mod Hold
 pub mod Output
 pub mod Input

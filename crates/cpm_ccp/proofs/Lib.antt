@@ -9,3 +9,4 @@ pub mod WaitLaws
 pub mod BehindLaws
 pub mod BoundLaws
 pub mod LimitLaws
+pub mod KeyLaws

@@ -5,3 +5,4 @@ pub mod PressLaws
 pub mod AloneLaws
 pub mod WaitLaws
 pub mod StepBounds
+pub mod KeyLaws

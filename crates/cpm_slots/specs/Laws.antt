@@ -1,9 +1,10 @@
 -- Laws over the step, whatever the system drive.
-use Rattle.std.specs.Prelude.{◌≡◌, ℕ, ◌+◌, ◌<◌, ◌≤◌, List, [], ◌++◌, Bool, true, false}
+use Rattle.std.specs.Prelude.{◌≡◌, ℕ, ◌+◌, ◌<◌, ◌≤◌, List, [], ◌++◌, length, Bool, true, false}
 use Rattle.cpm_geom.specs.Disk.{Disk}
 use Rattle.cpm_memory.specs.Contents.{touched_of}
 use Rattle.cpm_console.specs.Terminal.{IsWithin}
 use Rattle.cpm_bdos.specs.Bounds.{IsFit}
+use Rattle.cpm_bdos.specs.KeysTaken.{IsFromFront}
 use Rattle.cpm_slots.specs.declared.steps.Outcome.TheVariants as outcome
 use Rattle.cpm_slots.specs.MachineState.{MachineState}
 use Rattle.cpm_slots.specs.Step.{step, after, can_step, after_part, made}
@@ -35,6 +36,14 @@ pub record IsBounded (old new : MachineState) : Type 0 where
 
 abbrev pub Bounded : Type 0
 Bounded = (system : Disk) (s : MachineState) → IsFit s.session → IsBounded s (step system s)
+
+-- a step takes pending keys from the front alone, and adds none
+abbrev pub KeysLeave : Type 0
+KeysLeave = (system : Disk) (s : MachineState) → length (step system s).session.console.keys ≤ length s.session.console.keys
+
+-- it takes the first one or none, and the others stay in their order
+abbrev pub KeysFromFront : Type 0
+KeysFromFront = (system : Disk) (s : MachineState) → IsFromFront s.session.console.keys (step system s).session.console.keys
 
 -- After any calls the state, with the bytes that were taken put back in front, is that of the machine run alone from the start, for the keys that were accepted and the steps that were executed: whatever was taken and looked at, however the grants were cut, and as if the keys had been known beforehand.
 abbrev pub Alone : Type 0

@@ -1,6 +1,6 @@
 //! Laws of machines, as contracts.
 
-ghost use Rattle.cpm_slots.specs.Laws.{Greatest, Cutting, Bounded, Alone, LateKeys, Waiting};
+ghost use Rattle.cpm_slots.specs.Laws.{Greatest, Cutting, Bounded, KeysLeave, KeysFromFront, Alone, LateKeys, Waiting};
 
 /// A grant executes the greatest number of steps that can be made.
 pub fn greatest()
@@ -16,6 +16,16 @@ pub fn cutting()
 /// its line's length are bytes.
 pub fn bounded()
     ensures { Bounded }
+{}
+
+/// A step leaves at most as many keys as were pending.
+pub fn keys_leave()
+    ensures { KeysLeave }
+{}
+
+/// A step takes the first pending key or none; the others stay in their order, and none comes.
+pub fn keys_from_front()
+    ensures { KeysFromFront }
 {}
 
 /// After any calls a machine is the machine run alone by its accepted keys and executed steps, but for the bytes that

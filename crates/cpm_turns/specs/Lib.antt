@@ -1,0 +1,3 @@
+pub mod Playing
+pub mod Pacing
+pub mod Players

@@ -1,0 +1,43 @@
+-- Sessions played by their keys: what each shows and leaves, whatever its turns are. All of it is own.
+use Rattle.std.specs.Prelude.{⊤, ◌≡◌, ◌≢◌, ℕ, ◌≤◌, List, [], ◌∷◌, map}
+use Rattle.cpm_geom.specs.Disk.{Disk}
+use Rattle.cpm_script.specs.declared.script.Key.{Key}
+use Rattle.cpm_slots.specs.Alone.{Press, alone}
+use Rattle.cpm_slots.specs.MachineState.{MachineState}
+
+-- the keys of a script, each with the number of steps executed before it
+abbrev pub presses_of : List Key → List Press
+presses_of keys = map (λ k. record { after = k.count; key = k.byte }) keys
+
+-- the counts are at least this one, and do not fall
+abbrev pub IsInOrder : ℕ → List Key → Type 0
+IsInOrder n [] = ⊤
+IsInOrder n (k ∷ ks) = (n ≤ k.count) × IsInOrder k.count ks
+
+-- the machine run alone for these keys and so many steps
+abbrev pub alone_by : Disk → List Key → ℕ → MachineState → MachineState
+alone_by system keys steps start = alone system (presses_of keys) steps start
+
+-- A session was played: it has shown what the machine run alone for its keys and steps shows, and has come to its end, count, registers and drives, whatever the turns were.
+pub record IsPlayed (system : Disk) (keys : List Key) (steps : ℕ) (start now : MachineState) (console list : List ℕ) : Type 0 where
+  pub screen : console ≡ (alone system (presses_of keys) steps start).session.console.screen
+  pub printer : list ≡ (alone system (presses_of keys) steps start).session.console.printer
+  pub count : now.count ≡ (alone system (presses_of keys) steps start).count
+  pub ended : now.ended ≡ (alone system (presses_of keys) steps start).ended
+  pub regs : now.session.regs ≡ (alone system (presses_of keys) steps start).session.regs
+  pub disks : now.session.disks ≡ (alone system (presses_of keys) steps start).session.disks
+
+-- no key is pending, and no byte waits to be taken
+pub record IsFresh (s : MachineState) : Type 0 where
+  pub keys : s.session.console.keys ≡ []
+  pub screen : s.session.console.screen ≡ []
+  pub printer : s.session.console.printer ≡ []
+
+-- no byte waits to be taken
+pub record IsQuiet (s : MachineState) : Type 0 where
+  pub screen : s.session.console.screen ≡ []
+  pub printer : s.session.console.printer ≡ []
+
+-- the machine run alone shows some text
+abbrev pub HasText : MachineState → Type 0
+HasText s = s.session.console.screen ≢ []

@@ -1,0 +1,77 @@
+//! One machine by itself.
+
+ghost use Rattle.std.specs.Prelude.{◌≡◌, ◌≤◌, OnOk, OnErr, length};
+ghost use Rattle.std.specs.Io.KnownBytes.{Appends};
+ghost use Rattle.cpm_turns.specs.Playing.{HasText, IsFresh, IsInOrder, alone_by};
+
+use crate::pace::Pace;
+use cpm_geom::Image;
+use cpm_script::Key;
+use cpm_slots::Machine;
+use std::io;
+use std::io::Write;
+
+/// How many steps a turn has at most, so that output appears as it comes.
+const QUANTUM: u64 = 1_000_000;
+
+/// How many bytes are taken at once.
+const CHUNK: usize = 8192;
+
+/// Presses the keys that are due.
+fn press_due(machine: &mut Machine, keys: &[Key], pace: &mut Pace)
+{
+    while let Some(key) = pace.due(keys) {
+        // 4,096 keys at most were given, so that it is not refused.
+        let _ = machine.key(key);
+        pace.pressed += 1;
+    }
+}
+
+/// Moves all console bytes to the writer.
+fn move_text<W: Write>(machine: &mut Machine, out: &mut W) -> io::Result<()>
+{
+    let mut chunk = [0u8; CHUNK];
+    loop {
+        let count = machine.take(&mut chunk);
+        if count == 0 {
+            return Ok(());
+        }
+        out.write_all(&chunk[..count])?;
+        out.flush()?;
+    }
+}
+
+/// Takes all list bytes and drops them.
+fn drop_list(machine: &mut Machine)
+{
+    let mut chunk = [0u8; CHUNK];
+    while machine.take_list(&mut chunk) > 0 {}
+}
+
+/// Plays one machine with its keys, and writes its console bytes as they come. List bytes are dropped.
+///
+/// An error is the writer's: it comes only where there was text to write.
+pub fn play_machine<W: Write>(
+    system: &Image,
+    machine: &mut Machine,
+    keys: &[Key],
+    steps: u64,
+    out: &mut W,
+) -> io::Result<()>
+    requires order { IsInOrder 0 keys.now }
+    requires few { length keys.now ≤ 4096 }
+    requires fresh { IsFresh machine.old }
+    ensures text { OnOk result (Appends (W.contents out.old) (W.contents out.new)
+        (alone_by system.now keys.now steps machine.old).session.console.screen) }
+    ensures refused { OnErr result (HasText (alone_by system.now keys.now steps machine.old)) }
+{
+    let mut pace = Pace::new(steps);
+    while pace.left > 0 {
+        press_due(machine, keys, &mut pace);
+        let granted = machine.grant(system, pace.turn(keys, QUANTUM));
+        pace.advance(granted.executed);
+        move_text(machine, out)?;
+        drop_list(machine);
+    }
+    Ok(())
+}

@@ -1,0 +1,87 @@
+//! One turn of a player: its keys that are due, its steps, and what it shows.
+
+ghost use Rattle.std.specs.Prelude.{◌≡◌, ℕ, ◌≤◌, ◌<◌, OnOk};
+ghost use Rattle.cpm_slots.specs.MachineState.{MachineState};
+ghost use Rattle.cpm_turns.specs.Players.{IsPlaying, IsRead, IsResting, Moves, steps_of};
+
+use crate::player::Player;
+use cpm_sessions::Host;
+use std::alloc::AllocError;
+
+/// How many bytes are taken at once.
+const CHUNK: usize = 8192;
+
+/// Presses the keys that are due.
+fn press_due(host: &mut Host, player: &mut Player)
+    ensures playing { (steps : ℕ) (start : MachineState) → IsResting steps start player.old host.old → IsResting steps start player.new host.new }
+    ensures moves { Moves player.old player.new host.old host.new }
+    ensures left { steps_of player.new ≡ steps_of player.old }
+{
+    while let Some(key) = player.pace.due(&player.keys) {
+        // 4,096 keys at most were given, so that it is not refused.
+        let _ = host.key(player.id, key);
+        player.pace.pressed += 1;
+    }
+}
+
+/// Takes all console bytes.
+fn take_console(host: &mut Host, player: &mut Player) -> Result<(), AllocError>
+    ensures playing { OnOk result ((steps : ℕ) (start : MachineState) → IsPlaying steps start player.old host.old → IsRead steps start player.new host.new) }
+    ensures moves { OnOk result (Moves player.old player.new host.old host.new) }
+    ensures left { steps_of player.new ≡ steps_of player.old }
+{
+    let mut chunk = [0u8; CHUNK];
+    while let Ok(count) = host.take(player.id, &mut chunk) {
+        if count == 0 {
+            break;
+        }
+        player.console.extend_from_slice(&chunk[..count])?;
+    }
+    Ok(())
+}
+
+/// Takes all list bytes.
+fn take_list(host: &mut Host, player: &mut Player) -> Result<(), AllocError>
+    ensures playing { OnOk result ((steps : ℕ) (start : MachineState) → IsRead steps start player.old host.old → IsResting steps start player.new host.new) }
+    ensures moves { OnOk result (Moves player.old player.new host.old host.new) }
+    ensures left { steps_of player.new ≡ steps_of player.old }
+{
+    let mut chunk = [0u8; CHUNK];
+    while let Ok(count) = host.take_list(player.id, &mut chunk) {
+        if count == 0 {
+            break;
+        }
+        player.list.extend_from_slice(&chunk[..count])?;
+    }
+    Ok(())
+}
+
+/// Executes the steps of a turn: at most `quantum`, and none past the next key.
+fn execute(host: &mut Host, player: &mut Player, quantum: u64)
+    ensures playing { (steps : ℕ) (start : MachineState) → IsResting steps start player.old host.old → IsPlaying steps start player.new host.new }
+    ensures moves { Moves player.old player.new host.old host.new }
+    ensures left { 0 < steps_of player.old → steps_of player.new < steps_of player.old }
+{
+    press_due(host, player);
+    let most = player.pace.turn(&player.keys, quantum);
+    let executed = match host.grant(player.id, most) {
+        Ok(granted) => granted.executed,
+        Err(_) => 0,
+    };
+    player.pace.advance(executed);
+}
+
+/// Gives a player a turn of at most `quantum` steps, which ends at the count of its next key, and takes what it shows.
+pub(crate) fn turn(host: &mut Host, player: &mut Player, quantum: u64) -> Result<(), AllocError>
+    requires { 1 ≤ quantum }
+    ensures playing { OnOk result ((steps : ℕ) (start : MachineState) → IsResting steps start player.old host.old → IsResting steps start player.new host.new) }
+    ensures moves { OnOk result (Moves player.old player.new host.old host.new) }
+    ensures left { OnOk result (0 < steps_of player.old → steps_of player.new < steps_of player.old) }
+{
+    if player.pace.left == 0 {
+        return Ok(());
+    }
+    execute(host, player, quantum);
+    take_console(host, player)?;
+    take_list(host, player)
+}
