@@ -7,7 +7,7 @@ use Rattle.std.specs.declared.alloc.Global.{Global}
 use Rattle.cpm_config.specs.declared.config.Session.{Session}
 use Rattle.cpm_geom.specs.Disk.{Disk}
 use Rattle.cpm_script.specs.declared.script.Key.{Key}
-use Rattle.cpm_store.specs.Files.{Files}
+use Rattle.cpm_store.specs.Files.{Files, Text}
 use Rattle.cpm_batch.specs.declared.error.ReadError.{ReadError}
 use Rattle.cpm_batch.specs.declared.error.ReadError.TheVariants.{OutOfMemory}
 use Rattle.cpm_batch.specs.declared.input.Input.{Input}
@@ -77,11 +77,12 @@ name_refused files names i name ds e within is done h =
     (refused_behind files (image_needs (take i names)) (image_needs (name ∷ drop (suc i) names)) e (images_met files (take i names) ds done)
     (refused_front files (ImageIn (string_bytes name) ∷ []) (image_needs (drop (suc i) names)) e h))
 
-pub name_read : (files : Option Files) (names : List (String Global)) (i : ℕ) (name : String Global) (ds : List Disk) (d : Disk) → i < length names → name ≡ get_or names i name
-    → AllImages files (take i names) ds → IsImageIn files (string_bytes name) d → AllImages files (take (i + 1) names) (ds ++ d ∷ [])
-name_read files names i name ds d within is done h =
+pub name_read : (files : Option Files) (names : List (String Global)) (i : ℕ) (name : String Global) (ds all : List Disk) (d : Disk) → i < length names → name ≡ get_or names i name
+    → all ≡ ds ++ d ∷ [] → AllImages files (take i names) ds → IsImageIn files (string_bytes name) d → AllImages files (take (i + 1) names) all
+name_read files names i name ds all d within is pushed done h =
     let more : take (i + 1) names ≡ take i names ++ name ∷ [] = take_more names i name within ∙ ap (λ x. take i names ++ x ∷ []) (sym is) in
-    subst (λ (ns : List (String Global)). AllImages files ns (ds ++ d ∷ [])) (sym more) (images_push files (take i names) ds name d done h)
+    subst (λ (xs : List Disk). AllImages files (take (i + 1) names) xs) (sym pushed)
+    (subst (λ (ns : List (String Global)). AllImages files ns (ds ++ d ∷ [])) (sym more) (images_push files (take i names) ds name d done h))
 
 -- the sessions that were read are those in turn
 needs_append : (ss ts : List Session) → needs_of_all (ss ++ ts) ≡ needs_of_all ss ++ needs_of_all ts
@@ -102,11 +103,26 @@ inputs_push : (files : Option Files) (is : List SessionInput) (x : SessionInput)
 inputs_push files [] x h g = (g, tt)
 inputs_push files (i ∷ is) x h g = (h.0, inputs_push files is x h.1 g)
 
-pub inputs_more : (files : Option Files) (is : List Input) (x : Input) → AllInputs files (map given is) → HasInput files (given x) → AllInputs files (map given (is ++ x ∷ []))
-inputs_more files is x h g = subst (λ (ys : List SessionInput). AllInputs files ys) (sym (map-append given is (x ∷ []))) (inputs_push files (map given is) (given x) h g)
+pub inputs_more : (files : Option Files) (is all : List Input) (x : Input) → all ≡ is ++ x ∷ [] → AllInputs files (map given is) → HasInput files (given x) → AllInputs files (map given all)
+inputs_more files is all x pushed h g =
+    subst (λ (ys : List SessionInput). AllInputs files ys) (sym (ap (map given) pushed ∙ map-append given is (x ∷ []))) (inputs_push files (map given is) (given x) h g)
 
-pub sessions_more : (is : List Input) (x : Input) (sessions : List Session) (i : ℕ) (s : Session) → i < length sessions → s ≡ get_or sessions i s
-    → map (λ y. y.session) (map given is) ≡ take i sessions → x.session.now ≡ s → map (λ y. y.session) (map given (is ++ x ∷ [])) ≡ take (i + 1) sessions
-sessions_more is x sessions i s within at same one =
-    ap (map (λ y. y.session)) (map-append given is (x ∷ [])) ∙ map-append (λ y. y.session) (map given is) (given x ∷ [])
+pub sessions_more : (is all : List Input) (x : Input) (sessions : List Session) (i : ℕ) (s : Session) → i < length sessions → s ≡ get_or sessions i s
+    → all ≡ is ++ x ∷ [] → map (λ y. y.session) (map given is) ≡ take i sessions → x.session.now ≡ s → map (λ y. y.session) (map given all) ≡ take (i + 1) sessions
+sessions_more is all x sessions i s within at pushed same one =
+    ap (λ (ys : List Input). map (λ y. y.session) (map given ys)) pushed ∙ ap (map (λ y. y.session)) (map-append given is (x ∷ [])) ∙ map-append (λ y. y.session) (map given is) (given x ∷ [])
     ∙ ap (λ ss. ss ++ x.session.now ∷ []) same ∙ ap (λ y. take i sessions ++ y ∷ []) (one ∙ at) ∙ sym (take_more sessions i s within)
+
+-- ---- the same of the store as it was, and of the text of a name
+
+pub image_refusal_as : (files now : Option Files) (name text : Text) (e : ReadError) → now ≡ files → text ≡ name → IsReadRefusal now (ImageIn text ∷ []) e → IsReadRefusal files (ImageIn name ∷ []) e
+image_refusal_as files now name text e same is h = subst (λ (f : Option Files). IsReadRefusal f (ImageIn name ∷ []) e) same (subst (λ (t : Text). IsReadRefusal now (ImageIn t ∷ []) e) is h)
+
+pub image_as : (files now : Option Files) (name text : Text) (d : Disk) → now ≡ files → text ≡ name → IsImageIn now text d → IsImageIn files name d
+image_as files now name text d same is h = subst (λ (f : Option Files). IsImageIn f name d) same (subst (λ (t : Text). IsImageIn now t d) is h)
+
+pub refusal_as : (files now : Option Files) (ns ms : List Need) (e : ReadError) → now ≡ files → ms ≡ ns → IsReadRefusal now ms e → IsReadRefusal files ns e
+refusal_as files now ns ms e same is h = subst (λ (f : Option Files). IsReadRefusal f ns e) same (subst (λ (xs : List Need). IsReadRefusal now xs e) is h)
+
+pub input_as : (files now : Option Files) (i : SessionInput) → now ≡ files → HasInput now i → HasInput files i
+input_as files now i same h = subst (λ (f : Option Files). HasInput f i) same h

@@ -1,7 +1,6 @@
 //! What is written after the sessions of a configuration were run, in their order.
-ghost use Rattle.std.specs.Prelude.{◌≡◌, ◌++◌, None, IfOk, OnOk, map, option_map, slice_get, slice_index_or, string_bytes};
-ghost use Rattle.std.specs.Vec.Iter.{into_iter_items};
-ghost use Rattle.cpm_batch.specs.Outputs.{files_of, files_of_all, image_at, images_of, left_by, named_bytes, named_image};
+ghost use Rattle.std.specs.Prelude.{◌≡◌, ◌<◌, ◌++◌, ℕ, None, IfOk, OnOk, map, option_map, slice_get, slice_index_or, string_bytes};
+ghost use Rattle.cpm_batch.specs.Outputs.{files_of, files_of_all, images_of, left_by, named_bytes, named_image};
 ghost use Rattle.cpm_store.specs.Writes.{named};
 
 use cpm_config::Session;
@@ -61,20 +60,29 @@ fn name_at<'a>(names: &'a [String], place: usize) -> Option<&'a str>
     }
 }
 
+/// Takes the drive at a place, if there is one.
+fn take_drive(drives: &mut [Option<Image>; 4], place: usize) -> Option<Image>
+    requires { place < 4 }
+    ensures drive { result ≡ slice_index_or drives.old place None }
+    ensures rest { (other : ℕ) → place < other → slice_index_or drives.new other None ≡ slice_index_or drives.old other None }
+{
+    drives[place].take()
+}
+
 /// Adds the images of drives, as far as files are named for them.
-#[tactic(auto, unfolding(crate::specs::Outputs::images_of, crate::specs::Outputs::image_at))]
 fn add_images<'a>(
     outputs: &mut Vec<Output<'a>>,
     names: &'a [String],
     mut drives: [Option<Image>; 4],
 ) -> Result<(), AllocError>
     ensures { OnOk result (map named outputs.new.items
-        ≡ map named outputs.old.items ++ images_of names.entry.now drives.entry) }
+        ≡ map named outputs.old.items ++ images_of names.entry.now drives) }
 {
-    add_image(outputs, name_at(names, 0), drives[0].take())?;
-    add_image(outputs, name_at(names, 1), drives[1].take())?;
-    add_image(outputs, name_at(names, 2), drives[2].take())?;
-    add_image(outputs, name_at(names, 3), drives[3].take())
+    add_image(outputs, name_at(names, 0), take_drive(&mut drives, 0))?;
+    add_image(outputs, name_at(names, 1), take_drive(&mut drives, 1))?;
+    add_image(outputs, name_at(names, 2), take_drive(&mut drives, 2))?;
+    add_image(outputs, name_at(names, 3), take_drive(&mut drives, 3))?;
+    Ok(())
 }
 
 /// Adds the files of a session.
