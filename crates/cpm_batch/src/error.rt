@@ -11,7 +11,7 @@ use thiserror::Error;
 #[derive(Clone, Copy, Debug, PartialEq, Eq, Drop, Error)]
 pub enum ReadError {
     /// A file can't be read.
-    #[error("can't read '{0}'")]
+    #[error("can't read '{0}': no file of at most 16777216 bytes can be read there")]
     File(Word),
     /// A file is no image, by its length.
     #[error("'{name}' has {length} bytes, and the image of a drive has 256256")]

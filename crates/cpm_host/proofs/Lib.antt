@@ -1,3 +1,3 @@
 pub mod InputLemmas
 pub mod ListLemmas
-pub mod TurnLemmas
+pub mod PlayLemmas

@@ -71,7 +71,7 @@ fn ending(
     steps: u64,
     out: &mut Recorder,
 ) -> Ending {
-    match run_com(rt.alloc(), Cpu::I8080, copied(rt, program), steps, out) {
+    match run_com(rt.alloc(), Cpu::I8080, copied(rt, program), None, steps, out) {
         Ok(ending) => ending,
         Err(error) => panic!(rt; "refused: {error}"),
     }
@@ -79,7 +79,7 @@ fn ending(
 
 /// Why a program is refused.
 fn refusal(rt: &(impl Abort + AllocGlobal), program: &[u8], out: &mut Recorder) -> HostError {
-    match run_com(rt.alloc(), Cpu::I8080, copied(rt, program), 1_000_000, out) {
+    match run_com(rt.alloc(), Cpu::I8080, copied(rt, program), None, 1_000_000, out) {
         Ok(ending) => panic!(rt; "taken: {ending}"),
         Err(error) => error,
     }

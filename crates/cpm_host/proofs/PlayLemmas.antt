@@ -1,0 +1,1 @@
+-- Sessions of a configuration in the slots of a host.
