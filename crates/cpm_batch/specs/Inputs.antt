@@ -129,6 +129,13 @@ IsFirstFault files (need ∷ needs) e = IsFault files need e ⊎ (IsMet files ne
 abbrev pub IsReadRefusal : Option Files → List Need → ReadError → Type 0
 IsReadRefusal files needs e = (e ≡ OutOfMemory) ⊎ IsFirstFault files needs e
 
+-- the exit status of each
+abbrev pub status_of_reading : ReadError → ℕ
+status_of_reading (Script name line fault) = 3
+status_of_reading (File name) = 4
+status_of_reading (Image name count) = 6
+status_of_reading OutOfMemory = 8
+
 -- the file couldn't be read
 abbrev pub IsFileFault : ReadError → Type 0
 IsFileFault (File name) = ⊤

@@ -1,5 +1,6 @@
 //! Why reading is given up.
 ghost use Rattle.std.specs.Prelude.{◌≡◌};
+ghost use Rattle.cpm_batch.specs.Inputs.{status_of_reading};
 ghost use Rattle.cpm_batch.specs.declared.error.ReadError.TheVariants.{OutOfMemory};
 
 use cpm_command::Word;
@@ -26,6 +27,20 @@ pub enum ReadError {
     /// Memory was refused.
     #[error("out of memory")]
     OutOfMemory,
+}
+
+impl ReadError {
+    /// The exit status that a program gives for it.
+    pub fn status(self) -> u8
+        ensures { result ≡ status_of_reading self }
+    {
+        match self {
+            ReadError::Script { .. } => 3,
+            ReadError::File(_) => 4,
+            ReadError::Image { .. } => 6,
+            ReadError::OutOfMemory => 8,
+        }
+    }
 }
 
 impl From<AllocError> for ReadError {

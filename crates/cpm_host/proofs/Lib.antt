@@ -1,3 +1,5 @@
+pub mod FinishLemmas
 pub mod InputLemmas
 pub mod ListLemmas
 pub mod PlayLemmas
+pub mod ScriptLemmas

@@ -4,19 +4,13 @@ use Rattle.cpm_command.specs.declared.fault.UsageError.{UsageError}
 use Rattle.cpm_command.specs.declared.fault.UsageError.TheVariants as usage
 use Rattle.cpm_host.specs.declared.error.HostError.{HostError}
 use Rattle.cpm_host.specs.declared.error.HostError.TheVariants.{Usage, NotText, ConfigRefused, FileRefused, FileUnreadable, FileUnwritable, OutputUnwritable, SessionRefused, SourceRefused, OutOfMemory, OpeningRefused, ProgramTooLong, WriteFault}
+use Rattle.cpm_batch.specs.Inputs.{status_of_reading}
 use Rattle.cpm_batch.specs.declared.error.ReadError.{ReadError}
 use Rattle.cpm_batch.specs.declared.error.ReadError.TheVariants as read
 use Rattle.cpm_config.specs.declared.fault.ConfigError.{ConfigError}
 use Rattle.cpm_config.specs.declared.fault.ConfigError.TheVariants as config
 use Rattle.cpm_slots.specs.declared.opening.OpenError.{OpenError}
 use Rattle.cpm_slots.specs.declared.opening.OpenError.TheVariants as opening
-
--- the number of the code of a file of a run that is refused
-abbrev pub status_of_reading : ReadError → ℕ
-status_of_reading (read.Script name line fault) = 3
-status_of_reading (read.File name) = 4
-status_of_reading (read.Image name count) = 6
-status_of_reading read.OutOfMemory = 8
 
 -- the number of the code that the text begins with
 abbrev pub status_of : HostError → ℕ

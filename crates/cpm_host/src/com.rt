@@ -12,7 +12,6 @@ use cpm_flags::Cpu;
 use cpm_geom::{Format, Image};
 use cpm_script::{Key, ScriptError, read_keys};
 use cpm_slots::{MOST_PROGRAM, MOST_QUOTA, Machine, Opening};
-use cpm_turns::laws::scripts_are_in_order;
 use cpm_turns::play_machine;
 use std::alloc::Global;
 use std::io::Write;
@@ -81,7 +80,6 @@ pub fn run_com<W: Write>(
         return Err(HostError::ProgramTooLong(program.len()));
     }
     let keys = keys_of(alloc, script)?;
-    scripts_are_in_order();
     let opening = Opening {
         cpu,
         quota: MOST_QUOTA,

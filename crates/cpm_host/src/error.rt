@@ -1,7 +1,7 @@
 //! Why a command is refused.
 ghost use Rattle.std.specs.Prelude.{◌≡◌};
 ghost use Rattle.cpm_host.specs.declared.error.HostError.TheVariants.{OutOfMemory};
-ghost use Rattle.cpm_host.specs.Refusals.{status_of, status_of_reading, host_error_of, host_error_of_config, host_error_of_opening, host_error_of_reading};
+ghost use Rattle.cpm_host.specs.Refusals.{status_of, host_error_of, host_error_of_config, host_error_of_opening, host_error_of_reading};
 
 use cpm_asm::AsmErrorKind;
 use cpm_batch::ReadError;
@@ -25,7 +25,7 @@ pub enum HostError {
     #[error("HO2 {0}")]
     ConfigRefused(ConfigError),
     /// A file of a run is refused: HO3 a key script, HO4 what can't be read, HO6 an image.
-    #[error("HO{number} {0}", number = status_of_reading(.0))]
+    #[error("HO{number} {0}", number = .0.status())]
     FileRefused(ReadError),
     /// A file can't be read.
     #[error("HO4 can't read '{name}': {reason}")]
@@ -66,18 +66,6 @@ pub enum HostError {
     ProgramTooLong(usize),
 }
 
-/// The number of the code of a file of a run that is refused.
-fn status_of_reading(error: &ReadError) -> u8
-    ensures { result ≡ status_of_reading error.now }
-{
-    match error {
-        ReadError::Script { .. } => 3,
-        ReadError::File(_) => 4,
-        ReadError::Image { .. } => 6,
-        ReadError::OutOfMemory => 8,
-    }
-}
-
 impl HostError {
     /// The exit status: the number of the code.
     pub fn status(&self) -> u8
@@ -86,7 +74,7 @@ impl HostError {
         match self {
             HostError::Usage(_) | HostError::NotText => 1,
             HostError::ConfigRefused(_) => 2,
-            HostError::FileRefused(error) => status_of_reading(error),
+            HostError::FileRefused(error) => error.status(),
             HostError::FileUnreadable { .. } => 4,
             HostError::OutputUnwritable(_)
             | HostError::FileUnwritable { .. }

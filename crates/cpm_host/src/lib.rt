@@ -27,4 +27,6 @@ pub use report::{Report, SessionReport};
 pub use run::run_host;
 
 #[cfg(test)]
+mod run_tests;
+#[cfg(test)]
 mod tests;

@@ -12,7 +12,6 @@ use cpm_command::shown;
 use cpm_config::{Config, ConfigError, Field, Place};
 use cpm_sessions::{LEAST_FRAMES, MOST_FRAMES};
 use cpm_store::{Output, Store, StoreError, write_all};
-use cpm_turns::laws::scripts_are_in_order;
 use std::alloc::Global;
 
 /// A number of the configuration with which nothing can be run.
@@ -68,7 +67,6 @@ pub fn run_host<S: Store>(
         })));
     }
     let inputs = read_inputs(alloc, config, store)?;
-    scripts_are_in_order();
     let Played { reports, files } = play_all(alloc, config, inputs)?;
     let outputs = outputs_of(alloc, files)?;
     write_files(outputs.as_slice(), store)?;
