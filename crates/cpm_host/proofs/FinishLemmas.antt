@@ -86,8 +86,8 @@ ended_kept system p old new (i ∷ is) (q ∷ ps) others apart all =
 pub record IsFinishedTo (system : Disk) (is : List SessionInput) (k : ℕ) (now : List Slot) (rest : List Player) (reports : List SessionReport) (files : List SessionFiles) : Type 0 where
   pub differ : AllDiffer rest
   pub ended : AllEnded system now (drop k is) rest
-  pub reports : map report_view reports ≡ reports_of system (take k is)
-  pub files : map left_by files ≡ files_left system (take k is)
+  pub rows : map report_view reports ≡ reports_of system (take k is)
+  pub outputs : map left_by files ≡ files_left system (take k is)
 
 abbrev pub IsFinishing : List Session → ℕ → List Slot → List Slot → List Player → List Player → List SessionReport → List SessionFiles → Type 0
 IsFinishing sessions k start now players rest reports files = (system : Disk) (is : List SessionInput) → map (λ i. i.session) is ≡ sessions → AllEnded system start is players
@@ -98,7 +98,7 @@ abbrev pub Closing : Host → Host → List Player → Option (Player × Closed)
 Closing old new rest r left = (p : Player) (ps : List Player) (s : MachineState) → rest ≡ p ∷ ps → slot_at p.id.0 old.slots ≡ Some s → IsClosed p ps s old new r left
 
 pub finishing_none : (sessions : List Session) (start : List Slot) (players : List Player) → AllDiffer players → IsFinishing sessions 0 start start players players [] []
-finishing_none sessions start players differ = λ system is same all. record { differ = differ; ended = all; reports = refl; files = refl }
+finishing_none sessions start players differ = λ system is same all. record { differ = differ; ended = all; rows = refl; outputs = refl }
 
 module _ (sessions : List Session) (k : ℕ) (s : Session) (start : List Slot) (old new : Host) (players : List Player) (r : Option (Player × Closed)) (left : List Player) (below : k < length sessions) (at : s ≡ get_or sessions k s) where
   finish_one : (q : Player) (closed : Closed) (rest : List Player) (reports : List SessionReport) (files : List SessionFiles) (report : SessionReport) (file : SessionFiles) (system : Disk) (is : List SessionInput)
@@ -123,9 +123,9 @@ module _ (sessions : List Session) (k : ℕ) (s : Session) (start : List Slot) (
           record {
             differ = subst (λ (xs : List Player). AllDiffer xs) (sym c.left) differ.1;
             ended = subst (λ (xs : List Player). AllEnded system new.slots (drop (k + 1) is) xs) (sym c.left) (ended_kept system p old.slots new.slots (drop (k + 1) is) ps c.others differ.0 all.1);
-            reports = map-append report_view reports (report ∷ []) ∙ ap (λ xs. xs ++ report_view report ∷ []) h.reports ∙ ap (λ x. reports_of system (take k is) ++ x ∷ []) row
+            rows = map-append report_view reports (report ∷ []) ∙ ap (λ xs. xs ++ report_view report ∷ []) h.rows ∙ ap (λ x. reports_of system (take k is) ++ x ∷ []) row
                 ∙ sym (map-append (λ i. reported_of i.session (run_of system i)) (take k is) (a.input ∷ [])) ∙ ap (reports_of system) (sym a.more);
-            files = map-append left_by files (file ∷ []) ∙ ap (λ xs. xs ++ left_by file ∷ []) h.files ∙ ap (λ x. files_left system (take k is) ++ x ∷ []) out
+            outputs = map-append left_by files (file ∷ []) ∙ ap (λ xs. xs ++ left_by file ∷ []) h.outputs ∙ ap (λ x. files_left system (take k is) ++ x ∷ []) out
                 ∙ sym (map-append (λ i. left_of i.session (run_of system i)) (take k is) (a.input ∷ [])) ∙ ap (files_left system) (sym a.more);
           }
 
@@ -158,4 +158,4 @@ finished sessions k start now players rest reports files all h = λ system is sa
     let f = h system is same ended in
     let long : length is ≤ k = let m = length-map is (λ i. i.session) in let e = ap length same in omega (arith, all, m, e) in
     let whole : take k is ≡ is = take_all k is long in
-    (f.reports ∙ ap (reports_of system) whole, f.files ∙ ap (files_left system) whole)
+    (f.rows ∙ ap (reports_of system) whole, f.outputs ∙ ap (files_left system) whole)

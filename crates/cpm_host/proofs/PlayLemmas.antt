@@ -16,7 +16,9 @@ use Rattle.cpm_slots.specs.declared.opening.Opening.{Opening}
 use Rattle.cpm_turns.specs.Players.{AllDiffer, AllPlayed, AllReady, HasPlayed, IsNoPlayer, IsReady, keys_of, steps_of}
 use Rattle.cpm_turns.specs.Playing.{IsInOrder, IsPlayed}
 use Rattle.cpm_turns.specs.declared.player.Player.{Player}
-use Rattle.cpm_host.specs.Playing.{AllEnded, AllSeated, ArePressable, HasEnded, IsSeated, TakesSeat}
+use Rattle.cpm_host.specs.Playing.{AllEnded, AllSeated, ArePressable, HasEnded, IsSeatRefusal, IsSeated, TakesSeat}
+use Rattle.cpm_host.specs.declared.error.HostError.{HostError}
+use Rattle.cpm_host.specs.declared.error.HostError.TheVariants as refusal
 use Rattle.cpm_host.specs.Run.{IsFirstRefused, IsOpening, start_of}
 
 -- ---- seats
@@ -158,3 +160,15 @@ differ_kept system before now [] (q ∷ qs) h all = absurd h
 differ_kept system before now (p ∷ ps) [] h all = absurd h
 differ_kept system before now (p ∷ ps) (q ∷ qs) h all =
     (subst (λ (id : ℕ). IsNoPlayer id qs) (ap (λ x. x.0) (sym h.0.id)) (ids_kept system before now p.id.0 ps qs h.1 all.0), differ_kept system before now ps qs h.1 all.1)
+
+-- ---- refusals
+
+first_refused_more : (h : Host) (i : SessionInput) (rest : List SessionInput) (fault : OpenError) → IsFirstRefused h (i ∷ []) fault → IsFirstRefused h (i ∷ rest) fault
+first_refused_more h i rest fault f = (f.0, f.1, ⊎_elim (λ r. inl r) (λ r. absurd r.1) f.2)
+
+-- a seat that is refused
+pub seat_refused : (start now : Host) (all rest : List SessionInput) (i : SessionInput) (ps : List Player) (e : HostError) → IsOpened start now all (i ∷ rest) ps → IsSeatRefusal now (i ∷ []) e
+    → IsSeatRefusal start all e
+seat_refused start now all rest i ps (refusal.SessionRefused name fault) h r = h.refused fault (first_refused_more now i rest fault r)
+seat_refused start now all rest i ps refusal.OutOfMemory h r = tt
+seat_refused start now all rest i ps _ h r = absurd r

@@ -50,6 +50,10 @@ order_more n count (k ∷ j ∷ ks) bytes h from e =
         let rest = last_after j l ks count order.1 (sym (after_rest j l ks count) ∙ is) in
         omega (arith, order.0)
 
+count_keys : (n : ℕ) (bytes : List ℕ) → length (keys_at n bytes) ≡ length bytes
+count_keys n [] = refl
+count_keys n (b ∷ bytes) = ap suc (count_keys n bytes)
+
 -- ---- line by line
 
 with_keys_good : (keys : List Key) (count : ℕ) (bytes : List ℕ) (more : List Key) → IsGood keys → is_after keys count ≡ true → with_keys keys count bytes ≡ Ok more → IsGood more
@@ -62,14 +66,9 @@ with_keys_good keys count (b ∷ bytes) more good after is = go (nat_le (length 
     go true e h =
         let same : keys ++ keys_at count (b ∷ bytes) ≡ more = cc in
         let within : length keys + length (b ∷ bytes) ≤ 4096 = grind (arith, nat_tests, e) in
-        subst IsGood same (record { order = order_more 0 count keys (b ∷ bytes) good.order (omega arith) after; few = few within })
-
-    few : length keys + length (b ∷ bytes) ≤ 4096 → length (keys ++ keys_at count (b ∷ bytes)) ≤ 4096
-    few h = rw (length-append keys (keys_at count (b ∷ bytes)), count_keys count (b ∷ bytes)) h
-      where
-        count_keys : (n : ℕ) (bs : List ℕ) → length (keys_at n bs) ≡ length bs
-        count_keys n [] = refl
-        count_keys n (x ∷ bs) = ap suc (count_keys n bs)
+        let all = length-append keys (keys_at count (b ∷ bytes)) in
+        let new = count_keys count (b ∷ bytes) in
+        subst IsGood same (record { order = order_more 0 count keys (b ∷ bytes) good.order (omega arith) after; few = omega (arith, all, new, within) })
 
 with_text_good : (keys : List Key) (count : ℕ) (text : Option (List ℕ)) (more : List Key) → IsGood keys → is_after keys count ≡ true
     → or_fault NotAKey text (with_keys keys count) ≡ Ok more → IsGood more

@@ -17,7 +17,7 @@ use Rattle.cpm_turns.specs.declared.player.Player.{Player}
 use Rattle.cpm_host.specs.Run.{IsFirstRefused, IsOpening, Reported, files_left, report_view, reports_of, start_of}
 use Rattle.cpm_host.specs.declared.report.SessionReport.{SessionReport}
 use Rattle.cpm_host.specs.declared.error.HostError.{HostError}
-use Rattle.cpm_host.specs.declared.error.HostError.TheVariants as host
+use Rattle.cpm_host.specs.declared.error.HostError.TheVariants as refusal
 
 -- the session's slot was opened, and the player is to play it
 pub record TakesSeat (i : SessionInput) (old new : Host) (p : Player) : Type 0 where
@@ -63,8 +63,8 @@ ArePressable (i ∷ is) = IsInOrder 0 i.keys × (length i.keys ≤ 4096) × AreP
 
 -- how opening sessions one after another is refused
 abbrev pub IsSeatRefusal : Host → List SessionInput → HostError → Type 0
-IsSeatRefusal h is (host.SessionRefused name fault) = IsFirstRefused h is fault
-IsSeatRefusal h is host.OutOfMemory = ⊤
+IsSeatRefusal h is (refusal.SessionRefused name fault) = IsFirstRefused h is fault
+IsSeatRefusal h is refusal.OutOfMemory = ⊤
 IsSeatRefusal h is _ = ⊥
 
 -- the first of the players, with what is left of its slot, which was closed

@@ -3,7 +3,7 @@ use Rattle.std.specs.Prelude.{⊤, ◌≡◌, ◌⊎◌, ℕ, ◌==◌, ◌&&◌
 use Rattle.cpm_batch.specs.Inputs.{AreInputs, IsReadRefusal, SessionInput, needs_of_config}
 use Rattle.cpm_batch.specs.Outputs.{SessionOutput, files_of_all}
 use Rattle.cpm_batch.specs.declared.error.ReadError.{ReadError}
-use Rattle.cpm_batch.specs.declared.error.ReadError.TheVariants as read
+use Rattle.cpm_batch.specs.declared.error.ReadError.TheVariants as reading
 use Rattle.cpm_config.specs.declared.config.Config.{Config}
 use Rattle.cpm_config.specs.declared.config.Session.{Session}
 use Rattle.cpm_config.specs.declared.fault.ConfigError.{ConfigError}
@@ -21,7 +21,7 @@ use Rattle.cpm_store.specs.Files.{Files, Text, Told}
 use Rattle.cpm_store.specs.Writes.{Named, StopsAt, WritesAll}
 use Rattle.cpm_turns.specs.Playing.{alone_by}
 use Rattle.cpm_host.specs.declared.error.HostError.{HostError}
-use Rattle.cpm_host.specs.declared.error.HostError.TheVariants as host
+use Rattle.cpm_host.specs.declared.error.HostError.TheVariants as refusal
 use Rattle.cpm_host.specs.declared.report.SessionReport.{SessionReport}
 
 -- ---- a session
@@ -117,21 +117,21 @@ pub record StopsWriting (config : Config) (old new : Option Files) : Type 0 wher
 
 -- how writing is refused
 abbrev pub IsWriteRefusal : List Named → Option Files → Option Files → HostError → Type 0
-IsWriteRefusal outputs old new (host.WriteFault name) = (place : ℕ) × Told old new (StopsAt outputs place)
-IsWriteRefusal outputs old new host.OutOfMemory = (place : ℕ) × Told old new (StopsAt outputs place)
+IsWriteRefusal outputs old new (refusal.WriteFault name) = (place : ℕ) × Told old new (StopsAt outputs place)
+IsWriteRefusal outputs old new refusal.OutOfMemory = (place : ℕ) × Told old new (StopsAt outputs place)
 IsWriteRefusal outputs old new _ = ⊥
 
 -- how a run is refused. But for want of memory and for a file that can't be written nothing was written
 abbrev pub IsRunRefusal : Config → Option Files → Option Files → HostError → Type 0
-IsRunRefusal config old new (host.ConfigRefused (Range place)) = (place.session ≡ 0) × (top_fault config ≡ Some place.field) × (new ≡ old)
-IsRunRefusal config old new (host.FileRefused e) = IsReadRefusal old (needs_of_config config) e × (new ≡ old)
-IsRunRefusal config old new (host.SessionRefused name fault) = IsOpenRefusal config fault old × (new ≡ old)
-IsRunRefusal config old new (host.WriteFault name) = StopsWriting config old new
-IsRunRefusal config old new host.OutOfMemory = (new ≡ old) ⊎ StopsWriting config old new
+IsRunRefusal config old new (refusal.ConfigRefused (Range place)) = (place.session ≡ 0) × (top_fault config ≡ Some place.field) × (new ≡ old)
+IsRunRefusal config old new (refusal.FileRefused e) = IsReadRefusal old (needs_of_config config) e × (new ≡ old)
+IsRunRefusal config old new (refusal.SessionRefused name fault) = IsOpenRefusal config fault old × (new ≡ old)
+IsRunRefusal config old new (refusal.WriteFault name) = StopsWriting config old new
+IsRunRefusal config old new refusal.OutOfMemory = (new ≡ old) ⊎ StopsWriting config old new
 IsRunRefusal config old new _ = ⊥
 
 -- a device failed
 abbrev pub IsDeviceFault : HostError → Type 0
-IsDeviceFault (host.FileRefused (read.File name)) = ⊤
-IsDeviceFault (host.WriteFault name) = ⊤
+IsDeviceFault (refusal.FileRefused (reading.File name)) = ⊤
+IsDeviceFault (refusal.WriteFault name) = ⊤
 IsDeviceFault _ = ⊥

@@ -97,16 +97,17 @@ fn finish<'a>(
 {
     let name = String::from_str(alloc, session.name.as_str())?;
     let Closed { look, drives } = closed;
+    let Player { console, list, .. } = player;
     let report = SessionReport {
         name,
         ended: look.ended,
         count: look.count,
-        bytes: player.console.len() as u64,
+        bytes: console.len() as u64,
     };
     let files = SessionFiles {
         session,
-        console: player.console,
-        list: player.list,
+        console,
+        list,
         drives,
     };
     Ok((report, files))
