@@ -8,17 +8,17 @@ use cpm_script::LineFault;
 use std::alloc::{AllocError, AllocFailed};
 use thiserror::Error;
 
-/// Why what the sessions of a configuration need can't be read.
+/// Why what the sessions of a configuration need can't be read. The text begins with the code, but for want of memory.
 #[derive(Clone, Copy, Debug, PartialEq, Eq, Drop, Error)]
 pub enum ReadError {
     /// A file can't be read.
-    #[error("can't read '{0}': no file of at most 16777216 bytes can be read there")]
+    #[error("HO4 can't read '{0}': no file of at most 16777216 bytes can be read there")]
     File(Word),
     /// A file is no image, by its length.
-    #[error("'{name}' has {length} bytes, and the image of a drive has 256256")]
+    #[error("HO6 '{name}' has {length} bytes, and the image of a drive has 256256")]
     Image { name: Word, length: usize },
     /// A line of a key script is wrong.
-    #[error("'{name}', line {line}: {fault}")]
+    #[error("HO3 '{name}', line {line}: {fault}")]
     Script {
         name: Word,
         line: u64,

@@ -1,7 +1,6 @@
 //! What is read for sessions, and what is written after them.
 
-use crate::{ReadError, SessionFiles, outputs_of, read_inputs};
-use cpm_command::shown;
+use crate::{SessionFiles, outputs_of, read_inputs};
 use cpm_config::Config;
 use cpm_geom::{Format, Image};
 use cpm_store::{MemoryStore, Store};
@@ -43,6 +42,22 @@ fn filled(rt: &(impl Abort + AllocGlobal)) -> MemoryStore {
     store
 }
 
+/// The text of a refusal, which has this status.
+fn refusal(
+    rt: &(impl Abort + AllocGlobal),
+    config: &Config,
+    store: &mut MemoryStore,
+    status: u8,
+) -> String {
+    match read_inputs(rt.alloc(), config, store) {
+        Ok(_) => panic!(rt; "read"),
+        Err(error) => {
+            assert_eq!(rt; error.status(), status);
+            error.to_string(rt.alloc()).expect(rt, "memory")
+        }
+    }
+}
+
 #[test]
 fn reads_drives_and_keys(rt: HostRuntime) {
     let config = config(&rt);
@@ -62,16 +77,11 @@ fn the_first_fault_is_answered(rt: HostRuntime) {
     let mut store = filled(&rt);
     assert_eq!(rt; store.write("b.img", b"short"), Ok(()));
     assert_eq!(rt; store.write("one.keys", b"x"), Ok(()));
-    let error = read_inputs(rt.alloc(), &config, &mut store).err();
-    let wanted = ReadError::Image {
-        name: shown("b.img"),
-        length: 5,
-    };
-    assert_eq!(rt; error, Some(wanted));
+    let wanted = "HO6 'b.img' has 5 bytes, and the image of a drive has 256256";
+    assert_eq!(rt; refusal(&rt, &config, &mut store, 6).as_str(), wanted);
     store.fail_call(2);
-    let error = read_inputs(rt.alloc(), &config, &mut store).err();
-    assert_eq!(rt; error, Some(ReadError::File(shown("a.img"))));
-    assert_eq!(rt; wanted.status(), 6);
+    let wanted = "HO4 can't read 'a.img': no file of at most 16777216 bytes can be read there";
+    assert_eq!(rt; refusal(&rt, &config, &mut store, 4).as_str(), wanted);
 }
 
 #[test]

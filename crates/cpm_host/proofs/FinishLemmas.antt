@@ -73,6 +73,15 @@ is_at (i ∷ is) (t ∷ ts) (suc k) s same below is =
       session = at.session;
     }
 
+-- the player and what is left of its slot
+who_of : Player → Option (Player × Closed) → Player
+who_of p None = p
+who_of p (Some x) = x.0
+
+what_of : Closed → Option (Player × Closed) → Closed
+what_of c None = c
+what_of c (Some x) = x.1
+
 -- the other slots stay as they were
 ended_kept : (system : Disk) (p : Player) (old new : List Slot) (is : List SessionInput) (ps : List Player) → ((id : ℕ) → id ≢ p.id.0 → slot_at id new ≡ slot_at id old) → IsNoPlayer p.id.0 ps
     → AllEnded system old is ps → AllEnded system new is ps
@@ -114,8 +123,8 @@ module _ (sessions : List Session) (k : ℕ) (s : Session) (start : List Slot) (
       go a (p ∷ ps) differ all close =
           let c = close p ps all.0.last refl all.0.stands in
           let pair : Some (q, closed) ≡ Some (p, c.closed) = sym got ∙ c.result in
-          let who : q ≡ p = cc in
-          let what : closed ≡ c.closed = cc in
+          let who : q ≡ p = ap (who_of q) pair in
+          let what : closed ≡ c.closed = ap (what_of closed) pair in
           let row : report_view report ≡ reported_of a.input.session (run_of system a.input) =
           one ∙ ap (λ (x : Player). report_by s x closed) who ∙ ap (λ (x : Closed). report_by s p x) what ∙ report_is system a.input s p c.closed all.0.last a.session c.look all.0.played in
           let out : left_by file ≡ left_of a.input.session (run_of system a.input) =

@@ -1,6 +1,7 @@
 -- The keys of a script are in order, and not too many.
 use Rattle.std.proofs.Common.{◌≡◌, ◌∙◌, ◌≤◌, ◌+◌, ◌-◌, ℕ, zero, suc, Bool, true, false, cond, List, [], ◌∷◌, ◌++◌, Option, Some, None, Result, Ok, Err, length, map, ap, subst, sym, refl, arith, length-append}
-use Rattle.std.specs.Prelude.{⊤, nat_le, slice_get, if◌then◌else◌}
+use Rattle.std.specs.declared.alloc.Global.{Global}
+use Rattle.std.specs.Prelude.{⊤, String, nat_le, slice_get, if◌then◌else◌}
 use Rattle.std.specs.Option.{option_map_or}
 use Rattle.std.proofs.lemmas.Bool.Decides.{nat_tests}
 use Rattle.cpm_batch.specs.Inputs.{AllInputs, HasInput, HasKeys, SessionInput}
@@ -36,7 +37,8 @@ after_rest k j ks count =
 order_more : (n count : ℕ) (keys : List Key) (bytes : List ℕ) → IsInOrder n keys → n ≤ count → is_after keys count ≡ true → IsInOrder n (keys ++ keys_at count bytes)
 order_more n count [] bytes h from e = at_count n count bytes from
 order_more n count (k ∷ []) bytes h from e =
-    let below : k.count ≤ count = grind (arith, nat_tests, e) in
+    let test : nat_le k.count count ≡ true = e in
+    let below : k.count ≤ count = grind (arith, nat_tests, test) in
     (h.0, at_count k.count count bytes below)
 order_more n count (k ∷ j ∷ ks) bytes h from e =
     let later : is_after (j ∷ ks) count ≡ true = sym (after_rest k j ks count) ∙ e in
@@ -44,7 +46,8 @@ order_more n count (k ∷ j ∷ ks) bytes h from e =
   where
     last_after : (k j : Key) (ks : List Key) (count : ℕ) → IsInOrder k.count (j ∷ ks) → is_after (j ∷ ks) count ≡ true → k.count ≤ count
     last_after k j [] count order is =
-        let below : j.count ≤ count = grind (arith, nat_tests, is) in
+        let test : nat_le j.count count ≡ true = is in
+        let below : j.count ≤ count = grind (arith, nat_tests, test) in
         omega (arith, order.0)
     last_after k j (l ∷ ks) count order is =
         let rest = last_after j l ks count order.1 (sym (after_rest j l ks count) ∙ is) in
@@ -61,7 +64,7 @@ with_keys_good keys count [] more good after is = absurd (let bad : ⊥ = cc in 
 with_keys_good keys count (b ∷ bytes) more good after is = go (nat_le (length keys + length (b ∷ bytes)) 4096) refl is
   where
     go : (fits : Bool) → nat_le (length keys + length (b ∷ bytes)) 4096 ≡ fits
-        → (if fits then Ok {E = LineFault} (keys ++ keys_at count (b ∷ bytes)) else Err TooManyKeys) ≡ Ok more → IsGood more
+        → (if fits then Ok (keys ++ keys_at count (b ∷ bytes)) else Err TooManyKeys) ≡ Ok more → IsGood more
     go false e h = absurd (let bad : ⊥ = cc in bad)
     go true e h =
         let same : keys ++ keys_at count (b ∷ bytes) ≡ more = cc in
@@ -111,7 +114,7 @@ keys_good text keys is = script_good 1 [] (lines text) keys (record { order = tt
 session_good : (files : Option Files) (i : SessionInput) → HasInput files i → IsGood i.keys
 session_good files i h = go i.session.keys h.keys
   where
-    go : (name : Option _) → HasKeys files name i.keys → IsGood i.keys
+    go : (name : Option (String Global)) → HasKeys files name i.keys → IsGood i.keys
     go None none = subst IsGood (sym none) (record { order = tt; few = omega arith })
     go (Some name) some = keys_good some.text i.keys some.read
 

@@ -25,7 +25,7 @@ pub enum HostError {
     #[error("HO2 {0}")]
     ConfigRefused(ConfigError),
     /// A file of a run is refused: HO3 a key script, HO4 what can't be read, HO6 an image.
-    #[error("HO{number} {0}", number = .0.status())]
+    #[error("{0}")]
     FileRefused(ReadError),
     /// A file can't be read.
     #[error("HO4 can't read '{name}': {reason}")]
