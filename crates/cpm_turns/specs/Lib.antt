@@ -1,3 +1,4 @@
 pub mod Playing
 pub mod Pacing
 pub mod Players
+pub mod Laws

@@ -12,7 +12,11 @@ use Rattle.cpm_turns.specs.Playing.{presses_of, IsInOrder, IsQuiet}
 
 -- before the first turn
 abbrev pub first_pace : ℕ → Pace
-first_pace steps = record { pressed = 0; done = 0; left = steps }
+first_pace steps = record { pressed = 0; done = 0; until = steps }
+
+-- the steps that it may still execute
+abbrev pub left_in : Pace → ℕ
+left_in pace = pace.until - pace.done
 
 -- a key that comes after no more steps than were executed
 abbrev pub due_at : ℕ → Option Key → Option ℕ
@@ -26,12 +30,13 @@ up_to (Some key) done n = min n (key.count - done)
 
 -- the next turn: at most a quantum, and none past the next key
 abbrev pub turn_of : Pace → List Key → ℕ → ℕ
-turn_of pace keys quantum = up_to (slice_get keys pace.pressed) pace.done (min pace.left quantum)
+turn_of pace keys quantum = up_to (slice_get keys pace.pressed) pace.done (min (left_in pace) quantum)
 
--- all steps that were to be executed were, or the session has ended
-abbrev pub IsOfAll : ℕ → Pace → MachineState → Type 0
-IsOfAll steps pace now =
-    (pace.done + pace.left ≡ steps) ⊎ ((pace.left ≡ 0) × (pace.done ≤ steps) × (is_running now.ended ≡ false))
+-- the session is to execute all steps, or has ended
+pub record IsOfAll (steps : ℕ) (pace : Pace) (now : MachineState) : Type 0 where
+  pub within : pace.done ≤ pace.until
+  pub most : pace.until ≤ steps
+  pub all : (pace.until ≡ steps) ⊎ (is_running now.ended ≡ false)
 
 -- The session went from a start so far: with the bytes that were taken put back in front, it is the machine run alone for the keys that were pressed and the steps that were executed. The other keys are still to come.
 pub record IsOn (system : Disk) (keys : List Key) (steps : ℕ) (start : MachineState) (pace : Pace) (console list : List ℕ) (now : MachineState) : Type 0 where
@@ -41,6 +46,18 @@ pub record IsOn (system : Disk) (keys : List Key) (steps : ℕ) (start : Machine
   pub within : pace.pressed ≤ length keys
   pub pending : length now.session.console.keys ≤ pace.pressed
   pub all : IsOfAll steps pace now
+
+-- a machine and its pace, after the keys that are due
+pub record IsPressed (keys : List Key) (old new : Pace) (now next : MachineState) : Type 0 where
+  pub on : (system : Disk) (steps : ℕ) (start : MachineState) (console list : List ℕ) → IsOn system keys steps start old console list now → IsOn system keys steps start new console list next
+  pub quiet : IsQuiet now → IsQuiet next
+
+-- the state with its console bytes taken, and with its list bytes taken
+abbrev pub without_text : MachineState → MachineState
+without_text s = record s { session = record s.session { console = record s.session.console { screen = [] } } }
+
+abbrev pub without_list : MachineState → MachineState
+without_list s = record s { session = record s.session { console = record s.session.console { printer = [] } } }
 
 -- the same of a machine, whose console bytes a writer got and whose list bytes were dropped
 pub record IsShown (system : Disk) (keys : List Key) (steps : ℕ) (start : MachineState) (pace : Pace) (now : MachineState) (before written : Option (List ℕ)) : Type 0 where

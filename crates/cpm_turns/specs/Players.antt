@@ -1,11 +1,12 @@
 -- Players of a host: sessions in its slots that are played in turns. All of it is own.
-use Rattle.std.specs.Prelude.{⊤, ◌≡◌, ◌≢◌, ℕ, ◌≤◌, ◌<◌, List, [], ◌∷◌, length, sum_by, Option, Some, None}
+use Rattle.std.specs.Prelude.{⊤, ◌≡◌, ◌≢◌, ℕ, ◌≤◌, ◌<◌, List, [], ◌∷◌, length, map, sum_by, Bool, nat_lt, Option, Some, None}
+use Rattle.std.specs.List.{list_any}
 use Rattle.cpm_geom.specs.Disk.{Disk}
 use Rattle.cpm_script.specs.declared.script.Key.{Key}
 use Rattle.cpm_sessions.specs.Host.{Host, Slot, slot_at}
 use Rattle.cpm_slots.specs.MachineState.{MachineState}
 use Rattle.cpm_turns.specs.declared.player.Player.{Player}
-use Rattle.cpm_turns.specs.Pacing.{IsOn}
+use Rattle.cpm_turns.specs.Pacing.{left_in, IsOn}
 use Rattle.cpm_turns.specs.Playing.{IsFresh, IsInOrder, IsPlayed, IsQuiet}
 
 -- the keys that a player was given
@@ -14,7 +15,7 @@ keys_of p = p.keys.items
 
 -- the steps that it is still to execute: those that it was given, before its first turn
 abbrev pub steps_of : Player → ℕ
-steps_of p = p.pace.left
+steps_of p = left_in p.pace
 
 -- it has had no turn
 pub record IsNew (p : Player) : Type 0 where
@@ -32,15 +33,26 @@ pub record IsReady (slots : List Slot) (p : Player) : Type 0 where
   pub opened : slot_at p.id.0 slots ≡ Some start
   pub fresh : IsFresh start
 
+-- the numbers of the players' slots
+abbrev pub ids_of : List Player → List ℕ
+ids_of ps = map (λ p. p.id.0) ps
+
+-- the number is none of these
+abbrev pub IsNone : ℕ → List ℕ → Type 0
+IsNone id [] = ⊤
+IsNone id (x ∷ xs) = (x ≢ id) × IsNone id xs
+
+abbrev pub AreDifferent : List ℕ → Type 0
+AreDifferent [] = ⊤
+AreDifferent (x ∷ xs) = IsNone x xs × AreDifferent xs
+
 -- none of the players plays the slot of that number
 abbrev pub IsNoPlayer : ℕ → List Player → Type 0
-IsNoPlayer id [] = ⊤
-IsNoPlayer id (p ∷ ps) = (p.id.0 ≢ id) × IsNoPlayer id ps
+IsNoPlayer id ps = IsNone id (ids_of ps)
 
 -- each has a slot of its own
 abbrev pub AllDiffer : List Player → Type 0
-AllDiffer [] = ⊤
-AllDiffer (p ∷ ps) = IsNoPlayer p.id.0 ps × AllDiffer ps
+AllDiffer ps = AreDifferent (ids_of ps)
 
 abbrev pub AllReady : List Slot → List Player → Type 0
 AllReady slots [] = ⊤
@@ -62,12 +74,12 @@ AllPlayed system before now (p ∷ ps) (q ∷ qs) = HasPlayed system before now 
 AllPlayed system before now [] (q ∷ qs) = ⊥
 AllPlayed system before now (p ∷ ps) [] = ⊥
 
--- nothing else of the host is changed
-pub record LeavesOthers (players : List Player) (old new : Host) : Type 0 where
+-- nothing of the host is changed but the slots of these numbers
+pub record LeavesOthers (ids : List ℕ) (old new : Host) : Type 0 where
   pub system : new.system ≡ old.system
   pub frames : new.frames ≡ old.frames
   pub openings : new.openings ≡ old.openings
-  pub others : (id : ℕ) → IsNoPlayer id players → slot_at id new.slots ≡ slot_at id old.slots
+  pub others : (id : ℕ) → IsNone id ids → slot_at id new.slots ≡ slot_at id old.slots
 
 -- ---- on the way
 
@@ -91,8 +103,26 @@ pub record IsResting (steps : ℕ) (start : MachineState) (p : Player) (h : Host
 pub record Moves (p q : Player) (old new : Host) : Type 0 where
   pub id : q.id ≡ p.id
   pub keys : keys_of q ≡ keys_of p
-  pub others : LeavesOthers (p ∷ []) old new
+  pub others : LeavesOthers (p.id.0 ∷ []) old new
 
 -- the steps that are left to all players
 abbrev pub left_of : List Player → ℕ
 left_of ps = sum_by steps_of ps
+
+-- one of them has steps left
+abbrev pub has_steps : List Player → Bool
+has_steps ps = list_any (λ p. nat_lt 0 (steps_of p)) ps
+
+-- a player `p` is now `q`: it has its slot and its keys, and rests between two turns
+pub record IsPair (before : List Slot) (h : Host) (p q : Player) : Type 0 where
+  pub id : q.id ≡ p.id
+  pub keys : keys_of q ≡ keys_of p
+  pub start : MachineState
+  pub opened : slot_at p.id.0 before ≡ Some start
+  pub resting : IsResting (steps_of p) start q h
+
+abbrev pub AllPairs : List Slot → Host → List Player → List Player → Type 0
+AllPairs before h [] [] = ⊤
+AllPairs before h (p ∷ ps) (q ∷ qs) = IsPair before h p q × AllPairs before h ps qs
+AllPairs before h [] (q ∷ qs) = ⊥
+AllPairs before h (p ∷ ps) [] = ⊥

@@ -27,6 +27,13 @@ pub record IsPlayed (system : Disk) (keys : List Key) (steps : ℕ) (start now :
   pub regs : now.session.regs ≡ (alone system (presses_of keys) steps start).session.regs
   pub disks : now.session.disks ≡ (alone system (presses_of keys) steps start).session.disks
 
+-- the end, count, registers and drives of another state
+pub record EndsAs (other now : MachineState) : Type 0 where
+  pub count : now.count ≡ other.count
+  pub ended : now.ended ≡ other.ended
+  pub regs : now.session.regs ≡ other.session.regs
+  pub disks : now.session.disks ≡ other.session.disks
+
 -- no key is pending, and no byte waits to be taken
 pub record IsFresh (s : MachineState) : Type 0 where
   pub keys : s.session.console.keys ≡ []

@@ -1,6 +1,7 @@
 //! Sessions that are played by their key scripts: many of a host in turns, or one machine.
 #![tactic(auto)]
 
+pub mod laws;
 mod machine;
 mod pace;
 mod player;

@@ -1,8 +1,9 @@
 //! One machine by itself.
 
-ghost use Rattle.std.specs.Prelude.{◌≡◌, ◌≤◌, OnOk, OnErr, length};
+ghost use Rattle.std.specs.Prelude.{◌≡◌, ◌≤◌, OnOk, OnErr, None, length, slice_get};
 ghost use Rattle.std.specs.Io.KnownBytes.{Appends};
-ghost use Rattle.cpm_turns.specs.Playing.{HasText, IsFresh, IsInOrder, alone_by};
+ghost use Rattle.cpm_turns.specs.Pacing.{IsPressed, due_at, without_list, without_text};
+ghost use Rattle.cpm_turns.specs.Playing.{EndsAs, HasText, IsFresh, IsInOrder, alone_by};
 
 use crate::pace::Pace;
 use cpm_geom::Image;
@@ -19,6 +20,11 @@ const CHUNK: usize = 8192;
 
 /// Presses the keys that are due.
 fn press_due(machine: &mut Machine, keys: &[Key], pace: &mut Pace)
+    requires { length keys.now ≤ 4096 }
+    ensures pressed { IsPressed keys.now pace.old pace.new machine.old machine.new }
+    ensures due { due_at pace.new.done (slice_get keys.now pace.new.pressed) ≡ None }
+    ensures done { pace.new.done ≡ pace.old.done }
+    ensures until { pace.new.until ≡ pace.old.until }
 {
     while let Some(key) = pace.due(keys) {
         // 4,096 keys at most were given, so that it is not refused.
@@ -29,6 +35,10 @@ fn press_due(machine: &mut Machine, keys: &[Key], pace: &mut Pace)
 
 /// Moves all console bytes to the writer.
 fn move_text<W: Write>(machine: &mut Machine, out: &mut W) -> io::Result<()>
+    ensures state { OnOk result (machine.new ≡ without_text machine.old) }
+    ensures text { OnOk result (Appends (W.contents out.old) (W.contents out.new)
+        machine.old.session.console.screen) }
+    ensures refused { OnErr result (HasText machine.old) }
 {
     let mut chunk = [0u8; CHUNK];
     loop {
@@ -43,6 +53,7 @@ fn move_text<W: Write>(machine: &mut Machine, out: &mut W) -> io::Result<()>
 
 /// Takes all list bytes and drops them.
 fn drop_list(machine: &mut Machine)
+    ensures { machine.new ≡ without_list machine.old }
 {
     let mut chunk = [0u8; CHUNK];
     while machine.take_list(&mut chunk) > 0 {}
@@ -63,10 +74,11 @@ pub fn play_machine<W: Write>(
     requires fresh { IsFresh machine.old }
     ensures text { OnOk result (Appends (W.contents out.old) (W.contents out.new)
         (alone_by system.now keys.now steps machine.old).session.console.screen) }
+    ensures ending { OnOk result (EndsAs (alone_by system.now keys.now steps machine.old) machine.new) }
     ensures refused { OnErr result (HasText (alone_by system.now keys.now steps machine.old)) }
 {
     let mut pace = Pace::new(steps);
-    while pace.left > 0 {
+    while pace.left() > 0 {
         press_due(machine, keys, &mut pace);
         let granted = machine.grant(system, pace.turn(keys, QUANTUM));
         pace.advance(granted.executed);

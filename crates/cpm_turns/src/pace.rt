@@ -1,7 +1,7 @@
 //! How far a session has been played.
 
-ghost use Rattle.std.specs.Prelude.{◌≡◌, ◌+◌, ◌-◌, ◌<◌, ◌≤◌, ◌^◌, ◌==◌, if◌then◌else◌, slice_get};
-ghost use Rattle.cpm_turns.specs.Pacing.{due_at, first_pace, turn_of};
+ghost use Rattle.std.specs.Prelude.{◌≡◌, ◌+◌, ◌-◌, ◌≤◌, ◌==◌, if◌then◌else◌, slice_get};
+ghost use Rattle.cpm_turns.specs.Pacing.{due_at, first_pace, left_in, turn_of};
 
 use cpm_script::Key;
 
@@ -12,9 +12,8 @@ pub struct Pace {
     pub(crate) pressed: usize,
     /// How many steps it has executed.
     pub(crate) done: u64,
-    /// How many steps it may still execute: none once it has ended.
-    pub(crate) left: u64,
-    ghost fits: { done + left < 2 ^ 64 },
+    /// How many steps it executes in all. Once it has ended it executes no more.
+    pub(crate) until: u64,
 }
 
 impl Pace {
@@ -25,8 +24,15 @@ impl Pace {
         Pace {
             pressed: 0,
             done: 0,
-            left: steps,
+            until: steps,
         }
+    }
+
+    /// How many steps it may still execute.
+    pub(crate) fn left(&self) -> u64
+        ensures { result ≡ left_in self.now }
+    {
+        self.until.saturating_sub(self.done)
     }
 
     /// The next key, if it is due.
@@ -43,7 +49,7 @@ impl Pace {
     pub(crate) fn turn(&self, keys: &[Key], quantum: u64) -> u64
         ensures { result ≡ turn_of self.now keys.now quantum }
     {
-        let most = self.left.min(quantum);
+        let most = self.left().min(quantum);
         match keys.get(self.pressed) {
             Some(key) => most.min(key.count.saturating_sub(self.done)),
             None => most,
@@ -52,15 +58,14 @@ impl Pace {
 
     /// Counts the steps of a turn. With none the session has ended.
     pub(crate) fn advance(&mut self, executed: u64)
-        requires { executed ≤ self.old.left }
+        requires { executed ≤ left_in self.old }
         ensures pressed { self.new.pressed ≡ self.old.pressed }
         ensures done { self.new.done ≡ self.old.done + executed }
-        ensures left { self.new.left ≡ (if executed == 0 then 0 else self.old.left - executed) }
+        ensures until { self.new.until ≡ (if executed == 0 then self.old.done else self.old.until) }
     {
         if executed == 0 {
-            self.left = 0;
+            self.until = self.done;
         } else {
-            self.left -= executed;
             self.done += executed;
         }
     }

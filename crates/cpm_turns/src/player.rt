@@ -1,7 +1,6 @@
 //! A session of a host that is played.
 
 ghost use Rattle.std.specs.Prelude.{◌≡◌};
-ghost use Rattle.cpm_turns.specs.Players.{IsNew, keys_of, steps_of};
 
 use crate::pace::Pace;
 use cpm_script::Key;
@@ -22,6 +21,8 @@ pub struct Player {
 }
 
 impl Player {
+    ghost use Rattle.cpm_turns.specs.Players.{IsNew, keys_of, steps_of};
+
     /// A player that has shown nothing yet, with its keys, each with the count of steps at which it comes, and with so many steps to execute.
     pub fn new(alloc: Global, id: SlotId, keys: Vec<Key>, steps: u64) -> Player
         ensures id { result.id ≡ id }

@@ -1,11 +1,16 @@
 //! One turn of a player: its keys that are due, its steps, and what it shows.
 
-ghost use Rattle.std.specs.Prelude.{◌≡◌, ℕ, ◌≤◌, ◌<◌, OnOk};
+ghost use Rattle.std.specs.Prelude.{◌≡◌, ℕ, ◌-◌, ◌≤◌, OnOk, None, Some, slice_get};
+ghost use Rattle.cpm_sessions.specs.Host.{after_ask, slot_at};
+ghost use Rattle.cpm_sessions.specs.Serving.{Calls};
+ghost use Rattle.cpm_slots.specs.Calls.{Grant};
 ghost use Rattle.cpm_slots.specs.MachineState.{MachineState};
-ghost use Rattle.cpm_turns.specs.Players.{IsPlaying, IsRead, IsResting, Moves, steps_of};
+ghost use Rattle.cpm_slots.specs.Serve.{executed};
+ghost use Rattle.cpm_turns.specs.Pacing.{due_at};
+ghost use Rattle.cpm_turns.specs.Players.{IsPlaying, IsRead, IsResting, Moves, keys_of, steps_of};
 
 use crate::player::Player;
-use cpm_sessions::Host;
+use cpm_sessions::{Host, SlotId};
 use std::alloc::AllocError;
 
 /// How many bytes are taken at once.
@@ -16,6 +21,7 @@ fn press_due(host: &mut Host, player: &mut Player)
     ensures playing { (steps : ℕ) (start : MachineState) → IsResting steps start player.old host.old → IsResting steps start player.new host.new }
     ensures moves { Moves player.old player.new host.old host.new }
     ensures left { steps_of player.new ≡ steps_of player.old }
+    ensures due { due_at player.new.pace.done (slice_get (keys_of player.new) player.new.pace.pressed) ≡ None }
 {
     while let Some(key) = player.pace.due(&player.keys) {
         // 4,096 keys at most were given, so that it is not refused.
@@ -56,18 +62,28 @@ fn take_list(host: &mut Host, player: &mut Player) -> Result<(), AllocError>
     Ok(())
 }
 
+/// Executes steps of a slot, at most so many, and says how many.
+fn grant(host: &mut Host, id: SlotId, most: u64) -> u64
+    ensures executed { (s : MachineState) → slot_at id.0 host.old.slots ≡ Some s → result ≡ executed host.old.system most s }
+    ensures within { result ≤ most }
+    ensures host { host.new ≡ after_ask host.old id.0 (Calls (Grant most)) }
+{
+    match host.grant(id, most) {
+        Ok(granted) => granted.executed,
+        Err(_) => 0,
+    }
+}
+
 /// Executes the steps of a turn: at most `quantum`, and none past the next key.
 fn execute(host: &mut Host, player: &mut Player, quantum: u64)
+    requires { 1 ≤ quantum }
     ensures playing { (steps : ℕ) (start : MachineState) → IsResting steps start player.old host.old → IsPlaying steps start player.new host.new }
     ensures moves { Moves player.old player.new host.old host.new }
-    ensures left { 0 < steps_of player.old → steps_of player.new < steps_of player.old }
+    ensures left { steps_of player.new ≤ steps_of player.old - 1 }
 {
     press_due(host, player);
     let most = player.pace.turn(&player.keys, quantum);
-    let executed = match host.grant(player.id, most) {
-        Ok(granted) => granted.executed,
-        Err(_) => 0,
-    };
+    let executed = grant(host, player.id, most);
     player.pace.advance(executed);
 }
 
@@ -76,9 +92,9 @@ pub(crate) fn turn(host: &mut Host, player: &mut Player, quantum: u64) -> Result
     requires { 1 ≤ quantum }
     ensures playing { OnOk result ((steps : ℕ) (start : MachineState) → IsResting steps start player.old host.old → IsResting steps start player.new host.new) }
     ensures moves { OnOk result (Moves player.old player.new host.old host.new) }
-    ensures left { OnOk result (0 < steps_of player.old → steps_of player.new < steps_of player.old) }
+    ensures left { OnOk result (steps_of player.new ≤ steps_of player.old - 1) }
 {
-    if player.pace.left == 0 {
+    if player.pace.left() == 0 {
         return Ok(());
     }
     execute(host, player, quantum);

@@ -1,0 +1,7 @@
+pub mod AloneLemmas
+pub mod TextLemmas
+pub mod PaceLemmas
+pub mod HostLemmas
+pub mod PlayerLemmas
+pub mod RoundLemmas
+pub mod ScriptLemmas

@@ -1,0 +1,77 @@
+-- Moving the bytes that wait out of a machine.
+use Rattle.std.proofs.Common.{◌≡◌, ◌∙◌, ◌++◌, ◌≤◌, ap, ap₂, sym, refl, Result, Ok, Err, OnErr, ℕ, List, [], ◌∷◌, Option, Some, None, length, take, drop, min, arith, append-nil}
+use Rattle.std.proofs.lemmas.List.{append_assoc, length-take-le, take-append-drop, take_at}
+use Rattle.std.specs.Io.KnownBytes.{Appends, Keeps}
+use Rattle.cpm_slots.specs.MachineState.{MachineState}
+use Rattle.cpm_slots.specs.Serve.{taken}
+use Rattle.cpm_turns.specs.Playing.{HasText}
+
+-- the state with other bytes on its console, or on its list device
+abbrev pub with_text : List ℕ → MachineState → MachineState
+with_text xs s = record s { session = record s.session { console = record s.session.console { screen = xs } } }
+
+abbrev pub with_list : List ℕ → MachineState → MachineState
+with_list xs s = record s { session = record s.session { console = record s.session.console { printer = xs } } }
+
+-- some of the console bytes were moved to the writer
+pub record IsMoved (start now : MachineState) (before after : Option (List ℕ)) : Type 0 where
+  pub text : List ℕ
+  pub written : Appends before after text
+  pub whole : text ++ now.session.console.screen ≡ start.session.console.screen
+  pub state : now ≡ with_text now.session.console.screen start
+
+-- known bytes grow twice, and then stay
+pub appends_more : (before middle grown kept : Option (List ℕ)) (xs ys : List ℕ) → Appends before middle xs → Appends middle grown ys → Keeps grown kept
+    → Appends before kept (xs ++ ys)
+appends_more None middle grown kept xs ys a b k = tt
+appends_more (Some w) None grown kept xs ys a b k = absurd a
+appends_more (Some w) (Some x) None kept xs ys a b k = absurd b
+appends_more (Some w) (Some x) (Some y) None xs ys a b k = absurd k
+appends_more (Some w) (Some x) (Some y) (Some z) xs ys a b k = k ∙ b ∙ ap (λ v. v ++ ys) a ∙ append_assoc w xs ys
+
+pub appends_none : (o : Option (List ℕ)) → Appends o o []
+appends_none None = tt
+appends_none (Some xs) = sym (append-nil xs)
+
+pub keeps_all : (o : Option (List ℕ)) → Keeps o o
+keeps_all None = tt
+keeps_all (Some xs) = refl
+
+-- one chunk more
+pub moved_more : (start now next : MachineState) (before middle grown kept : Option (List ℕ)) (room : ℕ) (chunk : List ℕ) → IsMoved start now before middle
+    → chunk ≡ take (min room (length now.session.console.screen)) now.session.console.screen → next ≡ taken room now → Appends middle grown chunk → Keeps grown kept
+    → IsMoved start next before kept
+moved_more start now next before middle grown kept room chunk moved is state writes keeps =
+    let screen = now.session.console.screen in
+    let count = min room (length screen) in
+    let left : next.session.console.screen ≡ drop count screen = ap (λ (s : MachineState). s.session.console.screen) state in
+    record {
+      text = moved.text ++ chunk;
+      written = appends_more before middle grown kept moved.text chunk moved.written writes keeps;
+      whole = ap₂ (λ a b. (moved.text ++ a) ++ b) is left ∙ append_assoc moved.text (take count screen) (drop count screen)
+          ∙ ap (λ v. moved.text ++ v) (take-append-drop count screen) ∙ moved.whole;
+      state = state ∙ ap (taken room) moved.state ∙ ap (λ v. with_text v start) (sym left);
+    }
+
+-- what lies in the buffer after bytes were taken into it
+pub chunk_taken : (screen old new : List ℕ) (n room : ℕ) → n ≡ min room (length screen) → new ≡ take n screen ++ drop n old → take n new ≡ take (min room (length screen)) screen
+chunk_taken screen old new n room count bytes =
+    let within : n ≤ length screen = omega arith in
+    ap (take n) bytes ∙ take_at (take n screen) (drop n old) n (length-take-le n screen within) ∙ ap (λ k. take k screen) count
+
+-- a fact holds at an error too
+pub on_err : {A E P : Type 0} (r : Result A E) → P → OnErr r P
+on_err (Ok x) p = tt
+on_err (Err e) p = p
+
+pub both_empty : (xs ys : List ℕ) → xs ++ ys ≡ [] → ys ≡ []
+both_empty [] ys e = e
+both_empty (x ∷ xs) ys e = absurd (let bad : ⊥ = cc in bad)
+
+-- bytes were there to be taken
+pub moved_text : (start now : MachineState) (before written : Option (List ℕ)) (room count : ℕ) → IsMoved start now before written
+    → count ≡ min room (length now.session.console.screen) → (count ≡ 0 → ⊥) → HasText start
+moved_text start now before written room count moved is some none =
+    let left : now.session.console.screen ≡ [] = both_empty moved.text now.session.console.screen (moved.whole ∙ none) in
+    let zero : length now.session.console.screen ≡ 0 = ap length left in
+    some (omega arith)

@@ -1,0 +1,25 @@
+use Rattle.std.proofs.Common.{◌≡◌, ◌∙◌, ◌≤◌, ℕ, ap, arith, subst, sym}
+use Rattle.cpm_slots.specs.MachineState.{MachineState}
+use Rattle.cpm_slots.specs.Serve.{executed}
+use Rattle.cpm_turns.specs.declared.pace.Pace.{Pace}
+use Rattle.cpm_turns.specs.Pacing.{left_in, turn_of, without_list, IsShown}
+use Rattle.cpm_turns.proofs.PaceLemmas.{left-falls, shown-end, shown-start, shown-text, shown-turn}
+use Rattle.cpm_turns.proofs.machine.play_machine.Goals as goal
+
+pub loop-pace-init : goal.loop-pace-init
+loop-pace-init g c =
+    subst (λ (p : Pace). IsShown c.args.system.now c.args.keys.now c.args.steps c.args.machine.now p c.args.machine.now (g.W.Write.contents c.args.out.now) (g.W.Write.contents c.args.out.now)) (sym c.new-pace.ensures)
+    (shown-start c.args.system.now c.args.keys.now c.args.steps c.args.machine.now (g.W.Write.contents c.args.out.now) c.requires.fresh c.requires.order)
+
+pub loop-pace-preserved : goal.loop-pace-preserved
+loop-pace-preserved g c =
+    let pressed = c.press_due.new.pace in
+    let next = c.press_due.new.machine in
+    let k = c.grant-granted.result.executed in
+    let is : k ≡ executed c.args.system.now (turn_of pressed c.args.keys.now 1000000) next = c.grant-granted.ensures.executed ∙ ap (λ (n : ℕ). executed c.args.system.now n next) c.turn.ensures in
+    let within : k ≤ turn_of pressed c.args.keys.now 1000000 = subst (λ (n : ℕ). k ≤ n) c.turn.ensures c.grant-granted.ensures.within in
+    shown-turn c.args.system.now c.args.keys.now c.args.steps k 1000000 c.args.machine.now c.loop-pace.pace pressed c.advance.new.self c.loop-pace.machine next c.grant-granted.new.self c.drop_list.new.machine
+    (g.W.Write.contents c.args.out.now) (g.W.Write.contents c.loop-pace.out) (g.W.Write.contents c.move_text.new.out)
+    c.loop-pace.invariant c.press_due.ensures.pressed c.press_due.ensures.due (omega arith) is within c.grant-granted.ensures.state
+    (record { pressed = c.advance.ensures.pressed; done = c.advance.ensures.done; until = c.advance.ensures.until })
+    (c.drop_list.ensures ∙ ap without_list c.in_ok-move_text.ensures.state) c.in_ok-move_text.ensures.text

@@ -1,0 +1,16 @@
+use Rattle.std.proofs.Common.{◌≡◌, ℕ, length}
+use Rattle.cpm_slots.specs.MachineState.{MachineState}
+use Rattle.cpm_turns.specs.Players.{steps_of, IsRead, Moves}
+use Rattle.cpm_turns.proofs.PlayerLemmas.{list_at}
+use Rattle.cpm_turns.proofs.turn.take_list.Given as goal
+
+abbrev pub invariant-loop-count : goal.invariant-loop-count
+invariant-loop-count l = record {
+  playing : (steps : ℕ) (start : MachineState) → IsRead steps start l.fn.player l.fn.host → IsRead steps start l.player l.host;
+  moves : Moves l.fn.player l.player l.fn.host l.host;
+  left : steps_of l.player ≡ steps_of l.fn.player;
+  room : length l.chunk ≡ 8192;
+}
+
+abbrev pub decreases-loop-count : goal.decreases-loop-count
+decreases-loop-count l = list_at l.player.id.0 l.host
