@@ -106,9 +106,6 @@ IsFinishing sessions k start now players rest reports files = (system : Disk) (i
 abbrev pub Closing : Host → Host → List Player → Option (Player × Closed) → List Player → Type 0
 Closing old new rest r left = (p : Player) (ps : List Player) (s : MachineState) → rest ≡ p ∷ ps → slot_at p.id.0 old.slots ≡ Some s → IsClosed p ps s old new r left
 
-pub finishing_none : (sessions : List Session) (start : List Slot) (players : List Player) → AllDiffer players → IsFinishing sessions 0 start start players players [] []
-finishing_none sessions start players differ = λ system is same all. record { differ = differ; ended = all; rows = refl; outputs = refl }
-
 module _ (sessions : List Session) (k : ℕ) (s : Session) (start : List Slot) (old new : Host) (players : List Player) (r : Option (Player × Closed)) (left : List Player) (below : k < length sessions) (at : s ≡ get_or sessions k s) where
   finish_one : (q : Player) (closed : Closed) (rest : List Player) (reports : List SessionReport) (files : List SessionFiles) (report : SessionReport) (file : SessionFiles) (system : Disk) (is : List SessionInput)
       → map (λ i. i.session) is ≡ sessions → IsFinishedTo system is k old.slots rest reports files → Closing old new rest r left → r ≡ Some (q, closed) → report_view report ≡ report_by s q closed
@@ -168,3 +165,13 @@ finished sessions k start now players rest reports files all h = λ system is sa
     let long : length is ≤ k = let m = length-map is (λ i. i.session) in let e = ap length same in omega (arith, all, m, e) in
     let whole : take k is ≡ is = take_all k is long in
     (f.rows ∙ ap (reports_of system) whole, f.outputs ∙ ap (files_left system) whole)
+
+pub finishing_start : (sessions : List Session) (start : List Slot) (players rest : List Player) (reports : List SessionReport) (files : List SessionFiles) → rest ≡ players → reports ≡ [] → files ≡ []
+    → AllDiffer players → IsFinishing sessions 0 start start players rest reports files
+finishing_start sessions start players rest reports files same no_reports no_files differ = λ system is inputs all.
+    record {
+      differ = subst (λ (xs : List Player). AllDiffer xs) (sym same) differ;
+      ended = subst (λ (xs : List Player). AllEnded system start is xs) (sym same) all;
+      rows = ap (map report_view) no_reports;
+      outputs = ap (map left_by) no_files;
+    }
