@@ -78,10 +78,10 @@ on-start system keys steps start fresh order = record {
 
 -- a key that is due
 pub record IsDue (keys : List Key) (pace : Pace) (byte : ℕ) : Type 0 where
-  key : Key
-  at : slice_get keys pace.pressed ≡ Some key
-  early : key.count ≤ pace.done
-  is : key.byte ≡ byte
+  pub key : Key
+  pub at : slice_get keys pace.pressed ≡ Some key
+  pub early : key.count ≤ pace.done
+  pub is : key.byte ≡ byte
 
 pub due-key : (o : Option Key) (keys : List Key) (pace : Pace) (byte : ℕ) → slice_get keys pace.pressed ≡ o → due_at pace.done o ≡ Some byte → IsDue keys pace byte
 due-key None keys pace byte at h = absurd (none-some byte h)
@@ -112,7 +112,7 @@ on-key system keys steps byte start pace console list now is on =
       later = subst (λ n. IsInOrder n (drop (pace.pressed + 1) keys)) same order.1;
       within = omega arith;
       pending = let longer : length (now.session.console.keys ++ byte ∷ []) ≡ length now.session.console.keys + 1 = length_push now.session.console.keys byte in omega arith;
-      all = on.all;
+      all = record { within = on.all.within; most = on.all.most; all = on.all.all };
     }
 
 -- which is never refused
@@ -165,7 +165,7 @@ on-take system keys steps room start pace console list now on = record {
   later = on.later;
   within = on.within;
   pending = on.pending;
-  all = on.all;
+  all = record { within = on.all.within; most = on.all.most; all = on.all.all };
 }
 
 pub on-take_list : (system : Disk) (keys : List Key) (steps room : ℕ) (start : MachineState) (pace : Pace) (console list : List ℕ) (now : MachineState) → IsOn system keys steps start pace console list now →
@@ -176,7 +176,7 @@ on-take_list system keys steps room start pace console list now on = record {
   later = on.later;
   within = on.within;
   pending = on.pending;
-  all = on.all;
+  all = record { within = on.all.within; most = on.all.most; all = on.all.all };
 }
 
 -- ---- the end
@@ -236,6 +236,7 @@ keys-all system keys steps start pace console list now on none = by_case on.all.
     by_case : (pace.until ≡ steps) ⊎ (is_running now.ended ≡ false) → keyless (alone system (presses_of keys) steps start) ≡ keyless (state_behind console list now)
     by_case (inl whole) =
         let in_all : pace.done ≤ pace.until = within in
+        let spent : pace.until - pace.done ≡ 0 = none in
         let same : steps ≡ pace.done = omega arith in ap (λ n. keyless (alone system (presses_of keys) n start)) same ∙ taken_so
     by_case (inr ended) =
         let in_all : pace.done ≤ pace.until = within in
@@ -282,9 +283,9 @@ turn-some (Some key) keys pace quantum at none left some = by_test (nat_le key.c
 
 -- the pace after a turn
 pub record IsAdvanced (k : ℕ) (old new : Pace) : Type 0 where
-  pressed : new.pressed ≡ old.pressed
-  done : new.done ≡ old.done + k
-  until : new.until ≡ (if k == 0 then old.done else old.until)
+  pub pressed : new.pressed ≡ old.pressed
+  pub done : new.done ≡ old.done + k
+  pub until : new.until ≡ (if k == 0 then old.done else old.until)
 
 advanced-is : (k : ℕ) (old new : Pace) → IsAdvanced k old new → new ≡ record old { done = old.done + k; until = if k == 0 then old.done else old.until }
 advanced-is k old new is =
@@ -326,7 +327,7 @@ on-taken system keys steps start pace console list now on = record {
   later = on.later;
   within = on.within;
   pending = on.pending;
-  all = on.all;
+  all = record { within = on.all.within; most = on.all.most; all = on.all.all };
 }
 
 pub shown-start : (system : Disk) (keys : List Key) (steps : ℕ) (start : MachineState) (o : Option (List ℕ)) → IsFresh start → IsInOrder 0 keys → IsShown system keys steps start (first_pace steps) start o o

@@ -1,5 +1,5 @@
 -- What the parts of a turn leave of a player and its slot.
-use Rattle.std.proofs.Common.{◌≡◌, ℕ, ◌+◌, ◌-◌, ◌<◌, ◌≤◌, min, Bool, true, false, Option, Some, None, Result, Ok, Err, List, [], ◌∷◌, ◌++◌, length, take, drop, refl, sym, ap, ap₂, ◌∙◌, subst, arith, append-nil, slice_get, length-drop}
+use Rattle.std.proofs.Common.{◌≡◌, ℕ, zero, suc, ◌+◌, ◌-◌, ◌<◌, ◌≤◌, min, Bool, true, false, Option, Some, None, Result, Ok, Err, List, [], ◌∷◌, ◌++◌, length, take, drop, refl, sym, ap, ap₂, ◌∙◌, subst, arith, append-nil, slice_get, length-drop}
 use Rattle.std.proofs.lemmas.List.{length-take-le}
 use Rattle.cpm_geom.specs.Disk.{Disk}
 use Rattle.cpm_script.specs.declared.script.Key.{Key}
@@ -19,7 +19,7 @@ use Rattle.cpm_turns.specs.declared.pace.Pace.{Pace}
 use Rattle.cpm_turns.specs.declared.player.Player.{Player}
 use Rattle.cpm_turns.specs.Pacing.{due_at, turn_of, IsOn}
 use Rattle.cpm_turns.specs.Playing.{IsQuiet}
-use Rattle.cpm_turns.specs.Players.{keys_of, IsPlaying, IsRead, IsResting}
+use Rattle.cpm_turns.specs.Players.{console_in, keys_of, list_in, AreTaken, IsPlaying, IsRead, IsResting}
 use Rattle.cpm_turns.proofs.HostLemmas.{reply-served, slot-served}
 use Rattle.cpm_turns.proofs.PaceLemmas.{due-key, on-advance, on-key, on-take, on-take_list, takes-due, IsAdvanced, IsDue}
 
@@ -108,25 +108,20 @@ abbrev is_bytes : Reply → Bool
 is_bytes (reply.Bytes bytes) = true
 is_bytes _ = false
 
--- so many of the bytes that wait were taken into some room
-pub record Took (n room : ℕ) (out waiting : List ℕ) : Type 0 where
-  pub bytes : take n out ≡ take (min room (length waiting)) waiting
-  pub count : n ≡ min room (length waiting)
-
-took-count : (n room : ℕ) (out waiting : List ℕ) → n ≤ length out → take n out ≡ take (min room (length waiting)) waiting → Took n room out waiting
+took-count : (n room : ℕ) (out waiting : List ℕ) → n ≤ length out → take n out ≡ take (min room (length waiting)) waiting → AreTaken n room out waiting
 took-count n room out waiting fits bytes = record {
   bytes = bytes;
   count = sym (length-take-le n out fits) ∙ ap length bytes ∙ length-take-le (min room (length waiting)) waiting (omega arith);
 }
 
-pub took : (h : Host) (id n room : ℕ) (out : List ℕ) (s : MachineState) → take_reply (Ok n) out ≡ reply_at h id (Calls (Take room)) → n ≤ length out → slot_at id h.slots ≡ Some s → Took n room out s.session.console.screen
+pub bytes-taken : (h : Host) (id n room : ℕ) (out : List ℕ) (s : MachineState) → take_reply (Ok n) out ≡ reply_at h id (Calls (Take room)) → n ≤ length out → slot_at id h.slots ≡ Some s → AreTaken n room out s.session.console.screen
 unfolding serve
-took h id n room out s replied fits at =
+bytes-taken h id n room out s replied fits at =
     took-count n room out s.session.console.screen fits (ap bytes_in (replied ∙ reply-served h id (Take room) s at))
 
-pub took_list : (h : Host) (id n room : ℕ) (out : List ℕ) (s : MachineState) → take_reply (Ok n) out ≡ reply_at h id (Calls (TakeList room)) → n ≤ length out → slot_at id h.slots ≡ Some s → Took n room out s.session.console.printer
+pub list-taken : (h : Host) (id n room : ℕ) (out : List ℕ) (s : MachineState) → take_reply (Ok n) out ≡ reply_at h id (Calls (TakeList room)) → n ≤ length out → slot_at id h.slots ≡ Some s → AreTaken n room out s.session.console.printer
 unfolding serve
-took_list h id n room out s replied fits at =
+list-taken h id n room out s replied fits at =
     took-count n room out s.session.console.printer fits (ap bytes_in (replied ∙ reply-served h id (TakeList room) s at))
 
 -- a slot that is open gives its bytes
@@ -143,62 +138,47 @@ bytes-none : (h : Host) (id : ℕ) (call : Call) → slot_at id h.slots ≡ None
 unfolding serve_slot
 bytes-none h id call at = ap (λ o. is_bytes (serve_slot h.system (Calls call) o).reply) at
 
--- how many bytes wait in a slot
-abbrev console_in : Option MachineState → ℕ
-console_in None = 0
-console_in (Some s) = length s.session.console.screen
-
-abbrev list_in : Option MachineState → ℕ
-list_in None = 0
-list_in (Some s) = length s.session.console.printer
-
-abbrev pub console_at : ℕ → Host → ℕ
-console_at id h = console_in (slot_at id h.slots)
-
-abbrev pub list_at : ℕ → Host → ℕ
-list_at id h = list_in (slot_at id h.slots)
-
-fewer : (n room : ℕ) (out waiting : List ℕ) → Took n room out waiting → (n ≡ 0 → ⊥) → length (drop (min room (length waiting)) waiting) < length waiting
+fewer : (n room : ℕ) (out waiting : List ℕ) → AreTaken n room out waiting → (n ≡ 0 → ⊥) → length (drop (min room (length waiting)) waiting) < length waiting
 fewer n room out waiting took some =
     let count = took.count in
     let left : length (drop (min room (length waiting)) waiting) ≡ length waiting - min room (length waiting) = length-drop (min room (length waiting)) waiting in
     omega (arith, some)
 
 pub console-falls : (h new : Host) (id n room : ℕ) (out : List ℕ) → take_reply (Ok n) out ≡ reply_at h id (Calls (Take room)) → n ≤ length out → (n ≡ 0 → ⊥) → new ≡ after_ask h id (Calls (Take room)) →
-    console_at id new < console_at id h
+    console_in (slot_at id new.slots) < console_in (slot_at id h.slots)
 unfolding serve
 console-falls h new id n room out replied fits some is = go (slot_at id h.slots) refl
   where
-    go : (o : Option MachineState) → slot_at id h.slots ≡ o → console_at id new < console_at id h
+    go : (o : Option MachineState) → slot_at id h.slots ≡ o → console_in (slot_at id new.slots) < console_in (slot_at id h.slots)
     go None at = let bad : true ≡ false = ap is_bytes replied ∙ bytes-none h id (Take room) at in absurd (let no : ⊥ = cc in no)
     go (Some s) at =
-        let now : console_at id new ≡ length (drop (min room (length s.session.console.screen)) s.session.console.screen) =
-        ap (λ (g : Host). console_at id g) is ∙ ap console_in (slot-served h id (Take room) s at) in
-        let before : console_at id h ≡ length s.session.console.screen = ap console_in at in
-        let less = fewer n room out s.session.console.screen (took h id n room out s replied fits at) some in
+        let now : console_in (slot_at id new.slots) ≡ length (drop (min room (length s.session.console.screen)) s.session.console.screen) =
+        ap (λ (g : Host). console_in (slot_at id g.slots)) is ∙ ap console_in (slot-served h id (Take room) s at) in
+        let before : console_in (slot_at id h.slots) ≡ length s.session.console.screen = ap console_in at in
+        let less = fewer n room out s.session.console.screen (bytes-taken h id n room out s replied fits at) some in
         omega arith
 
 pub list-falls : (h new : Host) (id n room : ℕ) (out : List ℕ) → take_reply (Ok n) out ≡ reply_at h id (Calls (TakeList room)) → n ≤ length out → (n ≡ 0 → ⊥) → new ≡ after_ask h id (Calls (TakeList room)) →
-    list_at id new < list_at id h
+    list_in (slot_at id new.slots) < list_in (slot_at id h.slots)
 unfolding serve
 list-falls h new id n room out replied fits some is = go (slot_at id h.slots) refl
   where
-    go : (o : Option MachineState) → slot_at id h.slots ≡ o → list_at id new < list_at id h
+    go : (o : Option MachineState) → slot_at id h.slots ≡ o → list_in (slot_at id new.slots) < list_in (slot_at id h.slots)
     go None at = let bad : true ≡ false = ap is_bytes replied ∙ bytes-none h id (TakeList room) at in absurd (let no : ⊥ = cc in no)
     go (Some s) at =
-        let now : list_at id new ≡ length (drop (min room (length s.session.console.printer)) s.session.console.printer) =
-        ap (λ (g : Host). list_at id g) is ∙ ap list_in (slot-served h id (TakeList room) s at) in
-        let before : list_at id h ≡ length s.session.console.printer = ap list_in at in
-        let less = fewer n room out s.session.console.printer (took_list h id n room out s replied fits at) some in
+        let now : list_in (slot_at id new.slots) ≡ length (drop (min room (length s.session.console.printer)) s.session.console.printer) =
+        ap (λ (g : Host). list_in (slot_at id g.slots)) is ∙ ap list_in (slot-served h id (TakeList room) s at) in
+        let before : list_in (slot_at id h.slots) ≡ length s.session.console.printer = ap list_in at in
+        let less = fewer n room out s.session.console.printer (list-taken h id n room out s replied fits at) some in
         omega arith
 
 -- console bytes went to the player
-pub playing-take : (steps n room : ℕ) (start : MachineState) (out : List ℕ) (p q : Player) (old new : Host) → take_reply (Ok n) out ≡ reply_at old p.id.0 (Calls (Take room)) → n ≤ length out →
+pub playing-take : (steps n room : ℕ) (start : MachineState) (out : List ℕ) (p q : Player) (old new : Host) → ((s : MachineState) → slot_at p.id.0 old.slots ≡ Some s → AreTaken n room out s.session.console.screen) →
     new ≡ after_ask old p.id.0 (Calls (Take room)) → q ≡ record p { console = q.console } → q.console.items ≡ p.console.items ++ take n out → IsPlaying steps start p old → IsPlaying steps start q new
 unfolding serve
-playing-take steps n room start out p q old new replied fits is same bytes playing =
+playing-take steps n room start out p q old new took is same bytes playing =
     let s = playing.now in
-    let t : Took n room out s.session.console.screen = took old p.id.0 n room out s replied fits playing.stands in
+    let t : AreTaken n room out s.session.console.screen = took s playing.stands in
     let shown : q.console.items ≡ p.console.items ++ take (min room (length s.session.console.screen)) s.session.console.screen = bytes ∙ ap (λ xs. p.console.items ++ xs) t.bytes in
     let r : Player = record p { console = q.console } in
     subst (λ (x : Player). IsPlaying steps start x new) (sym same)
@@ -207,24 +187,22 @@ playing-take steps n room start out p q old new replied fits is same bytes playi
     (on-take old.system (keys_of p) steps room start p.pace p.console.items p.list.items s playing.on)))
 
 -- none waited any more
-nothing : (room : ℕ) (out waiting : List ℕ) → 0 < room → Took 0 room out waiting → waiting ≡ []
+nothing : (room : ℕ) (out waiting : List ℕ) → 0 < room → AreTaken 0 room out waiting → waiting ≡ []
 nothing room out [] some t = refl
 nothing room out (x ∷ waiting) some t = let count = t.count in absurd (let no : ⊥ = omega arith in no)
 
 drop-nothing : (n : ℕ) (xs : List ℕ) → xs ≡ [] → drop n xs ≡ []
-drop-nothing n xs none = ap (drop n) none ∙ go n
-  where
-    go : (m : ℕ) → drop m [] ≡ []
-    go zero = refl
-    go (suc m) = refl
+drop-nothing zero xs none = none
+drop-nothing (suc n) [] none = refl
+drop-nothing (suc n) (x ∷ xs) none = absurd (let no : ⊥ = cc in no)
 
-pub read-last : (steps n room : ℕ) (start : MachineState) (out : List ℕ) (p : Player) (old new : Host) → take_reply (Ok n) out ≡ reply_at old p.id.0 (Calls (Take room)) → n ≤ length out → n ≡ 0 → 0 < room →
+pub read-last : (steps n room : ℕ) (start : MachineState) (out : List ℕ) (p : Player) (old new : Host) → ((s : MachineState) → slot_at p.id.0 old.slots ≡ Some s → AreTaken n room out s.session.console.screen) → n ≡ 0 → 0 < room →
     new ≡ after_ask old p.id.0 (Calls (Take room)) → IsPlaying steps start p old → IsRead steps start p new
 unfolding serve
-read-last steps n room start out p old new replied fits zero_bytes some is playing =
+read-last steps n room start out p old new took zero_bytes some is playing =
     let s = playing.now in
     let screen = s.session.console.screen in
-    let t : Took 0 room out screen = subst (λ m. Took m room out screen) zero_bytes (took old p.id.0 n room out s replied fits playing.stands) in
+    let t : AreTaken 0 room out screen = subst (λ m. AreTaken m room out screen) zero_bytes (took s playing.stands) in
     let none : screen ≡ [] = nothing room out screen some t in
     let shown : p.console.items ++ take (min room (length screen)) screen ≡ p.console.items = ap (λ xs. p.console.items ++ xs) (sym t.bytes) ∙ append-nil p.console.items in
     record {
@@ -235,13 +213,13 @@ read-last steps n room start out p old new replied fits zero_bytes some is playi
     }
 
 -- and the same of list bytes
-pub read-take : (steps n room : ℕ) (start : MachineState) (out : List ℕ) (p q : Player) (old new : Host) → take_reply (Ok n) out ≡ reply_at old p.id.0 (Calls (TakeList room)) → n ≤ length out →
+pub read-take : (steps n room : ℕ) (start : MachineState) (out : List ℕ) (p q : Player) (old new : Host) → ((s : MachineState) → slot_at p.id.0 old.slots ≡ Some s → AreTaken n room out s.session.console.printer) →
     new ≡ after_ask old p.id.0 (Calls (TakeList room)) → q ≡ record p { list = q.list } → q.list.items ≡ p.list.items ++ take n out → IsRead steps start p old → IsRead steps start q new
 unfolding serve
-read-take steps n room start out p q old new replied fits is same bytes read =
+read-take steps n room start out p q old new took is same bytes read =
     let playing = read.playing in
     let s = playing.now in
-    let t : Took n room out s.session.console.printer = took_list old p.id.0 n room out s replied fits playing.stands in
+    let t : AreTaken n room out s.session.console.printer = took s playing.stands in
     let shown : q.list.items ≡ p.list.items ++ take (min room (length s.session.console.printer)) s.session.console.printer = bytes ∙ ap (λ xs. p.list.items ++ xs) t.bytes in
     let r : Player = record p { list = q.list } in
     subst (λ (x : Player). IsRead steps start x new) (sym same) (record {
@@ -251,14 +229,14 @@ read-take steps n room start out p q old new replied fits is same bytes read =
       screen = read.screen;
     })
 
-pub resting-last : (steps n room : ℕ) (start : MachineState) (out : List ℕ) (p : Player) (old new : Host) → take_reply (Ok n) out ≡ reply_at old p.id.0 (Calls (TakeList room)) → n ≤ length out → n ≡ 0 → 0 < room →
+pub resting-last : (steps n room : ℕ) (start : MachineState) (out : List ℕ) (p : Player) (old new : Host) → ((s : MachineState) → slot_at p.id.0 old.slots ≡ Some s → AreTaken n room out s.session.console.printer) → n ≡ 0 → 0 < room →
     new ≡ after_ask old p.id.0 (Calls (TakeList room)) → IsRead steps start p old → IsResting steps start p new
 unfolding serve
-resting-last steps n room start out p old new replied fits zero_bytes some is read =
+resting-last steps n room start out p old new took zero_bytes some is read =
     let playing = read.playing in
     let s = playing.now in
     let printer = s.session.console.printer in
-    let t : Took 0 room out printer = subst (λ m. Took m room out printer) zero_bytes (took_list old p.id.0 n room out s replied fits playing.stands) in
+    let t : AreTaken 0 room out printer = subst (λ m. AreTaken m room out printer) zero_bytes (took s playing.stands) in
     let none : printer ≡ [] = nothing room out printer some t in
     let shown : p.list.items ++ take (min room (length printer)) printer ≡ p.list.items = ap (λ xs. p.list.items ++ xs) (sym t.bytes) ∙ append-nil p.list.items in
     record {

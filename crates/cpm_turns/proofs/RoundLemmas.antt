@@ -4,7 +4,7 @@ use Rattle.std.specs.Prelude.{nat_lt}
 use Rattle.std.specs.List.{list_any}
 use Rattle.std.proofs.lemmas.Bool.Decides.{nat_tests}
 use Rattle.std.proofs.lemmas.Bool.{cases_lt}
-use Rattle.std.proofs.lemmas.List.Sums.{sum_by_more, sum_by-set}
+use Rattle.std.proofs.lemmas.List.Sums.{sum_by_more, sum_by-cons, sum_by-set}
 use Rattle.cpm_geom.specs.Disk.{Disk}
 use Rattle.cpm_script.specs.declared.script.Key.{Key}
 use Rattle.cpm_sessions.specs.declared.event.SlotId.{SlotId}
@@ -117,7 +117,11 @@ left-turn i given qs q r below same is was falls within =
 some-left : (ps : List Player) → 0 < left_of ps → 0 < sum_by some_of ps
 some-left [] left = left
 some-left (p ∷ ps) left =
-    ⊎_elim (λ first. omega arith) (λ none. let rest = some-left ps (omega arith) in omega arith) (cases_lt 0 (steps_of p))
+    let all : sum_by steps_of (p ∷ ps) ≡ steps_of p + sum_by steps_of ps = sum_by-cons steps_of p ps in
+    let some : sum_by some_of (p ∷ ps) ≡ some_of p + sum_by some_of ps = sum_by-cons some_of p ps in
+    let goal_is : sum_by steps_of (p ∷ ps) ≡ left_of (p ∷ ps) = refl in
+    ⊎_elim (λ first. let one : 0 < some_of p = omega arith in omega (arith, some, one))
+    (λ none. let left_rest : 0 < sum_by steps_of ps = omega (arith, all, left, none) in let rest : 0 < sum_by some_of ps = some-left ps left_rest in omega (arith, some, rest)) (cases_lt 0 (steps_of p))
 
 pub left-round : (given qs : List Player) (n : ℕ) → length given ≤ n → left_of qs + sum_by some_of (take n given) ≤ left_of given → 0 < left_of given → left_of qs < left_of given
 left-round given qs n all within some =
@@ -127,11 +131,15 @@ left-round given qs n all within some =
 
 pub has-left : (ps : List Player) → has_steps ps ≡ true → 0 < left_of ps
 has-left [] has = absurd (let no : ⊥ = cc in no)
-has-left (p ∷ ps) has = by_test (nat_lt 0 (steps_of p)) refl has
+has-left (p ∷ ps) has = by_test (nat_lt 0 (steps_of p)) refl has (has-left ps)
   where
-    by_test : (b : Bool) → nat_lt 0 (steps_of p) ≡ b → (b || has_steps ps) ≡ true → 0 < steps_of p + left_of ps
-    by_test true e h = let first : 0 < steps_of p = grind (arith, nat_tests) in omega arith
-    by_test false e h = let rest = has-left ps h in omega arith
+    by_test : (b : Bool) → nat_lt 0 (steps_of p) ≡ b → (b || has_steps ps) ≡ true → (has_steps ps ≡ true → 0 < left_of ps) → 0 < left_of (p ∷ ps)
+    by_test true e h rest =
+        let all : sum_by steps_of (p ∷ ps) ≡ steps_of p + sum_by steps_of ps = sum_by-cons steps_of p ps in
+        let first : 0 < steps_of p = grind (arith, nat_tests) in omega arith
+    by_test false e h rest =
+        let all : sum_by steps_of (p ∷ ps) ≡ steps_of p + sum_by steps_of ps = sum_by-cons steps_of p ps in
+        let some : 0 < sum_by steps_of ps = rest h in omega arith
 
 -- ---- the first round, and the last
 
@@ -180,13 +188,13 @@ played-all : (before : List Slot) (h : Host) (ps qs : List Player) → has_steps
 played-all before h [] [] none pairs = tt
 played-all before h [] (q ∷ qs) none pairs = pairs
 played-all before h (p ∷ ps) [] none pairs = pairs
-played-all before h (p ∷ ps) (q ∷ qs) none pairs = by_test (nat_lt 0 (steps_of q)) refl none
+played-all before h (p ∷ ps) (q ∷ qs) none pairs = by_test (nat_lt 0 (steps_of q)) refl none (λ rest. played-all before h ps qs rest pairs.1)
   where
-    by_test : (b : Bool) → nat_lt 0 (steps_of q) ≡ b → (b || has_steps qs) ≡ false → HasPlayed h.system before h.slots p q × AllPlayed h.system before h.slots ps qs
-    by_test true e h0 = absurd (let no : ⊥ = cc in no)
-    by_test false e h0 =
+    by_test : (b : Bool) → nat_lt 0 (steps_of q) ≡ b → (b || has_steps qs) ≡ false → (has_steps qs ≡ false → AllPlayed h.system before h.slots ps qs) → HasPlayed h.system before h.slots p q × AllPlayed h.system before h.slots ps qs
+    by_test true e h0 rest = absurd (let no : ⊥ = cc in no)
+    by_test false e h0 rest =
         let spent : steps_of q ≡ 0 = grind (arith, nat_tests) in
-        (played-pair before h p q spent pairs.0, played-all before h ps qs h0 pairs.1)
+        (played-pair before h p q spent pairs.0, rest h0)
 
 pub pairs-end : (before : List Slot) (old h : Host) (ps qs : List Player) → h.system ≡ old.system → has_steps qs ≡ false → AllPairs before h ps qs → AllPlayed old.system before h.slots ps qs
 pairs-end before old h ps qs system none pairs = subst (λ (d : Disk). AllPlayed d before h.slots ps qs) system (played-all before h ps qs none pairs)

@@ -73,13 +73,14 @@ good-line keys line good = by_test (is_skipped line)
     by_test true = good
     by_test false = good-counted keys (count_of (before_first is_space line)) (after_first is_space line) good
 
+good-numbered : (number : ℕ) (r : Result (List Key) LineFault) (next : List Key → Result (List Key) (ℕ × LineFault)) → ((more : List Key) → IsGood more → IfOk (next more) IsGood) → IfOk r IsGood → IfOk (numbered number r next) IsGood
+good-numbered number (Ok more) next goes g = goes more g
+good-numbered number (Err fault) next goes g = tt
+
 good-from : (number : ℕ) (keys : List Key) (rest : List (List ℕ)) → IsGood keys → IfOk (script_from number keys rest) IsGood
 good-from number keys [] good = good
-good-from number keys (line ∷ rest) good = go (with_line keys line) (good-line keys line good)
-  where
-    go : (r : Result (List Key) LineFault) → IfOk r IsGood → IfOk (numbered number r (λ more. script_from (number + 1) more rest)) IsGood
-    go (Ok more) g = good-from (number + 1) more rest g
-    go (Err fault) g = tt
+good-from number keys (line ∷ rest) good =
+    good-numbered number (with_line keys line) (λ more. script_from (number + 1) more rest) (λ more g. good-from (number + 1) more rest g) (good-line keys line good)
 
 pub script-order : ScriptsInOrder
 script-order text = good-from 1 [] (lines text) (tt, omega arith)

@@ -1,5 +1,5 @@
 -- Moving the bytes that wait out of a machine.
-use Rattle.std.proofs.Common.{◌≡◌, ◌∙◌, ◌++◌, ◌≤◌, ap, ap₂, sym, refl, Result, Ok, Err, OnErr, ℕ, List, [], ◌∷◌, Option, Some, None, length, take, drop, min, arith, append-nil}
+use Rattle.std.proofs.Common.{◌≡◌, ◌∙◌, ◌++◌, ◌≤◌, ap, ap₂, sym, refl, Result, Ok, Err, OnErr, OnOk, ℕ, List, [], ◌∷◌, Option, Some, None, length, take, drop, min, arith, append-nil}
 use Rattle.std.proofs.lemmas.List.{append_assoc, length-take-le, take-append-drop, take_at}
 use Rattle.std.specs.Io.KnownBytes.{Appends, Keeps}
 use Rattle.cpm_slots.specs.MachineState.{MachineState}
@@ -63,6 +63,10 @@ chunk_taken screen old new n room count bytes =
 pub on_err : {A E P : Type 0} (r : Result A E) → P → OnErr r P
 on_err (Ok x) p = tt
 on_err (Err e) p = p
+
+pub on_ok : {A E P Q : Type 0} (r : Result A E) → OnOk r P → (P → Q) → OnOk r Q
+on_ok (Ok x) p f = f p
+on_ok (Err e) p f = tt
 
 pub both_empty : (xs ys : List ℕ) → xs ++ ys ≡ [] → ys ≡ []
 both_empty [] ys e = e

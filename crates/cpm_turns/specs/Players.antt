@@ -1,5 +1,5 @@
 -- Players of a host: sessions in its slots that are played in turns. All of it is own.
-use Rattle.std.specs.Prelude.{⊤, ◌≡◌, ◌≢◌, ℕ, ◌≤◌, ◌<◌, List, [], ◌∷◌, length, map, sum_by, Bool, nat_lt, Option, Some, None}
+use Rattle.std.specs.Prelude.{⊤, ◌≡◌, ◌≢◌, ℕ, ◌≤◌, ◌<◌, List, [], ◌∷◌, length, take, min, map, sum_by, Bool, nat_lt, Option, Some, None}
 use Rattle.std.specs.List.{list_any}
 use Rattle.cpm_geom.specs.Disk.{Disk}
 use Rattle.cpm_script.specs.declared.script.Key.{Key}
@@ -82,6 +82,20 @@ pub record LeavesOthers (ids : List ℕ) (old new : Host) : Type 0 where
   pub others : (id : ℕ) → IsNone id ids → slot_at id new.slots ≡ slot_at id old.slots
 
 -- ---- on the way
+
+-- so many of the bytes that wait were taken into some room
+pub record AreTaken (n room : ℕ) (out waiting : List ℕ) : Type 0 where
+  pub bytes : take n out ≡ take (min room (length waiting)) waiting
+  pub count : n ≡ min room (length waiting)
+
+-- how many console bytes, or list bytes, wait in a slot
+abbrev pub console_in : Option MachineState → ℕ
+console_in None = 0
+console_in (Some s) = length s.session.console.screen
+
+abbrev pub list_in : Option MachineState → ℕ
+list_in None = 0
+list_in (Some s) = length s.session.console.printer
 
 -- a player's slot went from a start so far
 pub record IsPlaying (steps : ℕ) (start : MachineState) (p : Player) (h : Host) : Type 0 where

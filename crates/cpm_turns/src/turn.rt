@@ -1,13 +1,13 @@
 //! One turn of a player: its keys that are due, its steps, and what it shows.
 
-ghost use Rattle.std.specs.Prelude.{◌≡◌, ℕ, ◌-◌, ◌≤◌, OnOk, None, Some, slice_get};
+ghost use Rattle.std.specs.Prelude.{◌≡◌, ◌≢◌, ℕ, ◌-◌, ◌<◌, ◌≤◌, OnOk, None, Some, length, slice_get};
 ghost use Rattle.cpm_sessions.specs.Host.{after_ask, slot_at};
 ghost use Rattle.cpm_sessions.specs.Serving.{Calls};
-ghost use Rattle.cpm_slots.specs.Calls.{Grant};
+ghost use Rattle.cpm_slots.specs.Calls.{Grant, Take, TakeList};
 ghost use Rattle.cpm_slots.specs.MachineState.{MachineState};
 ghost use Rattle.cpm_slots.specs.Serve.{executed};
 ghost use Rattle.cpm_turns.specs.Pacing.{due_at};
-ghost use Rattle.cpm_turns.specs.Players.{IsPlaying, IsRead, IsResting, Moves, keys_of, steps_of};
+ghost use Rattle.cpm_turns.specs.Players.{AreTaken, IsPlaying, IsRead, IsResting, Moves, console_in, keys_of, list_in, steps_of};
 
 use crate::player::Player;
 use cpm_sessions::{Host, SlotId};
@@ -30,6 +30,34 @@ fn press_due(host: &mut Host, player: &mut Player)
     }
 }
 
+/// Moves out the first console bytes of a slot, as many as fit, and says how many.
+fn read_console(host: &mut Host, id: SlotId, chunk: &mut [u8]) -> usize
+    ensures bytes { (s : MachineState) → slot_at id.0 host.old.slots ≡ Some s → AreTaken result (length chunk.old) chunk.new s.session.console.screen }
+    ensures length { length chunk.new ≡ length chunk.old }
+    ensures within { result ≤ length chunk.old }
+    ensures fewer { result ≢ 0 → console_in (slot_at id.0 host.new.slots) < console_in (slot_at id.0 host.old.slots) }
+    ensures host { host.new ≡ after_ask host.old id.0 (Calls (Take (length chunk.old))) }
+{
+    match host.take(id, chunk) {
+        Ok(count) => count,
+        Err(_) => 0,
+    }
+}
+
+/// Moves out the first list bytes of a slot, as many as fit, and says how many.
+fn read_list(host: &mut Host, id: SlotId, chunk: &mut [u8]) -> usize
+    ensures bytes { (s : MachineState) → slot_at id.0 host.old.slots ≡ Some s → AreTaken result (length chunk.old) chunk.new s.session.console.printer }
+    ensures length { length chunk.new ≡ length chunk.old }
+    ensures within { result ≤ length chunk.old }
+    ensures fewer { result ≢ 0 → list_in (slot_at id.0 host.new.slots) < list_in (slot_at id.0 host.old.slots) }
+    ensures host { host.new ≡ after_ask host.old id.0 (Calls (TakeList (length chunk.old))) }
+{
+    match host.take_list(id, chunk) {
+        Ok(count) => count,
+        Err(_) => 0,
+    }
+}
+
 /// Takes all console bytes.
 fn take_console(host: &mut Host, player: &mut Player) -> Result<(), AllocError>
     ensures playing { OnOk result ((steps : ℕ) (start : MachineState) → IsPlaying steps start player.old host.old → IsRead steps start player.new host.new) }
@@ -37,13 +65,13 @@ fn take_console(host: &mut Host, player: &mut Player) -> Result<(), AllocError>
     ensures left { steps_of player.new ≡ steps_of player.old }
 {
     let mut chunk = [0u8; CHUNK];
-    while let Ok(count) = host.take(player.id, &mut chunk) {
+    loop {
+        let count = read_console(host, player.id, &mut chunk);
         if count == 0 {
-            break;
+            return Ok(());
         }
         player.console.extend_from_slice(&chunk[..count])?;
     }
-    Ok(())
 }
 
 /// Takes all list bytes.
@@ -53,13 +81,13 @@ fn take_list(host: &mut Host, player: &mut Player) -> Result<(), AllocError>
     ensures left { steps_of player.new ≡ steps_of player.old }
 {
     let mut chunk = [0u8; CHUNK];
-    while let Ok(count) = host.take_list(player.id, &mut chunk) {
+    loop {
+        let count = read_list(host, player.id, &mut chunk);
         if count == 0 {
-            break;
+            return Ok(());
         }
         player.list.extend_from_slice(&chunk[..count])?;
     }
-    Ok(())
 }
 
 /// Executes steps of a slot, at most so many, and says how many.

@@ -1,4 +1,4 @@
-use Rattle.std.proofs.Common.{◌≡◌, ℕ, ◌+◌, ◌≤◌, List, get_or, sum_by, take}
+use Rattle.std.proofs.Common.{◌≡◌, ℕ, ◌+◌, ◌≤◌, List, get_or, length, sum_by, take}
 use Rattle.cpm_sessions.specs.Host.{Slot}
 use Rattle.cpm_turns.specs.declared.player.Player.{Player}
 use Rattle.cpm_turns.specs.Players.{ids_of, left_of, AllDiffer, AllPairs, LeavesOthers}
@@ -12,4 +12,5 @@ invariant-loop-player l = record {
   ids : ids_of l.players ≡ ids_of l.fn.players;
   rest : (k : ℕ) (d : Player) → l.player-index ≤ k → get_or l.players k d ≡ get_or l.fn.players k d;
   left : left_of l.players + sum_by some_of (take l.player-index l.fn.players) ≤ left_of l.fn.players;
+  long : length l.players ≡ length l.fn.players;
 }

@@ -1,0 +1,35 @@
+use Rattle.std.proofs.Common.{◌≡◌, ◌∙◌, ◌≤◌, ℕ, List, refl, ap, subst}
+use Rattle.cpm_script.specs.declared.script.Key.{Key}
+use Rattle.cpm_sessions.specs.Host.{after_ask}
+use Rattle.cpm_sessions.specs.Serving.{Calls}
+use Rattle.cpm_slots.specs.Calls.{Grant}
+use Rattle.cpm_slots.specs.Serve.{executed}
+use Rattle.cpm_turns.specs.declared.player.Player.{Player}
+use Rattle.cpm_turns.specs.Pacing.{turn_of}
+use Rattle.cpm_turns.specs.Players.{keys_of}
+use Rattle.cpm_turns.proofs.HostLemmas.{moves-ask, moves-on}
+use Rattle.cpm_turns.proofs.PlayerLemmas.{playing-turn}
+use Rattle.cpm_turns.proofs.turn.execute.Goals as goal
+
+pub returns-clause-playing : goal.returns-clause-playing
+returns-clause-playing c = λ steps start r.
+    let p = c.press_due.new.player in
+    let h = c.press_due.new.host in
+    let next : Player = record p { pace = c.advance.new.self } in
+    let k = c.grant-executed.result in
+    let most : c.turn-most.result ≡ turn_of p.pace (keys_of p) c.args.quantum =
+    c.turn-most.ensures ∙ ap (λ (ks : List Key). turn_of p.pace ks c.args.quantum) c.deref.ensures.value in
+    playing-turn steps k c.args.quantum start p next h c.grant-executed.new.host c.press_due.ensures.due c.requires
+    (subst (λ (n : ℕ). k ≤ n) most c.grant-executed.ensures.within)
+    (λ s at. c.grant-executed.ensures.executed s at ∙ ap (λ (n : ℕ). executed h.system n s) most)
+    (c.grant-executed.ensures.host ∙ ap (λ (n : ℕ). after_ask h p.id.0 (Calls (Grant n))) most)
+    (record { pressed = c.advance.ensures.pressed; done = c.advance.ensures.done; until = c.advance.ensures.until }) refl
+    (c.press_due.ensures.playing steps start r)
+
+pub returns-clause-moves : goal.returns-clause-moves
+returns-clause-moves c =
+    let p = c.press_due.new.player in
+    let h = c.press_due.new.host in
+    let next : Player = record p { pace = c.advance.new.self } in
+    moves-on c.args.player.now p next c.args.host.now h c.grant-executed.new.host c.press_due.ensures.moves
+    (moves-ask p next h c.grant-executed.new.host (Calls (Grant c.turn-most.result)) refl refl c.grant-executed.ensures.host)
