@@ -16,7 +16,10 @@ pub enum ReadError {
     File(Word),
     /// A file is no image, by its length.
     #[error("HO6 '{name}' has {length} bytes, and the image of a drive has 256256")]
-    Image { name: Word, length: usize },
+    Image {
+        name: Word,
+        length: usize,
+    },
     /// A line of a key script is wrong.
     #[error("HO3 '{name}', line {line}: {fault}")]
     Script {

@@ -86,10 +86,7 @@ fn add_images<'a>(
 }
 
 /// Adds the files of a session.
-fn add_files<'a>(
-    outputs: &mut Vec<Output<'a>>,
-    files: SessionFiles<'a>,
-) -> Result<(), AllocError>
+fn add_files<'a>(outputs: &mut Vec<Output<'a>>, files: SessionFiles<'a>) -> Result<(), AllocError>
     ensures { OnOk result (map named outputs.new.items
         ≡ map named outputs.old.items ++ files_of (left_by files.entry)) }
 {

@@ -1,3 +1,4 @@
+pub mod ComLemmas
 pub mod FinishLemmas
 pub mod InputLemmas
 pub mod ListLemmas
