@@ -143,11 +143,11 @@ pub(crate) fn play_all<'a>(
     config: &'a Config,
     inputs: Inputs<'_>,
 ) -> Result<Played<'a>, HostError>
-    requires least { 16 ≤ config.entry.now.frames }
-    requires most { config.entry.now.frames ≤ 16384 }
-    requires quantum { 1 ≤ config.entry.now.quantum }
-    requires keys { ArePressable (map given inputs.entry.sessions.items) }
-    requires sessions { map (λ i. i.session) (map given inputs.entry.sessions.items) ≡ config.entry.now.sessions.items }
+    requires least { 16 ≤ config.now.frames }
+    requires most { config.now.frames ≤ 16384 }
+    requires quantum { 1 ≤ config.now.quantum }
+    requires keys { ArePressable (map given inputs.sessions.items) }
+    requires sessions { map (λ i. i.session) (map given inputs.sessions.items) ≡ config.now.sessions.items }
     ensures reports { IfOk result (λ p. map report_view p.reports.items ≡ reports_of inputs.entry.system (map given inputs.entry.sessions.items)) }
     ensures files { IfOk result (λ p. map left_by p.files.items ≡ files_left inputs.entry.system (map given inputs.entry.sessions.items)) }
     ensures refusal { IfErr result (IsSeatRefusal (new_host inputs.entry.system config.entry.now.frames) (map given inputs.entry.sessions.items)) }
