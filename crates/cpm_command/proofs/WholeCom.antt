@@ -10,7 +10,7 @@ use Rattle.clap.specs.Kinds.{check_kinds}
 use Rattle.clap.specs.Faults.{check_fault, entered_fault, fault_of, level_fault}
 use Rattle.clap.specs.declared.builder.value_parser.ValueParser.TheVariants as parser
 use Rattle.clap.proofs.ValueTestLemmas.{accepts-Accepts}
-use Rattle.cpm_command.specs.CommandLine.{IsCount, IsPick, IsWhole, IsWholeAsm, IsWholeCom, IsWholeList, asm_app, com_app, host_app, list_app, operand, steps_option, z80_flag}
+use Rattle.cpm_command.specs.CommandLine.{IsCount, IsPick, IsWhole, IsWholeAsm, IsWholeCom, IsWholeDebug, IsWholeList, IsWholeRun, asm_app, com_app, debug_app, host_app, list_app, operand, run_app, steps_option, z80_flag}
 use Rattle.cpm_flags.specs.declared.regs.Cpu.TheVariants.{I8080, Z80}
 use Rattle.cpm_command.proofs.FilledRows.{AllFilled, HasText, IsPlain, defaults_have, given_has, plain_by_ids, same_bytes, text_filled}
 use Rattle.cpm_command.proofs.WalkRows.{HasNoShorts, level_checked, level_filled}
@@ -32,12 +32,23 @@ asm_built = leaf asm_app.top
 abbrev list_built : Shape
 list_built = leaf list_app.top
 
-all_subs : host_built.subs ≡ com_built ∷ asm_built ∷ list_built ∷ []
+abbrev run_built : Shape
+run_built = leaf run_app.top
+
+abbrev debug_built : Shape
+debug_built = leaf debug_app.top
+
+all_subs : host_built.subs ≡ com_built ∷ asm_built ∷ list_built ∷ run_built ∷ debug_built ∷ []
 all_subs = refl
 
 com_plain : IsPlain com_built.rules
-com_plain = plain_by_ids com_built.rules refl
-    (record { action = inl refl; values = inl refl }, (record { action = inr refl; values = inr tt }, (record { action = inl refl; values = inl refl }, tt)))
+com_plain = plain_by_ids com_built.rules refl (
+  record { action = inl refl; values = inl refl },
+  (
+    record { action = inr refl; values = inr tt },
+    (record { action = inl refl; values = inl refl }, (record { action = inl refl; values = inl refl }, tt)),
+  ),
+)
 
 com_no_shorts : HasNoShorts com_built.rules
 com_no_shorts x = refl
@@ -142,11 +153,51 @@ asm_whole words e =
       out = subst IsSome (sym (text_filled asm_built.rules asm_plain out_rule (inr (inl refl)) rows all (given_has (codes "out") rows given.1)).first) refl;
     }
 
+run_plain : IsPlain run_built.rules
+run_plain = plain_by_ids run_built.rules refl (record { action = inl refl; values = inl refl }, tt)
+
+run_no_shorts : HasNoShorts run_built.rules
+run_no_shorts x = refl
+
+abbrev config_rule : Rule
+config_rule = with_index 1 (filled (operand (codes "config")))
+
+run_whole : (words : List Text) → level_fault run_built [] nothing_held words false [] ≡ [] → IsWholeRun (rows_after run_built.rules [] words)
+run_whole words e =
+    let rows = rows_after run_built.rules [] words in
+    let all = level_filled run_built run_plain run_no_shorts [] nothing_held words false [] e tt in
+    let checked : check_fault run_built rows false ≡ [] = (level_checked run_built [] nothing_held words false [] e).1 in
+    record {
+      config = subst IsSome (sym (text_filled run_built.rules run_plain config_rule (inl refl) rows all
+          (given_has (codes "config") rows (given_word (is_given (codes "config") rows) checked))).first) refl;
+    }
+
+debug_plain : IsPlain debug_built.rules
+debug_plain = plain_by_ids debug_built.rules refl
+    (record { action = inl refl; values = inl refl }, (record { action = inr refl; values = inr tt }, tt))
+
+debug_no_shorts : HasNoShorts debug_built.rules
+debug_no_shorts x = refl
+
+debug_whole : (words : List Text) → level_fault debug_built [] nothing_held words false [] ≡ [] → IsWholeDebug (rows_after debug_built.rules [] words)
+debug_whole words e =
+    let rows = rows_after debug_built.rules [] words in
+    let settled_rows = (settled debug_built.rules (walk debug_built.rules [] nothing_held words).held).rows in
+    let all = level_filled debug_built debug_plain debug_no_shorts [] nothing_held words false [] e tt in
+    let checked : check_fault debug_built rows false ≡ [] = (level_checked debug_built [] nothing_held words false [] e).1 in
+    record {
+      file = subst IsSome (sym (text_filled debug_built.rules debug_plain file_rule (inl refl) rows all
+          (given_has (codes "file") rows (given_word (is_given (codes "file") rows) checked))).first) refl;
+      z80 = pick_of rows (text_filled debug_built.rules debug_plain z80_rule (inr (inl refl)) rows all
+          (defaults_have debug_built.rules z80_rule (inr (inl refl)) tt settled_rows));
+    }
+
 -- ---- the whole command line
 
 -- the subcommand that a word names, by whether it is the name of each
-abbrev found : Bool → Bool → Bool → Option Shape
-found a b d = cond a (Some com_built) (cond b (Some asm_built) (cond d (Some list_built) None))
+abbrev found : Bool → Bool → Bool → Bool → Bool → Option Shape
+found a b d r g = cond a (Some com_built) (cond b (Some asm_built) (cond d (Some list_built)
+    (cond r (Some run_built) (cond g (Some debug_built) None))))
 
 -- words with no fault name a subcommand, and give it whole entries
 pub faultless_whole : (words : List Text) → fault_of host_app words ≡ [] → IsWhole (subcommand_of host_app words)
@@ -160,14 +211,17 @@ faultless_whole words e =
     has true h = refl
     has false h = absurd (let bad : ⊥ = cc in bad)
 
-    named : (p : Text × List Text) (a b d : Bool) → is_some (option_map (λ s. rows_at s p.1) (found a b d)) ≡ true
-        → option_map_or (λ s. level_fault s [] nothing_held p.1 false []) (found a b d) [] ≡ []
-        → IsWhole (option_map (λ s. rows_at s p.1) (found a b d))
-    named p true b d some h = inl (refl, com_whole p.1 h)
-    named p false true d some h = inr (inl (refl, asm_whole p.1 h))
-    named p false false true some h = inr (inr (refl, list_whole p.1 h))
-    named p false false false some h = absurd (true≢false (sym some))
+    named : (p : Text × List Text) (a b d r g : Bool) → is_some (option_map (λ s. rows_at s p.1) (found a b d r g)) ≡ true
+        → option_map_or (λ s. level_fault s [] nothing_held p.1 false []) (found a b d r g) [] ≡ []
+        → IsWhole (option_map (λ s. rows_at s p.1) (found a b d r g))
+    named p true b d r g some h = inl (refl, com_whole p.1 h)
+    named p false true d r g some h = inr (inl (refl, asm_whole p.1 h))
+    named p false false true r g some h = inr (inr (inl (refl, list_whole p.1 h)))
+    named p false false false true g some h = inr (inr (inr (inl (refl, run_whole p.1 h))))
+    named p false false false false true some h = inr (inr (inr (inr (refl, debug_whole p.1 h))))
+    named p false false false false false some h = absurd (true≢false (sym some))
 
     go : (at : Option (Text × List Text)) → is_some (entered host_built at) ≡ true → entered_fault host_built at ≡ [] → IsWhole (entered host_built at)
     go None some h = absurd (true≢false (sym some))
-    go (Some p) some h = named p (answers_to p.0 (label_of com_built)) (answers_to p.0 (label_of asm_built)) (answers_to p.0 (label_of list_built)) some h
+    go (Some p) some h = named p (answers_to p.0 (label_of com_built)) (answers_to p.0 (label_of asm_built)) (answers_to p.0 (label_of list_built))
+        (answers_to p.0 (label_of run_built)) (answers_to p.0 (label_of debug_built)) some h

@@ -1,5 +1,5 @@
 -- The program's subcommands, and the task that a subcommand's entries give.
-use Rattle.std.specs.Prelude.{◌≡◌, ◌⊎◌, ◌∷◌, [], ◌^◌, ◌<◌, IsSome, IsSomeAnd, ℕ, List, Option, Some, true, false, codes}
+use Rattle.std.specs.Prelude.{◌≡◌, ◌⊎◌, ◌∷◌, [], ◌^◌, ◌<◌, IsSome, IsSomeAnd, ℕ, List, Option, Some, option_map, true, false, codes}
 use Rattle.std.specs.Str.Parse.{IsNumeral, digits_value, without_leading_plus}
 use Rattle.clap.specs.Words.{App, Row, Rule, Text, app_of, first_of, new_app, new_rule, one_of, rule_of, with_rule, with_subcommand}
 use Rattle.clap.specs.declared.builder.action.ArgAction.TheVariants.{SetTrue}
@@ -10,7 +10,7 @@ use Rattle.clap.specs.declared.builder.value_parser.ValueParser.TheVariants as p
 use Rattle.cpm_flags.specs.declared.regs.Cpu.{Cpu}
 use Rattle.cpm_flags.specs.declared.regs.Cpu.TheVariants.{I8080, Z80}
 use Rattle.cpm_command.specs.declared.task.Task.{Task}
-use Rattle.cpm_command.specs.declared.task.Task.TheVariants.{Asm, Com, List as Listing}
+use Rattle.cpm_command.specs.declared.task.Task.TheVariants.{Asm, Com, Debug, List as Listing, Run}
 
 -- a word that has to be there, with a name in usage
 abbrev pub operand : List ℕ → Rule
@@ -29,12 +29,16 @@ steps_option = record (new_rule (codes "steps")) {
   defaults = codes "1000000" ∷ [];
 }
 
+-- `--keys SCRIPT`, which may be left out
+abbrev pub keys_option : Rule
+keys_option = record (new_rule (codes "keys")) { long = Some (codes "keys"); value_names = 1 }
+
 -- ---- the subcommands
 
--- `com FILE [--z80] [--steps N]`
+-- `com FILE [--z80] [--steps N] [--keys SCRIPT]`
 abbrev pub com_app : App
-com_app = with_rule
-    (with_rule (with_rule (new_app (codes "com")) (operand (codes "file"))) z80_flag) steps_option
+com_app = with_rule (with_rule
+    (with_rule (with_rule (new_app (codes "com")) (operand (codes "file"))) z80_flag) steps_option) keys_option
 
 -- `asm SOURCE OUT`
 abbrev pub asm_app : App
@@ -43,6 +47,14 @@ asm_app = with_rule (with_rule (new_app (codes "asm")) (operand (codes "source")
 -- `list FILE`
 abbrev pub list_app : App
 list_app = with_rule (new_app (codes "list")) (operand (codes "file"))
+
+-- `run CONFIG`
+abbrev pub run_app : App
+run_app = with_rule (new_app (codes "run")) (operand (codes "config"))
+
+-- `debug FILE [--z80]`
+abbrev pub debug_app : App
+debug_app = with_rule (with_rule (new_app (codes "debug")) (operand (codes "file"))) z80_flag
 
 -- the program's command without its subcommands: it wants one, and adds no help of its own
 abbrev pub top_app : App
@@ -55,7 +67,8 @@ top_app = record (new_app (codes "cpmhost")) {
 }
 
 abbrev pub host_app : App
-host_app = with_subcommand (with_subcommand (with_subcommand top_app com_app.top) asm_app.top) list_app.top
+host_app = with_subcommand (with_subcommand (with_subcommand (with_subcommand (with_subcommand top_app
+    com_app.top) asm_app.top) list_app.top) run_app.top) debug_app.top
 
 -- an argument of clap with this rule, which is the command's own
 pub record IsArgumentOf (r : Rule) (a : Arg) : Type 0 where
@@ -83,15 +96,21 @@ flag_text Z80 = codes "true"
 
 -- the task has what the entries of the subcommand of this name give
 abbrev pub HasEntriesOf : Text × List Row → Task → Type 0
-HasEntriesOf given (Com file cpu steps) =
+HasEntriesOf given (Com file cpu steps keys) =
     (given.0 ≡ codes "com") × (first_of (codes "file") given.1 ≡ Some file.now)
     × (one_of (codes "z80") given.1 ≡ Some (flag_text cpu))
     × ReadsCount (one_of (codes "steps") given.1) steps
+    × (first_of (codes "keys") given.1 ≡ option_map (λ t. t.now) keys)
 HasEntriesOf given (Asm source out) =
     (given.0 ≡ codes "asm") × (first_of (codes "source") given.1 ≡ Some source.now)
     × (first_of (codes "out") given.1 ≡ Some out.now)
 HasEntriesOf given (Listing file) =
     (given.0 ≡ codes "list") × (first_of (codes "file") given.1 ≡ Some file.now)
+HasEntriesOf given (Run config) =
+    (given.0 ≡ codes "run") × (first_of (codes "config") given.1 ≡ Some config.now)
+HasEntriesOf given (Debug file cpu) =
+    (given.0 ≡ codes "debug") × (first_of (codes "file") given.1 ≡ Some file.now)
+    × (one_of (codes "z80") given.1 ≡ Some (flag_text cpu))
 
 -- ---- entries that make a task
 
@@ -122,10 +141,20 @@ pub record IsWholeAsm (rows : List Row) : Type 0 where
 pub record IsWholeList (rows : List Row) : Type 0 where
   pub file : IsSome (first_of (codes "file") rows)
 
+-- the entries of `run` are whole
+pub record IsWholeRun (rows : List Row) : Type 0 where
+  pub config : IsSome (first_of (codes "config") rows)
+
+-- the entries of `debug` are whole
+pub record IsWholeDebug (rows : List Row) : Type 0 where
+  pub file : IsSome (first_of (codes "file") rows)
+  pub z80 : IsPick (one_of (codes "z80") rows)
+
 -- the entries are whole as those of the subcommand of this name
 abbrev pub IsWholeOf : Text × List Row → Type 0
 IsWholeOf p = ((p.0 ≡ codes "com") × IsWholeCom p.1) ⊎ ((p.0 ≡ codes "asm") × IsWholeAsm p.1)
-    ⊎ ((p.0 ≡ codes "list") × IsWholeList p.1)
+    ⊎ ((p.0 ≡ codes "list") × IsWholeList p.1) ⊎ ((p.0 ≡ codes "run") × IsWholeRun p.1)
+    ⊎ ((p.0 ≡ codes "debug") × IsWholeDebug p.1)
 
 -- the subcommand is one of the program's, and its entries are whole
 abbrev pub IsWhole : Option (Text × List Row) → Type 0

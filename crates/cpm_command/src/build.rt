@@ -1,7 +1,7 @@
 //! The command of `clap` that reads the words.
 ghost use Rattle.std.specs.Prelude.{◌≡◌, IfOk};
 ghost use Rattle.clap.specs.Words.{App, Rule, new_app, with_rule, with_subcommand};
-ghost use Rattle.cpm_command.specs.CommandLine.{IsArgumentOf, IsCommandOf, asm_app, com_app, host_app, list_app, operand, steps_option, top_app, z80_flag};
+ghost use Rattle.cpm_command.specs.CommandLine.{IsArgumentOf, IsCommandOf, asm_app, com_app, debug_app, host_app, keys_option, list_app, operand, run_app, steps_option, top_app, z80_flag};
 
 use clap::{Arg, ArgAction, Command};
 use std::alloc::{AllocError, Global};
@@ -31,6 +31,13 @@ fn steps_argument<'a>(alloc: Global) -> Arg<'a>
         .value_name("N")
         .value_parser(clap::value_parser!(u64))
         .default_value("1000000")
+}
+
+/// `--keys SCRIPT`
+fn keys_argument<'a>(alloc: Global) -> Arg<'a>
+    ensures { IsArgumentOf keys_option result }
+{
+    Arg::new(alloc, "keys").long("keys").value_name("SCRIPT")
 }
 
 /// A subcommand with no argument yet.
@@ -67,13 +74,14 @@ fn with_command<'a>(command: Command<'a>, inner: Command<'a>) -> Result<Command<
     command.subcommand(inner)
 }
 
-/// `com FILE [--z80] [--steps N]`
+/// `com FILE [--z80] [--steps N] [--keys SCRIPT]`
 fn com_command<'a>(alloc: Global) -> Result<Command<'a>, AllocError>
     ensures { IfOk result (IsCommandOf com_app) }
 {
     let with_file = with_argument(named(alloc, "com"), required_word(alloc, "file", "FILE"))?;
     let with_flag = with_argument(with_file, z80_argument(alloc))?;
-    with_argument(with_flag, steps_argument(alloc))
+    let with_steps = with_argument(with_flag, steps_argument(alloc))?;
+    with_argument(with_steps, keys_argument(alloc))
 }
 
 /// `asm SOURCE OUT`
@@ -94,11 +102,31 @@ fn list_command<'a>(alloc: Global) -> Result<Command<'a>, AllocError>
     with_argument(named(alloc, "list"), required_word(alloc, "file", "FILE"))
 }
 
+/// `run CONFIG`
+fn run_command<'a>(alloc: Global) -> Result<Command<'a>, AllocError>
+    ensures { IfOk result (IsCommandOf run_app) }
+{
+    with_argument(
+        named(alloc, "run"),
+        required_word(alloc, "config", "CONFIG"),
+    )
+}
+
+/// `debug FILE [--z80]`
+fn debug_command<'a>(alloc: Global) -> Result<Command<'a>, AllocError>
+    ensures { IfOk result (IsCommandOf debug_app) }
+{
+    let with_file = with_argument(named(alloc, "debug"), required_word(alloc, "file", "FILE"))?;
+    with_argument(with_file, z80_argument(alloc))
+}
+
 /// The program's command, with its subcommands.
 pub(crate) fn host_command<'a>(alloc: Global) -> Result<Command<'a>, AllocError>
     ensures { IfOk result (IsCommandOf host_app) }
 {
     let with_com = with_command(top_command(alloc), com_command(alloc)?)?;
     let with_asm = with_command(with_com, asm_command(alloc)?)?;
-    with_command(with_asm, list_command(alloc)?)
+    let with_list = with_command(with_asm, list_command(alloc)?)?;
+    let with_run = with_command(with_list, run_command(alloc)?)?;
+    with_command(with_run, debug_command(alloc)?)
 }

@@ -1,7 +1,7 @@
 //! Reading the entries that a command line gave.
-ghost use Rattle.std.specs.Prelude.{◌≡◌, [], IfOk, IfErr, IsSomeAnd, IsSome, Some, codes, map, true};
+ghost use Rattle.std.specs.Prelude.{◌≡◌, [], IfOk, IfErr, IsSomeAnd, IsSome, Some, codes, map, option_map, true};
 ghost use Rattle.clap.specs.Words.{fault_of, first_of, found_of, one_of, rows_of, subcommand_of, subcommand_rows_of, takes};
-ghost use Rattle.cpm_command.specs.CommandLine.{HasEntriesOf, IsCount, IsPick, IsWhole, IsWholeAsm, IsWholeCom, IsWholeList, IsWholeOf, ReadsCount, flag_text, host_app};
+ghost use Rattle.cpm_command.specs.CommandLine.{HasEntriesOf, IsCount, IsPick, IsWhole, IsWholeAsm, IsWholeCom, IsWholeDebug, IsWholeList, IsWholeOf, IsWholeRun, ReadsCount, flag_text, host_app};
 ghost use Rattle.cpm_command.specs.Refusals.{IsRefusalOf};
 
 use crate::build::host_command;
@@ -17,6 +17,13 @@ fn text_of<'a>(matches: &ArgMatches<'a>, id: &str) -> &'a str
     ensures { first_of id.now (rows_of (found_of matches.now)) ≡ Some result.now }
 {
     matches.get_str(id).unwrap()
+}
+
+/// The text of an argument that may be left out.
+fn text_if_any<'a>(matches: &ArgMatches<'a>, id: &str) -> Option<&'a str>
+    ensures { first_of id.now (rows_of (found_of matches.now)) ≡ option_map (λ t. t.now) result }
+{
+    matches.get_str(id)
 }
 
 /// The processor that the flag picks.
@@ -48,6 +55,7 @@ fn com_task<'a>(matches: &ArgMatches<'a>) -> Task<'a>
         file: text_of(matches, "file"),
         cpu: cpu_of(matches),
         steps: steps_of(matches),
+        keys: text_if_any(matches, "keys"),
     }
 }
 
@@ -72,6 +80,28 @@ fn list_task<'a>(matches: &ArgMatches<'a>) -> Task<'a>
     }
 }
 
+/// The task of `run`.
+fn run_task<'a>(matches: &ArgMatches<'a>) -> Task<'a>
+    requires { IsWholeRun (rows_of (found_of matches.now)) }
+    ensures { HasEntriesOf (codes "run", rows_of (found_of matches.now)) result }
+{
+    Task::Run {
+        config: text_of(matches, "config"),
+    }
+}
+
+/// The task of `debug`.
+fn debug_task<'a>(matches: &ArgMatches<'a>) -> Task<'a>
+    requires { IsWholeDebug (rows_of (found_of matches.now)) }
+    ensures { HasEntriesOf (codes "debug", rows_of (found_of matches.now)) result }
+{
+    let cpu = cpu_of(matches);
+    Task::Debug {
+        file: text_of(matches, "file"),
+        cpu,
+    }
+}
+
 /// The task of a subcommand's entries.
 fn task_named<'a>(name: &str, matches: &ArgMatches<'a>) -> Task<'a>
     requires { IsWholeOf (name.now, rows_of (found_of matches.now)) }
@@ -80,7 +110,9 @@ fn task_named<'a>(name: &str, matches: &ArgMatches<'a>) -> Task<'a>
     match name {
         "com" => com_task(matches),
         "asm" => asm_task(matches),
-        _ => list_task(matches),
+        "list" => list_task(matches),
+        "run" => run_task(matches),
+        _ => debug_task(matches),
     }
 }
 

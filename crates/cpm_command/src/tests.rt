@@ -32,6 +32,7 @@ fn takes_a_file_and_steps(rt: HostRuntime) {
             file: "a.com",
             cpu: Cpu::I8080,
             steps,
+            keys: None,
         });
         assert_eq!(rt; command(rt.alloc(), words), wanted, "at {words:?}");
     }
@@ -79,7 +80,56 @@ fn takes_a_processor(rt: HostRuntime) {
         ),
     ];
     for (words, file, cpu, steps) in lines {
-        let wanted = Ok(Task::Com { file, cpu, steps });
+        let wanted = Ok(Task::Com {
+            file,
+            cpu,
+            steps,
+            keys: None,
+        });
+        assert_eq!(rt; command(rt.alloc(), words), wanted, "at {words:?}");
+    }
+}
+
+#[test]
+fn takes_a_key_script(rt: HostRuntime) {
+    let lines: [&[&str]; 4] = [
+        &["cpmhost", "com", "a.com", "--keys", "a.keys"],
+        &["cpmhost", "com", "--keys", "a.keys", "a.com"],
+        &["cpmhost", "com", "--keys=a.keys", "--", "a.com"],
+        &[
+            "cpmhost",
+            "com",
+            "--steps=1000000",
+            "--keys=a.keys",
+            "a.com",
+        ],
+    ];
+    for words in lines {
+        let wanted = Ok(Task::Com {
+            file: "a.com",
+            cpu: Cpu::I8080,
+            steps: 1_000_000,
+            keys: Some("a.keys"),
+        });
+        assert_eq!(rt; command(rt.alloc(), words), wanted, "at {words:?}");
+    }
+}
+
+#[test]
+fn takes_a_configuration(rt: HostRuntime) {
+    let wanted = Ok(Task::Run { config: "a.toml" });
+    assert_eq!(rt; command(rt.alloc(), &["cpmhost", "run", "a.toml"]), wanted);
+}
+
+#[test]
+fn takes_a_program_to_debug(rt: HostRuntime) {
+    let lines: [(&[&str], Cpu); 3] = [
+        (&["cpmhost", "debug", "a.com"], Cpu::I8080),
+        (&["cpmhost", "debug", "a.com", "--z80"], Cpu::Z80),
+        (&["cpmhost", "debug", "--z80", "a.com"], Cpu::Z80),
+    ];
+    for (words, cpu) in lines {
+        let wanted = Ok(Task::Debug { file: "a.com", cpu });
         assert_eq!(rt; command(rt.alloc(), words), wanted, "at {words:?}");
     }
 }
@@ -102,7 +152,7 @@ fn takes_a_source_and_a_file_to_list(rt: HostRuntime) {
 fn names_what_is_wrong(rt: HostRuntime) {
     let number =
         "for '--steps': a number from 0 to 18446744073709551615 is wanted; try 'cpmhost --help'";
-    let lines: [(&[&str], &str, &str); 28] = [
+    let lines: [(&[&str], &str, &str); 35] = [
         (
             &[],
             "no command was given; try 'cpmhost com FILE' or 'cpmhost --help'",
@@ -243,6 +293,41 @@ fn names_what_is_wrong(rt: HostRuntime) {
             "unexpected argument 'b'; try 'cpmhost --help'",
             "",
         ),
+        (
+            &["cpmhost", "com", "a", "--keys"],
+            "a value is wanted for '--keys <SCRIPT>'; try 'cpmhost --help'",
+            "",
+        ),
+        (
+            &["cpmhost", "com", "a", "--keys=b", "--keys=c"],
+            "the argument '--keys <SCRIPT>' was given twice; try 'cpmhost --help'",
+            "",
+        ),
+        (
+            &["cpmhost", "run"],
+            "the argument <CONFIG> is missing; try 'cpmhost --help'",
+            "",
+        ),
+        (
+            &["cpmhost", "run", "a", "b"],
+            "unexpected argument 'b'; try 'cpmhost --help'",
+            "",
+        ),
+        (
+            &["cpmhost", "run", "a", "--keys", "b"],
+            "unexpected argument '--keys'; try 'cpmhost --help'",
+            "",
+        ),
+        (
+            &["cpmhost", "debug", "--z80"],
+            "the argument <FILE> is missing; try 'cpmhost --help'",
+            "",
+        ),
+        (
+            &["cpmhost", "debug", "a", "--steps", "5"],
+            "unexpected argument '--steps'; try 'cpmhost --help'",
+            "",
+        ),
     ];
     for (words, first, second) in lines {
         let shown = refusal(&rt, words);
@@ -266,10 +351,13 @@ fn cuts_a_long_word(rt: HostRuntime) {
 
 #[test]
 fn knows_who_asks_for_help(rt: HostRuntime) {
-    let lines: [(&[&str], bool); 20] = [
+    let lines: [(&[&str], bool); 23] = [
         (&["cpmhost", "asm", "--help"], true),
         (&["cpmhost", "list", "help"], true),
         (&["cpmhost", "list", "a.com", "help"], false),
+        (&["cpmhost", "run", "--help"], true),
+        (&["cpmhost", "debug", "help"], true),
+        (&["cpmhost", "run", "a.toml", "help"], false),
         (&["cpmhost", "help"], true),
         (&["cpmhost", "-h"], true),
         (&["cpmhost", "--help"], true),

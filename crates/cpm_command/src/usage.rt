@@ -9,7 +9,10 @@ pub const HELP_TEXT: &str = "\
 cpmhost runs CP/M 2.2 programs for the 8080 and the Z80 processor.
 
 Usage:
-  cpmhost com FILE [--z80] [--steps N]
+  cpmhost run CONFIG
+                   run the sessions of the configuration in CONFIG by turns,
+                   write their files, and print how each session ended
+  cpmhost com FILE [--z80] [--steps N] [--keys SCRIPT]
                    run the CP/M program in FILE, such as a .COM file, and print
                    what it writes to its console
   cpmhost asm SOURCE OUT
@@ -17,18 +20,37 @@ Usage:
                    which begins at 0100h, to the file OUT
   cpmhost list FILE
                    list the program in FILE as instructions of the 8080
+  cpmhost debug FILE [--z80]
+                   run the program in FILE as the lines of standard input say
   cpmhost --help   print this help
 
-Options of com:
+Options of com, and --z80 of debug:
   --z80       run it on the Z80; it runs on the 8080 unless this is given
   --steps N   stop after N steps: N is a number from 0 to 18446744073709551615,
               and 1000000 where it is left out; a step is an instruction, or a
               part of a system call
+  --keys SCRIPT
+              press the keys of SCRIPT, each line of which is empty, a comment
+              that begins with '#', or a count of steps, a space and the keys
+              that come after so many steps: a character from ' ' to '~' is
+              itself, '^M' is Return, '^C' is Control and C, '^?' is Rubout,
+              and '^~' is a caret
+
+Lines that debug reads, where HHHH is an address of four hexadecimal digits:
+  S N         make N steps
+  G HHHH N    make N steps, but stop before an instruction at HHHH
+  D HHHH      show 16 bytes of the memory
+  L HHHH      show an instruction
+  R           show the registers
+  K KEYS      press keys, written as in a key script
+  O           show what the console got
+  Q           end
 
 Examples:
+  cpmhost run lab.toml
   cpmhost com hello.com
   cpmhost com life.com --steps 50000000 > life.txt
-  cpmhost com turbo.com --z80
+  cpmhost com turbo.com --z80 --keys turbo.keys
   cpmhost asm hello.asm hello.com
   cpmhost list hello.com
 
@@ -40,14 +62,24 @@ program counter then stood, as in 'end Exited count 7 pc E406':
   Illegal   it came to an opcode that the processor does not have
   Running   it was cut off by --steps
 
+For run, a line on standard output says for each session its name, how it
+ended, after how many steps, and how many bytes its console got. Beside the
+ends above a session can end by Quota: it might have written more pages of
+memory than its configuration allows.
+
 Exit status:
-  0   the program ran, however it ended, or OUT or the list was written
+  0   the program or the sessions ran, however they ended, or OUT or the list
+      was written
   1   the command line is wrong
-  4   FILE or SOURCE can't be read, or has more than 16777216 bytes
-  5   standard output or OUT can't be written
+  2   the configuration is wrong; nothing is written
+  3   a line of a key script is wrong; nothing is written
+  4   a file can't be read, or has more than 16777216 bytes
+  5   standard output or a file can't be written
+  6   the image of a drive is wrong; nothing is written
   7   SOURCE has a fault, which is named with its line; OUT isn't touched
   8   memory ran out
-  9   the program in FILE has more than 58112 bytes
+  9   the program in FILE has more than 58112 bytes, or the quotas of all
+      sessions exceed the frames of the configuration
 
 A file whose name is 'help' or begins with '-' is given as './NAME'.
 ";
@@ -63,7 +95,7 @@ fn is_flag(word: &str) -> bool
 fn is_command(word: &str) -> bool
     ensures { result ≡ is_command_name word.now }
 {
-    word == "com" || word == "asm" || word == "list"
+    word == "com" || word == "asm" || word == "list" || word == "run" || word == "debug"
 }
 
 /// Whether a flag for help stands before any `--`.

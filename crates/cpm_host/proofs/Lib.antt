@@ -1,3 +1,7 @@
+pub mod ComLemmas
+pub mod FinishLemmas
 pub mod InputLemmas
 pub mod ListLemmas
-pub mod TurnLemmas
+pub mod PlayLemmas
+pub mod RunLemmas
+pub mod ScriptLemmas

@@ -1,4 +1,6 @@
 pub mod Asm
 pub mod Com
 pub mod Listing
+pub mod Playing
 pub mod Refusals
+pub mod Run

@@ -3,7 +3,12 @@ use Rattle.std.specs.Prelude.{⊤, ℕ}
 use Rattle.cpm_command.specs.declared.fault.UsageError.{UsageError}
 use Rattle.cpm_command.specs.declared.fault.UsageError.TheVariants as usage
 use Rattle.cpm_host.specs.declared.error.HostError.{HostError}
-use Rattle.cpm_host.specs.declared.error.HostError.TheVariants.{Usage, NotText, FileUnreadable, FileUnwritable, OutputUnwritable, SourceRefused, OutOfMemory, OpeningRefused, ProgramTooLong}
+use Rattle.cpm_host.specs.declared.error.HostError.TheVariants.{Usage, NotText, ConfigRefused, FileRefused, FileUnreadable, FileUnwritable, OutputUnwritable, SessionRefused, SourceRefused, OutOfMemory, OpeningRefused, ProgramTooLong, WriteFault}
+use Rattle.cpm_batch.specs.Inputs.{status_of_reading}
+use Rattle.cpm_batch.specs.declared.error.ReadError.{ReadError}
+use Rattle.cpm_batch.specs.declared.error.ReadError.TheVariants as read
+use Rattle.cpm_config.specs.declared.fault.ConfigError.{ConfigError}
+use Rattle.cpm_config.specs.declared.fault.ConfigError.TheVariants as config
 use Rattle.cpm_slots.specs.declared.opening.OpenError.{OpenError}
 use Rattle.cpm_slots.specs.declared.opening.OpenError.TheVariants as opening
 
@@ -11,12 +16,16 @@ use Rattle.cpm_slots.specs.declared.opening.OpenError.TheVariants as opening
 abbrev pub status_of : HostError → ℕ
 status_of (Usage fault) = 1
 status_of NotText = 1
+status_of (ConfigRefused fault) = 2
+status_of (FileRefused e) = status_of_reading e
 status_of (FileUnreadable name reason) = 4
 status_of (OutputUnwritable reason) = 5
 status_of (FileUnwritable name reason) = 5
+status_of (WriteFault name) = 5
 status_of (SourceRefused line kind found) = 7
 status_of OutOfMemory = 8
 status_of (OpeningRefused fault) = 9
+status_of (SessionRefused name fault) = 9
 status_of (ProgramTooLong count) = 9
 
 -- what a file that is not read comes to
@@ -40,6 +49,21 @@ IsWordRefusal _ = ⊥
 abbrev pub host_error_of : UsageError → HostError
 host_error_of (usage.Usage fault) = Usage fault
 host_error_of usage.OutOfMemory = OutOfMemory
+
+-- what a refused configuration comes to
+abbrev pub host_error_of_config : ConfigError → HostError
+host_error_of_config (config.Text line fault) = ConfigRefused (config.Text line fault)
+host_error_of_config (config.Key fault) = ConfigRefused (config.Key fault)
+host_error_of_config (config.Range place) = ConfigRefused (config.Range place)
+host_error_of_config (config.Twice place) = ConfigRefused (config.Twice place)
+host_error_of_config config.OutOfMemory = OutOfMemory
+
+-- what a refused file of a run comes to
+abbrev pub host_error_of_reading : ReadError → HostError
+host_error_of_reading (read.File name) = FileRefused (read.File name)
+host_error_of_reading (read.Image name count) = FileRefused (read.Image name count)
+host_error_of_reading (read.Script name line fault) = FileRefused (read.Script name line fault)
+host_error_of_reading read.OutOfMemory = OutOfMemory
 
 -- what a refused opening comes to
 abbrev pub host_error_of_opening : OpenError → HostError

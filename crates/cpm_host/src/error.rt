@@ -1,10 +1,12 @@
 //! Why a command is refused.
 ghost use Rattle.std.specs.Prelude.{◌≡◌};
 ghost use Rattle.cpm_host.specs.declared.error.HostError.TheVariants.{OutOfMemory};
-ghost use Rattle.cpm_host.specs.Refusals.{status_of, host_error_of, host_error_of_opening};
+ghost use Rattle.cpm_host.specs.Refusals.{status_of, host_error_of, host_error_of_config, host_error_of_opening, host_error_of_reading};
 
 use cpm_asm::AsmErrorKind;
+use cpm_batch::ReadError;
 use cpm_command::{Fault, UsageError, Word};
+use cpm_config::ConfigError;
 use cpm_slots::OpenError;
 use std::alloc::{AllocError, AllocFailed};
 use std::io;
@@ -19,6 +21,12 @@ pub enum HostError {
     /// A word of the command line is no text.
     #[error("HO1 an argument is not UTF-8 text; try 'cpmhost --help'")]
     NotText,
+    /// The configuration is refused.
+    #[error("HO2 {0}")]
+    ConfigRefused(ConfigError),
+    /// A file of a run is refused: HO3 a key script, HO4 what can't be read, HO6 an image.
+    #[error("{0}")]
+    FileRefused(ReadError),
     /// A file can't be read.
     #[error("HO4 can't read '{name}': {reason}")]
     FileUnreadable {
@@ -34,6 +42,9 @@ pub enum HostError {
         name: Word,
         reason: io::Error,
     },
+    /// A file of a run can't be written.
+    #[error("HO5 can't write '{0}'")]
+    WriteFault(Word),
     /// The source has a fault in this line, where this was found.
     #[error("HO7 line {line}, '{found}': {kind}")]
     SourceRefused {
@@ -47,6 +58,9 @@ pub enum HostError {
     /// The machine can't be made so.
     #[error("HO9 {0}")]
     OpeningRefused(OpenError),
+    /// The session of this name can't be opened so.
+    #[error("HO9 session '{name}': {fault}")]
+    SessionRefused { name: Word, fault: OpenError },
     /// The program has this many bytes, which is more than a machine takes.
     #[error("HO9 the program has {0} bytes, and a machine takes at most 58112")]
     ProgramTooLong(usize),
@@ -59,11 +73,17 @@ impl HostError {
     {
         match self {
             HostError::Usage(_) | HostError::NotText => 1,
+            HostError::ConfigRefused(_) => 2,
+            HostError::FileRefused(error) => error.status(),
             HostError::FileUnreadable { .. } => 4,
-            HostError::OutputUnwritable(_) | HostError::FileUnwritable { .. } => 5,
+            HostError::OutputUnwritable(_)
+            | HostError::FileUnwritable { .. }
+            | HostError::WriteFault(_) => 5,
             HostError::SourceRefused { .. } => 7,
             HostError::OutOfMemory => 8,
-            HostError::OpeningRefused(_) | HostError::ProgramTooLong(_) => 9,
+            HostError::OpeningRefused(_)
+            | HostError::SessionRefused { .. }
+            | HostError::ProgramTooLong(_) => 9,
         }
     }
 }
@@ -75,6 +95,28 @@ impl From<UsageError> for HostError {
         match error {
             UsageError::Usage(fault) => HostError::Usage(fault),
             UsageError::OutOfMemory => HostError::OutOfMemory,
+        }
+    }
+}
+
+impl From<ConfigError> for HostError {
+    ghost from_gives = { λ c e. e ≡ host_error_of_config c };
+
+    fn from(error: ConfigError) -> HostError {
+        match error {
+            ConfigError::OutOfMemory => HostError::OutOfMemory,
+            fault => HostError::ConfigRefused(fault),
+        }
+    }
+}
+
+impl From<ReadError> for HostError {
+    ghost from_gives = { λ r e. e ≡ host_error_of_reading r };
+
+    fn from(error: ReadError) -> HostError {
+        match error {
+            ReadError::OutOfMemory => HostError::OutOfMemory,
+            fault => HostError::FileRefused(fault),
         }
     }
 }

@@ -8,15 +8,25 @@ mod ending;
 mod error;
 mod input;
 mod list;
-mod turns;
+mod play;
+mod report;
+mod run;
 
 pub use asm::run_asm;
-pub use com::run_com;
+pub use com::{Script, run_com};
+pub use cpm_batch::ReadError;
 pub use cpm_command::{Fault, HELP_TEXT, Task, UsageError, Word, command, help, shown};
+pub use cpm_config::{Config, ConfigError, Session};
+pub use cpm_script::{Key, LineFault, ScriptError, read_keys};
+pub use cpm_store::{MemoryStore, Store, StoreError};
 pub use ending::Ending;
 pub use error::HostError;
 pub use input::{MOST_FILE, read_whole};
 pub use list::run_list;
+pub use report::{Report, SessionReport};
+pub use run::run_host;
 
+#[cfg(test)]
+mod run_tests;
 #[cfg(test)]
 mod tests;

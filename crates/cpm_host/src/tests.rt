@@ -3,7 +3,8 @@
 ghost use Rattle.std.specs.Prelude.{Some};
 
 use crate::{
-    Ending, Fault, HostError, MOST_FILE, UsageError, read_whole, run_asm, run_com, run_list, shown,
+    Ending, Fault, HostError, MOST_FILE, Script, UsageError, read_whole, run_asm, run_com, run_list,
+    shown,
 };
 use cpm_asm::AsmErrorKind;
 use cpm_flags::Cpu;
@@ -71,7 +72,7 @@ fn ending(
     steps: u64,
     out: &mut Recorder,
 ) -> Ending {
-    match run_com(rt.alloc(), Cpu::I8080, copied(rt, program), steps, out) {
+    match run_com(rt.alloc(), Cpu::I8080, copied(rt, program), None, steps, out) {
         Ok(ending) => ending,
         Err(error) => panic!(rt; "refused: {error}"),
     }
@@ -79,7 +80,7 @@ fn ending(
 
 /// Why a program is refused.
 fn refusal(rt: &(impl Abort + AllocGlobal), program: &[u8], out: &mut Recorder) -> HostError {
-    match run_com(rt.alloc(), Cpu::I8080, copied(rt, program), 1_000_000, out) {
+    match run_com(rt.alloc(), Cpu::I8080, copied(rt, program), None, 1_000_000, out) {
         Ok(ending) => panic!(rt; "taken: {ending}"),
         Err(error) => error,
     }
@@ -161,6 +162,51 @@ fn refuses_a_program_that_is_too_long(rt: HostRuntime) {
     assert_eq!(rt; out.bytes.len(), 0);
     let end = ending(&rt, &bytes.as_slice()[1..], 10, &mut out);
     assert_eq!(rt; end.count, 10);
+}
+
+/// How a program with a key script ends, or why it is refused.
+fn with_script(
+    rt: &(impl Abort + AllocGlobal),
+    program: &[u8],
+    text: &[u8],
+    out: &mut Recorder,
+) -> String {
+    let script = Some(Script {
+        name: "a.keys",
+        text,
+    });
+    let shown = match run_com(rt.alloc(), Cpu::I8080, copied(rt, program), script, 1_000_000, out) {
+        Ok(ending) => ending.to_string(rt.alloc()),
+        Err(error) => error.to_string(rt.alloc()),
+    };
+    shown.expect(rt, "memory")
+}
+
+/// Waits for a key by function 11, and reads it by function 1.
+const KEY: &[u8] = &[
+    0x0E, 0x0B, 0xCD, 0x05, 0x00, 0xB7, 0xCA, 0x00, 0x01, 0x0E, 0x01, 0xCD, 0x05, 0x00, 0xC9,
+];
+
+#[test]
+fn presses_the_keys_of_a_script(rt: HostRuntime) {
+    let mut out = Recorder::new(rt.alloc());
+    let end = with_script(&rt, KEY, b"# a key\n1000 x\n", &mut out);
+    assert_eq!(rt; end.as_str(), "end Exited count 1014 pc E406");
+    assert_eq!(rt; out.bytes.as_slice(), b"x".as_slice());
+}
+
+#[test]
+fn refuses_a_script_behind_a_program_that_is_too_long(rt: HostRuntime) {
+    let mut out = Recorder::new(rt.alloc());
+    let shown = with_script(&rt, KEY, b"5 A\n4 B\n", &mut out);
+    let wanted = "HO3 'a.keys', line 2: the count is less than the one before it";
+    assert_eq!(rt; shown.as_str(), wanted);
+    let mut long = Vec::new(rt.alloc());
+    long.resize(58_113, 0).expect(&rt, "memory");
+    let shown = with_script(&rt, long.as_slice(), b"x", &mut out);
+    let wanted = "HO9 the program has 58113 bytes, and a machine takes at most 58112";
+    assert_eq!(rt; shown.as_str(), wanted);
+    assert_eq!(rt; out.bytes.len(), 0);
 }
 
 #[test]

@@ -1,11 +1,21 @@
 //! The files of the machine that the program runs on.
-ghost use Rattle.std.specs.Prelude.{◌≤◌, IfErr, IfOk, vec_len};
+ghost use Rattle.std.specs.Prelude.{◌≡◌, ◌≤◌, None, IfErr, IfOk, vec_len};
 ghost use Rattle.cpm_host.specs.Refusals.{IsFileRefusal, IsOutRefusal};
+ghost use Rattle.cpm_store.specs.Files.{CountsFailure};
 
-use cpm_host::{HostError, read_whole, shown};
+use cpm_host::{HostError, Store, StoreError, read_whole, shown};
+use std::alloc::Global;
 use std::io::ErrorKind;
 use std::rt::Files;
 use std::{fs, io};
+
+/// All bytes of a file.
+fn whole_file(rt: &impl Files, alloc: Global, name: &str) -> io::Result<Vec<u8>>
+    ensures small { IfOk result (λ bytes. vec_len bytes ≤ 16777216) }
+{
+    let mut file = fs::open(rt, name)?;
+    read_whole(alloc, &mut file)
+}
 
 /// All bytes of a file. It fails where the file can't be read, or has more than 16,777,216 bytes, and
 /// for want of memory.
@@ -13,11 +23,7 @@ pub fn read_file(rt: &(impl Files + AllocGlobal), name: &str) -> Result<Vec<u8>,
     ensures small { IfOk result (λ bytes. vec_len bytes ≤ 16777216) }
     ensures refusal { IfErr result IsFileRefusal }
 {
-    let whole = match fs::open(rt, name) {
-        Ok(mut file) => read_whole(rt.alloc(), &mut file),
-        Err(reason) => Err(reason),
-    };
-    whole.map_err(|reason| unreadable(name, reason))
+    whole_file(rt, rt.alloc(), name).map_err(|reason| unreadable(name, reason))
 }
 
 /// Makes a file hold these bytes, which replace all that it held.
@@ -48,5 +54,55 @@ fn unreadable(name: &str, reason: io::Error) -> HostError
             name: shown(name),
             reason,
         }
+    }
+}
+
+/// The files of the machine as a store. It doesn't tell what they hold, since others can write them.
+#[derive(Drop)]
+pub struct MachineFiles<'a, R: Files> {
+    rt: &'a R,
+    failures: u64,
+}
+
+impl<'a, R: Files> MachineFiles<'a, R> {
+    /// The files, of which no call has failed yet.
+    pub fn new(rt: &'a R) -> MachineFiles<'a, R> {
+        MachineFiles { rt, failures: 0 }
+    }
+
+    /// What a call answers that failed so, which is counted but for want of memory.
+    fn fault(&mut self, reason: io::Error) -> StoreError
+        ensures device { result ≡ StoreError.Device → CountsFailure self.old.failures self.new.failures }
+        ensures rises { self.old.failures ≤ self.new.failures }
+    {
+        if reason.kind() == ErrorKind::OutOfMemory {
+            return StoreError::OutOfMemory;
+        }
+        self.failures = self.failures.saturating_add(1);
+        StoreError::Device
+    }
+}
+
+impl<R: Files> Store for MachineFiles<'_, R> {
+    ghost files = { λ _. None };
+
+    ghost failed = { λ s. s.failures };
+
+    fn read(&mut self, alloc: Global, name: &str) -> Result<Vec<u8>, StoreError> {
+        match whole_file(self.rt, alloc, name) {
+            Ok(bytes) => Ok(bytes),
+            Err(reason) => Err(self.fault(reason)),
+        }
+    }
+
+    fn write(&mut self, name: &str, bytes: &[u8]) -> Result<(), StoreError> {
+        match fs::write(self.rt, name, bytes) {
+            Ok(()) => Ok(()),
+            Err(reason) => Err(self.fault(reason)),
+        }
+    }
+
+    fn failures(&self) -> u64 {
+        self.failures
     }
 }

@@ -7,8 +7,10 @@ ghost use Rattle.cpm_host.specs.Refusals.{IsWordRefusal};
 mod files;
 
 use cpm_flags::Cpu;
-use cpm_host::{HostError, Task, command, help, run_asm, run_com, run_list};
-use files::{read_file, write_file};
+use cpm_host::{
+    Config, Fault, HostError, Script, Task, command, help, run_asm, run_com, run_host, run_list, shown,
+};
+use files::{MachineFiles, read_file, write_file};
 use std::env::Env;
 use std::io::{BufWriter, ErrorKind};
 use std::process::ExitCode;
@@ -26,15 +28,38 @@ fn arguments(rt: &(impl Env + AllocGlobal)) -> Result<Vec<String>, HostError>
     }
 }
 
-/// Runs the program in a file, prints what it shows, and then how it ended.
+/// Runs the sessions of the configuration in a file, and prints how each ended.
+fn run_sessions(rt: &(impl Files + Print + AllocGlobal), file: &str) -> Result<(), HostError> {
+    let text = read_file(rt, file)?;
+    let config = Config::read(rt.alloc(), text.as_slice())?;
+    let report = run_host(rt.alloc(), &config, &mut MachineFiles::new(rt))?;
+    for session in &report {
+        println!(rt; "{session}").map_err(HostError::OutputUnwritable)?;
+    }
+    Ok(())
+}
+
+/// Runs the program in a file by the keys of a script, prints what it shows, and then how it ended.
 fn com(
     rt: &(impl Files + Print + Eprint + AllocGlobal),
     file: &str,
     cpu: Cpu,
+    keys: Option<&str>,
     steps: u64,
 ) -> Result<(), HostError> {
     let program = read_file(rt, file)?;
-    let ending = run_com(rt.alloc(), cpu, program, steps, &mut io::writer(rt))?;
+    let text = match keys {
+        Some(name) => Some(read_file(rt, name)?),
+        None => None,
+    };
+    let script = match (keys, &text) {
+        (Some(name), Some(text)) => Some(Script {
+            name,
+            text: text.as_slice(),
+        }),
+        _ => None,
+    };
+    let ending = run_com(rt.alloc(), cpu, program, script, steps, &mut io::writer(rt))?;
     // The program ran and its text is out, even where nobody reads how it ended.
     let _ = eprintln!(rt; "{ending}");
     Ok(())
@@ -67,9 +92,16 @@ fn run(rt: &(impl Env + Files + Print + Eprint + AllocGlobal)) -> Result<(), Hos
         return rt.print(text).map_err(HostError::OutputUnwritable);
     }
     match command(rt.alloc(), texts.as_slice())? {
-        Task::Com { file, cpu, steps } => com(rt, file, cpu, steps),
+        Task::Com {
+            file,
+            cpu,
+            steps,
+            keys,
+        } => com(rt, file, cpu, keys, steps),
         Task::Asm { source, out } => asm(rt, source, out),
         Task::List { file } => list(rt, file),
+        Task::Run { config } => run_sessions(rt, config),
+        Task::Debug { .. } => Err(HostError::Usage(Fault::UnknownCommand(shown("debug")))),
     }
 }
 

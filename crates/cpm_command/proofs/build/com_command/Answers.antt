@@ -5,4 +5,5 @@ pub returns : goal.returns
 returns c =
     let file = c.in_ok-with_file.ensures _ _ c.named.ensures c.required_word.ensures in
     let flag = c.in_ok-with_flag.ensures _ _ file c.z80_argument.ensures in
-    IfOk-weaker c.with_argument-3.result _ _ (λ m h. h _ _ flag c.steps_argument.ensures) c.with_argument-3.ensures
+    let steps = c.in_ok-with_steps.ensures _ _ flag c.steps_argument.ensures in
+    IfOk-weaker c.with_argument-4.result _ _ (λ m h. h _ _ steps c.keys_argument.ensures) c.with_argument-4.ensures

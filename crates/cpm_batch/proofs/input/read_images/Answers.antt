@@ -1,0 +1,27 @@
+use Rattle.std.proofs.Common.{◌≡◌, sym, subst, List, arith}
+use Rattle.std.proofs.lemmas.Result.{err_from_is_err_and}
+use Rattle.std.specs.Prelude.{string_bytes}
+use Rattle.cpm_geom.specs.Disk.{Disk}
+use Rattle.cpm_batch.specs.Inputs.{AllImages}
+use Rattle.cpm_batch.proofs.InputLemmas.{image_as, image_refusal_as, name_read, name_refused}
+use Rattle.cpm_batch.proofs.input.read_images.Goals as goal
+
+pub returns-in_err-read_image-clause-refusal : goal.returns-in_err-read_image-clause-refusal
+returns-in_err-read_image-clause-refusal g c =
+    let p = err_from_is_err_and c.from_residual.result c.from_residual.ensures.1 in
+    let i = c.loop-name.invariant in
+    rw (p.1, p.2) (name_refused (g.S.Store.files c.args.store.now) c.args.names.now c.loop-name.name-index c.name-item.result c.loop-name.images.items _ c.loop-name-test.true c.name-item.is i.images
+    (image_refusal_as (g.S.Store.files c.args.store.now) (g.S.Store.files c.loop-name.store) (string_bytes c.name-item.result) c.as_str.result.now _ i.same c.as_str.ensures.value
+    c.in_err-read_image.ensures.refusal))
+
+pub loop-name-preserved : goal.loop-name-preserved
+loop-name-preserved g c =
+    let i = c.loop-name.invariant in
+    let files = g.S.Store.files c.args.store.now in
+    record {
+      images = name_read files c.args.names.now c.loop-name.name-index c.name-item.result c.loop-name.images.items c.push.new.self.items c.in_ok-read_image.field-0 c.loop-name-test.true
+          c.name-item.is c.in_ok-push.ensures.items i.images
+          (image_as files (g.S.Store.files c.loop-name.store) (string_bytes c.name-item.result) c.as_str.result.now c.in_ok-read_image.field-0 i.same c.as_str.ensures.value c.in_ok-read_image.ensures.image);
+      same = let s = c.in_ok-read_image.ensures.same in let t = i.same in cc;
+      counted = omega (arith, i.counted, c.in_ok-read_image.ensures.counted);
+    }

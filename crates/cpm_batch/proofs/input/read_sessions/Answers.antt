@@ -1,0 +1,28 @@
+use Rattle.std.proofs.Common.{◌≡◌, ◌∙◌, ap, refl, sym, subst, List, map, take, ◌+◌, arith}
+use Rattle.std.proofs.lemmas.Result.{err_from_is_err_and}
+use Rattle.cpm_batch.specs.Inputs.{AllInputs, given, needs_of}
+use Rattle.cpm_batch.specs.declared.input.Input.{Input}
+use Rattle.cpm_batch.proofs.InputLemmas.{input_as, inputs_more, refusal_as, session_refused, sessions_more}
+use Rattle.cpm_batch.proofs.input.read_sessions.Goals as goal
+
+pub returns-in_err-read_session-clause-refusal : goal.returns-in_err-read_session-clause-refusal
+returns-in_err-read_session-clause-refusal g c =
+    let p = err_from_is_err_and c.from_residual.result c.from_residual.ensures.1 in
+    let i = c.loop-session.invariant in
+    let files = g.S.Store.files c.args.store.now in
+    rw (p.1, p.2) (session_refused files c.args.sessions.now c.loop-session.session-index c.session-item.result (map given c.loop-session.inputs.items) _ c.loop-session-test.true c.session-item.is
+    i.sessions i.inputs (refusal_as files (g.S.Store.files c.loop-session.store) (needs_of c.session-item.result) (needs_of c.session-item.result) _ i.same refl c.in_err-read_session.ensures.refusal))
+
+pub loop-session-preserved : goal.loop-session-preserved
+loop-session-preserved g c =
+    let i = c.loop-session.invariant in
+    let files = g.S.Store.files c.args.store.now in
+    let x = c.in_ok-read_session.field-0 in
+    record {
+      inputs = inputs_more files c.loop-session.inputs.items c.push.new.self.items x c.in_ok-push.ensures.items i.inputs
+          (input_as files (g.S.Store.files c.loop-session.store) (given x) i.same c.in_ok-read_session.ensures.input);
+      sessions = sessions_more c.loop-session.inputs.items c.push.new.self.items x c.args.sessions.now c.loop-session.session-index c.session-item.result c.loop-session-test.true c.session-item.is
+          c.in_ok-push.ensures.items i.sessions c.in_ok-read_session.ensures.session;
+      same = let s = c.in_ok-read_session.ensures.same in let t = i.same in cc;
+      counted = omega (arith, i.counted, c.in_ok-read_session.ensures.counted);
+    }

@@ -1,0 +1,63 @@
+//! Why reading is given up.
+ghost use Rattle.std.specs.Prelude.{◌≡◌};
+ghost use Rattle.cpm_batch.specs.Inputs.{status_of_reading};
+ghost use Rattle.cpm_batch.specs.declared.error.ReadError.TheVariants.{OutOfMemory};
+
+use cpm_command::Word;
+use cpm_script::LineFault;
+use std::alloc::{AllocError, AllocFailed};
+use thiserror::Error;
+
+/// Why what the sessions of a configuration need can't be read. The text begins with the code, but for want of memory.
+#[derive(Clone, Copy, Debug, PartialEq, Eq, Drop, Error)]
+pub enum ReadError {
+    /// A file can't be read.
+    #[error("HO4 can't read '{0}': no file of at most 16777216 bytes can be read there")]
+    File(Word),
+    /// A file is no image, by its length.
+    #[error("HO6 '{name}' has {length} bytes, and the image of a drive has 256256")]
+    Image {
+        name: Word,
+        length: usize,
+    },
+    /// A line of a key script is wrong.
+    #[error("HO3 '{name}', line {line}: {fault}")]
+    Script {
+        name: Word,
+        line: u64,
+        fault: LineFault,
+    },
+    /// Memory was refused.
+    #[error("out of memory")]
+    OutOfMemory,
+}
+
+impl ReadError {
+    /// The exit status that a program gives for it.
+    pub fn status(self) -> u8
+        ensures { result ≡ status_of_reading self }
+    {
+        match self {
+            ReadError::Script { .. } => 3,
+            ReadError::File(_) => 4,
+            ReadError::Image { .. } => 6,
+            ReadError::OutOfMemory => 8,
+        }
+    }
+}
+
+impl From<AllocError> for ReadError {
+    ghost from_gives = { λ _ e. e ≡ OutOfMemory };
+
+    fn from(_error: AllocError) -> ReadError {
+        ReadError::OutOfMemory
+    }
+}
+
+impl<T: Drop> From<AllocFailed<T>> for ReadError {
+    ghost from_gives = { λ _ e. e ≡ OutOfMemory };
+
+    fn from(_error: AllocFailed<T>) -> ReadError {
+        ReadError::OutOfMemory
+    }
+}

@@ -1,0 +1,13 @@
+//! The files of a run: what is read for the sessions of a configuration, and what is written after them.
+#![tactic(auto)]
+
+mod error;
+mod input;
+mod output;
+
+pub use error::ReadError;
+pub use input::{Input, Inputs, read_inputs};
+pub use output::{SessionFiles, outputs_of};
+
+#[cfg(test)]
+mod tests;

@@ -1,0 +1,177 @@
+-- What is reported and written once sessions were played.
+use Rattle.std.proofs.Common.{◌≡◌, ◌≢◌, ◌∙◌, ◌≤◌, ◌<◌, ◌+◌, ℕ, zero, suc, List, [], ◌∷◌, ◌++◌, Option, Some, None, length, map, take, drop, get_or, ap, subst, sym, refl, arith}
+use Rattle.std.specs.Prelude.{⊤, string_bytes}
+use Rattle.std.proofs.lemmas.List.{length-map, map-append, take_all}
+use Rattle.cpm_batch.specs.Inputs.{SessionInput}
+use Rattle.cpm_batch.specs.Outputs.{SessionOutput, left_by}
+use Rattle.cpm_batch.specs.declared.output.SessionFiles.{SessionFiles}
+use Rattle.cpm_config.specs.declared.config.Session.{Session}
+use Rattle.cpm_disks.specs.Disks.{images_of}
+use Rattle.cpm_disks.specs.declared.disks.Disks.{Disks}
+use Rattle.cpm_geom.specs.Disk.{Disk}
+use Rattle.cpm_sessions.specs.Host.{Host, Slot, slot_at}
+use Rattle.cpm_slots.specs.MachineState.{MachineState}
+use Rattle.cpm_slots.specs.Serve.{look_of}
+use Rattle.cpm_slots.specs.declared.reply.Closed.{Closed}
+use Rattle.cpm_slots.specs.declared.reply.End.{End}
+use Rattle.cpm_slots.specs.declared.reply.Look.{Look}
+use Rattle.cpm_turns.specs.Players.{AllDiffer, IsNoPlayer}
+use Rattle.cpm_turns.specs.Playing.{IsPlayed}
+use Rattle.cpm_turns.specs.declared.player.Player.{Player}
+use Rattle.cpm_host.specs.Playing.{AllEnded, AreFinished, HasEnded, IsClosed, files_by, report_by}
+use Rattle.cpm_host.specs.Run.{Reported, files_left, left_of, report_view, reported_of, reports_of, run_of, start_of}
+use Rattle.cpm_host.specs.declared.report.SessionReport.{SessionReport}
+
+-- ---- one session
+
+abbrev reported : Session → End → ℕ → ℕ → Reported
+reported s ended count bytes = record { name = string_bytes s.name; ended = ended; count = count; bytes = bytes }
+
+report_is : (system : Disk) (i : SessionInput) (s : Session) (p : Player) (closed : Closed) (last : MachineState) → i.session ≡ s → closed.look ≡ look_of last
+    → IsPlayed system i.keys i.session.steps (start_of i) last p.console.items p.list.items → report_by s p closed ≡ reported_of i.session (run_of system i)
+unfolding look_of run_of
+report_is system i s p closed last same look played =
+    let ended = ap (λ (l : Look). l.ended) look ∙ played.ended in
+    let count = ap (λ (l : Look). l.count) look ∙ played.count in
+    ap (λ (t : Session). reported t closed.look.ended closed.look.count (length p.console.items)) (sym same)
+    ∙ ap (λ (e : End). reported i.session e closed.look.count (length p.console.items)) ended
+    ∙ ap (λ (n : ℕ). reported i.session (run_of system i).ended n (length p.console.items)) count
+    ∙ ap (λ (xs : List ℕ). reported i.session (run_of system i).ended (run_of system i).count (length xs)) played.screen
+
+abbrev output : Session → List ℕ → List ℕ → List (Option Disk) → SessionOutput
+output s console list drives = record { session = s; console = console; list = list; drives = drives }
+
+files_is : (system : Disk) (i : SessionInput) (s : Session) (p : Player) (closed : Closed) (last : MachineState) → i.session ≡ s → closed.drives ≡ images_of last.session.disks
+    → IsPlayed system i.keys i.session.steps (start_of i) last p.console.items p.list.items → files_by s p closed ≡ left_of i.session (run_of system i)
+unfolding run_of
+files_is system i s p closed last same drives played =
+    ap (λ (t : Session). output t p.console.items p.list.items closed.drives) (sym same)
+    ∙ ap (λ (xs : List ℕ). output i.session xs p.list.items closed.drives) played.screen
+    ∙ ap (λ (xs : List ℕ). output i.session (run_of system i).session.console.screen xs closed.drives) played.printer
+    ∙ ap (λ (ds : List (Option Disk)). output i.session (run_of system i).session.console.screen (run_of system i).session.console.printer ds) (drives ∙ ap images_of played.disks)
+
+-- ---- one after another
+
+-- the input in turn
+record IsAt (is : List SessionInput) (k : ℕ) (s : Session) : Type 0 where
+  input : SessionInput
+  first : drop k is ≡ input ∷ drop (k + 1) is
+  more : take (k + 1) is ≡ take k is ++ input ∷ []
+  session : input.session ≡ s
+
+is_at : (is : List SessionInput) (sessions : List Session) (k : ℕ) (s : Session) → map (λ i. i.session) is ≡ sessions → k < length sessions → s ≡ get_or sessions k s → IsAt is k s
+is_at [] sessions k s same below is = absurd (omega (arith, below, ap length (sym same)))
+is_at (i ∷ is) [] k s same below is = absurd (let bad : ⊥ = cc in bad)
+is_at (i ∷ is) (t ∷ ts) zero s same below is = record { input = i; first = refl; more = refl; session = let h : i.session ≡ t = cc in h ∙ sym is }
+is_at (i ∷ is) (t ∷ ts) (suc k) s same below is =
+    let rest : map (λ j. j.session) is ≡ ts = cc in
+    let at = is_at is ts k s rest (omega (arith, below)) is in
+    record {
+      input = at.input;
+      first = at.first;
+      more = ap (λ (xs : List SessionInput). i ∷ xs) at.more;
+      session = at.session;
+    }
+
+-- the player and what is left of its slot
+who_of : Player → Option (Player × Closed) → Player
+who_of p None = p
+who_of p (Some x) = x.0
+
+what_of : Closed → Option (Player × Closed) → Closed
+what_of c None = c
+what_of c (Some x) = x.1
+
+-- the other slots stay as they were
+ended_kept : (system : Disk) (p : Player) (old new : List Slot) (is : List SessionInput) (ps : List Player) → ((id : ℕ) → id ≢ p.id.0 → slot_at id new ≡ slot_at id old) → IsNoPlayer p.id.0 ps
+    → AllEnded system old is ps → AllEnded system new is ps
+ended_kept system p old new [] [] others apart all = tt
+ended_kept system p old new [] (q ∷ ps) others apart all = absurd all
+ended_kept system p old new (i ∷ is) [] others apart all = absurd all
+ended_kept system p old new (i ∷ is) (q ∷ ps) others apart all =
+    (record { last = all.0.last; stands = others q.id.0 apart.0 ∙ all.0.stands; played = all.0.played }, ended_kept system p old new is ps others apart.1 all.1)
+
+-- the first of the sessions are reported, and the rest have ended
+pub record IsFinishedTo (system : Disk) (is : List SessionInput) (k : ℕ) (now : List Slot) (rest : List Player) (reports : List SessionReport) (files : List SessionFiles) : Type 0 where
+  pub differ : AllDiffer rest
+  pub ended : AllEnded system now (drop k is) rest
+  pub rows : map report_view reports ≡ reports_of system (take k is)
+  pub outputs : map left_by files ≡ files_left system (take k is)
+
+abbrev pub IsFinishing : List Session → ℕ → List Slot → List Slot → List Player → List Player → List SessionReport → List SessionFiles → Type 0
+IsFinishing sessions k start now players rest reports files = (system : Disk) (is : List SessionInput) → map (λ i. i.session) is ≡ sessions → AllEnded system start is players
+    → IsFinishedTo system is k now rest reports files
+
+-- what closing the next player's slot says
+abbrev pub Closing : Host → Host → List Player → Option (Player × Closed) → List Player → Type 0
+Closing old new rest r left = (p : Player) (ps : List Player) (s : MachineState) → rest ≡ p ∷ ps → slot_at p.id.0 old.slots ≡ Some s → IsClosed p ps s old new r left
+
+module _ (sessions : List Session) (k : ℕ) (s : Session) (start : List Slot) (old new : Host) (players : List Player) (r : Option (Player × Closed)) (left : List Player) (below : k < length sessions) (at : s ≡ get_or sessions k s) where
+  finish_one : (q : Player) (closed : Closed) (rest : List Player) (reports : List SessionReport) (files : List SessionFiles) (report : SessionReport) (file : SessionFiles) (system : Disk) (is : List SessionInput)
+      → map (λ i. i.session) is ≡ sessions → IsFinishedTo system is k old.slots rest reports files → Closing old new rest r left → r ≡ Some (q, closed) → report_view report ≡ report_by s q closed
+      → left_by file ≡ files_by s q closed → IsFinishedTo system is (k + 1) new.slots left (reports ++ report ∷ []) (files ++ file ∷ [])
+  finish_one q closed rest reports files report file system is same h closing got one other =
+      let a = is_at is sessions k s same below at in
+      go a rest h.differ (subst (λ (xs : List SessionInput). AllEnded system old.slots xs rest) a.first h.ended) closing
+    where
+      go : (a : IsAt is k s) (now : List Player) → AllDiffer now → AllEnded system old.slots (a.input ∷ drop (k + 1) is) now → Closing old new now r left
+          → IsFinishedTo system is (k + 1) new.slots left (reports ++ report ∷ []) (files ++ file ∷ [])
+      go a [] differ all close = absurd all
+      go a (p ∷ ps) differ all close =
+          let c = close p ps all.0.last refl all.0.stands in
+          let pair : Some (q, closed) ≡ Some (p, c.closed) = sym got ∙ c.result in
+          let who : q ≡ p = ap (who_of q) pair in
+          let what : closed ≡ c.closed = ap (what_of closed) pair in
+          let row : report_view report ≡ reported_of a.input.session (run_of system a.input) =
+          one ∙ ap (λ (x : Player). report_by s x closed) who ∙ ap (λ (x : Closed). report_by s p x) what ∙ report_is system a.input s p c.closed all.0.last a.session c.look all.0.played in
+          let out : left_by file ≡ left_of a.input.session (run_of system a.input) =
+          other ∙ ap (λ (x : Player). files_by s x closed) who ∙ ap (λ (x : Closed). files_by s p x) what ∙ files_is system a.input s p c.closed all.0.last a.session c.drives all.0.played in
+          record {
+            differ = subst (λ (xs : List Player). AllDiffer xs) (sym c.left) differ.1;
+            ended = subst (λ (xs : List Player). AllEnded system new.slots (drop (k + 1) is) xs) (sym c.left) (ended_kept system p old.slots new.slots (drop (k + 1) is) ps c.others differ.0 all.1);
+            rows = map-append report_view reports (report ∷ []) ∙ ap (λ xs. xs ++ report_view report ∷ []) h.rows ∙ ap (λ x. reports_of system (take k is) ++ x ∷ []) row
+                ∙ sym (map-append (λ i. reported_of i.session (run_of system i)) (take k is) (a.input ∷ [])) ∙ ap (reports_of system) (sym a.more);
+            outputs = map-append left_by files (file ∷ []) ∙ ap (λ xs. xs ++ left_by file ∷ []) h.outputs ∙ ap (λ x. files_left system (take k is) ++ x ∷ []) out
+                ∙ sym (map-append (λ i. left_of i.session (run_of system i)) (take k is) (a.input ∷ [])) ∙ ap (files_left system) (sym a.more);
+          }
+
+  pub finishing_more : (q : Player) (closed : Closed) (rest : List Player) (reports more : List SessionReport) (files others : List SessionFiles) (report : SessionReport) (file : SessionFiles)
+      → IsFinishing sessions k start old.slots players rest reports files → Closing old new rest r left → r ≡ Some (q, closed) → report_view report ≡ report_by s q closed → left_by file ≡ files_by s q closed
+      → more ≡ reports ++ report ∷ [] → others ≡ files ++ file ∷ [] → IsFinishing sessions (k + 1) start new.slots players left more others
+  finishing_more q closed rest reports more files others report file h closing got one other pushed added = λ system is same all.
+      subst (λ (xs : List SessionReport). IsFinishedTo system is (k + 1) new.slots left xs others) (sym pushed)
+      (subst (λ (xs : List SessionFiles). IsFinishedTo system is (k + 1) new.slots left (reports ++ report ∷ []) xs) (sym added)
+      (finish_one q closed rest reports files report file system is same (h system is same all) closing got one other))
+
+  -- where a session is left, its player is there, and its slot is closed
+  pub finished_early : (rest : List Player) (reports : List SessionReport) (files : List SessionFiles) → IsFinishing sessions k start old.slots players rest reports files → Closing old new rest r left → r ≡ None
+      → AreFinished sessions start players reports files
+  finished_early rest reports files h closing none = λ system is same all.
+      let f = h system is same all in
+      let a = is_at is sessions k s same below at in
+      absurd (go system is a rest (subst (λ (xs : List SessionInput). AllEnded system old.slots xs rest) a.first f.ended) closing)
+    where
+      go : (system : Disk) (is : List SessionInput) (a : IsAt is k s) (now : List Player) → AllEnded system old.slots (a.input ∷ drop (k + 1) is) now → Closing old new now r left → ⊥
+      go system is a [] all close = all
+      go system is a (p ∷ ps) all close =
+          let c = close p ps all.0.last refl all.0.stands in
+          let bad : None ≡ Some (p, c.closed) = sym none ∙ c.result in
+          cc
+
+pub finished : (sessions : List Session) (k : ℕ) (start now : List Slot) (players rest : List Player) (reports : List SessionReport) (files : List SessionFiles) → length sessions ≤ k
+    → IsFinishing sessions k start now players rest reports files → AreFinished sessions start players reports files
+finished sessions k start now players rest reports files all h = λ system is same ended.
+    let f = h system is same ended in
+    let long : length is ≤ k = let m = length-map is (λ i. i.session) in let e = ap length same in omega (arith, all, m, e) in
+    let whole : take k is ≡ is = take_all k is long in
+    (f.rows ∙ ap (reports_of system) whole, f.outputs ∙ ap (files_left system) whole)
+
+pub finishing_start : (sessions : List Session) (start : List Slot) (players rest : List Player) (reports : List SessionReport) (files : List SessionFiles) → rest ≡ players → reports ≡ [] → files ≡ []
+    → AllDiffer players → IsFinishing sessions 0 start start players rest reports files
+finishing_start sessions start players rest reports files same no_reports no_files differ = λ system is inputs all.
+    record {
+      differ = subst (λ (xs : List Player). AllDiffer xs) (sym same) differ;
+      ended = subst (λ (xs : List Player). AllEnded system start is xs) (sym same) all;
+      rows = ap (map report_view) no_reports;
+      outputs = ap (map left_by) no_files;
+    }

@@ -1,0 +1,164 @@
+//! Playing the sessions of a configuration in a host.
+ghost use Rattle.std.specs.Prelude.{◌≡◌, ◌≤◌, ◌∷◌, [], IfErr, IfOk, List, Some, map};
+ghost use Rattle.std.specs.Vec.Iter.{into_iter_items};
+ghost use Rattle.cpm_batch.specs.Inputs.{given};
+ghost use Rattle.cpm_batch.specs.Outputs.{left_by};
+ghost use Rattle.cpm_sessions.specs.Host.{new_host, slot_at};
+ghost use Rattle.cpm_slots.specs.MachineState.{MachineState};
+ghost use Rattle.cpm_turns.specs.Players.{AllDiffer};
+ghost use Rattle.cpm_turns.specs.declared.player.Player.{Player};
+ghost use Rattle.cpm_host.specs.Playing.{AllSeated, AreFinished, ArePressable, IsClosed, IsSeatRefusal, TakesSeat, files_by, report_by};
+ghost use Rattle.cpm_host.specs.Run.{files_left, report_view, reports_of};
+
+use crate::error::HostError;
+use crate::report::SessionReport;
+use cpm_batch::{Input, Inputs, SessionFiles};
+use cpm_command::shown;
+use cpm_config::{Config, Session};
+use cpm_sessions::Host;
+use cpm_slots::{Closed, OpenError, Opening};
+use cpm_turns::{Player, play};
+use std::alloc::{AllocError, Global};
+use std::vec::IntoIter;
+
+/// What is left of all sessions: what is reported of each, and what is written.
+#[derive(Drop)]
+pub(crate) struct Played<'a> {
+    pub(crate) reports: Vec<SessionReport>,
+    pub(crate) files: Vec<SessionFiles<'a>>,
+}
+
+/// Opens a slot for a session, and gives it a player.
+fn seat(alloc: Global, host: &mut Host, input: Input<'_>) -> Result<Player, HostError>
+    ensures seated { IfOk result (TakesSeat (given input.entry) host.old host.new) }
+    ensures refusal { IfErr result (IsSeatRefusal host.old (given input.entry ∷ [])) }
+{
+    let Input {
+        session,
+        drives,
+        keys,
+    } = input;
+    let opening = Opening {
+        cpu: session.cpu,
+        quota: session.quota,
+        drives,
+    };
+    match host.open(alloc, opening) {
+        Ok(id) => Ok(Player::new(alloc, id, keys, session.steps)),
+        Err((_, OpenError::OutOfMemory)) => Err(HostError::OutOfMemory),
+        Err((_, fault)) => Err(HostError::SessionRefused {
+            name: shown(session.name.as_str()),
+            fault,
+        }),
+    }
+}
+
+/// Opens a slot for each session in order, and gives each a player.
+fn seat_all(
+    alloc: Global,
+    host: &mut Host,
+    inputs: Vec<Input<'_>>,
+) -> Result<Vec<Player>, HostError>
+    requires { host.old.slots ≡ [] }
+    ensures seated { IfOk result (λ players. AllSeated host.new.slots (map given inputs.entry.items) players.items) }
+    ensures differ { IfOk result (λ players. AllDiffer players.items) }
+    ensures system { host.new.system ≡ host.old.system }
+    ensures refusal { IfErr result (IsSeatRefusal host.old (map given inputs.entry.items)) }
+{
+    let mut players = Vec::new(alloc);
+    let mut rest = inputs.into_iter();
+    while let Some(input) = rest.next() {
+        players.push(seat(alloc, host, input)?)?;
+    }
+    Ok(players)
+}
+
+/// The next player, with what is left of its slot, which is closed.
+fn next_closed(host: &mut Host, players: &mut IntoIter<Player>) -> Option<(Player, Closed)>
+    ensures { (p : Player) (ps : List Player) (s : MachineState) → into_iter_items players.old ≡ p ∷ ps → slot_at p.id.0 host.old.slots ≡ Some s
+        → IsClosed p ps s host.old host.new result (into_iter_items players.new) }
+{
+    let player = players.next()?;
+    match host.close(player.id) {
+        Ok(closed) => Some((player, closed)),
+        Err(_) => None,
+    }
+}
+
+/// What is reported of a session, and what is written.
+fn finish<'a>(
+    alloc: Global,
+    session: &'a Session,
+    player: Player,
+    closed: Closed,
+) -> Result<(SessionReport, SessionFiles<'a>), AllocError>
+    ensures report { IfOk result (λ r. report_view r.0 ≡ report_by session.entry.now player closed) }
+    ensures files { IfOk result (λ r. left_by r.1 ≡ files_by session.entry.now player closed) }
+{
+    let name = String::from_str(alloc, session.name.as_str())?;
+    let Closed { look, drives } = closed;
+    let Player { console, list, .. } = player;
+    let report = SessionReport {
+        name,
+        ended: look.ended,
+        count: look.count,
+        bytes: console.len() as u64,
+    };
+    let files = SessionFiles {
+        session,
+        console,
+        list,
+        drives,
+    };
+    Ok((report, files))
+}
+
+/// What is reported of all sessions, and what is written, once their players have played them. Their slots are closed.
+fn finish_all<'a>(
+    alloc: Global,
+    host: &mut Host,
+    sessions: &'a [Session],
+    players: Vec<Player>,
+) -> Result<Played<'a>, AllocError>
+    requires { AllDiffer players.items }
+    ensures { IfOk result (λ played. AreFinished sessions.entry.now host.old.slots players.items played.reports.items played.files.items) }
+{
+    let mut reports = Vec::new(alloc);
+    let mut files = Vec::new(alloc);
+    let mut rest = players.into_iter();
+    for session in sessions {
+        let Some((player, closed)) = next_closed(host, &mut rest) else {
+            return Ok(Played { reports, files });
+        };
+        let (report, left) = finish(alloc, session, player, closed)?;
+        reports.push(report)?;
+        files.push(left)?;
+    }
+    Ok(Played { reports, files })
+}
+
+/// Plays the sessions of a configuration in a host, by turns in their order, and gives what is left of them.
+pub(crate) fn play_all<'a>(
+    alloc: Global,
+    config: &'a Config,
+    inputs: Inputs<'_>,
+) -> Result<Played<'a>, HostError>
+    requires least { 16 ≤ config.now.frames }
+    requires most { config.now.frames ≤ 16384 }
+    requires quantum { 1 ≤ config.now.quantum }
+    requires keys { ArePressable (map given inputs.sessions.items) }
+    requires sessions { map (λ i. i.session) (map given inputs.sessions.items) ≡ config.now.sessions.items }
+    ensures reports { IfOk result (λ p. map report_view p.reports.items ≡ reports_of inputs.entry.system (map given inputs.entry.sessions.items)) }
+    ensures files { IfOk result (λ p. map left_by p.files.items ≡ files_left inputs.entry.system (map given inputs.entry.sessions.items)) }
+    ensures refusal { IfErr result (IsSeatRefusal (new_host inputs.entry.system config.entry.now.frames) (map given inputs.entry.sessions.items)) }
+{
+    let Inputs { system, sessions } = inputs;
+    let mut host = match Host::new(alloc, system, config.frames) {
+        Ok(host) => host,
+        Err(_) => return Err(HostError::OutOfMemory),
+    };
+    let mut players = seat_all(alloc, &mut host, sessions)?;
+    play(&mut host, players.as_mut_slice(), config.quantum)?;
+    let played = finish_all(alloc, &mut host, config.sessions.as_slice(), players)?;
+    Ok(played)
+}

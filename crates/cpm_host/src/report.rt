@@ -1,0 +1,29 @@
+//! What is reported of a run.
+
+use cpm_slots::End;
+use std::fmt;
+
+/// How a session ended. Its text is `NAME END COUNT BYTES`.
+#[derive(Debug, PartialEq, Eq, Drop)]
+pub struct SessionReport {
+    pub name: String,
+    /// How it ended, or that it still runs.
+    pub ended: End,
+    /// How many steps it executed.
+    pub count: u64,
+    /// How many bytes its console got.
+    pub bytes: u64,
+}
+
+/// How each session of a run ended, in their order.
+pub type Report = Vec<SessionReport>;
+
+impl fmt::Display for SessionReport {
+    fn fmt<W: fmt::Write>(&self, f: &mut fmt::Formatter<W>) -> fmt::Result {
+        let name = self.name.as_str();
+        let ended = self.ended;
+        let count = self.count;
+        let bytes = self.bytes;
+        write!(f, "{name} {ended:?} {count} {bytes}")
+    }
+}

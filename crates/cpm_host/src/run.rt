@@ -1,0 +1,74 @@
+//! The command `run`.
+ghost use Rattle.std.specs.Prelude.{◌≡◌, ◌⊎◌, ◌<◌, ◌≤◌, IfErr, IfOk, OnOk, length, map};
+ghost use Rattle.cpm_store.specs.Files.{CountsFailure, Told};
+ghost use Rattle.cpm_store.specs.Writes.{StopsAt, WritesAll, named};
+ghost use Rattle.cpm_host.specs.Run.{HasRun, IsDeviceFault, IsRunRefusal, IsWriteRefusal, top_fault};
+
+use crate::error::HostError;
+use crate::play::{Played, play_all};
+use crate::report::Report;
+use cpm_batch::{outputs_of, read_inputs};
+use cpm_command::shown;
+use cpm_config::{Config, ConfigError, Field, Place};
+use cpm_sessions::{LEAST_FRAMES, MOST_FRAMES};
+use cpm_store::{Output, Store, StoreError, write_all};
+use std::alloc::Global;
+
+/// A number of the configuration with which nothing can be run.
+fn top_fault(config: &Config) -> Option<Field>
+    ensures { result ≡ top_fault config.now }
+{
+    if config.frames < LEAST_FRAMES || config.frames > MOST_FRAMES {
+        Some(Field::Frames)
+    } else if config.quantum == 0 {
+        Some(Field::Quantum)
+    } else {
+        None
+    }
+}
+
+/// Writes files in order, up to the first that can't be written.
+fn write_files<S: Store>(outputs: &[Output<'_>], store: &mut S) -> Result<(), HostError>
+    ensures written { OnOk result (Told (S.files store.old) (S.files store.new) (WritesAll (map named outputs.now))) }
+    ensures refusal { IfErr result (IsWriteRefusal (map named outputs.now) (S.files store.old) (S.files store.new)) }
+    ensures device { IfErr result (λ e. IsDeviceFault e → CountsFailure (S.failed store.old) (S.failed store.new)) }
+    ensures counted { S.failed store.old ≤ S.failed store.new }
+{
+    match write_all(outputs, store) {
+        Ok(()) => Ok(()),
+        Err(error) => match error.cause {
+            StoreError::Device => Err(HostError::WriteFault(shown(outputs[error.place].name))),
+            StoreError::OutOfMemory => Err(HostError::OutOfMemory),
+        },
+    }
+}
+
+/// Runs the sessions of a configuration over the files of a store: reads the system drive's image, then each session's drives and
+/// keys, each checked before the next is read; opens all; plays them by turns in their order; then writes of each in order its
+/// console's text, its list device's and its drives. Each session is reported.
+///
+/// The first refusal met is answered. With `FileRefused`, `SessionRefused` and `ConfigRefused` nothing was written. With `WriteFault` and
+/// `OutOfMemory` the files before one hold what they should, and no name after it was written.
+pub fn run_host<S: Store>(
+    alloc: Global,
+    config: &Config,
+    store: &mut S,
+) -> Result<Report, HostError>
+    // Each session stands in its files and its report as its machine alone, whatever the turns.
+    ensures run { IfOk result (λ report. HasRun config.now report.items (S.files store.old) (S.files store.new)) }
+    ensures refusal { IfErr result (IsRunRefusal config.now (S.files store.old) (S.files store.new)) }
+    ensures device { IfErr result (λ e. IsDeviceFault e → CountsFailure (S.failed store.old) (S.failed store.new)) }
+    ensures counted { S.failed store.old ≤ S.failed store.new }
+{
+    if let Some(field) = top_fault(config) {
+        return Err(HostError::ConfigRefused(ConfigError::Range(Place {
+            session: 0,
+            field,
+        })));
+    }
+    let inputs = read_inputs(alloc, config, store)?;
+    let Played { reports, files } = play_all(alloc, config, inputs)?;
+    let outputs = outputs_of(alloc, files)?;
+    write_files(outputs.as_slice(), store)?;
+    Ok(reports)
+}
