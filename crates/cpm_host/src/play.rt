@@ -30,8 +30,8 @@ pub(crate) struct Played<'a> {
 
 /// Opens a slot for a session, and gives it a player.
 fn seat(alloc: Global, host: &mut Host, input: Input<'_>) -> Result<Player, HostError>
-    ensures seated { IfOk result (TakesSeat (given input.entry) host.old host.new) }
-    ensures refusal { IfErr result (IsSeatRefusal host.old (given input.entry ∷ [])) }
+    ensures seated { IfOk result (TakesSeat (given input.entry) host.old.host host.new.host) }
+    ensures refusal { IfErr result (IsSeatRefusal host.old.host (given input.entry ∷ [])) }
 {
     let Input {
         session,
@@ -59,11 +59,11 @@ fn seat_all(
     host: &mut Host,
     inputs: Vec<Input<'_>>,
 ) -> Result<Vec<Player>, HostError>
-    requires { host.old.slots ≡ [] }
-    ensures seated { IfOk result (λ players. AllSeated host.new.slots (map given inputs.entry.items) players.items) }
+    requires { host.old.host.slots ≡ [] }
+    ensures seated { IfOk result (λ players. AllSeated host.new.host.slots (map given inputs.entry.items) players.items) }
     ensures differ { IfOk result (λ players. AllDiffer players.items) }
-    ensures system { host.new.system ≡ host.old.system }
-    ensures refusal { IfErr result (IsSeatRefusal host.old (map given inputs.entry.items)) }
+    ensures system { host.new.host.system ≡ host.old.host.system }
+    ensures refusal { IfErr result (IsSeatRefusal host.old.host (map given inputs.entry.items)) }
 {
     let mut players = Vec::new(alloc);
     let mut rest = inputs.into_iter();
@@ -75,8 +75,8 @@ fn seat_all(
 
 /// The next player, with what is left of its slot, which is closed.
 fn next_closed(host: &mut Host, players: &mut IntoIter<Player>) -> Option<(Player, Closed)>
-    ensures { (p : Player) (ps : List Player) (s : MachineState) → into_iter_items players.old ≡ p ∷ ps → slot_at p.id.0 host.old.slots ≡ Some s
-        → IsClosed p ps s host.old host.new result (into_iter_items players.new) }
+    ensures { (p : Player) (ps : List Player) (s : MachineState) → into_iter_items players.old ≡ p ∷ ps → slot_at p.id.0 host.old.host.slots ≡ Some s
+        → IsClosed p ps s host.old.host host.new.host result (into_iter_items players.new) }
 {
     let player = players.next()?;
     match host.close(player.id) {
@@ -121,7 +121,7 @@ fn finish_all<'a>(
     players: Vec<Player>,
 ) -> Result<Played<'a>, AllocError>
     requires { AllDiffer players.items }
-    ensures { IfOk result (λ played. AreFinished sessions.entry.now host.old.slots players.items played.reports.items played.files.items) }
+    ensures { IfOk result (λ played. AreFinished sessions.entry.now host.old.host.slots players.items played.reports.items played.files.items) }
 {
     let mut reports = Vec::new(alloc);
     let mut files = Vec::new(alloc);

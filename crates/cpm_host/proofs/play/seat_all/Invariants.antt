@@ -5,7 +5,7 @@ use Rattle.cpm_host.proofs.PlayLemmas.{IsOpened}
 use Rattle.cpm_host.proofs.play.seat_all.Given as goal
 
 abbrev pub invariant-loop-input : goal.invariant-loop-input
-invariant-loop-input l = IsOpened l.fn.host l.host (map given l.fn.inputs.items) (map given (into_iter_items l.rest)) l.players.items
+invariant-loop-input l = IsOpened l.fn.host.host l.host.host (map given l.fn.inputs.items) (map given (into_iter_items l.rest)) l.players.items
 
 abbrev pub decreases-loop-input : goal.decreases-loop-input
 decreases-loop-input l = into_iter_len l.rest
