@@ -3,12 +3,14 @@ use Rattle.std.specs.Prelude.{⊤, ℕ}
 use Rattle.cpm_command.specs.declared.fault.UsageError.{UsageError}
 use Rattle.cpm_command.specs.declared.fault.UsageError.TheVariants as usage
 use Rattle.cpm_host.specs.declared.error.HostError.{HostError}
-use Rattle.cpm_host.specs.declared.error.HostError.TheVariants.{Usage, NotText, ConfigRefused, FileRefused, FileUnreadable, FileUnwritable, OutputUnwritable, SessionRefused, SourceRefused, OutOfMemory, OpeningRefused, ProgramTooLong, WriteFault}
+use Rattle.cpm_host.specs.declared.error.HostError.TheVariants.{Usage, NotText, ConfigRefused, FileRefused, FileUnreadable, FileUnwritable, InputUnreadable, OutputUnwritable, SessionRefused, SourceRefused, OutOfMemory, OpeningRefused, ProgramTooLong, WriteFault}
 use Rattle.cpm_batch.specs.Inputs.{status_of_reading}
 use Rattle.cpm_batch.specs.declared.error.ReadError.{ReadError}
 use Rattle.cpm_batch.specs.declared.error.ReadError.TheVariants as read
 use Rattle.cpm_config.specs.declared.fault.ConfigError.{ConfigError}
 use Rattle.cpm_config.specs.declared.fault.ConfigError.TheVariants as config
+use Rattle.cpm_debug.specs.declared.error.DebugError.{DebugError}
+use Rattle.cpm_debug.specs.declared.error.DebugError.TheVariants as debug
 use Rattle.cpm_slots.specs.declared.opening.OpenError.{OpenError}
 use Rattle.cpm_slots.specs.declared.opening.OpenError.TheVariants as opening
 
@@ -19,6 +21,7 @@ status_of NotText = 1
 status_of (ConfigRefused fault) = 2
 status_of (FileRefused e) = status_of_reading e
 status_of (FileUnreadable name reason) = 4
+status_of (InputUnreadable reason) = 4
 status_of (OutputUnwritable reason) = 5
 status_of (FileUnwritable name reason) = 5
 status_of (WriteFault name) = 5
@@ -64,6 +67,13 @@ host_error_of_reading (read.File name) = FileRefused (read.File name)
 host_error_of_reading (read.Image name count) = FileRefused (read.Image name count)
 host_error_of_reading (read.Script name line fault) = FileRefused (read.Script name line fault)
 host_error_of_reading read.OutOfMemory = OutOfMemory
+
+-- what a refused dialog comes to
+abbrev pub host_error_of_debug : DebugError → HostError
+host_error_of_debug (debug.ProgramTooLong count) = ProgramTooLong count
+host_error_of_debug (debug.Unreadable reason) = InputUnreadable reason
+host_error_of_debug (debug.Unwritable reason) = OutputUnwritable reason
+host_error_of_debug debug.OutOfMemory = OutOfMemory
 
 -- what a refused opening comes to
 abbrev pub host_error_of_opening : OpenError → HostError

@@ -1,12 +1,13 @@
 //! Why a command is refused.
 ghost use Rattle.std.specs.Prelude.{◌≡◌};
 ghost use Rattle.cpm_host.specs.declared.error.HostError.TheVariants.{OutOfMemory};
-ghost use Rattle.cpm_host.specs.Refusals.{status_of, host_error_of, host_error_of_config, host_error_of_opening, host_error_of_reading};
+ghost use Rattle.cpm_host.specs.Refusals.{status_of, host_error_of, host_error_of_config, host_error_of_debug, host_error_of_opening, host_error_of_reading};
 
 use cpm_asm::AsmErrorKind;
 use cpm_batch::ReadError;
 use cpm_command::{Fault, UsageError, Word};
 use cpm_config::ConfigError;
+use cpm_debug::DebugError;
 use cpm_slots::OpenError;
 use std::alloc::{AllocError, AllocFailed};
 use std::io;
@@ -33,6 +34,9 @@ pub enum HostError {
         name: Word,
         reason: io::Error,
     },
+    /// Standard input can't be read.
+    #[error("HO4 can't read standard input: {0}")]
+    InputUnreadable(io::Error),
     /// Standard output can't be written.
     #[error("HO5 can't write to standard output: {0}")]
     OutputUnwritable(io::Error),
@@ -60,7 +64,10 @@ pub enum HostError {
     OpeningRefused(OpenError),
     /// The session of this name can't be opened so.
     #[error("HO9 session '{name}': {fault}")]
-    SessionRefused { name: Word, fault: OpenError },
+    SessionRefused {
+        name: Word,
+        fault: OpenError,
+    },
     /// The program has this many bytes, which is more than a machine takes.
     #[error("HO9 the program has {0} bytes, and a machine takes at most 58112")]
     ProgramTooLong(usize),
@@ -75,7 +82,7 @@ impl HostError {
             HostError::Usage(_) | HostError::NotText => 1,
             HostError::ConfigRefused(_) => 2,
             HostError::FileRefused(error) => error.status(),
-            HostError::FileUnreadable { .. } => 4,
+            HostError::FileUnreadable { .. } | HostError::InputUnreadable(_) => 4,
             HostError::OutputUnwritable(_)
             | HostError::FileUnwritable { .. }
             | HostError::WriteFault(_) => 5,
@@ -117,6 +124,19 @@ impl From<ReadError> for HostError {
         match error {
             ReadError::OutOfMemory => HostError::OutOfMemory,
             fault => HostError::FileRefused(fault),
+        }
+    }
+}
+
+impl From<DebugError> for HostError {
+    ghost from_gives = { λ d e. e ≡ host_error_of_debug d };
+
+    fn from(error: DebugError) -> HostError {
+        match error {
+            DebugError::ProgramTooLong(count) => HostError::ProgramTooLong(count),
+            DebugError::Unreadable(reason) => HostError::InputUnreadable(reason),
+            DebugError::Unwritable(reason) => HostError::OutputUnwritable(reason),
+            DebugError::OutOfMemory => HostError::OutOfMemory,
         }
     }
 }

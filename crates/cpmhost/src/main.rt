@@ -8,11 +8,11 @@ mod files;
 
 use cpm_flags::Cpu;
 use cpm_host::{
-    Config, Fault, HostError, Script, Task, command, help, run_asm, run_com, run_host, run_list, shown,
+    Config, HostError, Script, Task, command, help, run_asm, run_com, run_debug, run_host, run_list,
 };
 use files::{MachineFiles, read_file, write_file};
 use std::env::Env;
-use std::io::{BufWriter, ErrorKind};
+use std::io::{BufReader, BufWriter, ErrorKind};
 use std::process::ExitCode;
 use std::rt::Files;
 use std::{env, io};
@@ -81,8 +81,22 @@ fn list(rt: &(impl Files + Print + AllocGlobal), file: &str) -> Result<(), HostE
     }
 }
 
+/// Runs the program in a file as the lines of standard input say, and prints what is answered.
+fn debug(
+    rt: &(impl Files + Input + Print + AllocGlobal),
+    file: &str,
+    cpu: Cpu,
+) -> Result<(), HostError> {
+    let program = read_file(rt, file)?;
+    let Ok(mut input) = BufReader::new(rt.alloc(), rt.reader()) else {
+        return Err(HostError::OutOfMemory);
+    };
+    run_debug(rt.alloc(), cpu, program, &mut input, &mut io::writer(rt))?;
+    Ok(())
+}
+
 /// Does what the words of the command line ask for.
-fn run(rt: &(impl Env + Files + Print + Eprint + AllocGlobal)) -> Result<(), HostError> {
+fn run(rt: &(impl Env + Files + Input + Print + Eprint + AllocGlobal)) -> Result<(), HostError> {
     let words = arguments(rt)?;
     let mut texts = Vec::new(rt.alloc());
     for word in &words {
@@ -101,7 +115,7 @@ fn run(rt: &(impl Env + Files + Print + Eprint + AllocGlobal)) -> Result<(), Hos
         Task::Asm { source, out } => asm(rt, source, out),
         Task::List { file } => list(rt, file),
         Task::Run { config } => run_sessions(rt, config),
-        Task::Debug { .. } => Err(HostError::Usage(Fault::UnknownCommand(shown("debug")))),
+        Task::Debug { file, cpu } => debug(rt, file, cpu),
     }
 }
 
