@@ -15,7 +15,7 @@ pub returns-clause-playing : goal.returns-clause-playing
 returns-clause-playing c = λ steps start r.
     let p = c.press_due.new.player in
     let h = c.press_due.new.host.host in
-    let next : Player = record p { pace = c.advance.new.self.host } in
+    let next : Player = record p { pace = c.advance.new.self } in
     let k = c.grant-executed.result in
     let most : c.turn-most.result ≡ turn_of p.pace (keys_of p) c.args.quantum =
     c.turn-most.ensures ∙ ap (λ (ks : List Key). turn_of p.pace ks c.args.quantum) c.deref.ensures.value in
@@ -30,6 +30,6 @@ pub returns-clause-moves : goal.returns-clause-moves
 returns-clause-moves c =
     let p = c.press_due.new.player in
     let h = c.press_due.new.host.host in
-    let next : Player = record p { pace = c.advance.new.self.host } in
+    let next : Player = record p { pace = c.advance.new.self } in
     moves-on c.args.player.now p next c.args.host.now.host h c.grant-executed.new.host.host c.press_due.ensures.moves
     (moves-ask p next h c.grant-executed.new.host.host (Calls (Grant c.turn-most.result)) refl refl c.grant-executed.ensures.host)

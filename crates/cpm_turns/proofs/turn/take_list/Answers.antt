@@ -12,7 +12,7 @@ loop-chunk-smaller c = c.read_list-count.ensures.fewer c.if-count-eq0.false
 pub loop-chunk-preserved : goal.loop-chunk-preserved
 loop-chunk-preserved c =
     let l = c.loop-chunk in
-    let next : Player = record l.player { list = c.extend_from_slice.new.self.host } in
+    let next : Player = record l.player { list = c.extend_from_slice.new.self } in
     record {
       playing = λ steps start r.
           read-take steps c.read_list-count.result (length l.chunk) start c.read_list-count.new.chunk l.player next l.host.host c.read_list-count.new.host.host
