@@ -21,7 +21,9 @@ pub struct Turns {
 /// An opening with one blank drive.
 fn opening_of(alloc: Global, cpu: Cpu, quota: u16) -> Option<Opening> {
     let mut drives = Vec::new(alloc);
-    drives.push(Image::blank(alloc, Format::Ibm3740).ok()?).ok()?;
+    drives
+        .push(Image::blank(alloc, Format::Ibm3740).ok()?)
+        .ok()?;
     Some(Opening { cpu, quota, drives })
 }
 
