@@ -2,8 +2,9 @@
 use Rattle.std.proofs.Common.{◌≡◌, ◌≢◌, ◌∙◌, ◌⊎◌, ⊎_elim, inl, inr, ◌≤◌, ◌<◌, ◌+◌, ◌-◌, ℕ, zero, suc, Bool, true, false, List, [], ◌∷◌, ◌++◌, Option, Some, None, length, map, take, drop, get_or, ap, subst, sym, refl, arith, append_assoc, append-nil}
 use Rattle.std.specs.Prelude.{⊤}
 use Rattle.std.proofs.lemmas.List.{map-append}
-use Rattle.cpm_batch.specs.Inputs.{SessionInput}
+use Rattle.cpm_batch.specs.Inputs.{SessionInput, given}
 use Rattle.cpm_batch.specs.Outputs.{left_by}
+use Rattle.cpm_batch.specs.declared.input.Input.{Input}
 use Rattle.cpm_batch.specs.declared.output.SessionFiles.{SessionFiles}
 use Rattle.cpm_config.specs.declared.config.Session.{Session}
 use Rattle.cpm_geom.specs.Disk.{Disk}
@@ -79,6 +80,11 @@ no_player id n (q ∷ ps) p below is none = (none.0, no_player id n ps p below i
 differ_more : (n : ℕ) (ps : List Player) (p : Player) → AllNumbered n ps → p.id.0 ≡ n → AllDiffer ps → AllDiffer (ps ++ p ∷ [])
 differ_more n [] p numbered is all = (tt, tt)
 differ_more n (q ∷ ps) p numbered is all = (no_player q.id.0 n ps p numbered.0 is all.0, differ_more n ps p numbered.1 is all.1)
+
+-- the next of those still to come
+pub opened_next : (start now : Host) (all : List SessionInput) (rest more : List Input) (x : Input) (ps : List Player) → rest ≡ x ∷ more → IsOpened start now all (map given rest) ps
+    → IsOpened start now all (given x ∷ map given more) ps
+opened_next start now all rest more x ps steps h = subst (λ (xs : List Input). IsOpened start now all (map given xs) ps) steps h
 
 -- one seat more
 pub opened_more : (start now new : Host) (all rest : List SessionInput) (i : SessionInput) (ps more : List Player) (p : Player) → IsOpened start now all (i ∷ rest) ps → TakesSeat i now new p

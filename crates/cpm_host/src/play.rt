@@ -1,5 +1,5 @@
 //! Playing the sessions of a configuration in a host.
-ghost use Rattle.std.specs.Prelude.{◌≡◌, ◌≤◌, ◌∷◌, [], IfErr, IfOk, List, Some, map};
+ghost use Rattle.std.specs.Prelude.{◌≡◌, ◌≤◌, ◌∷◌, [], IfErr, IfOk, List, OnErr, Some, map};
 ghost use Rattle.std.specs.Vec.Iter.{into_iter_items};
 ghost use Rattle.cpm_batch.specs.Inputs.{given};
 ghost use Rattle.cpm_batch.specs.Outputs.{left_by};
@@ -32,6 +32,7 @@ pub(crate) struct Played<'a> {
 fn seat(alloc: Global, host: &mut Host, input: Input<'_>) -> Result<Player, HostError>
     ensures seated { IfOk result (TakesSeat (given input.entry) host.old.host host.new.host) }
     ensures refusal { IfErr result (IsSeatRefusal host.old.host (given input.entry ∷ [])) }
+    ensures unchanged { OnErr result (host.new.host ≡ host.old.host) }
 {
     let Input {
         session,
