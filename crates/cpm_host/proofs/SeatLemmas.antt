@@ -1,5 +1,5 @@
 -- A seat that is refused, and a slot that is closed.
-use Rattle.std.proofs.Common.{◌≡◌, ◌≢◌, ◌∙◌, ◌⊎◌, inl, ℕ, ◌∷◌, [], List, Option, Some, None, ap, subst, sym, refl}
+use Rattle.std.proofs.Common.{◌≡◌, ◌≢◌, ◌∙◌, inl, ℕ, ◌∷◌, [], List, Option, Some, None, ap, subst, sym, refl}
 use Rattle.std.specs.Prelude.{⊤, IfSome, Err}
 use Rattle.cpm_batch.specs.Inputs.{SessionInput}
 use Rattle.cpm_disks.specs.Disks.{images_of}
