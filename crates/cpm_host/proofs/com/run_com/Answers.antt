@@ -1,4 +1,4 @@
-use Rattle.std.proofs.Common.{◌≡◌, ◌≤◌, ℕ, List, length, subst, sym}
+use Rattle.std.proofs.Common.{◌≤◌, List, length, subst, sym}
 use Rattle.cpm_script.specs.declared.script.Key.{Key}
 use Rattle.cpm_turns.specs.Playing.{IsInOrder}
 use Rattle.cpm_host.proofs.ScriptLemmas.{script_good}
