@@ -44,7 +44,6 @@ IsBadLine (Some s) line fault = script s.text.now ≡ Err (line, fault)
 abbrev pub ran_alone : Cpu → List ℕ → List Key → ℕ → MachineState
 ran_alone cpu program keys steps = alone_by (blank_disk Ibm3740) keys steps (opened_with cpu (blank_disk Ibm3740 ∷ []) program)
 
-
 -- how a script is refused
 abbrev pub IsScriptRefusal : Option Script → HostError → Type 0
 IsScriptRefusal script (FileRefused (read.Script name line fault)) = IsBadLine script line fault

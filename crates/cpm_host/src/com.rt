@@ -33,11 +33,13 @@ fn keys_of(alloc: Global, script: Option<Script<'_>>) -> Result<Vec<Key>, HostEr
     };
     match read_keys(alloc, script.text) {
         Ok(keys) => Ok(keys),
-        Err(ScriptError::Line { number, fault }) => Err(HostError::FileRefused(ReadError::Script {
-            name: shown(script.name),
-            line: number,
-            fault,
-        })),
+        Err(ScriptError::Line { number, fault }) => Err(HostError::FileRefused(
+            ReadError::Script {
+                name: shown(script.name),
+                line: number,
+                fault,
+            },
+        )),
         Err(ScriptError::OutOfMemory) => Err(HostError::OutOfMemory),
     }
 }

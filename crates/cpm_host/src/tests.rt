@@ -3,8 +3,8 @@
 ghost use Rattle.std.specs.Prelude.{Some};
 
 use crate::{
-    Ending, Fault, HostError, MOST_FILE, Script, UsageError, read_whole, run_asm, run_com, run_list,
-    shown,
+    Ending, Fault, HostError, MOST_FILE, Script, UsageError, read_whole, run_asm, run_com,
+    run_list, shown,
 };
 use cpm_asm::AsmErrorKind;
 use cpm_flags::Cpu;
@@ -72,7 +72,14 @@ fn ending(
     steps: u64,
     out: &mut Recorder,
 ) -> Ending {
-    match run_com(rt.alloc(), Cpu::I8080, copied(rt, program), None, steps, out) {
+    match run_com(
+        rt.alloc(),
+        Cpu::I8080,
+        copied(rt, program),
+        None,
+        steps,
+        out,
+    ) {
         Ok(ending) => ending,
         Err(error) => panic!(rt; "refused: {error}"),
     }
@@ -80,7 +87,14 @@ fn ending(
 
 /// Why a program is refused.
 fn refusal(rt: &(impl Abort + AllocGlobal), program: &[u8], out: &mut Recorder) -> HostError {
-    match run_com(rt.alloc(), Cpu::I8080, copied(rt, program), None, 1_000_000, out) {
+    match run_com(
+        rt.alloc(),
+        Cpu::I8080,
+        copied(rt, program),
+        None,
+        1_000_000,
+        out,
+    ) {
         Ok(ending) => panic!(rt; "taken: {ending}"),
         Err(error) => error,
     }
@@ -175,7 +189,14 @@ fn with_script(
         name: "a.keys",
         text,
     });
-    let shown = match run_com(rt.alloc(), Cpu::I8080, copied(rt, program), script, 1_000_000, out) {
+    let shown = match run_com(
+        rt.alloc(),
+        Cpu::I8080,
+        copied(rt, program),
+        script,
+        1_000_000,
+        out,
+    ) {
         Ok(ending) => ending.to_string(rt.alloc()),
         Err(error) => error.to_string(rt.alloc()),
     };
