@@ -1,4 +1,3 @@
-pub mod ComLemmas
 pub mod FinishLemmas
 pub mod InputLemmas
 pub mod ListLemmas
