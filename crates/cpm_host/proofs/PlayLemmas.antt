@@ -1,19 +1,16 @@
 -- Sessions of a configuration in the slots of a host.
-use Rattle.std.proofs.Common.{◌≡◌, ◌≢◌, ◌∙◌, ◌⊎◌, ⊎_elim, inl, inr, ◌≤◌, ◌<◌, ◌+◌, ◌-◌, ℕ, zero, suc, Bool, true, false, List, [], ◌∷◌, ◌++◌, Option, Some, None, length, map, take, drop, get_or, ap, subst, sym, refl, arith, append_assoc, append-nil}
+use Rattle.std.proofs.Common.{◌≡◌, ◌∙◌, ⊎_elim, inl, inr, ◌≤◌, ◌<◌, ◌+◌, ℕ, List, [], ◌∷◌, ◌++◌, Some, length, map, ap, subst, sym, refl, arith, append_assoc}
 use Rattle.std.specs.Prelude.{⊤}
-use Rattle.std.proofs.lemmas.List.{map-append}
-use Rattle.cpm_batch.specs.Inputs.{SessionInput}
-use Rattle.cpm_batch.specs.Outputs.{left_by}
-use Rattle.cpm_batch.specs.declared.output.SessionFiles.{SessionFiles}
-use Rattle.cpm_config.specs.declared.config.Session.{Session}
+use Rattle.cpm_batch.specs.Inputs.{SessionInput, given}
+use Rattle.cpm_batch.specs.declared.input.Input.{Input}
 use Rattle.cpm_geom.specs.Disk.{Disk}
 use Rattle.cpm_script.specs.declared.script.Key.{Key}
-use Rattle.cpm_sessions.specs.Host.{AllBelow, Host, Slot, opened_slot, refusal_of, slot_at, with_opened}
+use Rattle.cpm_sessions.specs.Host.{AllBelow, Host, Slot, opened_slot, slot_at, with_opened}
 use Rattle.cpm_sessions.proofs.SlotLaws.{AllBelow-added, slot_at-added, slot_at-new}
 use Rattle.cpm_slots.specs.MachineState.{MachineState, opened_machine}
 use Rattle.cpm_slots.specs.declared.opening.OpenError.{OpenError}
 use Rattle.cpm_slots.specs.declared.opening.Opening.{Opening}
-use Rattle.cpm_turns.specs.Players.{AllDiffer, AllPlayed, AllReady, HasPlayed, IsNoPlayer, IsReady, keys_of, steps_of}
+use Rattle.cpm_turns.specs.Players.{AllDiffer, AllPlayed, AllReady, HasPlayed, IsNoPlayer, IsReady, steps_of}
 use Rattle.cpm_turns.specs.Playing.{IsInOrder, IsPlayed}
 use Rattle.cpm_turns.specs.declared.player.Player.{Player}
 use Rattle.cpm_host.specs.Playing.{AllEnded, AllSeated, ArePressable, HasEnded, IsSeatRefusal, IsSeated, TakesSeat}
@@ -38,18 +35,6 @@ pub record IsOpened (start now : Host) (all rest : List SessionInput) (ps : List
   pub differ : AllDiffer ps
   pub system : now.system ≡ start.system
   pub refused : (fault : OpenError) → IsFirstRefused now rest fault → IsFirstRefused start all fault
-
-pub opened_none : (h : Host) (all : List SessionInput) → h.slots ≡ [] → IsOpened h h all all []
-opened_none h all none = record {
-  done = [];
-  parts = refl;
-  seats = tt;
-  below = subst (λ (xs : List Slot). AllBelow h.openings xs) (sym none) tt;
-  numbered = tt;
-  differ = tt;
-  system = refl;
-  refused = λ fault f. f;
-}
 
 -- at its opening
 opening_is : (i : SessionInput) (o : Opening) → IsOpening i o → opened_slot o ≡ start_of i
@@ -80,6 +65,11 @@ differ_more : (n : ℕ) (ps : List Player) (p : Player) → AllNumbered n ps →
 differ_more n [] p numbered is all = (tt, tt)
 differ_more n (q ∷ ps) p numbered is all = (no_player q.id.0 n ps p numbered.0 is all.0, differ_more n ps p numbered.1 is all.1)
 
+-- the next of those still to come
+pub opened_next : (start now : Host) (all : List SessionInput) (rest more : List Input) (x : Input) (ps : List Player) → rest ≡ x ∷ more → IsOpened start now all (map given rest) ps
+    → IsOpened start now all (given x ∷ map given more) ps
+opened_next start now all rest more x ps steps h = subst (λ (xs : List Input). IsOpened start now all (map given xs) ps) steps h
+
 -- one seat more
 pub opened_more : (start now new : Host) (all rest : List SessionInput) (i : SessionInput) (ps more : List Player) (p : Player) → IsOpened start now all (i ∷ rest) ps → TakesSeat i now new p
     → more ≡ ps ++ p ∷ [] → IsOpened start new all rest more
@@ -101,12 +91,6 @@ opened_more start now new all rest i ps more p h seat pushed =
       refused = λ fault f. h.refused fault (o, seat.opens, inr (seat.accepted, f));
     } in
     subst (λ (host : Host). IsOpened start host all rest more) (sym seat.host) (subst (λ (qs : List Player). IsOpened start next all rest qs) (sym pushed) made)
-
--- all seats
-pub opened_all : (start now : Host) (all rest : List SessionInput) (ps : List Player) → IsOpened start now all rest ps → rest ≡ [] → AllSeated now.slots all ps
-opened_all start now all rest ps h none =
-    let same : h.done ≡ all = sym (append-nil h.done) ∙ ap (λ xs. h.done ++ xs) (sym none) ∙ h.parts in
-    subst (λ (is : List SessionInput). AllSeated now.slots is ps) same h.seats
 
 -- ---- before and after playing
 

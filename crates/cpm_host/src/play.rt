@@ -1,14 +1,16 @@
 //! Playing the sessions of a configuration in a host.
-ghost use Rattle.std.specs.Prelude.{◌≡◌, ◌≤◌, ◌∷◌, [], IfErr, IfOk, List, Some, map};
+ghost use Rattle.std.specs.Prelude.{◌≡◌, ◌≤◌, ◌∷◌, [], IfErr, IfOk, List, OnErr, Some, map};
 ghost use Rattle.std.specs.Vec.Iter.{into_iter_items};
-ghost use Rattle.cpm_batch.specs.Inputs.{given};
+ghost use Rattle.cpm_batch.specs.Inputs.{SessionInput, given};
 ghost use Rattle.cpm_batch.specs.Outputs.{left_by};
-ghost use Rattle.cpm_sessions.specs.Host.{new_host, slot_at};
+ghost use Rattle.cpm_sessions.specs.Host.{Host as HostValue, new_host, refusal_of, slot_at};
 ghost use Rattle.cpm_slots.specs.MachineState.{MachineState};
+ghost use Rattle.cpm_slots.specs.Opening.{IsRefusal};
+ghost use Rattle.cpm_slots.specs.declared.opening.Opening.{Opening as OpeningValue};
 ghost use Rattle.cpm_turns.specs.Players.{AllDiffer};
 ghost use Rattle.cpm_turns.specs.declared.player.Player.{Player};
 ghost use Rattle.cpm_host.specs.Playing.{AllSeated, AreFinished, ArePressable, IsClosed, IsSeatRefusal, TakesSeat, files_by, report_by};
-ghost use Rattle.cpm_host.specs.Run.{files_left, report_view, reports_of};
+ghost use Rattle.cpm_host.specs.Run.{IsOpening, files_left, report_view, reports_of};
 
 use crate::error::HostError;
 use crate::report::SessionReport;
@@ -28,10 +30,24 @@ pub(crate) struct Played<'a> {
     pub(crate) files: Vec<SessionFiles<'a>>,
 }
 
+/// Why a session has no slot, if its opening is refused so.
+fn refused(session: &Session, fault: OpenError) -> HostError
+    ensures { (h : HostValue) (i : SessionInput) (o : OpeningValue) → IsOpening i o → IsRefusal (refusal_of h o) fault → IsSeatRefusal h (i ∷ []) result }
+{
+    match fault {
+        OpenError::OutOfMemory => HostError::OutOfMemory,
+        fault => HostError::SessionRefused {
+            name: shown(session.name.as_str()),
+            fault,
+        },
+    }
+}
+
 /// Opens a slot for a session, and gives it a player.
 fn seat(alloc: Global, host: &mut Host, input: Input<'_>) -> Result<Player, HostError>
     ensures seated { IfOk result (TakesSeat (given input.entry) host.old.host host.new.host) }
     ensures refusal { IfErr result (IsSeatRefusal host.old.host (given input.entry ∷ [])) }
+    ensures unchanged { OnErr result (host.new.host ≡ host.old.host) }
 {
     let Input {
         session,
@@ -45,11 +61,7 @@ fn seat(alloc: Global, host: &mut Host, input: Input<'_>) -> Result<Player, Host
     };
     match host.open(alloc, opening) {
         Ok(id) => Ok(Player::new(alloc, id, keys, session.steps)),
-        Err((_, OpenError::OutOfMemory)) => Err(HostError::OutOfMemory),
-        Err((_, fault)) => Err(HostError::SessionRefused {
-            name: shown(session.name.as_str()),
-            fault,
-        }),
+        Err((_, fault)) => Err(refused(session, fault)),
     }
 }
 
