@@ -1,7 +1,7 @@
 -- What is reported and written once sessions were played.
-use Rattle.std.proofs.Common.{◌≡◌, ◌≢◌, ◌∙◌, ◌≤◌, ◌<◌, ◌+◌, ℕ, zero, suc, List, [], ◌∷◌, ◌++◌, Option, Some, None, length, map, take, drop, get_or, ap, subst, sym, refl, arith}
+use Rattle.std.proofs.Common.{◌≡◌, ◌≢◌, ◌∙◌, ◌≤◌, ◌<◌, ◌+◌, ℕ, zero, suc, List, [], ◌∷◌, ◌++◌, Option, Some, None, length, map, take, drop, get_or, ap, subst, sym, refl, arith, append-nil}
 use Rattle.std.specs.Prelude.{⊤, string_bytes}
-use Rattle.std.proofs.lemmas.List.{length-map, map-append, take_all}
+use Rattle.std.proofs.lemmas.List.{drop_all, length-map, map-append, take_all}
 use Rattle.cpm_batch.specs.Inputs.{SessionInput}
 use Rattle.cpm_batch.specs.Outputs.{SessionOutput, left_by}
 use Rattle.cpm_batch.specs.declared.output.SessionFiles.{SessionFiles}
@@ -15,10 +15,11 @@ use Rattle.cpm_slots.specs.Serve.{look_of}
 use Rattle.cpm_slots.specs.declared.reply.Closed.{Closed}
 use Rattle.cpm_slots.specs.declared.reply.End.{End}
 use Rattle.cpm_slots.specs.declared.reply.Look.{Look}
-use Rattle.cpm_turns.specs.Players.{AllDiffer, IsNoPlayer}
+use Rattle.cpm_turns.specs.Players.{AllDiffer, AllPlayed, IsNoPlayer}
 use Rattle.cpm_turns.specs.Playing.{IsPlayed}
 use Rattle.cpm_turns.specs.declared.player.Player.{Player}
-use Rattle.cpm_host.specs.Playing.{AllEnded, AreFinished, HasEnded, IsClosed, files_by, report_by}
+use Rattle.cpm_host.proofs.PlayLemmas.{all_ended}
+use Rattle.cpm_host.specs.Playing.{AllEnded, AllSeated, AreFinished, HasEnded, IsClosed, files_by, report_by}
 use Rattle.cpm_host.specs.Run.{Reported, files_left, left_of, report_view, reported_of, reports_of, run_of, start_of}
 use Rattle.cpm_host.specs.declared.report.SessionReport.{SessionReport}
 
@@ -52,26 +53,31 @@ files_is system i s p closed last same drives played =
 
 -- ---- one after another
 
--- the input in turn
-record IsAt (is : List SessionInput) (k : ℕ) (s : Session) : Type 0 where
+-- the input in turn, and the place behind it
+record IsAt (is : List SessionInput) (k next : ℕ) (s : Session) : Type 0 where
   input : SessionInput
-  first : drop k is ≡ input ∷ drop (k + 1) is
-  more : take (k + 1) is ≡ take k is ++ input ∷ []
+  first : drop k is ≡ input ∷ drop next is
+  more : take next is ≡ take k is ++ input ∷ []
   session : input.session ≡ s
 
-is_at : (is : List SessionInput) (sessions : List Session) (k : ℕ) (s : Session) → map (λ i. i.session) is ≡ sessions → k < length sessions → s ≡ get_or sessions k s → IsAt is k s
-is_at [] sessions k s same below is = absurd (omega (arith, below, ap length (sym same)))
-is_at (i ∷ is) [] k s same below is = absurd (let bad : ⊥ = cc in bad)
-is_at (i ∷ is) (t ∷ ts) zero s same below is = record { input = i; first = refl; more = refl; session = let h : i.session ≡ t = cc in h ∙ sym is }
-is_at (i ∷ is) (t ∷ ts) (suc k) s same below is =
+there : (is : List SessionInput) (sessions : List Session) (k : ℕ) (s : Session) → map (λ i. i.session) is ≡ sessions → k < length sessions → s ≡ get_or sessions k s → IsAt is k (suc k) s
+there [] sessions k s same below found = absurd (let none : length sessions ≡ 0 = ap length (sym same) in omega (arith, below, none))
+there (i ∷ is) [] k s same below found = absurd (omega (arith, below))
+there (i ∷ is) (t ∷ ts) zero s same below found = record { input = i; first = refl; more = refl; session = let h : i.session ≡ t = cc in h ∙ sym found }
+there (i ∷ is) (t ∷ ts) (suc k) s same below found =
     let rest : map (λ j. j.session) is ≡ ts = cc in
-    let at = is_at is ts k s rest (omega (arith, below)) is in
+    let at = there is ts k s rest (omega (arith, below)) found in
     record {
       input = at.input;
       first = at.first;
       more = ap (λ (xs : List SessionInput). i ∷ xs) at.more;
       session = at.session;
     }
+
+is_at : (is : List SessionInput) (sessions : List Session) (k : ℕ) (s : Session) → map (λ i. i.session) is ≡ sessions → k < length sessions → s ≡ get_or sessions k s → IsAt is k (k + 1) s
+is_at is sessions k s same below found =
+    let next : suc k ≡ k + 1 = omega arith in
+    subst (λ (n : ℕ). IsAt is k n s) next (there is sessions k s same below found)
 
 -- the player and what is left of its slot
 who_of : Player → Option (Player × Closed) → Player
@@ -81,6 +87,13 @@ who_of p (Some x) = x.0
 what_of : Closed → Option (Player × Closed) → Closed
 what_of c None = c
 what_of c (Some x) = x.1
+
+not_both : (x : Player × Closed) → None ≡ Some x → ⊥
+not_both x same = cc
+
+pub none_there : (r : Option (Player × Closed)) → ((x : Player × Closed) → r ≡ Some x → ⊥) → r ≡ None
+none_there None none = refl
+none_there (Some x) none = absurd (none x refl)
 
 -- the other slots stay as they were
 ended_kept : (system : Disk) (p : Player) (old new : List Slot) (is : List SessionInput) (ps : List Player) → ((id : ℕ) → id ≢ p.id.0 → slot_at id new ≡ slot_at id old) → IsNoPlayer p.id.0 ps
@@ -110,11 +123,12 @@ module _ (sessions : List Session) (k : ℕ) (s : Session) (start : List Slot) (
   finish_one : (q : Player) (closed : Closed) (rest : List Player) (reports : List SessionReport) (files : List SessionFiles) (report : SessionReport) (file : SessionFiles) (system : Disk) (is : List SessionInput)
       → map (λ i. i.session) is ≡ sessions → IsFinishedTo system is k old.slots rest reports files → Closing old new rest r left → r ≡ Some (q, closed) → report_view report ≡ report_by s q closed
       → left_by file ≡ files_by s q closed → IsFinishedTo system is (k + 1) new.slots left (reports ++ report ∷ []) (files ++ file ∷ [])
+  unfolding who_of what_of
   finish_one q closed rest reports files report file system is same h closing got one other =
       let a = is_at is sessions k s same below at in
       go a rest h.differ (subst (λ (xs : List SessionInput). AllEnded system old.slots xs rest) a.first h.ended) closing
     where
-      go : (a : IsAt is k s) (now : List Player) → AllDiffer now → AllEnded system old.slots (a.input ∷ drop (k + 1) is) now → Closing old new now r left
+      go : (a : IsAt is k (k + 1) s) (now : List Player) → AllDiffer now → AllEnded system old.slots (a.input ∷ drop (k + 1) is) now → Closing old new now r left
           → IsFinishedTo system is (k + 1) new.slots left (reports ++ report ∷ []) (files ++ file ∷ [])
       go a [] differ all close = absurd all
       go a (p ∷ ps) differ all close =
@@ -151,12 +165,11 @@ module _ (sessions : List Session) (k : ℕ) (s : Session) (start : List Slot) (
       let a = is_at is sessions k s same below at in
       absurd (go system is a rest (subst (λ (xs : List SessionInput). AllEnded system old.slots xs rest) a.first f.ended) closing)
     where
-      go : (system : Disk) (is : List SessionInput) (a : IsAt is k s) (now : List Player) → AllEnded system old.slots (a.input ∷ drop (k + 1) is) now → Closing old new now r left → ⊥
+      go : (system : Disk) (is : List SessionInput) (a : IsAt is k (k + 1) s) (now : List Player) → AllEnded system old.slots (a.input ∷ drop (k + 1) is) now → Closing old new now r left → ⊥
       go system is a [] all close = all
       go system is a (p ∷ ps) all close =
           let c = close p ps all.0.last refl all.0.stands in
-          let bad : None ≡ Some (p, c.closed) = sym none ∙ c.result in
-          cc
+          not_both (p, c.closed) (sym none ∙ c.result)
 
 pub finished : (sessions : List Session) (k : ℕ) (start now : List Slot) (players rest : List Player) (reports : List SessionReport) (files : List SessionFiles) → length sessions ≤ k
     → IsFinishing sessions k start now players rest reports files → AreFinished sessions start players reports files
@@ -175,3 +188,29 @@ finishing_start sessions start players rest reports files same no_reports no_fil
       rows = ap (map report_view) no_reports;
       outputs = ap (map left_by) no_files;
     }
+
+-- ---- all of it
+
+lengths : (system : Disk) (before now : List Slot) (ps qs : List Player) → AllPlayed system before now ps qs → length qs ≡ length ps
+lengths system before now [] [] h = refl
+lengths system before now [] (q ∷ qs) h = absurd h
+lengths system before now (p ∷ ps) [] h = absurd h
+lengths system before now (p ∷ ps) (q ∷ qs) h = ap suc (lengths system before now ps qs h.1)
+
+-- the players that played, in the vector that they came from
+pub written_back : (system : Disk) (before now : List Slot) (n : ℕ) (ps begun qs : List Player) → n ≡ length ps → begun ≡ ps → AllPlayed system before now begun qs
+    → take n (qs ++ drop (length qs) ps) ≡ qs
+written_back system before now n ps begun qs whole first h =
+    let same : length qs ≡ length ps = lengths system before now begun qs h ∙ ap length first in
+    let none : drop (length qs) ps ≡ [] = drop_all (length qs) ps (omega (arith, same)) in
+    ap (λ (xs : List Player). take n (qs ++ xs)) none ∙ ap (λ (xs : List Player). take n xs) (append-nil qs) ∙ take_all n qs (omega (arith, whole, same))
+
+-- sessions that were seated and played are reported, and leave their files, as their machines alone
+pub all_finished : (system other : Disk) (before now : List Slot) (sessions slice : List Session) (is : List SessionInput) (ps begun played qs : List Player) (reports : List SessionReport)
+    (files : List SessionFiles) → other ≡ system → slice ≡ sessions → begun ≡ ps → qs ≡ played → map (λ i. i.session) is ≡ sessions → AllSeated before is ps
+    → AllPlayed other before now begun played → AreFinished slice now qs reports files → (map report_view reports ≡ reports_of system is) × (map left_by files ≡ files_left system is)
+all_finished system other before now sessions slice is ps begun played qs reports files drive whole first last inputs seats h all =
+    let from : AllPlayed other before now ps played = subst (λ (xs : List Player). AllPlayed other before now xs played) first h in
+    let to : AllPlayed other before now ps qs = subst (λ (xs : List Player). AllPlayed other before now ps xs) (sym last) from in
+    let here : AllPlayed system before now ps qs = subst (λ (d : Disk). AllPlayed d before now ps qs) drive to in
+    all system is (inputs ∙ sym whole) (all_ended system before now is ps qs seats here)
