@@ -2,7 +2,7 @@
 use Rattle.std.proofs.Common.{◌≡◌, ◌≤◌, ℕ, List, [], ◌∷◌, Option, Some, None, Ok, length, subst, sym, arith}
 use Rattle.std.specs.Prelude.{String, Result, IfOk}
 use Rattle.std.specs.declared.alloc.Global.{Global}
-use Rattle.cpm_batch.specs.Inputs.{AllInputs, HasInput, HasKeys, SessionInput}
+use Rattle.cpm_batch.specs.Inputs.{AllInputs, HasKeys, SessionInput}
 use Rattle.cpm_script.specs.Script.{script}
 use Rattle.cpm_script.specs.declared.fault.LineFault.{LineFault}
 use Rattle.cpm_script.specs.declared.script.Key.{Key}

@@ -61,10 +61,7 @@ pub fn run_host<S: Store>(
     ensures counted { S.failed store.old ≤ S.failed store.new }
 {
     if let Some(field) = top_fault(config) {
-        return Err(HostError::ConfigRefused(ConfigError::Range(Place {
-            session: 0,
-            field,
-        })));
+        return Err(HostError::ConfigRefused(ConfigError::Range(Place { session: 0, field })));
     }
     let inputs = read_inputs(alloc, config, store)?;
     let Played { reports, files } = play_all(alloc, config, inputs)?;
