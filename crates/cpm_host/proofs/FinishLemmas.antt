@@ -1,13 +1,12 @@
 -- What is reported and written once sessions were played.
 use Rattle.std.proofs.Common.{◌≡◌, ◌≢◌, ◌∙◌, ◌≤◌, ◌<◌, ◌+◌, ℕ, zero, suc, List, [], ◌∷◌, ◌++◌, Option, Some, None, length, map, take, drop, get_or, ap, subst, sym, refl, arith, append-nil}
-use Rattle.std.specs.Prelude.{⊤, string_bytes}
+use Rattle.std.specs.Prelude.{string_bytes}
 use Rattle.std.proofs.lemmas.List.{drop_all, length-map, map-append, take_all}
 use Rattle.cpm_batch.specs.Inputs.{SessionInput}
 use Rattle.cpm_batch.specs.Outputs.{SessionOutput, left_by}
 use Rattle.cpm_batch.specs.declared.output.SessionFiles.{SessionFiles}
 use Rattle.cpm_config.specs.declared.config.Session.{Session}
 use Rattle.cpm_disks.specs.Disks.{images_of}
-use Rattle.cpm_disks.specs.declared.disks.Disks.{Disks}
 use Rattle.cpm_geom.specs.Disk.{Disk}
 use Rattle.cpm_sessions.specs.Host.{Host, Slot, slot_at}
 use Rattle.cpm_slots.specs.MachineState.{MachineState}
@@ -19,7 +18,7 @@ use Rattle.cpm_turns.specs.Players.{AllDiffer, AllPlayed, IsNoPlayer}
 use Rattle.cpm_turns.specs.Playing.{IsPlayed}
 use Rattle.cpm_turns.specs.declared.player.Player.{Player}
 use Rattle.cpm_host.proofs.PlayLemmas.{all_ended}
-use Rattle.cpm_host.specs.Playing.{AllEnded, AllSeated, AreFinished, HasEnded, IsClosed, files_by, report_by}
+use Rattle.cpm_host.specs.Playing.{AllEnded, AllSeated, AreFinished, IsClosed, files_by, report_by}
 use Rattle.cpm_host.specs.Run.{Reported, files_left, left_of, report_view, reported_of, reports_of, run_of, start_of}
 use Rattle.cpm_host.specs.declared.report.SessionReport.{SessionReport}
 
@@ -60,19 +59,14 @@ record IsAt (is : List SessionInput) (k next : ℕ) (s : Session) : Type 0 where
   more : take next is ≡ take k is ++ input ∷ []
   session : input.session ≡ s
 
+later : (i : SessionInput) (is : List SessionInput) (k : ℕ) (s : Session) → IsAt is k (suc k) s → IsAt (i ∷ is) (suc k) (suc (suc k)) s
+later i is k s at = record { input = at.input; first = at.first; more = ap (λ (xs : List SessionInput). i ∷ xs) at.more; session = at.session }
+
 there : (is : List SessionInput) (sessions : List Session) (k : ℕ) (s : Session) → map (λ i. i.session) is ≡ sessions → k < length sessions → s ≡ get_or sessions k s → IsAt is k (suc k) s
 there [] sessions k s same below found = absurd (let none : length sessions ≡ 0 = ap length (sym same) in omega (arith, below, none))
 there (i ∷ is) [] k s same below found = absurd (omega (arith, below))
 there (i ∷ is) (t ∷ ts) zero s same below found = record { input = i; first = refl; more = refl; session = let h : i.session ≡ t = cc in h ∙ sym found }
-there (i ∷ is) (t ∷ ts) (suc k) s same below found =
-    let rest : map (λ j. j.session) is ≡ ts = cc in
-    let at = there is ts k s rest (omega (arith, below)) found in
-    record {
-      input = at.input;
-      first = at.first;
-      more = ap (λ (xs : List SessionInput). i ∷ xs) at.more;
-      session = at.session;
-    }
+there (i ∷ is) (t ∷ ts) (suc k) s same below found = later i is k s (there is ts k s (let rest : map (λ j. j.session) is ≡ ts = cc in rest) (omega (arith, below)) found)
 
 is_at : (is : List SessionInput) (sessions : List Session) (k : ℕ) (s : Session) → map (λ i. i.session) is ≡ sessions → k < length sessions → s ≡ get_or sessions k s → IsAt is k (k + 1) s
 is_at is sessions k s same below found =

@@ -2,6 +2,5 @@ pub mod FinishLemmas
 pub mod InputLemmas
 pub mod ListLemmas
 pub mod PlayLemmas
-pub mod RunLemmas
 pub mod ScriptLemmas
 pub mod SeatLemmas

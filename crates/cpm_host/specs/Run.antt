@@ -2,11 +2,9 @@
 use Rattle.std.specs.Prelude.{⊤, ◌≡◌, ◌⊎◌, ℕ, ◌==◌, ◌&&◌, not, nat_le, List, [], ◌∷◌, length, map, Option, Some, None, string_bytes, if◌then◌else◌}
 use Rattle.cpm_batch.specs.Inputs.{AreInputs, IsReadRefusal, SessionInput, needs_of_config}
 use Rattle.cpm_batch.specs.Outputs.{SessionOutput, files_of_all}
-use Rattle.cpm_batch.specs.declared.error.ReadError.{ReadError}
 use Rattle.cpm_batch.specs.declared.error.ReadError.TheVariants as reading
 use Rattle.cpm_config.specs.declared.config.Config.{Config}
 use Rattle.cpm_config.specs.declared.config.Session.{Session}
-use Rattle.cpm_config.specs.declared.fault.ConfigError.{ConfigError}
 use Rattle.cpm_config.specs.declared.fault.ConfigError.TheVariants.{Range}
 use Rattle.cpm_config.specs.declared.field.Field.{Field}
 use Rattle.cpm_config.specs.declared.field.Field.TheVariants.{Frames, Quantum}

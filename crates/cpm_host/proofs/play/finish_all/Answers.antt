@@ -1,4 +1,3 @@
-use Rattle.std.proofs.Common.{◌≡◌, ◌∙◌}
 use Rattle.std.specs.Vec.Iter.{into_iter_items}
 use Rattle.cpm_host.proofs.FinishLemmas.{finished_early, finishing_more, none_there}
 use Rattle.cpm_host.proofs.play.finish_all.Goals as goal

@@ -1,4 +1,4 @@
-use Rattle.std.proofs.Common.{◌≡◌, map}
+use Rattle.std.proofs.Common.{map}
 use Rattle.cpm_batch.specs.Inputs.{given}
 use Rattle.cpm_host.proofs.ScriptLemmas.{inputs_pressable}
 use Rattle.cpm_host.proofs.run.run_host.Goals as goal
