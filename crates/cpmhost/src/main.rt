@@ -39,7 +39,37 @@ fn run_sessions(rt: &(impl Files + Print + AllocGlobal), file: &str) -> Result<(
     Ok(())
 }
 
-/// Runs the program in a file by the keys of a script, prints what it shows, and then how it ended.
+/// Runs a program by the keys of a script, if there is one, prints what it shows, and then how it ended.
+fn play(
+    rt: &(impl Print + Eprint + AllocGlobal),
+    cpu: Cpu,
+    program: Vec<u8>,
+    script: Option<Script<'_>>,
+    steps: u64,
+) -> Result<(), HostError> {
+    let ending = run_com(rt.alloc(), cpu, program, script, steps, &mut io::writer(rt))?;
+    // The program ran and its text is out, even where nobody reads how it ended.
+    let _ = eprintln!(rt; "{ending}");
+    Ok(())
+}
+
+/// Runs a program by the keys of the script in a file.
+fn play_script(
+    rt: &(impl Files + Print + Eprint + AllocGlobal),
+    cpu: Cpu,
+    program: Vec<u8>,
+    name: &str,
+    steps: u64,
+) -> Result<(), HostError> {
+    let text = read_file(rt, name)?;
+    let script = Script {
+        name,
+        text: text.as_slice(),
+    };
+    play(rt, cpu, program, Some(script), steps)
+}
+
+/// Runs the program in a file.
 fn com(
     rt: &(impl Files + Print + Eprint + AllocGlobal),
     file: &str,
@@ -48,21 +78,10 @@ fn com(
     steps: u64,
 ) -> Result<(), HostError> {
     let program = read_file(rt, file)?;
-    let text = match keys {
-        Some(name) => Some(read_file(rt, name)?),
-        None => None,
-    };
-    let script = match (keys, &text) {
-        (Some(name), Some(text)) => Some(Script {
-            name,
-            text: text.as_slice(),
-        }),
-        _ => None,
-    };
-    let ending = run_com(rt.alloc(), cpu, program, script, steps, &mut io::writer(rt))?;
-    // The program ran and its text is out, even where nobody reads how it ended.
-    let _ = eprintln!(rt; "{ending}");
-    Ok(())
+    match keys {
+        None => play(rt, cpu, program, None, steps),
+        Some(name) => play_script(rt, cpu, program, name, steps),
+    }
 }
 
 /// Assembles the source in a file, and writes its image to another.
