@@ -153,16 +153,21 @@ fn opens_all_or_nothing(rt: HostRuntime) {
     assert_eq!(rt; shown.as_str(), wanted);
 }
 
+/// The exit status of a run, 0 where it is not refused.
+fn status(rt: &(impl Abort + AllocGlobal), text: &str, store: &mut MemoryStore) -> u8 {
+    let Err(error) = run(rt, text, store) else {
+        return 0;
+    };
+    error.status()
+}
+
 #[test]
 fn a_call_that_fails_is_answered(rt: HostRuntime) {
     let text = with_all_files(&rt);
     for number in 1..=7 {
         let mut store = filled(&rt);
         store.fail_call(number);
-        let status = match run(&rt, text.as_str(), &mut store) {
-            Ok(_) => 0,
-            Err(error) => error.status(),
-        };
+        let status = status(&rt, text.as_str(), &mut store);
         let wanted = match number {
             1..=3 => 4,
             4..=6 => 5,

@@ -241,40 +241,46 @@ fn assembles_a_source(rt: HostRuntime) {
     assert!(rt; run_asm(rt.alloc(), b"").expect(&rt, "an image").is_empty());
 }
 
+/// Fails unless a source is refused with this text.
+fn is_refused(rt: &(impl Abort + AllocGlobal), source: &[u8], wanted: &str) {
+    let error = run_asm(rt.alloc(), source).expect_err(rt, "a refusal");
+    assert_eq!(rt; error.status(), 7);
+    let text = error.to_string(rt.alloc()).expect(rt, "memory");
+    assert_eq!(rt; text.as_str(), wanted);
+}
+
 #[test]
 fn names_the_line_and_what_stands_there(rt: HostRuntime) {
-    let sources: [(&[u8], &str); 6] = [
-        (
-            b" JMP Q1",
-            "HO7 line 1, 'JMP Q1': AS2: a name in an operand is defined nowhere",
-        ),
-        (
-            b"L1:\tNOP\r\nL1:\tNOP ; again\r\n RET\r\n",
-            "HO7 line 2, 'L1: NOP ; again': AS3: the label is defined by an earlier statement too",
-        ),
-        (
-            b" NOP\n\n ORG 0\n",
-            "HO7 line 3, 'ORG 0': AS6: ORG is below the present address",
-        ),
-        (
-            b" DS X\nX EQU 1",
-            "HO7 line 1, 'DS X': AS5: a name in ORG, EQU, IF or DS has to be defined by an earlier statement",
-        ),
-        (
-            b" DB '\xE9\x01",
-            "HO7 line 1, 'DB '\u{E9}?': AS1: syntax: [label[:]] [operation [operands]] is wanted, each IF with its ENDIF, at most 8 deep",
-        ),
-        (
-            b" DB 'AB",
-            "HO7 line 1, 'DB 'AB': AS1: syntax: [label[:]] [operation [operands]] is wanted, each IF with its ENDIF, at most 8 deep",
-        ),
-    ];
-    for (source, wanted) in sources {
-        let error = run_asm(rt.alloc(), source).expect_err(&rt, "a refusal");
-        assert_eq!(rt; error.status(), 7, "at {wanted}");
-        let text = error.to_string(rt.alloc()).expect(&rt, "memory");
-        assert_eq!(rt; text.as_str(), wanted);
-    }
+    is_refused(
+        &rt,
+        b" JMP Q1",
+        "HO7 line 1, 'JMP Q1': AS2: a name in an operand is defined nowhere",
+    );
+    is_refused(
+        &rt,
+        b"L1:\tNOP\r\nL1:\tNOP ; again\r\n RET\r\n",
+        "HO7 line 2, 'L1: NOP ; again': AS3: the label is defined by an earlier statement too",
+    );
+    is_refused(
+        &rt,
+        b" NOP\n\n ORG 0\n",
+        "HO7 line 3, 'ORG 0': AS6: ORG is below the present address",
+    );
+    is_refused(
+        &rt,
+        b" DS X\nX EQU 1",
+        "HO7 line 1, 'DS X': AS5: a name in ORG, EQU, IF or DS has to be defined by an earlier statement",
+    );
+    is_refused(
+        &rt,
+        b" DB '\xE9\x01",
+        "HO7 line 1, 'DB '\u{E9}?': AS1: syntax: [label[:]] [operation [operands]] is wanted, each IF with its ENDIF, at most 8 deep",
+    );
+    is_refused(
+        &rt,
+        b" DB 'AB",
+        "HO7 line 1, 'DB 'AB': AS1: syntax: [label[:]] [operation [operands]] is wanted, each IF with its ENDIF, at most 8 deep",
+    );
 }
 
 /// What is listed of a program.
