@@ -28,6 +28,8 @@ pub use report::{Report, SessionReport};
 pub use run::run_host;
 
 #[cfg(test)]
+mod lab_tests;
+#[cfg(test)]
 mod run_tests;
 #[cfg(test)]
 mod tests;

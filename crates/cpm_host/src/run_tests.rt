@@ -34,7 +34,7 @@ console = \"two.txt\"
 const SHOWN: &[u8] = b"\r\nA>DIR\r\r\nNO FILE\r\nA>";
 
 /// The texts one after another.
-fn joined(rt: &(impl Abort + AllocGlobal), parts: &[&str]) -> String {
+pub fn joined(rt: &(impl Abort + AllocGlobal), parts: &[&str]) -> String {
     let mut text = String::new(rt.alloc());
     for part in parts {
         text.push_str(part).expect(rt, "memory");
@@ -99,7 +99,7 @@ fn refusal(rt: &(impl Abort + AllocGlobal), text: &str, store: &mut MemoryStore)
 }
 
 /// Whether a store has a file of this name with these bytes.
-fn holds(store: &MemoryStore, name: &str, bytes: &[u8]) -> bool {
+pub fn holds(store: &MemoryStore, name: &str, bytes: &[u8]) -> bool {
     match store.file(name) {
         Some(found) => found == bytes,
         None => false,
@@ -154,7 +154,7 @@ fn opens_all_or_nothing(rt: HostRuntime) {
 }
 
 /// The exit status of a run, 0 where it is not refused.
-fn status(rt: &(impl Abort + AllocGlobal), text: &str, store: &mut MemoryStore) -> u8 {
+pub fn status(rt: &(impl Abort + AllocGlobal), text: &str, store: &mut MemoryStore) -> u8 {
     let Err(error) = run(rt, text, store) else {
         return 0;
     };
