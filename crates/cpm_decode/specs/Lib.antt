@@ -1,3 +1,5 @@
+pub mod Cache
+pub mod Cached
 pub mod Fields
 pub mod FieldsZ80
 pub mod PageZ80

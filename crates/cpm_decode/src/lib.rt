@@ -2,6 +2,7 @@
 #![tactic(auto)]
 
 pub mod bits_z80;
+pub mod cache;
 pub mod decoder;
 pub mod decoder_z80;
 pub mod extended_z80;
@@ -9,6 +10,7 @@ pub mod index_z80;
 pub mod operation;
 pub mod operation_z80;
 
+pub use cache::DecodeCache;
 pub use decoder::{decode8080, row8080};
 pub use decoder_z80::{decodez80, rowz80};
 pub use operation::{Arithmetic, Condition, Decoded, Op, Pair, Place, Ran, Rotation, StackPair};

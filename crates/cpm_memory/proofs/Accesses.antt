@@ -1,11 +1,12 @@
 -- What a view knows of its store, and what is left of that after a store of a byte.
-use Rattle.std.proofs.Common.{◌≡◌, ◌≢◌, ℕ, ◌+◌, ◌<◌, ◌≤◌, ◌/◌, ◌%◌, Bool, true, false, List, length, get_or, set, refl, arith, ap, sym, ◌∙◌, is_some, unwrap_or, ⊎_elim}
+use Rattle.std.proofs.Common.{◌≡◌, ◌≢◌, ℕ, ◌+◌, ◌<◌, ◌≤◌, ◌/◌, ◌%◌, Bool, true, false, List, length, get_or, set, refl, arith, ap, sym, ◌∙◌, is_some, unwrap_or, ⊎_elim, subst, []}
 use Rattle.std.proofs.lemmas.List.{get_or-set_same, get_or-set_other}
 use Rattle.std.proofs.lemmas.Bool.{cases_eq}
 use Rattle.cpm_memory.specs.Contents.{is_written, touched_of, after_set, page_of, byte_at}
 use Rattle.cpm_memory.specs.Room.{touched_of-unwritten}
-use Rattle.cpm_memory.specs.Frames.{Frames, IsSound, HasReservation, ChangesTable, MovesAtMost, table_at, private_at, frame_of, place_of, memory_of, reserved_by}
-use Rattle.cpm_memory.specs.Kept.{with_byte}
+use Rattle.cpm_memory.specs.Frames.{Frames, IsSound, HasReservation, ChangesTable, KeepsStamps, MovesAtMost, stamps_at, table_at, private_at, frame_of, place_of, memory_of, reserved_by}
+use Rattle.cpm_memory.specs.Kept.{with_byte, with_stamp}
+use Rattle.cpm_memory.specs.Stamps.{after_stamp}
 use Rattle.cpm_memory.specs.Memories.{IsContents-memory_of}
 use Rattle.cpm_memory.proofs.Bytes.{Written, Written-from, place_of-cases, byte_at-table}
 use Rattle.cpm_memory.proofs.Copies.{written-place, place-written, place_of-lt}
@@ -71,3 +72,36 @@ counted-after s s' t address value touched ok lt la counted first e =
 pub touched-within : (s : Frames) (t touched limit : ℕ) → IsSound s → t < 64 → touched ≡ touched_of (memory_of s t) → limit ≡ reserved_by (table_at s t) → (touched ≤ limit) × (limit ≤ 256)
 touched-within s t touched limit ok lt counted limited =
     (omega (arith, counted, limited, (IsContents-memory_of s t ok lt).within), omega (arith, limited, (IsContents-memory_of s t ok lt).limit))
+
+-- what a raised stamp leaves: of the stamps, that one table's page has the next, and of all else what was there
+pub record Raised (s s' : Frames) (t page : ℕ) : Type 0 where
+  pub stamps : stamps_at s' t ≡ after_stamp (stamps_at s t) page
+  pub others : KeepsStamps s s' t
+
+pub Raised-from : (s s' s'' : Frames) (t page : ℕ) → IsSound s → t < 64 → s'.stamps ≡ s.stamps → s'' ≡ with_stamp s' t page → Raised s s'' t page
+Raised-from s s' s'' t page ok lt e q = record {
+  stamps =
+      ap (λ (x : Frames). get_or x.stamps t []) q
+      ∙ get_or-set_same s'.stamps t (after_stamp (stamps_at s' t) page) [] (omega (arith, ap length e, ok.stamped.tables, lt))
+      ∙ ap (λ xs. after_stamp (get_or xs t []) page) e;
+  others = λ t' ne.
+      ap (λ (x : Frames). get_or x.stamps t' []) q
+      ∙ get_or-set_other s'.stamps t t' (after_stamp (stamps_at s' t) page) [] ne
+      ∙ ap (λ xs. get_or xs t' []) e;
+}
+
+pub ChangesTable-raised : (s s' s'' : Frames) (t t' page : ℕ) → ChangesTable s s' t → s'' ≡ with_stamp s' t' page → ChangesTable s s'' t
+ChangesTable-raised s s' s'' t t' page h q =
+    subst (λ x. ChangesTable s x t) (sym q) (record { others = h.others; private = h.private; reservation = h.reservation })
+
+touched-raised : (s s' : Frames) (t t' page : ℕ) → touched_of (memory_of s' t) ≡ touched_of (memory_of s t) → touched_of (memory_of (with_stamp s' t' page) t) ≡ touched_of (memory_of s t)
+unfolding touched_of
+touched-raised s s' t t' page e = e
+
+pub Stored-raised : (s s' s'' : Frames) (t address value t' page : ℕ) → Stored s s' t address value → s'' ≡ with_stamp s' t' page → Stored s s'' t address value
+Stored-raised s s' s'' t address value t' page h q =
+    subst (λ x. Stored s x t address value) (sym q) (record {
+      written = record { memory = h.written.memory; others = ChangesTable-raised s s' (with_stamp s' t' page) t t' page h.written.others refl };
+      places = h.places;
+      touched = touched-raised s s' t t' page h.touched;
+    })

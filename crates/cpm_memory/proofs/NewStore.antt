@@ -9,7 +9,7 @@ use Rattle.std.proofs.lemmas.Bool.Decides.{nat_tests}
 use Rattle.cpm_memory.specs.Opening.{opening_byte, base_byte, jumps_byte}
 use Rattle.cpm_memory.specs.DiskTables.{disk_table_byte}
 use Rattle.cpm_memory.specs.Tabulated.{tabulated, length-tabulated, get_or-tabulated, same_as_tabulated, same_tabulated}
-use Rattle.cpm_memory.specs.Frames.{Frames, Table, IsSound, IsBlank, AreNewFrames, blank_table, table_at, frame_of, boot_of, names, pages_on, owners_of, used_by, reserved_by, reserved_of, memory_of, memory_at, memories}
+use Rattle.cpm_memory.specs.Frames.{Frames, Table, IsSound, IsBlank, AreTablesStamps, AreNewFrames, blank_table, table_at, frame_of, boot_of, names, pages_on, owners_of, used_by, reserved_by, reserved_of, memory_of, memory_at, memories}
 use Rattle.cpm_memory.specs.Kept.{IsKept}
 use Rattle.cpm_memory.proofs.Places.{owners_of-at}
 
@@ -116,7 +116,7 @@ unfolding opening_byte
 blank-page page k a b c =
     sym (no_page (page == 0) (page == 250) (page == 252) (base_byte k) (jumps_byte k) (disk_table_byte k) (grind (arith, nat_tests)) (grind (arith, nat_tests)) (grind (arith, nat_tests)))
 
-module _ (s : Frames) (most : s.private ≤ 16384) (new : AreNewFrames s.frames s.private) (count : length s.tables ≡ 64) (blank : (k : ℕ) → k < 64 → IsBlank (table_at s k)) where
+module _ (s : Frames) (most : s.private ≤ 16384) (new : AreNewFrames s.frames s.private) (count : length s.tables ≡ 64) (blank : (k : ℕ) → k < 64 → IsBlank (table_at s k)) (stamped : AreTablesStamps s.stamps) where
   none_used : sum_by used_by s.tables ≡ 0
   none_used = zero_sum used_by s.tables blank_table (λ k l. (blank k (omega (arith, count, l))).used)
 
@@ -167,6 +167,7 @@ module _ (s : Frames) (most : s.private ≤ 16384) (new : AreNewFrames s.frames 
     blank = λ t _. no_pages t;
     within = λ t. omega (arith, no_pages t);
     limits = λ t. omega (arith, ap (λ o. unwrap_or o 0) (no_reservation t));
+    stamped = stamped;
     reserved = omega (arith, none_reserved);
     single = λ f. omega (arith, no_owner f);
   }

@@ -49,4 +49,4 @@ module _ (v w : View) (h : ViewLeads v w) where
   pub own-table : ChangesOwnTable v w
   own-table =
       let after = memories-after_leads v w h in
-      record { stores = after.0; memories = after.1; places = h.places; frames = frame-kept }
+      record { stores = after.0; memories = after.1; places = h.places; stamps = h.other_stamps; frames = frame-kept }

@@ -80,6 +80,7 @@ module _ (s : Frames) (t : ℕ) (pages : Option ℕ) (ok : IsSound s) (lt : t < 
     blank = λ t'. each_table s t reserving (λ x. x.reservation ≡ None → used_by x ≡ 0) in_tables (λ _. blank) t' (λ _. ok.blank t');
     within = λ t'. each_table s t reserving (λ x. used_by x ≤ reserved_by x) in_tables (omega (arith, blank)) t' (λ _. ok.within t');
     limits = λ t'. each_table s t reserving (λ x. reserved_by x ≤ 256) in_tables most t' (λ _. ok.limits t');
+    stamped = ok.stamped;
     reserved = omega (arith, reserved-after, fits);
     single = λ g. omega (arith, owners-same g, ok.single g);
   }
@@ -140,6 +141,7 @@ module _ (s : Frames) (t page : ℕ) (ok : IsSound s) (lt : t < 64) (lp : page <
     blank = λ t'. each_table s t cleared (λ x. x.reservation ≡ None → used_by x ≡ 0) in_range (λ e. omega (arith, used-cleared, ok.blank t e)) t' (λ _. ok.blank t');
     within = λ t'. each_table s t cleared (λ x. used_by x ≤ reserved_by x) in_range (omega (arith, used-cleared, ok.within t)) t' (λ _. ok.within t');
     limits = λ t'. each_table s t cleared (λ x. reserved_by x ≤ 256) in_range (ok.limits t) t' (λ _. ok.limits t');
+    stamped = ok.stamped;
     reserved = omega (arith, ok.reserved, sum_by-set reserved_by s.tables t cleared blank_table in_range);
     single = λ g. omega (arith, owners-cleared g, ok.single g);
   }
@@ -207,9 +209,10 @@ module _ (s : Frames) (t : ℕ) (ok : IsSound s) (lt : t < 64) where
       e ∙ ap (λ xs. record { places = xs; reservation = None }) (same_as_tabulated 256 (λ _. None) (table_at s t).places None (ok.pages t lt) none)
 
 -- the store after its pages were cleared one by one, and then its table given up
-pub released-from : (old s : Frames) (t : ℕ) (table : Table) → table ≡ empty_table → s.private ≡ old.private → s.frames ≡ old.frames → set s.tables t empty_table ≡ set old.tables t empty_table → with_table s t table ≡ with_table old t empty_table
-released-from old s t table empty private frames tables =
+pub released-from : (old s : Frames) (t : ℕ) (table : Table) → table ≡ empty_table → s.private ≡ old.private → s.frames ≡ old.frames → s.stamps ≡ old.stamps → set s.tables t empty_table ≡ set old.tables t empty_table → with_table s t table ≡ with_table old t empty_table
+released-from old s t table empty private frames stamps tables =
     ap (with_table s t) empty
-    ∙ ap (λ n. record { private = n; frames = s.frames; tables = set s.tables t empty_table }) private
-    ∙ ap (λ xs. record { private = old.private; frames = xs; tables = set s.tables t empty_table }) frames
-    ∙ ap (λ ts. record { private = old.private; frames = old.frames; tables = ts }) tables
+    ∙ ap (λ n. record { private = n; frames = s.frames; tables = set s.tables t empty_table; stamps = s.stamps }) private
+    ∙ ap (λ xs. record { private = old.private; frames = xs; tables = set s.tables t empty_table; stamps = s.stamps }) frames
+    ∙ ap (λ ts. record { private = old.private; frames = old.frames; tables = ts; stamps = s.stamps }) tables
+    ∙ ap (λ ms. record { private = old.private; frames = old.frames; tables = set old.tables t empty_table; stamps = ms }) stamps

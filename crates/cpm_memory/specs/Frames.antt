@@ -2,6 +2,7 @@
 use Rattle.std.specs.Prelude.{◌≡◌, ◌≢◌, ℕ, ◌+◌, ◌/◌, ◌%◌, ◌<◌, ◌≤◌, Bool, true, false, ◌==◌, if◌then◌else◌, List, [], Option, Some, None, length, map, sum_by, count_by, slice_index, slice_index_or, option_map, unwrap_or, is_some, nat_lt}
 use Rattle.cpm_memory.specs.Contents.{Contents}
 use Rattle.cpm_memory.specs.Opening.{opening_byte}
+use Rattle.cpm_memory.specs.Stamps.{AreStamps}
 use Rattle.cpm_memory.specs.Tabulated.{tabulated}
 
 -- The pages of one memory: the private frame of each, if it has one. While the table is taken it has a reservation. (own)
@@ -9,11 +10,12 @@ pub record Table : Type 0 where
   pub places : List (Option ℕ)
   pub reservation : Option ℕ
 
--- How many private frames there are, the bytes of these and then of the four boot frames, and the tables. (own)
+-- How many private frames there are, the bytes of these and then of the four boot frames, the tables, and for each table the stamps of its pages. (own)
 pub record Frames : Type 0 where
   pub private : ℕ
   pub frames : List (List ℕ)
   pub tables : List Table
+  pub stamps : List (List ℕ)
 
 -- what is read where there is no table (own)
 abbrev pub blank_table : Table
@@ -22,6 +24,10 @@ blank_table = record { places = []; reservation = None }
 -- the table of a number (own)
 abbrev pub table_at : Frames → ℕ → Table
 table_at s t = slice_index_or s.tables t blank_table
+
+-- the stamps of a table's pages (own)
+abbrev pub stamps_at : Frames → ℕ → List ℕ
+stamps_at s t = slice_index_or s.stamps t []
 
 -- the private frame of a table's page (own)
 abbrev pub private_at : Frames → ℕ → ℕ → Option ℕ
@@ -88,6 +94,11 @@ reserved_by t = unwrap_or t.reservation 0
 abbrev pub reserved_of : Frames → ℕ
 reserved_of s = sum_by reserved_by s.tables
 
+-- Each of 64 tables has the stamps of 256 pages. (own)
+pub record AreTablesStamps (stamps : List (List ℕ)) : Type 0 where
+  pub tables : length stamps ≡ 64
+  pub each : (t : ℕ) → t < 64 → AreStamps (slice_index_or stamps t [])
+
 -- What holds of a store at all times. (own)
 pub record IsSound (s : Frames) : Type 0 where
   pub bound : s.private ≤ 16384
@@ -104,6 +115,7 @@ pub record IsSound (s : Frames) : Type 0 where
   pub within : (t : ℕ) → used_by (table_at s t) ≤ reserved_by (table_at s t)
   pub limits : (t : ℕ) → reserved_by (table_at s t) ≤ 256
   pub reserved : reserved_of s ≤ s.private
+  pub stamped : AreTablesStamps s.stamps
   -- no private frame is at two pages
   pub single : (f : ℕ) → owners_of s f ≤ 1
 
@@ -116,6 +128,10 @@ pub record ChangesTable (old new : Frames) (t : ℕ) : Type 0 where
 -- No page of another table moves. (own)
 abbrev pub KeepsPlaces : Frames → Frames → ℕ → Type 0
 KeepsPlaces old new t = (t' page : ℕ) → t' ≢ t → place_of new t' page ≡ place_of old t' page
+
+-- No stamp of another table is raised. (own)
+abbrev pub KeepsStamps : Frames → Frames → ℕ → Type 0
+KeepsStamps old new t = (t' : ℕ) → t' ≢ t → stamps_at new t' ≡ stamps_at old t'
 
 -- No page but this one of the table moves. (own)
 abbrev pub MovesAtMost : Frames → Frames → ℕ → ℕ → Type 0

@@ -3,7 +3,7 @@ use Rattle.std.specs.Prelude.{◌≡◌, ◌≢◌, ℕ, ◌+◌, ◌*◌, ◌/�
 use Rattle.cpm_memory.specs.Contents.{Write, byte_at, word_at, touched_of, after_sets}
 use Rattle.cpm_memory.specs.DiskTables.{skew, parameter_block, parameter_header, skew_address, parameter_block_address, header_address}
 use Rattle.cpm_memory.specs.Opening.{opening, opening_byte}
-use Rattle.cpm_memory.specs.Frames.{Frames, IsTaken, place_of, frame_of, memory_of, memories}
+use Rattle.cpm_memory.specs.Frames.{Frames, IsTaken, place_of, frame_of, stamps_at, memory_of, memories}
 use Rattle.cpm_memory.specs.View.{ViewLeads, store_of, table_of, contents_of}
 use Rattle.cpm_memory.specs.declared.view.View.{View}
 
@@ -34,6 +34,8 @@ pub record ChangesOwnTable (v w : View) : Type 0 where
   pub memories : memories (store_of w) ≡ slice_set (memories (store_of v)) (table_of v) (Some (after_sets (contents_of v) stores))
   -- no page of another table moved
   pub places : (t page : ℕ) → t ≢ table_of v → place_of (store_of w) t page ≡ place_of (store_of v) t page
+  -- nor was its stamp raised
+  pub stamps : (t : ℕ) → t ≢ table_of v → stamps_at (store_of w) t ≡ stamps_at (store_of v) t
   -- and the frames of the other tables have the bytes that they had
   pub frames : (t page : ℕ) → t ≢ table_of v → t < 64 → page < 256 → IsTaken (store_of v) t → frame_of (store_of w) (place_of (store_of v) t page) ≡ frame_of (store_of v) (place_of (store_of v) t page)
 

@@ -1,5 +1,7 @@
 pub mod Contents
+pub mod Stamps
 pub mod Sets
+pub mod Raised
 pub mod DiskTables
 pub mod Opening
 pub mod Tabulated

@@ -1,7 +1,8 @@
 //! The tables of a store, and their numbers.
 
 ghost use Rattle.std.specs.Prelude.{◌≡◌, ℕ, ◌<◌, Option, Some, None, length, count_by, is_some, slice_index_or, IfOk};
-ghost use Rattle.cpm_memory.specs.Frames.{is_taken, blank_table, IsBlank};
+ghost use Rattle.cpm_memory.specs.Stamps.{AreStamps};
+ghost use Rattle.cpm_memory.specs.Frames.{is_taken, blank_table, AreTablesStamps, IsBlank};
 
 use std::alloc::{AllocError, Global};
 use std::marker::Model;
@@ -146,6 +147,24 @@ pub fn new_tables(alloc: Global) -> Result<Vec<PageTable>, AllocError>
         tables.push(PageTable::new())?;
     }
     Ok(tables)
+}
+
+/// The stamps of pages that were never stored to.
+pub fn page_stamps() -> [u64; 256]
+    ensures { AreStamps result }
+{
+    [0; 256]
+}
+
+/// The stamps of the pages of 64 tables.
+pub fn new_stamps(alloc: Global) -> Result<Vec<[u64; 256]>, AllocError>
+    ensures { IfOk result (λ stamps. AreTablesStamps stamps.items) }
+{
+    let mut stamps = Vec::with_capacity(alloc, 64)?;
+    for _table in 0..64u8 {
+        stamps.push(page_stamps())?;
+    }
+    Ok(stamps)
 }
 
 /// The first table that is not taken.

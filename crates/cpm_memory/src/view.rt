@@ -33,7 +33,8 @@ impl View<'_> {
     ghost use Rattle.std.specs.Prelude.{false, ◌/◌};
     ghost use Rattle.cpm_memory.specs.Contents.{CanSet, after_set, is_written, page_of};
     ghost use Rattle.cpm_memory.specs.Frames.{MovesAtMost};
-    ghost use Rattle.cpm_memory.specs.View.{contents_of, surroundings_of, store_of, table_of, ViewLeads};
+    ghost use Rattle.cpm_memory.specs.View.{contents_of, stamps_of, surroundings_of, store_of, table_of, ViewLeads};
+    ghost use Rattle.cpm_memory.specs.Stamps.{after_stamp};
 
     /// Stores the first byte of a page, which is copied into a frame of its own.
     #[cold]
@@ -42,6 +43,7 @@ impl View<'_> {
         requires room { CanSet (contents_of self.old) address }
         requires first { is_written (contents_of self.old) (page_of address) ≡ false }
         ensures contents { contents_of self.new ≡ after_set (contents_of self.old) address value }
+        ensures stamps { stamps_of self.new ≡ after_stamp (stamps_of self.old) (page_of address) }
         ensures surroundings { surroundings_of self.new ≡ surroundings_of self.old }
         ensures moves { MovesAtMost (store_of self.old) (store_of self.new) (table_of self.old) (page_of address) }
         ensures leads { ViewLeads self.old self.new }
@@ -49,6 +51,7 @@ impl View<'_> {
         let page = (address / 256) as u8;
         let table = self.table.index();
         self.store.set_byte(table, address, value);
+        self.store.raise_stamp(table, page);
         self.places[page as usize] = self.store.place_at(table, page);
         self.touched += 1;
     }
@@ -56,10 +59,13 @@ impl View<'_> {
 
 impl Memory for View<'_> {
     ghost use Rattle.cpm_memory.specs.Contents.{CanSet, after_set, page_of};
+    ghost use Rattle.cpm_memory.specs.Stamps.{after_stamp};
     ghost use Rattle.cpm_memory.specs.Frames.{MovesAtMost};
-    ghost use Rattle.cpm_memory.specs.View.{contents_of, surroundings_of, store_of, table_of, ViewLeads, ViewLeads-none, ViewLeads-on, IsContents-view};
+    ghost use Rattle.cpm_memory.specs.View.{contents_of, stamps_of, surroundings_of, store_of, table_of, ViewLeads, ViewLeads-none, ViewLeads-on, IsContents-view, AreStamps-view};
 
     ghost contents = { contents_of };
+
+    ghost stamps = { stamps_of };
 
     ghost surroundings = { surroundings_of };
 
@@ -74,6 +80,7 @@ impl Memory for View<'_> {
     fn set(&mut self, address: u16, value: u8)
         requires { CanSet (contents_of self.old) address }
         ensures contents { contents_of self.new ≡ after_set (contents_of self.old) address value }
+        ensures stamps { stamps_of self.new ≡ after_stamp (stamps_of self.old) (page_of address) }
         ensures surroundings { surroundings_of self.new ≡ surroundings_of self.old }
         ensures moves { MovesAtMost (store_of self.old) (store_of self.new) (table_of self.old) (page_of address) }
         ensures leads { ViewLeads self.old self.new }
@@ -84,6 +91,8 @@ impl Memory for View<'_> {
             return;
         }
         self.store.write(frame, (address % 256) as u8, value);
+        self.store
+            .raise_stamp(self.table.index(), (address / 256) as u8);
     }
 
     fn touched(&self) -> u16 {
@@ -94,11 +103,19 @@ impl Memory for View<'_> {
         self.limit - self.touched
     }
 
+    fn stamp(&self, page: u8) -> u64 {
+        self.store.stamp(self.table.index(), page)
+    }
+
     ghost sound = { IsContents-view };
+
+    ghost stamped = { AreStamps-view };
 
     ghost leads_same = { ViewLeads-none };
 
     ghost leads_on = { ViewLeads-on };
 
     ghost leads_by = { λ a b h. h.stores };
+
+    ghost leads_stamps = { λ a b h. h.stamps };
 }

@@ -8,7 +8,7 @@ use Rattle.cpm_memory.proofs.store.FrameStore.frame.Goals as goal
 pub returns-clause-boot : goal.returns-clause-boot
 returns-clause-boot c page l e =
     let i = c.self.inside in
-    let s : Frames = record { private = i.private; frames = i.frames.items; tables = i.tables.items } in
+    let s : Frames = record { private = i.private; frames = i.frames.items; tables = i.tables.items; stamps = i.stamps.items } in
     let ok : IsSound s = c.self.invariant.sound in
     let number : c.args.frame ≡ s.private + boot_of page = e ∙ ap (λ (x : Frames). x.private + boot_of page) (sym c.self.view_is) in
     get_or_read s.frames c.args.frame c.index.result.now (omega (arith, number, boot-lt page, ok.frames)) c.index.ensures []

@@ -7,7 +7,7 @@ use Rattle.cpm_memory.proofs.store.FrameStore.is_taken.Goals as goal
 pub returns : goal.returns
 returns c =
     let i = c.self.inside in
-    let s : Frames = record { private = i.private; frames = i.frames.items; tables = i.tables.items } in
+    let s : Frames = record { private = i.private; frames = i.frames.items; tables = i.tables.items; stamps = i.stamps.items } in
     let t = c.index.result in
     let e : c.is_some.result ≡ is_some (get_or (memories c.args.self.now) c.args.table None) =
     c.is_some.ensures

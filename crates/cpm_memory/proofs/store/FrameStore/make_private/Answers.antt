@@ -11,7 +11,7 @@ room_as s s' t e h = subst (λ (x : Frames). used_by (table_at x t) < reserved_b
 pub find_free_frame-frame-requires : goal.find_free_frame-frame-requires
 find_free_frame-frame-requires c =
     let i = c.self.inside in
-    let s : Frames = record { private = i.private; frames = i.frames.items; tables = i.tables.items } in
+    let s : Frames = record { private = i.private; frames = i.frames.items; tables = i.tables.items; stamps = i.stamps.items } in
     subst (λ (xs : List ℕ). sum xs < length xs) (sym c.deref.ensures.value) (sum-lt s i.owners.items i.reserved c.args.table c.self.invariant c.requires.table (room_as s c.args.self.now c.args.table c.self.view_is c.requires.reserved))
 
 within_frames : (s : Frames) (counts : List ℕ) (reservations f : ℕ) → IsKept s counts reservations → f < length counts → (f < s.private) × (f < length s.frames) × (f < 16384)
@@ -21,35 +21,35 @@ within_frames s counts reservations f ok l =
 pub index_mut-requires : goal.index_mut-requires
 index_mut-requires c =
     let i = c.self.inside in
-    let s : Frames = record { private = i.private; frames = i.frames.items; tables = i.tables.items } in
+    let s : Frames = record { private = i.private; frames = i.frames.items; tables = i.tables.items; stamps = i.stamps.items } in
     let w = within_frames s i.owners.items i.reserved c.find_free_frame-frame.result c.self.invariant (subst (λ (xs : List ℕ). c.find_free_frame-frame.result < length xs) c.deref.ensures.value c.find_free_frame-frame.ensures.within) in
     omega (arith, w.1, i.frames.ok.0)
 
 pub overflow_cast-frame : goal.overflow_cast-frame
 overflow_cast-frame c =
     let i = c.self.inside in
-    let s : Frames = record { private = i.private; frames = i.frames.items; tables = i.tables.items } in
+    let s : Frames = record { private = i.private; frames = i.frames.items; tables = i.tables.items; stamps = i.stamps.items } in
     let w = within_frames s i.owners.items i.reserved c.find_free_frame-frame.result c.self.invariant (subst (λ (xs : List ℕ). c.find_free_frame-frame.result < length xs) c.deref.ensures.value c.find_free_frame-frame.ensures.within) in
     omega (arith, w.2)
 
 pub overflow_cast-result : goal.overflow_cast-result
 overflow_cast-result c =
     let i = c.self.inside in
-    let s : Frames = record { private = i.private; frames = i.frames.items; tables = i.tables.items } in
+    let s : Frames = record { private = i.private; frames = i.frames.items; tables = i.tables.items; stamps = i.stamps.items } in
     let w = within_frames s i.owners.items i.reserved c.find_free_frame-frame.result c.self.invariant (subst (λ (xs : List ℕ). c.find_free_frame-frame.result < length xs) c.deref.ensures.value c.find_free_frame-frame.ensures.within) in
     omega (arith, w.2)
 
 pub returns-clause-private : goal.returns-clause-private
 returns-clause-private c =
     let i = c.self.inside in
-    let s : Frames = record { private = i.private; frames = i.frames.items; tables = i.tables.items } in
+    let s : Frames = record { private = i.private; frames = i.frames.items; tables = i.tables.items; stamps = i.stamps.items } in
     let w = within_frames s i.owners.items i.reserved c.find_free_frame-frame.result c.self.invariant (subst (λ (xs : List ℕ). c.find_free_frame-frame.result < length xs) c.deref.ensures.value c.find_free_frame-frame.ensures.within) in
     subst (λ (x : Frames). c.find_free_frame-frame.result < x.private) c.self.view_is w.0
 
 pub returns-clause-free : goal.returns-clause-free
 returns-clause-free c =
     let i = c.self.inside in
-    let s : Frames = record { private = i.private; frames = i.frames.items; tables = i.tables.items } in
+    let s : Frames = record { private = i.private; frames = i.frames.items; tables = i.tables.items; stamps = i.stamps.items } in
     let w = within_frames s i.owners.items i.reserved c.find_free_frame-frame.result c.self.invariant (subst (λ (xs : List ℕ). c.find_free_frame-frame.result < length xs) c.deref.ensures.value c.find_free_frame-frame.ensures.within) in
     let free : get_or i.owners.items c.find_free_frame-frame.result 0 ≡ 0 = subst (λ (xs : List ℕ). get_or xs c.find_free_frame-frame.result 0 ≡ 0) c.deref.ensures.value c.find_free_frame-frame.ensures.free in
     ap (λ (x : Frames). owners_of x c.find_free_frame-frame.result) (sym c.self.view_is) ∙ owners_of-free s i.owners.items i.reserved c.find_free_frame-frame.result c.self.invariant w.0 free
@@ -57,7 +57,7 @@ returns-clause-free c =
 pub invariant_of-self : goal.invariant_of-self
 invariant_of-self c =
     let i = c.self.inside in
-    let s : Frames = record { private = i.private; frames = i.frames.items; tables = i.tables.items } in
+    let s : Frames = record { private = i.private; frames = i.frames.items; tables = i.tables.items; stamps = i.stamps.items } in
     let w = within_frames s i.owners.items i.reserved c.find_free_frame-frame.result c.self.invariant (subst (λ (xs : List ℕ). c.find_free_frame-frame.result < length xs) c.deref.ensures.value c.find_free_frame-frame.ensures.within) in
     let free : get_or i.owners.items c.find_free_frame-frame.result 0 ≡ 0 = subst (λ (xs : List ℕ). get_or xs c.find_free_frame-frame.result 0 ≡ 0) c.deref.ensures.value c.find_free_frame-frame.ensures.free in
     let shared : private_at s c.args.table c.args.page ≡ None = ap (λ (x : Frames). private_at x c.args.table c.args.page) c.self.view_is ∙ c.requires.shared in

@@ -7,7 +7,7 @@ use Rattle.cpm_memory.proofs.store.FrameStore.private_frame.Goals.{After-make_pr
 copied : (c : After-make_private) → Copied c.args.self.now c.make_private.new.self c.args.table c.args.page
 copied c =
     let i = c.self.inside in
-    let s : Frames = record { private = i.private; frames = i.frames.items; tables = i.tables.items } in
+    let s : Frames = record { private = i.private; frames = i.frames.items; tables = i.tables.items; stamps = i.stamps.items } in
     let before = c.args.self.now in
     Copied-from before c.make_private.new.self c.args.table c.args.page c.make_private.result (subst IsSound c.self.view_is c.self.invariant.sound) c.requires.table (omega arith)
     c.make_private.ensures.private c.make_private.ensures.free

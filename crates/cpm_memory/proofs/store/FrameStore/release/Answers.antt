@@ -16,13 +16,14 @@ loop-page-preserved c =
       sound = c.make_shared.ensures.sound;
       private = ap (λ (x : Frames). x.private) e ∙ c.loop-page.invariant.private;
       frames = ap (λ (x : Frames). x.frames) e ∙ c.loop-page.invariant.frames;
+      stamps = ap (λ (x : Frames). x.stamps) e ∙ c.loop-page.invariant.stamps;
       others = ap (λ (x : Frames). set x.tables t empty_table) e ∙ set-set s.tables t (with_place (table_at s t) page None) empty_table ∙ c.loop-page.invariant.others;
       shared = λ k l. ap (λ x. private_at x t k) e ∙ private_at-shared s t page k c.loop-page.invariant.sound (omega arith) c.loop-page-test.true (λ (ne : k ≢ page). c.loop-page.invariant.shared k (omega arith));
     }
 
 -- the store when all its pages have their boot frames
 abbrev cleared : After-give_up-pages → Frames
-cleared c = let i = c.self-2.inside in record { private = i.private; frames = i.frames.items; tables = i.tables.items }
+cleared c = let i = c.self-2.inside in record { private = i.private; frames = i.frames.items; tables = i.tables.items; stamps = i.stamps.items }
 
 none-private : (c : After-give_up-pages) (k : ℕ) → k < 256 → private_at (cleared c) c.index-index.result k ≡ None
 none-private c k l = ap (λ x. private_at x c.index-index.result k) c.self-2.view_is ∙ c.loop-page.invariant.shared k (omega arith)
@@ -63,6 +64,7 @@ released c =
     (empty-from (cleared c) c.index-index.result c.self-2.invariant.sound c.index-index.ensures.within c.give_up-pages.new.self (none-private c) (given c))
     (ap (λ (x : Frames). x.private) c.self-2.view_is ∙ c.loop-page.invariant.private)
     (ap (λ (x : Frames). x.frames) c.self-2.view_is ∙ c.loop-page.invariant.frames)
+    (ap (λ (x : Frames). x.stamps) c.self-2.view_is ∙ c.loop-page.invariant.stamps)
     (ap (λ (x : Frames). set x.tables c.index-index.result empty_table) c.self-2.view_is ∙ c.loop-page.invariant.others)
     ∙ ap (λ t. with_table c.args.self.now t empty_table) c.index-index.ensures.index
 

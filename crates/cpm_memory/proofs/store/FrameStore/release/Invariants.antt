@@ -8,6 +8,7 @@ invariant-loop-page l = record {
   sound : IsSound l.self;
   private : l.self.private ≡ l.initial.self.private;
   frames : l.self.frames ≡ l.initial.self.frames;
+  stamps : l.self.stamps ≡ l.initial.self.stamps;
   others : slice_set l.self.tables l.index empty_table ≡ slice_set l.initial.self.tables l.index empty_table;
   shared : (k : ℕ) → k < l.page → private_at l.self l.index k ≡ None;
 }

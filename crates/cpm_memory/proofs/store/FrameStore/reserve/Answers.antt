@@ -14,13 +14,13 @@ use Rattle.cpm_memory.proofs.store.FrameStore.reserve.Goals.{After-at}
 pub find_free_table-index-requires : goal.find_free_table-index-requires
 find_free_table-index-requires c =
     let i = c.self.inside in
-    let s : Frames = record { private = i.private; frames = i.frames.items; tables = i.tables.items } in
+    let s : Frames = record { private = i.private; frames = i.frames.items; tables = i.tables.items; stamps = i.stamps.items } in
     subst (λ (xs : List Table). count_by is_taken xs < length xs) (sym c.deref.ensures.value) (omega (arith, c.requires.tables, ap (λ x. taken_in (memories x)) c.self.view_is, taken_in-tables s c.self.invariant.sound, c.self.invariant.sound.tables))
 
 pub returns-then-self-pages-clause-refused : goal.returns-then-self-pages-clause-refused
 returns-then-self-pages-clause-refused c =
     let i = c.self.inside in
-    let s : Frames = record { private = i.private; frames = i.frames.items; tables = i.tables.items } in
+    let s : Frames = record { private = i.private; frames = i.frames.items; tables = i.tables.items; stamps = i.stamps.items } in
     let reserved = reserved_in-tables s c.self.invariant.sound in
     let more : c.args.self.now.private < reserved_in (memories c.args.self.now) + c.args.pages =
     subst (λ (x : Frames). x.private < reserved_in (memories x) + c.args.pages) c.self.view_is (omega (arith, reserved, c.self.invariant.reserved, c.self.invariant.sound.reserved, c.if-self-pages.true)) in
@@ -28,7 +28,7 @@ returns-then-self-pages-clause-refused c =
 
 -- the store before, and the table that is taken
 abbrev before : After-at → Frames
-before c = let i = c.self.inside in record { private = i.private; frames = i.frames.items; tables = i.tables.items }
+before c = let i = c.self.inside in record { private = i.private; frames = i.frames.items; tables = i.tables.items; stamps = i.stamps.items }
 
 within : (c : After-at) → c.find_free_table-index.result < 64
 within c = omega (arith, c.find_free_table-index.ensures.within, ap length c.deref.ensures.value, c.self.invariant.sound.tables)

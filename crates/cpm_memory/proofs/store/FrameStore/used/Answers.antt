@@ -9,7 +9,7 @@ use Rattle.cpm_memory.proofs.store.FrameStore.used.Goals as goal
 use Rattle.cpm_memory.proofs.store.FrameStore.used.Goals.{After-count_owned}
 
 abbrev before : After-count_owned → Frames
-before c = let i = c.self.inside in record { private = i.private; frames = i.frames.items; tables = i.tables.items }
+before c = let i = c.self.inside in record { private = i.private; frames = i.frames.items; tables = i.tables.items; stamps = i.stamps.items }
 
 counted : (c : After-count_owned) → c.count_owned.result ≡ used_of (before c)
 counted c = c.count_owned.ensures ∙ ap (count_by (ltb 0)) c.deref.ensures.value ∙ ap (count_by (ltb 0)) c.self.invariant.owners

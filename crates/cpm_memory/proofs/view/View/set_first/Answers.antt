@@ -1,21 +1,37 @@
-use Rattle.std.proofs.Common.{◌≡◌, ◌/◌, arith, ap, ◌∙◌, subst}
+use Rattle.std.proofs.Common.{◌≡◌, ◌/◌, arith, ap, sym, ◌∙◌, subst}
 use Rattle.std.proofs.lemmas.List.{length-set}
 use Rattle.cpm_memory.specs.Contents.{after_set}
 use Rattle.cpm_memory.specs.Frames.{ChangesTable, MovesAtMost, memory_of, place_of}
 use Rattle.cpm_memory.specs.Memories.{surroundings_at-kept}
-use Rattle.cpm_memory.specs.Sets.{IsAfterSets-one}
-use Rattle.cpm_memory.proofs.Accesses.{taken-kept, limit-kept, placed-after, counted-after, touched-within}
+use Rattle.cpm_memory.specs.Sets.{IsAfterSets-one, IsStored-one}
+use Rattle.cpm_memory.specs.Kept.{with_stamp}
+use Rattle.cpm_memory.proofs.Accesses.{Raised, Raised-from, ChangesTable-raised, taken-kept, limit-kept, placed-after, counted-after, touched-within}
 use Rattle.cpm_memory.proofs.view.View.set_first.Goals as goal
 use Rattle.cpm_memory.proofs.view.View.set_first.Goals.{After-place_at}
 
-changes : (c : After-place_at) → ChangesTable c.args.self.now.store.now c.set_byte.new.self c.args.self.now.table
-changes c = subst (λ t. ChangesTable c.args.self.now.store.now c.set_byte.new.self t) c.index-table.ensures.index c.set_byte.ensures.others
+raised : (c : After-place_at) → c.raise_stamp.new.self ≡ with_stamp c.set_byte.new.self c.args.self.now.table (c.args.address / 256)
+raised c = c.raise_stamp.ensures.raised ∙ ap (λ t. with_stamp c.set_byte.new.self t (c.args.address / 256)) c.index-table.ensures.index
 
-moves : (c : After-place_at) → MovesAtMost c.args.self.now.store.now c.set_byte.new.self c.args.self.now.table (c.args.address / 256)
-moves c = subst (λ t. MovesAtMost c.args.self.now.store.now c.set_byte.new.self t (c.args.address / 256)) c.index-table.ensures.index c.set_byte.ensures.moves
+stamped : (c : After-place_at) → Raised c.args.self.now.store.now c.raise_stamp.new.self c.args.self.now.table (c.args.address / 256)
+stamped c = let v = c.args.self.now in Raised-from v.store.now c.set_byte.new.self c.raise_stamp.new.self v.table (c.args.address / 256) v.sound v.within c.set_byte.ensures.stamps (raised c)
 
-memory : (c : After-place_at) → memory_of c.set_byte.new.self c.args.self.now.table ≡ after_set (memory_of c.args.self.now.store.now c.args.self.now.table) c.args.address c.args.value
-memory c = subst (λ t. memory_of c.set_byte.new.self t ≡ after_set (memory_of c.args.self.now.store.now t) c.args.address c.args.value) c.index-table.ensures.index c.set_byte.ensures.memory
+stored : (c : After-place_at) → ChangesTable c.args.self.now.store.now c.set_byte.new.self c.args.self.now.table
+stored c = subst (λ t. ChangesTable c.args.self.now.store.now c.set_byte.new.self t) c.index-table.ensures.index c.set_byte.ensures.others
+
+changes : (c : After-place_at) → ChangesTable c.args.self.now.store.now c.raise_stamp.new.self c.args.self.now.table
+changes c = let v = c.args.self.now in ChangesTable-raised v.store.now c.set_byte.new.self c.raise_stamp.new.self v.table v.table (c.args.address / 256) (stored c) (raised c)
+
+moved : (c : After-place_at) → MovesAtMost c.args.self.now.store.now c.set_byte.new.self c.args.self.now.table (c.args.address / 256)
+moved c = subst (λ t. MovesAtMost c.args.self.now.store.now c.set_byte.new.self t (c.args.address / 256)) c.index-table.ensures.index c.set_byte.ensures.moves
+
+moves : (c : After-place_at) → MovesAtMost c.args.self.now.store.now c.raise_stamp.new.self c.args.self.now.table (c.args.address / 256)
+moves c = subst (λ x. MovesAtMost c.args.self.now.store.now x c.args.self.now.table (c.args.address / 256)) (sym (raised c)) (moved c)
+
+put : (c : After-place_at) → memory_of c.set_byte.new.self c.args.self.now.table ≡ after_set (memory_of c.args.self.now.store.now c.args.self.now.table) c.args.address c.args.value
+put c = subst (λ t. memory_of c.set_byte.new.self t ≡ after_set (memory_of c.args.self.now.store.now t) c.args.address c.args.value) c.index-table.ensures.index c.set_byte.ensures.memory
+
+memory : (c : After-place_at) → memory_of c.raise_stamp.new.self c.args.self.now.table ≡ after_set (memory_of c.args.self.now.store.now c.args.self.now.table) c.args.address c.args.value
+memory c = ap (λ x. memory_of x c.args.self.now.table) (raised c) ∙ put c
 
 pub overflow_add-self : goal.overflow_add-self
 overflow_add-self c = let v = c.args.self.now in omega (arith, touched-within v.store.now v.table v.touched v.limit v.sound v.within v.counted v.limited)
@@ -23,10 +39,13 @@ overflow_add-self c = let v = c.args.self.now in omega (arith, touched-within v.
 pub returns-clause-contents : goal.returns-clause-contents
 returns-clause-contents c = memory (goal.at.returns-clause-contents c).After-place_at
 
+pub returns-clause-stamps : goal.returns-clause-stamps
+returns-clause-stamps c = (stamped (goal.at.returns-clause-stamps c).After-place_at).stamps
+
 pub returns-clause-surroundings : goal.returns-clause-surroundings
 returns-clause-surroundings c =
     let v = c.args.self.now in
-    surroundings_at-kept v.store.ghost_name v.store.now c.set_byte.new.self v.table (changes (goal.at.returns-clause-surroundings c).After-place_at)
+    surroundings_at-kept v.store.ghost_name v.store.now c.raise_stamp.new.self v.table (changes (goal.at.returns-clause-surroundings c).After-place_at)
 
 pub returns-clause-moves : goal.returns-clause-moves
 returns-clause-moves c = moves (goal.at.returns-clause-moves c).After-place_at
@@ -36,11 +55,13 @@ returns-clause-leads c =
     let o = (goal.at.returns-clause-leads c).After-place_at in
     record {
       stores = IsAfterSets-one _ _ _ _ c.args.address c.args.value (memory o) (returns-clause-surroundings c);
+      stamps = IsStored-one _ _ _ _ c.args.address c.args.value (memory o) (stamped o).stamps;
       places = λ t page ne. moves o t page (λ e _. ne e);
+      other_stamps = (stamped o).others;
     }
 
 pub invariant_of-self-clause-taken : goal.invariant_of-self-clause-taken
-invariant_of-self-clause-taken c = let v = c.args.self.now in taken-kept v.store.now c.set_byte.new.self v.table (changes c) v.taken
+invariant_of-self-clause-taken c = let v = c.args.self.now in taken-kept v.store.now c.raise_stamp.new.self v.table (changes c) v.taken
 
 pub invariant_of-self-clause-pages : goal.invariant_of-self-clause-pages
 invariant_of-self-clause-pages c = let v = c.args.self.now in length-set v.places (c.args.address / 256) c.place_at.result ∙ v.pages
@@ -48,13 +69,13 @@ invariant_of-self-clause-pages c = let v = c.args.self.now in length-set v.place
 pub invariant_of-self-clause-placed : goal.invariant_of-self-clause-placed
 invariant_of-self-clause-placed c =
     let v = c.args.self.now in
-    placed-after v.store.now c.set_byte.new.self v.table (c.args.address / 256) c.place_at.result v.places v.pages (omega arith) v.placed (moves c)
-    (c.place_at.ensures.place ∙ ap (λ t. place_of c.set_byte.new.self t (c.args.address / 256)) c.index-table.ensures.index)
+    placed-after v.store.now c.raise_stamp.new.self v.table (c.args.address / 256) c.place_at.result v.places v.pages (omega arith) v.placed (moves c)
+    (c.place_at.ensures.place ∙ ap (λ t. place_of c.raise_stamp.new.self t (c.args.address / 256)) c.index-table.ensures.index)
 
 pub invariant_of-self-clause-counted : goal.invariant_of-self-clause-counted
 invariant_of-self-clause-counted c =
     let v = c.args.self.now in
-    counted-after v.store.now c.set_byte.new.self v.table c.args.address c.args.value v.touched v.sound v.within (omega arith) v.counted c.requires.first (memory c)
+    counted-after v.store.now c.raise_stamp.new.self v.table c.args.address c.args.value v.touched v.sound v.within (omega arith) v.counted c.requires.first (memory c)
 
 pub invariant_of-self-clause-limited : goal.invariant_of-self-clause-limited
-invariant_of-self-clause-limited c = let v = c.args.self.now in limit-kept v.store.now c.set_byte.new.self v.table v.limit (changes c) v.limited
+invariant_of-self-clause-limited c = let v = c.args.self.now in limit-kept v.store.now c.raise_stamp.new.self v.table v.limit (changes c) v.limited
