@@ -15,7 +15,7 @@ def build(to):
     """Has rt prove and build cpm_bench, where that is to do, and copies its program to this path. Whether it is there."""
     if not shutil.which("rt"):
         return False
-    ran = subprocess.run(["rt", "run", "--", "view", "data/loop.com", "1000"], cwd=CRATE, stdin=subprocess.DEVNULL, capture_output=True)
+    ran = subprocess.run(["rt", "run", "--", "machine", "8080", "data/loop.com", "1000"], cwd=CRATE, stdin=subprocess.DEVNULL, capture_output=True)
     if ran.returncode:
         return False
     shutil.copy2(f"{CRATE}/out/cpm_bench", to)

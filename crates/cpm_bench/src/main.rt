@@ -1,110 +1,19 @@
-//! Runs a program of the 8080 over a memory by itself or over a view of a store of frames, to compare their speed:
-//! `flat FILE STEPS` or `view FILE STEPS`. It prints how many instructions were done. Or makes memories to see what room
-//! they take: `sessions NUMBER` in one store, each with one written page, or `flats NUMBER` of their own. It prints what
-//! Linux says of its own memory then.
-//!
-//! Or it runs a program by one grant of a machine, `machine CPU FILE STEPS`, or RUN.COM of a system drive in the sessions of a host by
+//! Runs a program by one grant of a machine, `machine CPU FILE STEPS`, or RUN.COM of a system drive in the sessions of a host by
 //! grants in turn, `host CPU IMAGE SESSIONS QUOTA STEPS ROUNDS`, and prints how many steps were executed. CPU is `8080` or `z80`. Or it
 //! opens and closes a slot with a new blank drive, `slots TIMES`, or makes such a drive alone, `openings TIMES`.
+//!
+//! Or it makes memories to see what room they take: `sessions NUMBER` in one store, each with one written page, or `flats NUMBER` of
+//! their own. It prints what Linux says of its own memory then.
 #![tactic(auto)]
 
 mod sessions;
 
-use cpm_decode::Ran;
-use cpm_exec8080::quick_step8080;
-use cpm_flags::{Alternate, Cpu, Flags, Regs};
+use cpm_flags::Cpu;
 use cpm_geom::Image;
-use cpm_memory::{FlatMemory, FrameStore, Memory, has_room};
+use cpm_memory::{FlatMemory, FrameStore, has_room};
 use sessions::{Turns, make_openings, open_and_close, run_host, run_machine};
 use std::process::ExitCode;
 use std::{env, fs};
-
-const NO_FLAGS: Flags = Flags {
-    sign: false,
-    zero: false,
-    bit5: false,
-    half_carry: false,
-    bit3: false,
-    parity: false,
-    subtract: false,
-    carry: false,
-};
-
-/// Registers that begin at 0100h.
-fn registers() -> Regs {
-    Regs {
-        a: 0,
-        flags: NO_FLAGS,
-        b: 0,
-        c: 0,
-        d: 0,
-        e: 0,
-        h: 0,
-        l: 0,
-        sp: 0xEBFE,
-        pc: 0x0100,
-        ix: 0,
-        iy: 0,
-        interrupt_page: 0,
-        refresh: 0,
-        alternate: Alternate {
-            a: 0,
-            flags: NO_FLAGS,
-            b: 0,
-            c: 0,
-            d: 0,
-            e: 0,
-            h: 0,
-            l: 0,
-        },
-        iff1: false,
-        iff2: false,
-    }
-}
-
-/// Runs the program until it halts, for so many instructions at most, and says how many were done.
-fn run<M: Memory>(memory: &mut M, program: &[u8], steps: u64) -> u64 {
-    let mut address = 0x0100u16;
-    for byte in program {
-        if has_room(memory) {
-            cpm_memory::set_byte(memory, address, *byte);
-        }
-        address = address.wrapping_add(1);
-    }
-    let mut regs = registers();
-    for step in 0..steps {
-        if !has_room(memory) {
-            return step;
-        }
-        if quick_step8080(&mut regs, memory) != Ran::Done {
-            return step + 1;
-        }
-    }
-    steps
-}
-
-/// Runs the program over the kind of memory that is named; None for want of memory or another name.
-fn run_over(rt: &HostRuntime, kind: &str, program: &[u8], steps: u64) -> Option<u64> {
-    match kind {
-        "flat" => {
-            let mut memory = FlatMemory::new(rt.alloc()).ok()?;
-            Some(run(&mut memory, program, steps))
-        }
-        "view" => {
-            let mut store = FrameStore::new(rt.alloc(), 256).ok()?;
-            if store.taken() >= 64 {
-                return None;
-            }
-            let table = store.reserve(256).ok()?;
-            if !store.is_taken(table) {
-                return None;
-            }
-            let mut view = store.view(table);
-            Some(run(&mut view, program, steps))
-        }
-        _ => None,
-    }
-}
 
 /// The greatest resident memory of this process so far, in KiB, as Linux counts it.
 fn resident(rt: &HostRuntime) -> Option<u64> {
@@ -186,10 +95,6 @@ fn measure(rt: &HostRuntime, words: &[&str]) -> Option<u64> {
         }
         ["slots", times] => open_and_close(rt.alloc(), times.parse().ok()?),
         ["openings", times] => make_openings(rt.alloc(), times.parse().ok()?),
-        [kind, file, steps] => {
-            let program = fs::read(rt, file).ok()?;
-            run_over(rt, kind, program.as_slice(), steps.parse().ok()?)
-        }
         _ => None,
     }
 }

@@ -185,3 +185,34 @@ fn flat_memory_has_room_for_its_limit(rt: HostRuntime) -> Result<(), Fail> {
     assert_eq!(rt; FlatMemory::new(rt.alloc())?.room(), 256);
     Ok(())
 }
+
+#[test]
+fn raises_the_stamp_of_a_page_by_each_store_to_it(rt: HostRuntime) -> Result<(), Fail> {
+    let mut flat = FlatMemory::new(rt.alloc())?;
+    assert_eq!(rt; (flat.stamp(0x20), flat.stamp(0x21)), (0, 0));
+    assert!(rt; flat.room() > 0);
+    flat.set(0x2000, 0x55);
+    assert!(rt; flat.room() > 0);
+    flat.set(0x20FF, 0x55);
+    assert_eq!(rt; (flat.stamp(0x20), flat.stamp(0x21)), (2, 0));
+    Ok(())
+}
+
+/// The stamp of a page of a table's memory.
+fn stamp_of(rt: &impl Abort, store: &mut FrameStore, table: TableId, page: u8) -> u64 {
+    assert!(rt; store.is_taken(table));
+    store.view(table).stamp(page)
+}
+
+#[test]
+fn raises_the_stamp_in_one_table(rt: HostRuntime) -> Result<(), Fail> {
+    let mut store = FrameStore::new(rt.alloc(), 4)?;
+    let first = reserve(&rt, &mut store, 2)?;
+    let second = reserve(&rt, &mut store, 2)?;
+    store_byte(&rt, &mut store, first, 0x2000, 0x55);
+    store_byte(&rt, &mut store, first, 0x2001, 0x55);
+    assert_eq!(rt; stamp_of(&rt, &mut store, first, 0x20), 2);
+    assert_eq!(rt; stamp_of(&rt, &mut store, first, 0x21), 0);
+    assert_eq!(rt; stamp_of(&rt, &mut store, second, 0x20), 0);
+    Ok(())
+}

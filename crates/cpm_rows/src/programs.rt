@@ -1,6 +1,7 @@
 use crate::run::{blank, machine_of, run};
 use cpm_flags::Cpu;
 use cpm_slots::{End, Why};
+use std::alloc::Global;
 use std::test::Fail;
 
 /// What a program shows, how many steps it makes and how it ends.
@@ -237,5 +238,32 @@ fn runs_what_it_stored_over_an_instruction(rt: HostRuntime) -> Result<(), Fail> 
     assert_eq!(rt; look.ended, End::Halted);
     assert_eq!(rt; look.regs.a, 0x01);
     assert_eq!(rt; look.regs.b, 0x01);
+    Ok(())
+}
+
+/// What is left of a program that does a rare instruction, makes it HLT, and jumps back to it.
+fn run_rare(alloc: Global, cpu: Cpu, rare: &[u8; 2]) -> Result<(End, u64, u16), Fail> {
+    let [first, second] = *rare;
+    // LXI H,0100h; MVI M,76h; JMP 0100h
+    let ran = run(
+        alloc,
+        cpu,
+        &[
+            first, second, 0x21, 0x00, 0x01, 0x36, 0x76, 0xC3, 0x00, 0x01,
+        ],
+    )?;
+    let look = ran.machine.look();
+    Ok((look.ended, look.count, look.regs.pc))
+}
+
+#[test]
+fn decodes_a_rare_instruction_anew_where_it_was_stored_over(rt: HostRuntime) -> Result<(), Fail> {
+    // DAA and NOP; IM 1; LD A,R: each is kept decoded, and HLT comes in its place
+    let ended = (End::Halted, 6, 0x0101);
+    assert_eq!(rt; run_rare(rt.alloc(), Cpu::I8080, &[0x27, 0x00])?, ended);
+    assert_eq!(rt; run_rare(rt.alloc(), Cpu::Z80, &[0x27, 0x00])?, ended);
+    let ended = (End::Halted, 5, 0x0101);
+    assert_eq!(rt; run_rare(rt.alloc(), Cpu::Z80, &[0xED, 0x56])?, ended);
+    assert_eq!(rt; run_rare(rt.alloc(), Cpu::Z80, &[0xED, 0x5F])?, ended);
     Ok(())
 }
