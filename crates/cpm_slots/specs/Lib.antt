@@ -9,3 +9,4 @@ pub mod Runner
 pub mod Laws
 pub mod Opening
 pub mod Calls
+pub mod Parts

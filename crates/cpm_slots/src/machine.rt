@@ -1,16 +1,14 @@
 //! One machine with a memory of its own.
 
 ghost use Rattle.std.specs.Prelude.{◌≡◌, true, false, ◌++◌, ◌≤◌, length, take, drop, min, IfOk, IfErr, None, if◌then◌else◌};
-ghost use Rattle.cpm_console.specs.Terminal.{blank};
 ghost use Rattle.cpm_memory.specs.Contents.{byte_at};
-ghost use Rattle.cpm_memory.specs.Flat.{flat_contents};
-ghost use Rattle.cpm_memory.specs.Opening.{opening as memory_opening};
 ghost use Rattle.cpm_disks.specs.Disks.{images_of};
 ghost use Rattle.cpm_slots.specs.MachineState.{loaded, opened_machine, opened_with};
 ghost use Rattle.cpm_slots.specs.Step.{can_step, step, after};
 ghost use Rattle.cpm_slots.specs.Laws.{IsBounded};
 ghost use Rattle.cpm_slots.specs.Serve.{executed, why, look_of, taken, taken_list, takes_key, keyed};
 ghost use Rattle.cpm_slots.specs.Until.{executed_until, why_until};
+ghost use Rattle.cpm_slots.specs.Parts.{AreNew};
 ghost use Rattle.cpm_slots.specs.Opening.{opening_fault, program_fault, IsRefusal};
 
 use crate::opening::{OpenError, Opening};
@@ -19,6 +17,7 @@ use crate::steps::{self, Runner};
 use crate::until;
 use cpm_bdos::Session;
 use cpm_console::Console;
+use cpm_decode::DecodeCache;
 use cpm_geom::Image;
 use cpm_memory::{FlatMemory, Memory, set_run, set_word};
 use std::alloc::{AllocError, Global};
@@ -31,8 +30,17 @@ pub struct Machine {
     memory: FlatMemory,
 }
 
+/// What a machine takes memory for.
+#[derive(Drop)]
+struct Parts {
+    console: Console,
+    memory: FlatMemory,
+    cache: DecodeCache,
+}
+
 impl Model for Machine {
-    ghost use Rattle.cpm_memory.specs.Flat.{flat_contents};
+    ghost use Rattle.cpm_decode.specs.Cache.{IsRightFor};
+    ghost use Rattle.cpm_memory.specs.Flat.{flat_contents, flat_stamps};
     ghost use Rattle.cpm_slots.specs.MachineState.{MachineState};
     ghost use Rattle.cpm_slots.specs.Runner.{state_of, IsSound};
 
@@ -40,7 +48,7 @@ impl Model for Machine {
 
     ghost view = { λ m. state_of m.runner (flat_contents m.memory) };
 
-    ghost invariant = { λ m. IsSound (state_of m.runner (flat_contents m.memory)) };
+    ghost invariant = { λ m. IsSound (state_of m.runner (flat_contents m.memory)) × IsRightFor (flat_contents m.memory) (flat_stamps m.memory) m.runner.cache };
 }
 
 impl Machine {
@@ -56,7 +64,7 @@ impl Machine {
             return Err((opening, fault));
         }
         match allocate(alloc, opening.quota) {
-            Ok((console, memory)) => Ok(Self::opened(opening, console, memory)),
+            Ok(parts) => Ok(Self::opened(opening, parts)),
             Err(_) => Err((opening, OpenError::OutOfMemory)),
         }
     }
@@ -77,8 +85,8 @@ impl Machine {
             return Err((opening, program, fault));
         }
         match allocate(alloc, opening.quota) {
-            Ok((console, memory)) => {
-                let mut machine = Self::opened(opening, console, memory);
+            Ok(parts) => {
+                let mut machine = Self::opened(opening, parts);
                 machine.load(program.as_slice());
                 Ok(machine)
             }
@@ -86,14 +94,18 @@ impl Machine {
         }
     }
 
-    /// A machine at its opening, over this console and this memory.
-    fn opened(opening: Opening, console: Console, memory: FlatMemory) -> Machine
+    /// A machine at its opening, made of these parts.
+    fn opened(opening: Opening, parts: Parts) -> Machine
         requires least { 16 ≤ opening.quota }
-        requires console { console ≡ blank }
-        requires memory { flat_contents memory ≡ memory_opening opening.quota }
+        requires parts { AreNew opening.quota parts }
         ensures { result ≡ opened_machine opening.cpu opening.quota opening.drives.items }
     {
         let Opening { cpu, quota, drives } = opening;
+        let Parts {
+            console,
+            memory,
+            cache,
+        } = parts;
         let runner = Runner {
             cpu,
             session: Session::new(console, drives),
@@ -101,6 +113,7 @@ impl Machine {
             count: 0,
             ended: End::Running,
             with_program: false,
+            cache,
         };
         Machine { runner, memory }
     }
@@ -206,12 +219,14 @@ impl Machine {
     }
 }
 
-/// What a machine takes memory for: its console, and its memory, of which so many pages may be written.
-fn allocate(alloc: Global, quota: u16) -> Result<(Console, FlatMemory), AllocError>
+/// What a machine takes memory for: its console, its memory, of which so many pages may be written, and its decoded instructions.
+fn allocate(alloc: Global, quota: u16) -> Result<Parts, AllocError>
     requires { quota ≤ 256 }
-    ensures { IfOk result (λ parts. (parts.0 ≡ blank) × (flat_contents parts.1 ≡ memory_opening quota)) }
+    ensures { IfOk result (AreNew quota) }
 {
-    let console = Console::new(alloc)?;
-    let memory = FlatMemory::with_limit(alloc, quota)?;
-    Ok((console, memory))
+    Ok(Parts {
+        console: Console::new(alloc)?,
+        memory: FlatMemory::with_limit(alloc, quota)?,
+        cache: DecodeCache::new(alloc)?,
+    })
 }

@@ -1,4 +1,6 @@
-use Rattle.std.proofs.Common.{ap, sym, ◌∙◌, arith}
+use Rattle.std.proofs.Common.{ap, sym, subst, ◌∙◌, arith}
+use Rattle.cpm_decode.specs.Cache.{IsRightFor}
+use Rattle.cpm_decode.specs.Cached.{stays-right}
 use Rattle.cpm_slots.specs.Until.{begins_at}
 use Rattle.cpm_slots.proofs.UntilLaws.{IsRunUntil-executed, IsRunUntil-on}
 use Rattle.cpm_slots.proofs.until.grant_until.Goals as goal
@@ -14,6 +16,13 @@ loop-executed-preserved g c =
             | then-begins_at w ↦ let alone = w.most-is in absurd (omega arith)
             | else-begins_at w ↦ ap (begins_at c.args.pc) (c.step_or_wait-executed.ensures.still i below) ∙ sym c.begins_at.ensures ∙ w.if-begins_at.false
           ]);
+      right =
+          let m = g.M.Memory in
+          let law = g.met.M.Memory in
+          let old = c.loop-executed.memory in
+          let new = c.step_or_wait-executed.new.memory in
+          subst (IsRightFor (m.contents new) (m.stamps new)) (sym c.step_or_wait-executed.ensures.cache)
+          (stays-right (m.contents old) (m.contents new) (m.stamps old) (m.stamps new) (law.stamped old) (law.leads_stamps old new c.step_or_wait-executed.ensures.leads) c.loop-executed.runner.cache c.loop-executed.invariant.right);
       within = omega arith;
       surroundings = c.step_or_wait-executed.ensures.surroundings ∙ c.loop-executed.invariant.surroundings;
       leads = g.met.M.Memory.leads_on _ _ _ c.loop-executed.invariant.leads c.step_or_wait-executed.ensures.leads;
