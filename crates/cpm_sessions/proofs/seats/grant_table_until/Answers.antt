@@ -1,6 +1,6 @@
-use Rattle.std.proofs.Common.{arith, subst}
+use Rattle.std.proofs.Common.{◌≡◌, ◌≢◌, ℕ, List, [], get_or, arith, subst}
 use Rattle.std.proofs.lemmas.Grind.{common_steps}
-use Rattle.cpm_memory.specs.Frames.{Frames, KeepsStamps, memories, stamps_at}
+use Rattle.cpm_memory.specs.Frames.{Frames, memories, stamps_at}
 use Rattle.cpm_decode.specs.Cache.{IsRightFor}
 use Rattle.cpm_slots.specs.Runner.{state_of, IsSound}
 use Rattle.cpm_sessions.specs.Seating.{contents_at}
@@ -38,5 +38,5 @@ returns-clause-right c =
 
 pub returns-clause-stamps : goal.returns-clause-stamps
 returns-clause-stamps c =
-    subst (λ (s : Frames). KeepsStamps c.args.store.now s c.args.table) (grind (arith, common_steps))
+    subst (λ (stamps : List (List ℕ)). (t : ℕ) → t ≢ c.args.table → get_or stamps t [] ≡ stamps_at c.args.store.now t) (grind (arith, common_steps))
     (keeps-stamps c.view-view.result c.grant_until.new.memory c.args.store.now c.args.table c.view-view.ensures.store c.view-view.ensures.table c.grant_until.ensures.leads)

@@ -32,7 +32,7 @@ invariant_of-self-2 c =
       c.reserve.ensures.sound,
       AllCached-opened old new i.store.stamps c.reserve.new.self.stamps i.seats.items c.push_reserved.new.self.items s c.args.opening.quota k.seated.all c.self.invariant.4 k.free k.memories
           (ap (λ (x : Frames). x.stamps) c.in-Ok-reserve.ensures.reserved) k.pushed
-          (λ contents stamps. subst (λ (cache : DecodeCache). IsRightFor contents stamps cache) (sym c.opened-runner.ensures.cache) (c.in-Ok-new-cache.ensures contents stamps)),
+          (λ contents stamps. subst (λ (cache : DecodeCache). IsRightFor contents stamps cache) (sym c.opened-runner.ensures.cache) (c.in-Ok-new.ensures contents stamps)),
     )
 
 pub returns-clause-opened : goal.returns-clause-opened
