@@ -46,7 +46,7 @@ NoneAt-other table (x ∷ xs) zero s k h =
 NoneAt-other table (x ∷ xs) (suc i) s k h = NoneAt-other table xs i s k.1 h
 
 -- no other seat has the table of the one at a place
-NoneAt-rest : (m : List (Option Contents)) (seats : List Seat) (i : ℕ) (s : Seat) → AllSeated m seats → slice_get seats i ≡ Some s → NoneAt s.table (remove seats i)
+pub NoneAt-rest : (m : List (Option Contents)) (seats : List Seat) (i : ℕ) (s : Seat) → AllSeated m seats → slice_get seats i ≡ Some s → NoneAt s.table (remove seats i)
 NoneAt-rest m [] i s k h = cc
 NoneAt-rest m (x ∷ xs) zero s k h =
     let e : x ≡ s = cc in

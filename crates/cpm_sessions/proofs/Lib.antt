@@ -16,6 +16,7 @@ pub mod OpenHost
 pub mod CloseSeats
 pub mod WithinLaws
 pub mod CloseHost
+pub mod CachedSeats
 pub mod Lodgings
 pub mod FreeFrames
 pub mod HousedLaws

@@ -94,7 +94,7 @@ AllSeated-kept table old new (x ∷ xs) same k a =
     (rw (same x.table k.0) a.0, rw (contents-kept table x.table old new same k.0) a.1, a.2, AllSeated-kept table old new xs same k.1 a.3)
 
 -- a table that is not taken is no seat's
-NoneAt-free : (m : List (Option Contents)) (table : ℕ) (seats : List Seat) → get_or m table None ≡ None → AllSeated m seats → NoneAt table seats
+pub NoneAt-free : (m : List (Option Contents)) (table : ℕ) (seats : List Seat) → get_or m table None ≡ None → AllSeated m seats → NoneAt table seats
 NoneAt-free m table [] h k = tt
 NoneAt-free m table (x ∷ xs) h k =
     ((λ (e : x.table ≡ table). false≢true (ap is_some (sym h) ∙ ap (λ i. is_some (get_or m i None)) (sym e) ∙ k.0)), NoneAt-free m table xs h k.3)

@@ -43,7 +43,7 @@ pub others-at : (table : ℕ) (old new : List (Option Contents)) → ChangesAt t
 others-at table old new h t ne =
     ap (λ m. get_or m t None) h.memories ∙ get_or-set_other old table t (Some (contents_at new table)) None ne
 
-contents-other : (table t : ℕ) (old new : List (Option Contents)) → Others table old new → t ≢ table → contents_at new t ≡ contents_at old t
+pub contents-other : (table t : ℕ) (old new : List (Option Contents)) → Others table old new → t ≢ table → contents_at new t ≡ contents_at old t
 contents-other table t old new same ne = ap (λ o. unwrap_or o (opening 0)) (same t ne)
 
 slots-kept : (table : ℕ) (old new : List (Option Contents)) (seats : List Seat) → Others table old new → NoneAt table seats → slots_of new seats ≡ slots_of old seats
@@ -56,7 +56,7 @@ AllSeated-kept table old new [] same k a = tt
 AllSeated-kept table old new (x ∷ xs) same k a =
     (rw (same x.table k.0) a.0, rw (contents-other table x.table old new same k.0) a.1, a.2, AllSeated-kept table old new xs same k.1 a.3)
 
-NoneAt-at : (table : ℕ) (seats : List Seat) (i : ℕ) (s : Seat) → NoneAt table seats → slice_get seats i ≡ Some s → s.table ≢ table
+pub NoneAt-at : (table : ℕ) (seats : List Seat) (i : ℕ) (s : Seat) → NoneAt table seats → slice_get seats i ≡ Some s → s.table ≢ table
 NoneAt-at table [] i s k h = cc
 NoneAt-at table (x ∷ xs) zero s k h = let e : x ≡ s = cc in let P : Seat → Type 0 = λ t. t.table ≢ table in subst P e k.0
 NoneAt-at table (x ∷ xs) (suc i) s k h = NoneAt-at table xs i s k.1 h
@@ -66,7 +66,7 @@ NoneAt-set table [] i s runner k h = cc
 NoneAt-set table (x ∷ xs) zero s runner k h = (NoneAt-at table (x ∷ xs) 0 s k h, k.1)
 NoneAt-set table (x ∷ xs) (suc i) s runner k h = (k.0, NoneAt-set table xs i s runner k.1 h)
 
-NoneAt-same : (x s : Seat) (seats : List Seat) → x ≡ s → NoneAt x.table seats → NoneAt s.table seats
+pub NoneAt-same : (x s : Seat) (seats : List Seat) → x ≡ s → NoneAt x.table seats → NoneAt s.table seats
 NoneAt-same x s seats e k = let P : Seat → Type 0 = λ t. NoneAt t.table seats in subst P e k
 
 -- the slots after the session at a place went on, and its memory with it

@@ -5,6 +5,7 @@ use Rattle.cpm_geom.specs.Disk.{Disk}
 use Rattle.cpm_memory.specs.Frames.{Frames, memories}
 use Rattle.cpm_memory.specs.Opening.{opening}
 use Rattle.cpm_memory.specs.Reserved.{taken_in, reserved_in}
+use Rattle.cpm_decode.specs.Cache.{IsRightFor}
 use Rattle.cpm_slots.specs.Runner.{state_of, IsSound}
 use Rattle.cpm_sessions.specs.declared.seats.Seat.{Seat}
 use Rattle.cpm_sessions.specs.Host.{Slot}
@@ -38,6 +39,15 @@ NoneAt table (x ∷ xs) = (x.table ≢ table) × NoneAt table xs
 abbrev pub AllSeated : List (Option Contents) → List Seat → Type 0
 AllSeated memories [] = ⊤
 AllSeated memories (x ∷ xs) = (is_some (slice_index_or memories x.table None) ≡ true) × IsSound (state_of x.runner (contents_at memories x.table)) × NoneAt x.table xs × AllSeated memories xs
+
+-- the seat's cache is right for the memory and the stamps of its table
+abbrev pub IsCached : List (Option Contents) → List (List ℕ) → Seat → Type 0
+IsCached memories stamps seat = IsRightFor (contents_at memories seat.table) (slice_index_or stamps seat.table []) seat.runner.cache
+
+-- each seat's is
+abbrev pub AllCached : List (Option Contents) → List (List ℕ) → List Seat → Type 0
+AllCached memories stamps [] = ⊤
+AllCached memories stamps (x ∷ xs) = IsCached memories stamps x × AllCached memories stamps xs
 
 -- so the tables that are taken are the seats', and what they reserve is the seats' quotas
 pub record IsSeated (memories : List (Option Contents)) (seats : List Seat) : Type 0 where

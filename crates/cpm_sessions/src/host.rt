@@ -20,6 +20,7 @@ use crate::seats::{
 };
 use cpm_bdos::Session;
 use cpm_console::Console;
+use cpm_decode::DecodeCache;
 use cpm_geom::Image;
 use cpm_memory::{FrameStore, TableId};
 use cpm_slots::steps::Runner;
@@ -51,13 +52,13 @@ impl Model for Host {
     ghost use Rattle.cpm_memory.specs.Frames.{memories, IsSound};
     ghost use Rattle.cpm_sessions.specs.Host.{IsHost};
     ghost use Rattle.cpm_sessions.specs.Housed.{Housed};
-    ghost use Rattle.cpm_sessions.specs.Seating.{housed_of, IsSeated};
+    ghost use Rattle.cpm_sessions.specs.Seating.{housed_of, IsSeated, AllCached};
 
     ghost Value = { Housed };
 
     ghost view = { λ h. housed_of h.system h.frames h.openings h.store h.seats.items };
 
-    ghost invariant = { λ h. IsHost (housed_of h.system h.frames h.openings h.store h.seats.items).host × IsSeated (memories h.store) h.seats.items × (h.store.private ≡ h.frames) × IsSound h.store };
+    ghost invariant = { λ h. IsHost (housed_of h.system h.frames h.openings h.store h.seats.items).host × IsSeated (memories h.store) h.seats.items × (h.store.private ≡ h.frames) × IsSound h.store × AllCached (memories h.store) h.store.stamps h.seats.items };
 }
 
 /// What a host takes memory for: its frames, and its places.
@@ -130,6 +131,9 @@ impl Host {
         let Ok(console) = Console::new(alloc) else {
             return Err((opening, OpenError::OutOfMemory));
         };
+        let Ok(cache) = DecodeCache::new(alloc) else {
+            return Err((opening, OpenError::OutOfMemory));
+        };
         if self.seats.try_reserve(1).is_err() {
             return Err((opening, OpenError::OutOfMemory));
         }
@@ -137,7 +141,7 @@ impl Host {
             return Err((opening, OpenError::NoFrames));
         };
         let id = self.openings;
-        let runner = opened(opening, console);
+        let runner = opened(opening, console, cache);
         self.seats.push_reserved(Seat { id, runner, table });
         self.openings += 1;
         Ok(SlotId(id))
@@ -277,10 +281,11 @@ impl Host {
     }
 }
 
-/// A session at its opening, with this console.
-fn opened(opening: Opening, console: Console) -> Runner
+/// A session at its opening, with this console and this cache.
+fn opened(opening: Opening, console: Console, cache: DecodeCache) -> Runner
     requires { console ≡ blank }
-    ensures { state_of result (memory_opening opening.quota) ≡ opened_slot opening }
+    ensures state { state_of result (memory_opening opening.quota) ≡ opened_slot opening }
+    ensures cache { result.cache ≡ cache }
 {
     let Opening { cpu, quota, drives } = opening;
     Runner {
@@ -290,5 +295,6 @@ fn opened(opening: Opening, console: Console) -> Runner
         count: 0,
         ended: End::Running,
         with_program: false,
+        cache,
     }
 }

@@ -1,11 +1,12 @@
 //! Sessions whose memories lie in one store of frames, by their places.
 
-ghost use Rattle.std.specs.Prelude.{◌≡◌, true, false, nat_lt, IfOk, IfErr, ◌<◌, ◌≤◌, ◌*◌, ◌+◌, List, Option, length, take, drop, sum_by, slice_get, remove, IfSome};
+ghost use Rattle.std.specs.Prelude.{◌≡◌, ℕ, true, false, nat_lt, IfOk, IfErr, ◌<◌, ◌≤◌, ◌*◌, ◌+◌, List, Option, length, take, drop, sum_by, slice_get, remove, IfSome};
 ghost use Rattle.cpm_geom.specs.Disk.{Disk};
 ghost use Rattle.cpm_console.specs.Terminal.{pressed};
 ghost use Rattle.cpm_disks.specs.Disks.{images_of};
 ghost use Rattle.cpm_memory.specs.Contents.{Contents, byte_at};
-ghost use Rattle.cpm_memory.specs.Frames.{memories, IsTaken, IsSound as IsSoundStore};
+ghost use Rattle.cpm_memory.specs.Frames.{memories, stamps_at, IsTaken, KeepsStamps, IsSound as IsSoundStore};
+ghost use Rattle.cpm_decode.specs.Cache.{IsRightFor};
 ghost use Rattle.cpm_slots.specs.Step.{after};
 ghost use Rattle.cpm_slots.specs.Serve.{executed, why, look_of};
 ghost use Rattle.cpm_slots.specs.Until.{executed_until, why_until};
@@ -13,7 +14,7 @@ ghost use Rattle.cpm_slots.specs.Calls.{Key, Grant, GrantUntil, Take, TakeList};
 ghost use Rattle.cpm_slots.specs.Runner.{state_of, IsSound};
 ghost use Rattle.cpm_sessions.specs.Host.{key_reply};
 ghost use Rattle.cpm_sessions.specs.Place.{IsPlace, Serves, IsServed};
-ghost use Rattle.cpm_sessions.specs.Seating.{contents_at, slots_of, IsSeated, ChangesAt};
+ghost use Rattle.cpm_sessions.specs.Seating.{contents_at, slots_of, IsSeated, AllCached, ChangesAt};
 
 use crate::event::{Refusal, Reply, SlotId};
 use cpm_console::Console;
@@ -72,6 +73,7 @@ fn press(runner: &mut Runner, key: u8) -> Result<(), Refusal>
     ensures serves { (system : Disk) (memory : Contents) → Serves system (Key key) (key_reply result) (state_of runner.old memory) (state_of runner.new memory) }
     ensures sound { (memory : Contents) → IsSound (state_of runner.old memory) → IsSound (state_of runner.new memory) }
     ensures quota { runner.new.quota ≡ runner.old.quota }
+    ensures cache { runner.new.cache ≡ runner.old.cache }
 {
     give(&mut runner.session.console, key)
 }
@@ -84,6 +86,7 @@ fn take_from(runner: &mut Runner, out: &mut [u8]) -> usize
     ensures length { length out.new ≡ length out.old }
     ensures sound { (memory : Contents) → IsSound (state_of runner.old memory) → IsSound (state_of runner.new memory) }
     ensures quota { runner.new.quota ≡ runner.old.quota }
+    ensures cache { runner.new.cache ≡ runner.old.cache }
 {
     runner.session.console.take(out)
 }
@@ -96,6 +99,7 @@ fn take_list_from(runner: &mut Runner, out: &mut [u8]) -> usize
     ensures length { length out.new ≡ length out.old }
     ensures sound { (memory : Contents) → IsSound (state_of runner.old memory) → IsSound (state_of runner.new memory) }
     ensures quota { runner.new.quota ≡ runner.old.quota }
+    ensures cache { runner.new.cache ≡ runner.old.cache }
 {
     runner.session.console.take_list(out)
 }
@@ -105,6 +109,7 @@ pub fn key_at(seats: &mut Vec<Seat>, place: usize, key: u8) -> Result<(), Refusa
     requires { place < length seats.old.items }
     ensures served { (system : Disk) (memories : List (Option Contents)) → IsServed system (Key key) place (key_reply result) (slots_of memories seats.old.items) (slots_of memories seats.new.items) }
     ensures seated { (memories : List (Option Contents)) → IsSeated memories seats.old.items → IsSeated memories seats.new.items }
+    ensures cached { (memories : List (Option Contents)) (stamps : List (List ℕ)) → AllCached memories stamps seats.old.items → AllCached memories stamps seats.new.items }
 {
     let seat = &mut seats[place];
     press(&mut seat.runner, key)
@@ -118,6 +123,7 @@ pub fn take_at(seats: &mut Vec<Seat>, place: usize, out: &mut [u8]) -> usize
     ensures count { result ≤ length out.old }
     ensures length { length out.new ≡ length out.old }
     ensures seated { (memories : List (Option Contents)) → IsSeated memories seats.old.items → IsSeated memories seats.new.items }
+    ensures cached { (memories : List (Option Contents)) (stamps : List (List ℕ)) → AllCached memories stamps seats.old.items → AllCached memories stamps seats.new.items }
 {
     let seat = &mut seats[place];
     take_from(&mut seat.runner, out)
@@ -131,6 +137,7 @@ pub fn take_list_at(seats: &mut Vec<Seat>, place: usize, out: &mut [u8]) -> usiz
     ensures count { result ≤ length out.old }
     ensures length { length out.new ≡ length out.old }
     ensures seated { (memories : List (Option Contents)) → IsSeated memories seats.old.items → IsSeated memories seats.new.items }
+    ensures cached { (memories : List (Option Contents)) (stamps : List (List ℕ)) → AllCached memories stamps seats.old.items → AllCached memories stamps seats.new.items }
 {
     let seat = &mut seats[place];
     take_list_from(&mut seat.runner, out)
@@ -146,11 +153,14 @@ fn grant_table(
 ) -> Granted
     requires taken { IsTaken store.old table }
     requires sound { IsSound (state_of runner.old (contents_at (memories store.old) table)) }
+    requires right { IsRightFor (contents_at (memories store.old) table) (stamps_at store.old table) runner.old.cache }
     ensures executed { result.executed ≡ executed system.now steps (state_of runner.old (contents_at (memories store.old) table)) }
     ensures why { result.why ≡ why steps result.executed (state_of runner.new (contents_at (memories store.new) table)) }
     ensures state { state_of runner.new (contents_at (memories store.new) table) ≡ after system.now result.executed (state_of runner.old (contents_at (memories store.old) table)) }
     ensures others { ChangesAt table (memories store.old) (memories store.new) }
+    ensures stamps { KeepsStamps store.old store.new table }
     ensures sound { IsSound (state_of runner.new (contents_at (memories store.new) table)) }
+    ensures right { IsRightFor (contents_at (memories store.new) table) (stamps_at store.new table) runner.new.cache }
     ensures frames { store.new.private ≡ store.old.private }
     ensures store { IsSoundStore store.new }
 {
@@ -168,8 +178,10 @@ pub fn grant_at(
 ) -> Granted
     requires place { place < length seats.old.items }
     requires seated { IsSeated (memories store.old) seats.old.items }
+    requires cached { AllCached (memories store.old) store.old.stamps seats.old.items }
     ensures served { IsServed system.now (Grant steps) place (Reply.Granted result) (slots_of (memories store.old) seats.old.items) (slots_of (memories store.new) seats.new.items) }
     ensures seated { IsSeated (memories store.new) seats.new.items }
+    ensures cached { AllCached (memories store.new) store.new.stamps seats.new.items }
     ensures frames { store.new.private ≡ store.old.private }
     ensures store { IsSoundStore store.new }
 {
@@ -189,11 +201,14 @@ fn grant_table_until(
 ) -> Granted
     requires taken { IsTaken store.old table }
     requires sound { IsSound (state_of runner.old (contents_at (memories store.old) table)) }
+    requires right { IsRightFor (contents_at (memories store.old) table) (stamps_at store.old table) runner.old.cache }
     ensures executed { result.executed ≡ executed_until system.now pc steps (state_of runner.old (contents_at (memories store.old) table)) }
     ensures why { result.why ≡ why_until pc steps result.executed (state_of runner.new (contents_at (memories store.new) table)) }
     ensures state { state_of runner.new (contents_at (memories store.new) table) ≡ after system.now result.executed (state_of runner.old (contents_at (memories store.old) table)) }
     ensures others { ChangesAt table (memories store.old) (memories store.new) }
+    ensures stamps { KeepsStamps store.old store.new table }
     ensures sound { IsSound (state_of runner.new (contents_at (memories store.new) table)) }
+    ensures right { IsRightFor (contents_at (memories store.new) table) (stamps_at store.new table) runner.new.cache }
     ensures frames { store.new.private ≡ store.old.private }
     ensures store { IsSoundStore store.new }
 {
@@ -213,8 +228,10 @@ pub fn grant_until_at(
 ) -> Granted
     requires place { place < length seats.old.items }
     requires seated { IsSeated (memories store.old) seats.old.items }
+    requires cached { AllCached (memories store.old) store.old.stamps seats.old.items }
     ensures served { IsServed system.now (GrantUntil steps pc) place (Reply.Granted result) (slots_of (memories store.old) seats.old.items) (slots_of (memories store.new) seats.new.items) }
     ensures seated { IsSeated (memories store.new) seats.new.items }
+    ensures cached { AllCached (memories store.new) store.new.stamps seats.new.items }
     ensures frames { store.new.private ≡ store.old.private }
     ensures store { IsSoundStore store.new }
 {
@@ -258,9 +275,11 @@ pub fn table_at(seats: &[Seat], place: usize) -> TableId
 pub fn close_at(seats: &mut Vec<Seat>, store: &mut FrameStore, place: usize) -> Closed
     requires place { place < length seats.old.items }
     requires seated { IsSeated (memories store.old) seats.old.items }
+    requires cached { AllCached (memories store.old) store.old.stamps seats.old.items }
     ensures closed { IfSome (slice_get (slots_of (memories store.old) seats.old.items) place) (λ x. (result.look ≡ look_of x.state) × (result.drives ≡ images_of x.state.session.disks)) }
     ensures slots { slots_of (memories store.new) seats.new.items ≡ remove (slots_of (memories store.old) seats.old.items) place }
     ensures seated { IsSeated (memories store.new) seats.new.items }
+    ensures cached { AllCached (memories store.new) store.new.stamps seats.new.items }
     ensures frames { store.new.private ≡ store.old.private }
     ensures store { IsSoundStore store.new }
 {

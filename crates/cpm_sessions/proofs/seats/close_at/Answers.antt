@@ -1,10 +1,11 @@
 use Rattle.std.proofs.Common.{◌≡◌, List, Option, None, true, is_some, get_or, set, refl, sym, ap, ◌∙◌, subst}
 use Rattle.std.proofs.lemmas.Option.{slice_get_read}
 use Rattle.cpm_memory.specs.Contents.{Contents}
-use Rattle.cpm_memory.specs.Frames.{memories}
-use Rattle.cpm_sessions.specs.Seating.{slots_of, IsSeated}
+use Rattle.cpm_memory.specs.Frames.{Frames, memories}
+use Rattle.cpm_sessions.specs.Seating.{slots_of, IsSeated, AllCached}
 use Rattle.cpm_sessions.proofs.CloseSeats.{seat-at, IsSeated-closed, slots-closed}
 use Rattle.cpm_sessions.proofs.CloseHost.{left-at}
+use Rattle.cpm_sessions.proofs.CachedSeats.{AllCached-closed}
 use Rattle.cpm_sessions.proofs.seats.close_at.Goals as goal
 
 pub release-requires : goal.release-requires
@@ -42,3 +43,14 @@ returns-clause-seated c =
     let new = memories c.release.new.self in
     let is = c.release.ensures.memories ∙ ap (λ (m : List (Option Contents)). set m s.table None) (ap memories c.look_at-look.ensures.unchanged) in
     subst (IsSeated new) (sym c.remove-runner.ensures.items) (IsSeated-closed old new items c.args.place s c.requires.seated at is)
+
+pub returns-clause-cached : goal.returns-clause-cached
+returns-clause-cached c =
+    let s = c.remove-runner.result in
+    let items = c.args.seats.now.items in
+    let at = slice_get_read items _ c.args.place s refl c.requires.place c.remove-runner.ensures.value in
+    let old = memories c.args.store.now in
+    let new = memories c.release.new.self in
+    let is = c.release.ensures.memories ∙ ap (λ (m : List (Option Contents)). set m s.table None) (ap memories c.look_at-look.ensures.unchanged) in
+    let same = ap (λ (x : Frames). x.stamps) c.release.ensures.released ∙ ap (λ (x : Frames). x.stamps) c.look_at-look.ensures.unchanged in
+    subst (AllCached new c.release.new.self.stamps) (sym c.remove-runner.ensures.items) (AllCached-closed old new c.args.store.now.stamps c.release.new.self.stamps items c.args.place s c.requires.seated.all c.requires.cached at is same)

@@ -10,6 +10,7 @@ use Rattle.cpm_sessions.specs.Seating.{contents_at}
 use Rattle.cpm_sessions.proofs.OrderLaws.{quota-after}
 use Rattle.cpm_sessions.proofs.ServeLaws.{grants}
 use Rattle.cpm_sessions.proofs.SeatLaws.{IsSeat-at, served-on, IsSeated-on}
+use Rattle.cpm_sessions.proofs.CachedSeats.{IsCached-at, AllCached-on}
 use Rattle.cpm_sessions.proofs.seats.grant_at.Goals as goal
 
 pub grant_table-requires-clause-taken : goal.grant_table-requires-clause-taken
@@ -25,6 +26,13 @@ grant_table-requires-clause-sound c =
     let seat = c.index_mut-seat.result.now in
     let at : slice_get seats c.args.place ≡ Some seat = slice_get_read seats _ c.args.place seat refl c.requires.place c.index_mut-seat.ensures.value in
     (IsSeat-at (memories c.args.store.now) seats c.args.place seat c.requires.seated.all at).sound
+
+pub grant_table-requires-clause-right : goal.grant_table-requires-clause-right
+grant_table-requires-clause-right c =
+    let seats = c.args.seats.now.items in
+    let seat = c.index_mut-seat.result.now in
+    let at : slice_get seats c.args.place ≡ Some seat = slice_get_read seats _ c.args.place seat refl c.requires.place c.index_mut-seat.ensures.value in
+    IsCached-at (memories c.args.store.now) c.args.store.now.stamps seats c.args.place seat c.requires.cached at
 
 pub returns-clause-served : goal.returns-clause-served
 returns-clause-served c =
@@ -44,3 +52,12 @@ returns-clause-seated c =
     let at : slice_get seats c.args.place ≡ Some seat = slice_get_read seats _ c.args.place seat refl c.requires.place c.index_mut-seat.ensures.value in
     IsSeated-on old (memories c.grant_table.new.store) seats c.args.place seat c.grant_table.new.runner c.requires.seated at c.grant_table.ensures.others c.grant_table.ensures.sound
     (ap (λ (s : MachineState). s.quota) c.grant_table.ensures.state ∙ quota-after c.args.system.now c.grant_table.result.executed (state_of seat.runner (contents_at old seat.table)))
+
+pub returns-clause-cached : goal.returns-clause-cached
+returns-clause-cached c =
+    let seats = c.args.seats.now.items in
+    let seat = c.index_mut-seat.result.now in
+    let old = c.args.store.now in
+    let new = c.grant_table.new.store in
+    let at : slice_get seats c.args.place ≡ Some seat = slice_get_read seats _ c.args.place seat refl c.requires.place c.index_mut-seat.ensures.value in
+    AllCached-on (memories old) (memories new) old.stamps new.stamps seats c.args.place seat c.grant_table.new.runner c.requires.seated.all c.requires.cached at c.grant_table.ensures.others c.grant_table.ensures.stamps c.grant_table.ensures.right

@@ -5,6 +5,7 @@ use Rattle.cpm_slots.specs.Calls.{Take}
 use Rattle.cpm_sessions.specs.declared.event.Reply.TheVariants as reply
 use Rattle.cpm_sessions.specs.Seating.{contents_at}
 use Rattle.cpm_sessions.proofs.SeatLaws.{IsSeat-at, served-alone, IsSeated-alone}
+use Rattle.cpm_sessions.proofs.CachedSeats.{AllCached-alone}
 use Rattle.cpm_sessions.proofs.seats.take_at.Goals as goal
 
 pub returns-clause-served : goal.returns-clause-served
@@ -20,3 +21,10 @@ returns-clause-seated c = λ m k.
     let seat = c.index_mut-seat.result.now in
     let at : slice_get seats c.args.place ≡ Some seat = slice_get_read seats _ c.args.place seat refl c.requires c.index_mut-seat.ensures.value in
     IsSeated-alone m seats c.args.place seat c.take_from.new.runner k at (c.take_from.ensures.sound (contents_at m seat.table) (IsSeat-at m seats c.args.place seat k.all at).sound) c.take_from.ensures.quota
+
+pub returns-clause-cached : goal.returns-clause-cached
+returns-clause-cached c = λ m stamps k.
+    let seats = c.args.seats.now.items in
+    let seat = c.index_mut-seat.result.now in
+    let at : slice_get seats c.args.place ≡ Some seat = slice_get_read seats _ c.args.place seat refl c.requires c.index_mut-seat.ensures.value in
+    AllCached-alone m stamps seats c.args.place seat c.take_from.new.runner k at c.take_from.ensures.cache

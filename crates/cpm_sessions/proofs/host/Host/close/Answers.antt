@@ -51,4 +51,5 @@ invariant_of-self c =
       c.close_at.ensures.seated,
       c.close_at.ensures.frames ∙ c.self.invariant.2,
       c.close_at.ensures.store,
+      c.close_at.ensures.cached,
     )

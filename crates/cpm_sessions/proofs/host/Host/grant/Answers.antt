@@ -48,4 +48,4 @@ invariant_of-self c =
     let m = memories s.store in
     let h : Host = record { system = s.system; frames = s.frames; openings = s.openings; slots = slots_of m s.seats.items } in
     let all : (m : List (Option Contents)) → LiesAt c.args.id.0 (slots_of m s.seats.items) c.in-Some.place = rw c.deref.ensures.value at c.in-Some.ensures in
-    (call-keeps h c.args.id.0 c.in-Some.place (Grant c.args.steps) (reply.Granted c.grant_at.result) (slots_of (memories c.grant_at.new.store) c.grant_at.new.seats.items) c.self.invariant.0 (all m) (c.grant_at.ensures.served), c.grant_at.ensures.seated, c.grant_at.ensures.frames ∙ c.self.invariant.2, c.grant_at.ensures.store)
+    (call-keeps h c.args.id.0 c.in-Some.place (Grant c.args.steps) (reply.Granted c.grant_at.result) (slots_of (memories c.grant_at.new.store) c.grant_at.new.seats.items) c.self.invariant.0 (all m) (c.grant_at.ensures.served), c.grant_at.ensures.seated, c.grant_at.ensures.frames ∙ c.self.invariant.2, c.grant_at.ensures.store, c.grant_at.ensures.cached)

@@ -47,4 +47,4 @@ invariant_of-self c =
     let m = memories s.store in
     let h : Host = record { system = s.system; frames = s.frames; openings = s.openings; slots = slots_of m s.seats.items } in
     let all : (m : List (Option Contents)) → LiesAt c.args.id.0 (slots_of m s.seats.items) c.in-Some.place = rw c.deref.ensures.value at c.in-Some.ensures in
-    (call-keeps h c.args.id.0 c.in-Some.place (Key c.args.key) (key_reply c.key_at.result) (slots_of m c.key_at.new.seats.items) c.self.invariant.0 (all m) (c.key_at.ensures.served s.system m), c.key_at.ensures.seated m c.self.invariant.1, c.self.invariant.2, c.self.invariant.3)
+    (call-keeps h c.args.id.0 c.in-Some.place (Key c.args.key) (key_reply c.key_at.result) (slots_of m c.key_at.new.seats.items) c.self.invariant.0 (all m) (c.key_at.ensures.served s.system m), c.key_at.ensures.seated m c.self.invariant.1, c.self.invariant.2, c.self.invariant.3, c.key_at.ensures.cached m s.store.stamps c.self.invariant.4)

@@ -2,7 +2,7 @@ use Rattle.std.proofs.Common.{◌≡◌, List, [], sym, subst, arith}
 use Rattle.cpm_memory.specs.Frames.{memories}
 use Rattle.cpm_sessions.specs.declared.seats.Seat.{Seat}
 use Rattle.cpm_sessions.specs.Host.{IsHost}
-use Rattle.cpm_sessions.specs.Seating.{slots_of, IsSeated}
+use Rattle.cpm_sessions.specs.Seating.{slots_of, IsSeated, AllCached}
 use Rattle.cpm_sessions.proofs.OpenHost.{hosted}
 use Rattle.cpm_sessions.proofs.OpenSeats.{IsSeated-none}
 use Rattle.cpm_sessions.proofs.host.Host.new.Goals as goal
@@ -15,4 +15,5 @@ invariant_of-result c =
       subst (IsSeated m) (sym empty) (IsSeated-none m c.in-Ok.ensures.memories),
       c.in-Ok.ensures.frames,
       c.in-Ok.ensures.sound,
+      subst (AllCached m c.in-Ok.store.stamps) (sym empty) tt,
     )

@@ -1,9 +1,12 @@
-use Rattle.std.proofs.Common.{[], ◌∷◌, ◌++◌, ap, ◌∙◌}
+use Rattle.std.proofs.Common.{[], ◌∷◌, ◌++◌, sym, ap, ◌∙◌, subst}
 use Rattle.cpm_memory.specs.Frames.{Frames, memories}
+use Rattle.cpm_decode.specs.Cache.{IsRightFor}
+use Rattle.cpm_decode.specs.declared.cache.DecodeCache.{DecodeCache}
 use Rattle.cpm_sessions.specs.declared.seats.Seat.{Seat}
 use Rattle.cpm_sessions.proofs.CallLaws.{same-host}
 use Rattle.cpm_sessions.proofs.OpenHost.{IsOpening, opened-host, opened-seated, opened-is}
 use Rattle.cpm_sessions.proofs.OpenSeats.{none-at}
+use Rattle.cpm_sessions.proofs.CachedSeats.{AllCached-opened}
 use Rattle.cpm_sessions.proofs.host.Host.open.Goals as goal
 
 pub invariant_of-self-2 : goal.invariant_of-self-2
@@ -20,13 +23,16 @@ invariant_of-self-2 c =
       free = none-at i.store s.table c.in-Ok-reserve.ensures.free;
       memories = c.in-Ok-reserve.ensures.memories;
       taken = c.in-Ok-reserve.ensures.taken;
-      state = c.opened-runner.ensures;
+      state = c.opened-runner.ensures.state;
       pushed = c.push_reserved.ensures.items ∙ ap (λ xs. xs ++ s ∷ []) c.try_reserve.ensures.items;
     } in (
       opened-host i.system i.frames c.args.self.now.host old new i.seats.items c.push_reserved.new.self.items s c.args.opening k,
       opened-seated i.system i.frames c.args.self.now.host old new i.seats.items c.push_reserved.new.self.items s c.args.opening k,
       ap (λ (x : Frames). x.private) c.in-Ok-reserve.ensures.reserved ∙ c.self.invariant.2,
       c.reserve.ensures.sound,
+      AllCached-opened old new i.store.stamps c.reserve.new.self.stamps i.seats.items c.push_reserved.new.self.items s c.args.opening.quota k.seated.all c.self.invariant.4 k.free k.memories
+          (ap (λ (x : Frames). x.stamps) c.in-Ok-reserve.ensures.reserved) k.pushed
+          (λ contents stamps. subst (λ (cache : DecodeCache). IsRightFor contents stamps cache) (sym c.opened-runner.ensures.cache) (c.in-Ok-new.ensures contents stamps)),
     )
 
 pub returns-clause-opened : goal.returns-clause-opened
@@ -43,7 +49,7 @@ returns-clause-opened c =
       free = none-at i.store s.table c.in-Ok-reserve.ensures.free;
       memories = c.in-Ok-reserve.ensures.memories;
       taken = c.in-Ok-reserve.ensures.taken;
-      state = c.opened-runner.ensures;
+      state = c.opened-runner.ensures.state;
       pushed = c.push_reserved.ensures.items ∙ ap (λ xs. xs ++ s ∷ []) c.try_reserve.ensures.items;
     } in
     opened-is i.system i.frames c.args.self.now.host old new i.seats.items c.push_reserved.new.self.items s c.args.opening k
