@@ -1,6 +1,7 @@
 //! Directories of drives: entries found, read and written in an image, blocks reserved, and names of command lines.
 #![tactic(auto)]
 
+mod bits;
 pub mod block;
 pub mod command_line;
 pub mod directory;
