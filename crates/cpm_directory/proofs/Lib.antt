@@ -1,3 +1,4 @@
+pub mod ListedLemmas
 pub mod BitsLemmas
 pub mod DriveLemmas
 pub mod FirstLemmas

@@ -9,9 +9,10 @@ ghost use Rattle.cpm_directory.specs.Directory.{entries_of};
 ghost use Rattle.cpm_directory.specs.Login.{reserved_at_login};
 
 use crate::bits::Bits;
-use crate::directory::{DELETED, DirectoryError, entry};
+use crate::directory::{DELETED, DirectoryError};
+use crate::lent::LentImage;
 use crate::pattern::is_named;
-use cpm_geom::{Dpb, Format, Image};
+use cpm_geom::{Dpb, Format};
 use std::marker::Model;
 
 /// The reserved blocks of a drive: for each block number of its format whether it is reserved. All formats have as many
@@ -88,13 +89,13 @@ impl Reserved {
 }
 
 /// The blocks that are reserved where a drive is logged in: the directory's, and those in its entries.
-pub fn login(image: &Image) -> Reserved
+pub fn login(image: &LentImage<'_>) -> Reserved
     ensures { result ≡ reserved_at_login (dpb_of image.now.format) (entries_of image.now) }
 {
     let dpb = image.format().dpb();
     let mut blocks = directory_blocks(&dpb);
     for index in 0..dpb.last_entry + 1 {
-        let entry = entry(image, index);
+        let entry = image.entry(index);
         if entry.user != DELETED {
             mark(&mut blocks, &entry.extent.blocks);
         }
@@ -142,13 +143,13 @@ fn mark(blocks: &mut Bits, numbers: &[u16])
 }
 
 /// The blocks that stay reserved where the files of a name are erased: theirs are free but the directory's.
-pub fn without_files(reserved: &Reserved, image: &Image, user: u8, name: &[u8; 11]) -> Reserved
+pub fn without_files(reserved: &Reserved, image: &LentImage<'_>, user: u8, name: &[u8; 11]) -> Reserved
     ensures { result ≡ reserved_after (dpb_of image.now.format) user name.now (entries_of image.now) reserved.now }
 {
     let dpb = image.format().dpb();
     let mut blocks = reserved.blocks.copied();
     for index in 0..dpb.last_entry + 1 {
-        let entry = entry(image, index);
+        let entry = image.entry(index);
         if is_named(user, name, &entry) {
             release(&dpb, &mut blocks, &entry.extent.blocks);
         }

@@ -135,14 +135,14 @@ fn finds_files_and_blocks(rt: HostRuntime) {
         name: *b"RECORD  DAT",
         group: None,
     };
-    assert_eq!(&rt; find(&image, &system, 0), Ok(2));
+    assert_eq!(&rt; find(&LentImage::new(&image), &system, 0), Ok(2));
     let last = Pattern::Files {
         user: 15,
         name: *b"LARGE   ???",
         group: Some(3),
     };
-    assert_eq!(&rt; find(&image, &last, 0), Ok(7));
-    let mut reserved = login(&image);
+    assert_eq!(&rt; find(&LentImage::new(&image), &last, 0), Ok(7));
+    let mut reserved = login(&LentImage::new(&image));
     assert!(&rt; reserved.contains(0x4E));
     assert_eq!(&rt; reserved.take_lowest(), Ok(0x4F));
 }
