@@ -60,6 +60,6 @@ pub outside_track : (disk : Disk) (track sector : ℕ) (bytes : List ℕ) → Is
 outside_track disk track sector bytes there apart =
     let new = with_sector disk (sector_index disk.format track sector) bytes in
     sym (same_entries (entries_of disk) new (entries_are_64 disk) (λ k l.
-        let low : k ≤ (dpb_of disk.format).last_entry = omega (arith, last_entry_is disk.format) in
-        let left : sector_at new (record_index disk.format (k / 4)) ≡ sector_at disk (record_index disk.format (k / 4)) = get_or-set_other disk.sectors (sector_index disk.format track sector) (record_index disk.format (k / 4)) bytes [] (λ e. apart (other_track disk.format k track sector low there e)) in
-        get_or_entry disk k ∙ (entry_is disk k low ∙ (ap (λ bytes. entry_of (dpb_of disk.format) (slot_bytes bytes (k % 4))) (sym left) ∙ sym (entry_is new k low)))))
+    let low : k ≤ (dpb_of disk.format).last_entry = omega (arith, last_entry_is disk.format) in
+    let left : sector_at new (record_index disk.format (k / 4)) ≡ sector_at disk (record_index disk.format (k / 4)) = get_or-set_other disk.sectors (sector_index disk.format track sector) (record_index disk.format (k / 4)) bytes [] (λ e. apart (other_track disk.format k track sector low there e)) in
+    get_or_entry disk k ∙ (entry_is disk k low ∙ (ap (λ bytes. entry_of (dpb_of disk.format) (slot_bytes bytes (k % 4))) (sym left) ∙ sym (entry_is new k low)))))

@@ -143,7 +143,12 @@ fn mark(blocks: &mut Bits, numbers: &[u16])
 }
 
 /// The blocks that stay reserved where the files of a name are erased: theirs are free but the directory's.
-pub fn without_files(reserved: &Reserved, image: &LentImage<'_>, user: u8, name: &[u8; 11]) -> Reserved
+pub fn without_files(
+    reserved: &Reserved,
+    image: &LentImage<'_>,
+    user: u8,
+    name: &[u8; 11],
+) -> Reserved
     ensures { result ≡ reserved_after (dpb_of image.now.format) user name.now (entries_of image.now) reserved.now }
 {
     let dpb = image.format().dpb();

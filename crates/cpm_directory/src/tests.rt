@@ -92,7 +92,10 @@ fn the_65th_entry_is_not_free(rt: HostRuntime) {
         assert_eq!(rt; first_free(&LentImage::new(&image)), Ok(index));
         put(&rt, &mut image, index, &text_file(2));
     }
-    assert_eq!(rt; first_free(&LentImage::new(&image)), Err(DirectoryError::NoEntryFree));
+    assert_eq!(rt;
+        first_free(&LentImage::new(&image)),
+        Err(DirectoryError::NoEntryFree)
+    );
 }
 
 #[test]

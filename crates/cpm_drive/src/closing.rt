@@ -68,7 +68,12 @@ impl Drive {
         ensures value { closed_file result self.new fcb.new ≡ after_close self.old fcb.old (close_function (dpb_of self.old.image.format) self.old.marks.is_protected (entries_of self.old.image) user fcb.old.extent) }
         ensures blocks { MarksEachBlock self.old → MarksEachBlock self.new }
     {
-        let closing = judge_close(&self.image.lent(), self.marks.is_protected, user, &fcb.extent);
+        let closing = judge_close(
+            &self.image.lent(),
+            self.marks.is_protected,
+            user,
+            &fcb.extent,
+        );
         self.write_change(closing.change());
         closing.answer(fcb)
     }

@@ -103,7 +103,13 @@ fn judge_read_next(image: &LentImage<'_>, marks: &Marks, user: u8, fcb: &mut Fcb
 }
 
 /// What READ RANDOM comes to. Nothing is written.
-fn judge_read_at(image: &LentImage<'_>, marks: &Marks, user: u8, number: u16, fcb: &mut Fcb) -> Reading
+fn judge_read_at(
+    image: &LentImage<'_>,
+    marks: &Marks,
+    user: u8,
+    number: u16,
+    fcb: &mut Fcb,
+) -> Reading
     ensures value { (buffer : List ℕ) → after_reading (lent_drive image.now marks.now) result fcb.new buffer ≡ after_call (lent_drive image.now marks.now) fcb.old buffer (read_at (dpb_of image.now.format) marks.now.is_protected (volume_of image.now marks.now.reserved) user fcb.old.extent fcb.old.current_record number) }
     ensures within { IsWithin (dpb_of image.now.format) result.closed }
     ensures there { IfOk result.found (λ number. IsRecord image.now.format number) }

@@ -11,7 +11,12 @@ use cpm_files::Entry;
 
 /// SEARCH FOR FIRST and SEARCH FOR NEXT: the index of the first entry from a place on that is looked for. Its record of
 /// the directory comes into the buffer.
-pub fn search(image: &LentImage<'_>, pattern: &Pattern, from: u16, buffer: &mut [u8; 128]) -> Option<u16>
+pub fn search(
+    image: &LentImage<'_>,
+    pattern: &Pattern,
+    from: u16,
+    buffer: &mut [u8; 128],
+) -> Option<u16>
     ensures found { (result, buffer.new) ≡ searched image.now pattern.now from buffer.old }
     ensures within { IfSome result (λ index. index ≤ (dpb_of image.now.format).last_entry) }
 {
