@@ -1,8 +1,8 @@
 //! Worked directories and names.
 
 use crate::{
-    DirectoryError, Entry, Extent, Fcb, Pattern, Reserved, block_at, entry, find, first_free,
-    login, parse_fcb, put_entry,
+    DirectoryError, Entry, Extent, Fcb, LentImage, Pattern, Reserved, block_at, entry, find,
+    first_free, login, parse_fcb, put_entry,
 };
 use cpm_geom::{Format, Image};
 use std::alloc::Global;

@@ -2,7 +2,7 @@
 //! were copied to it, EMPTY.TXT, ONE.TXT (read-only) and WHOLE.BIN of user 0, RECORD.DAT of user 3 (a system file) and
 //! LARGE.BIN of user 15, of 0, 1, 16,384, 128 and 60,000 bytes. Its four sectors that matter here are kept as they were.
 
-use crate::{Entry, Pattern, entry, find, login};
+use crate::{Entry, LentImage, Pattern, entry, find, login};
 use cpm_geom::Image;
 use std::alloc::Global;
 use std::process::Abort;
