@@ -79,13 +79,13 @@ pub(crate) fn erase_all(session: &mut Session, system: &Image)
 fn is_taken(disks: &Disks, system: &Image, file: &Fcb) -> bool
     ensures { result ≡ is_taken system.now disks.now file.now }
 {
-    let image = disks.image_at(system, disks.drive_named(file.drive));
+    let image = disks.lent_at(system, disks.drive_named(file.drive));
     let pattern = Pattern::Files {
         user: disks.user,
         name: file.extent.name,
         group: None,
     };
-    find(image, &pattern, 0).is_ok()
+    find(&image, &pattern, 0).is_ok()
 }
 
 /// Whether a file has the new name, on a drive that is there.

@@ -10,7 +10,7 @@ use crate::message::Message;
 use crate::parts::{finish, go_to, tell};
 use cpm_bdos::{CommandPart, Held, Session};
 use cpm_console::Console;
-use cpm_directory::{Entry, entry, is_named};
+use cpm_directory::{Entry, LentImage, is_named};
 use cpm_files::Fault;
 use cpm_geom::{Dpb, Image};
 
@@ -28,14 +28,14 @@ fn is_listed(dpb: &Dpb, user: u8, pattern: &[u8; 11], entry: &Entry) -> bool
 }
 
 /// The index of the first entry from a place on that DIR lists.
-fn listed_from(image: &Image, user: u8, pattern: &[u8; 11], from: u16) -> Option<u16>
+fn listed_from(image: &LentImage<'_>, user: u8, pattern: &[u8; 11], from: u16) -> Option<u16>
     ensures { MatchOption result
         (listed_from (dpb_of image.now.format) user pattern.now (entries_of image.now) from ≡ length (entries_of image.now))
         (λ index. (index ≡ listed_from (dpb_of image.now.format) user pattern.now (entries_of image.now) from) × (index < length (entries_of image.now))) }
 {
     let dpb = image.format().dpb();
     for index in from..dpb.last_entry + 1 {
-        if is_listed(&dpb, user, pattern, &entry(image, index)) {
+        if is_listed(&dpb, user, pattern, &image.entry(index)) {
             return Some(index);
         }
     }
@@ -50,8 +50,8 @@ fn next_listed(session: &Session, system: &Image, from: u16) -> Option<u16>
         (λ index. (index ≡ next_listed system.now from session.now) × (index < length (entries_listed system.now session.now))) }
 {
     let drive = session.disks.drive_named(session.file.drive);
-    let image = session.disks.image_at(system, drive);
-    listed_from(image, session.disks.user, &session.file.extent.name, from)
+    let image = session.disks.lent_at(system, drive);
+    listed_from(&image, session.disks.user, &session.file.extent.name, from)
 }
 
 /// Shows characters with their high bits off.
@@ -135,9 +135,8 @@ pub(crate) fn list(session: &mut Session, system: &Image, from: u16, column: u8,
     }
     match next_listed(session, system, from) {
         Some(index) => {
-            let name = entry(session.disks.image_at(system, drive), index)
-                .extent
-                .name;
+            let image = session.disks.lent_at(system, drive);
+            let name = image.entry(index).extent.name;
             session.disks.use_drive(system, drive);
             show_file(session, index, column, &name);
         }

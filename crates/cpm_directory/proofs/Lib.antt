@@ -1,3 +1,5 @@
+pub mod ListedLemmas
+pub mod BitsLemmas
 pub mod DriveLemmas
 pub mod FirstLemmas
 pub mod SlotLemmas

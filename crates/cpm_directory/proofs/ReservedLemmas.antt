@@ -1,9 +1,8 @@
 -- The reserved blocks as the first so many tests of a table.
-use Rattle.std.proofs.Common.{Some, None, inl, inr, ◌≡◌, ℕ, ◌<◌, ◌≤◌, Bool, true, false, not, List, length, get_or, take, ◌∙◌, arith, refl, ◌+◌}
+use Rattle.std.proofs.Common.{ap, ◌≡◌, ℕ, ◌<◌, ◌≤◌, Bool, true, false, not, List, length, get_or, take, ◌∙◌, arith, refl, ◌+◌}
 use Rattle.std.proofs.lemmas.List.{get_or_past, get_or-take, length-take-le, get_or_default}
-use Rattle.std.specs.List.{position, position_or_len}
-use Rattle.std.proofs.lemmas.List.Sums.{prefix_len-le-length}
-use Rattle.std.proofs.lemmas.Bool.{cases_lt, lt-ltb, le-ltb}
+use Rattle.std.specs.List.{position_or_len}
+use Rattle.std.proofs.lemmas.List.Sums.{position_or_len_is, fails_before_first, passes_at_first}
 use Rattle.cpm_geom.specs.Geometry.{dpb_of}
 use Rattle.cpm_geom.specs.declared.format.Format.{Format}
 use Rattle.cpm_geom.specs.declared.format.Format.TheVariants.{Ibm3740}
@@ -25,18 +24,17 @@ pub below_is_reserved : (xs : List Bool) (count b : ℕ) → count ≤ length xs
 unfolding is_reserved
 below_is_reserved xs count b h l = get_or-take count xs b true l ∙ get_or_default xs b true false (omega arith)
 
-pub lowest_some : (r : List Bool) (i : ℕ) → position not r ≡ Some i → (i ≡ least_free r) × (i < length r)
+-- the least free of the first tests of a table
+pub lowest_within : (xs : List Bool) (count : ℕ) → count ≤ length xs → least_free xs < count → least_free (take count xs) ≡ least_free xs
 unfolding least_free
-lowest_some r i h =
-    elim (cases_lt (position_or_len not r) (length r)) [
-      | inl lt ↦ (let e = rw (lt-ltb _ _ lt) at h in let f : i ≡ position_or_len not r = cc in (f, rw f lt))
-      | inr ge ↦ absurd (let e = rw (le-ltb _ _ ge) at h in cc)
-    ]
+lowest_within xs count h l =
+    position_or_len_is not (take count xs) (position_or_len not xs) true (omega (arith, length-take-le count xs h))
+    (λ k m. ap not (get_or-take count xs k true (omega arith)) ∙ fails_before_first not xs k true m)
+    (λ m. ap not (get_or-take count xs (position_or_len not xs) true l) ∙ passes_at_first not xs true (omega arith))
 
-pub lowest_none : (r : List Bool) → position not r ≡ None → least_free r ≡ length r
+pub lowest_past : (xs : List Bool) (count : ℕ) → count ≤ length xs → count ≤ least_free xs → least_free (take count xs) ≡ count
 unfolding least_free
-lowest_none r h =
-    elim (cases_lt (position_or_len not r) (length r)) [
-      | inl lt ↦ absurd (let e = rw (lt-ltb _ _ lt) at h in cc)
-      | inr ge ↦ (let l = prefix_len-le-length (λ b. not (not b)) r in omega arith)
-    ]
+lowest_past xs count h l =
+    position_or_len_is not (take count xs) count true (omega (arith, length-take-le count xs h))
+    (λ k m. ap not (get_or-take count xs k true m) ∙ fails_before_first not xs k true (omega arith))
+    (λ m. absurd (omega (arith, length-take-le count xs h)))

@@ -8,6 +8,7 @@ ghost use Rattle.cpm_files.specs.Encoding.{entry_bytes, IsStorable};
 ghost use Rattle.cpm_directory.specs.Directory.{entries_of, with_slot, PutsEntry};
 ghost use Rattle.cpm_directory.specs.Matching.{match_from};
 
+use crate::lent::LentImage;
 use crate::pattern::Pattern;
 use cpm_files::Entry;
 use cpm_geom::Image;
@@ -55,14 +56,14 @@ pub fn put_entry(image: &mut Image, index: u16, entry: &Entry)
 }
 
 /// The index of the first entry from a place on that is looked for.
-pub fn find(image: &Image, pattern: &Pattern, from: u16) -> Result<u16, DirectoryError>
+pub fn find(image: &LentImage<'_>, pattern: &Pattern, from: u16) -> Result<u16, DirectoryError>
     ensures { MatchResult result
         (λ index. (index ≡ match_from (dpb_of image.now.format) pattern.now (entries_of image.now) from) × (index < length (entries_of image.now)))
         (λ e. (e ≡ DirectoryError.NotFound) × (match_from (dpb_of image.now.format) pattern.now (entries_of image.now) from ≡ length (entries_of image.now))) }
 {
     let dpb = image.format().dpb();
     for index in from..dpb.last_entry + 1 {
-        if pattern.matches(&dpb, &entry(image, index)) {
+        if pattern.matches(&dpb, &image.entry(index)) {
             return Ok(index);
         }
     }
@@ -70,13 +71,13 @@ pub fn find(image: &Image, pattern: &Pattern, from: u16) -> Result<u16, Director
 }
 
 /// The index of the first entry that is not in use.
-pub fn first_free(image: &Image) -> Result<u16, DirectoryError>
+pub fn first_free(image: &LentImage<'_>) -> Result<u16, DirectoryError>
     ensures { MatchResult result
         (λ index. (index ≡ first_free (entries_of image.now)) × (index < length (entries_of image.now)))
         (λ e. (e ≡ DirectoryError.NoEntryFree) × (first_free (entries_of image.now) ≡ length (entries_of image.now))) }
 {
     for index in 0..image.format().dpb().last_entry + 1 {
-        if entry(image, index).user == DELETED {
+        if image.entry(index).user == DELETED {
             return Ok(index);
         }
     }

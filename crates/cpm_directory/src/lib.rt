@@ -1,10 +1,13 @@
 //! Directories of drives: entries found, read and written in an image, blocks reserved, and names of command lines.
 #![tactic(auto)]
 
+mod bits;
 pub mod block;
 pub mod command_line;
 pub mod directory;
 pub mod laws;
+pub mod lent;
+pub mod listed;
 pub mod pattern;
 pub mod reserved;
 
@@ -12,6 +15,8 @@ pub use block::block_at;
 pub use command_line::parse_fcb;
 pub use cpm_files::{Entry, Extent, Fcb};
 pub use directory::{DirectoryError, entry, find, first_free, put_entry};
+pub use lent::LentImage;
+pub use listed::ListedImage;
 pub use pattern::{Pattern, is_named};
 pub use reserved::{Reserved, login, without_files};
 

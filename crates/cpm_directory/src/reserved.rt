@@ -1,28 +1,30 @@
 //! The reserved blocks of a drive.
 
 ghost use Rattle.std.specs.Prelude.{◌≡◌, ◌<◌, ◌≤◌, ◌+◌, ◌==◌, ◌&&◌, ◌||◌, ℕ, length, replicate, MatchResult, not, nat_lt, slice_set, slice_index_or, false, true};
-ghost use Rattle.std.specs.List.{position, list_any};
+ghost use Rattle.std.specs.List.{list_any};
 ghost use Rattle.cpm_geom.specs.Geometry.{dpb_of};
 ghost use Rattle.cpm_files.specs.Reserved.{least_free, is_reserved, is_directory_block};
 ghost use Rattle.cpm_files.specs.Names.{reserved_after};
 ghost use Rattle.cpm_directory.specs.Directory.{entries_of};
 ghost use Rattle.cpm_directory.specs.Login.{reserved_at_login};
 
-use crate::directory::{DELETED, DirectoryError, entry};
+use crate::bits::Bits;
+use crate::directory::{DELETED, DirectoryError};
+use crate::lent::LentImage;
 use crate::pattern::is_named;
-use cpm_geom::{Dpb, Format, Image};
+use cpm_geom::{Dpb, Format};
 use std::marker::Model;
 
 /// The reserved blocks of a drive: for each block number of its format whether it is reserved. All formats have as many
 /// blocks today.
 #[derive(Drop)]
 pub struct Reserved {
-    blocks: [bool; 512],
+    blocks: Bits,
     count: usize,
 }
 
 impl Model for Reserved {
-    ghost use Rattle.std.specs.Prelude.{◌≡◌, ◌+◌, Bool, List, take};
+    ghost use Rattle.std.specs.Prelude.{◌≡◌, ◌+◌, Bool, List, length, take};
     ghost use Rattle.cpm_geom.specs.declared.format.Format.{Format};
     ghost use Rattle.cpm_geom.specs.Geometry.{dpb_of};
 
@@ -30,7 +32,7 @@ impl Model for Reserved {
 
     ghost view = { λ reserved. take reserved.count reserved.blocks };
 
-    ghost invariant = { λ reserved. (format : Format) → reserved.count ≡ (dpb_of format).last_block + 1 };
+    ghost invariant = { λ reserved. (length reserved.blocks ≡ 512) × ((format : Format) → reserved.count ≡ (dpb_of format).last_block + 1) };
 }
 
 impl Reserved {
@@ -41,7 +43,7 @@ impl Reserved {
         ensures { result ≡ replicate ((dpb_of format).last_block + 1) false }
     {
         Reserved {
-            blocks: [false; 512],
+            blocks: Bits::none(),
             count: usize::from(format.dpb().last_block) + 1,
         }
     }
@@ -58,7 +60,7 @@ impl Reserved {
         ensures { result ≡ is_reserved self.now block }
     {
         let block = usize::from(block);
-        block >= self.count || self.blocks[block]
+        block >= self.count || self.blocks.contains(block)
     }
 
     /// Reserves the lowest block that is not reserved.
@@ -67,13 +69,12 @@ impl Reserved {
             (λ block. (block ≡ least_free self.old) × (block < length self.old) × (self.new ≡ slice_set self.old block true))
             (λ e. (e ≡ DirectoryError.NoBlockFree) × (least_free self.old ≡ length self.old) × (self.new ≡ self.old)) }
     {
-        match lowest_free(&self.blocks[..self.count]) {
-            Some(lowest) => {
-                self.blocks[lowest] = true;
-                Ok(lowest as u16)
-            }
-            None => Err(DirectoryError::NoBlockFree),
+        let lowest = self.blocks.lowest_clear();
+        if lowest >= self.count {
+            return Err(DirectoryError::NoBlockFree);
         }
+        self.blocks.insert(lowest);
+        Ok(lowest as u16)
     }
 
     /// Gives back a block; a number above the last block changes nothing.
@@ -82,26 +83,19 @@ impl Reserved {
     {
         let block = usize::from(block);
         if block < self.count {
-            self.blocks[block] = false;
+            self.blocks.remove(block);
         }
     }
 }
 
-/// The first place that is not taken.
-fn lowest_free(taken: &[bool]) -> Option<usize>
-    ensures { result ≡ position not taken.now }
-{
-    taken.iter().position(|block| !*block)
-}
-
 /// The blocks that are reserved where a drive is logged in: the directory's, and those in its entries.
-pub fn login(image: &Image) -> Reserved
+pub fn login(image: &LentImage<'_>) -> Reserved
     ensures { result ≡ reserved_at_login (dpb_of image.now.format) (entries_of image.now) }
 {
     let dpb = image.format().dpb();
     let mut blocks = directory_blocks(&dpb);
     for index in 0..dpb.last_entry + 1 {
-        let entry = entry(image, index);
+        let entry = image.entry(index);
         if entry.user != DELETED {
             mark(&mut blocks, &entry.extent.blocks);
         }
@@ -113,12 +107,15 @@ pub fn login(image: &Image) -> Reserved
 }
 
 /// The blocks of the directory.
-fn directory_blocks(dpb: &Dpb) -> [bool; 512]
-    ensures { (b : ℕ) → b < 512 → slice_index_or result b true ≡ is_directory_block dpb.now b }
+fn directory_blocks(dpb: &Dpb) -> Bits
+    ensures size { length result ≡ 512 }
+    ensures value { (b : ℕ) → b < 512 → slice_index_or result b true ≡ is_directory_block dpb.now b }
 {
-    let mut blocks = [false; 512];
+    let mut blocks = Bits::none();
     for block in 0..512u16 {
-        blocks[usize::from(block)] = is_directory_block(dpb, block);
+        if is_directory_block(dpb, block) {
+            blocks.insert(usize::from(block));
+        }
     }
     blocks
 }
@@ -132,26 +129,32 @@ fn is_directory_block(dpb: &Dpb, block: u16) -> bool
 }
 
 /// Marks the blocks of these numbers, of which 0 is none.
-fn mark(blocks: &mut [bool], numbers: &[u16])
+fn mark(blocks: &mut Bits, numbers: &[u16])
+    requires { length blocks.old ≡ 512 }
+    ensures size { length blocks.new ≡ 512 }
     ensures zero { slice_index_or blocks.new 0 true ≡ slice_index_or blocks.old 0 true }
-    ensures others { (b : ℕ) → 0 < b → b < length blocks.old → slice_index_or blocks.new b true ≡ (slice_index_or blocks.old b true || list_any (λ number. number == b) numbers.now) }
+    ensures others { (b : ℕ) → 0 < b → b < 512 → slice_index_or blocks.new b true ≡ (slice_index_or blocks.old b true || list_any (λ number. number == b) numbers.now) }
 {
     for number in numbers {
-        let block = usize::from(*number);
-        if 0 < block && block < blocks.len() {
-            blocks[block] = true;
+        if 0 < *number {
+            blocks.insert(usize::from(*number));
         }
     }
 }
 
 /// The blocks that stay reserved where the files of a name are erased: theirs are free but the directory's.
-pub fn without_files(reserved: &Reserved, image: &Image, user: u8, name: &[u8; 11]) -> Reserved
+pub fn without_files(
+    reserved: &Reserved,
+    image: &LentImage<'_>,
+    user: u8,
+    name: &[u8; 11],
+) -> Reserved
     ensures { result ≡ reserved_after (dpb_of image.now.format) user name.now (entries_of image.now) reserved.now }
 {
     let dpb = image.format().dpb();
-    let mut blocks = reserved.blocks;
+    let mut blocks = reserved.blocks.copied();
     for index in 0..dpb.last_entry + 1 {
-        let entry = entry(image, index);
+        let entry = image.entry(index);
         if is_named(user, name, &entry) {
             release(&dpb, &mut blocks, &entry.extent.blocks);
         }
@@ -163,14 +166,14 @@ pub fn without_files(reserved: &Reserved, image: &Image, user: u8, name: &[u8; 1
 }
 
 /// Frees the blocks of these numbers, of which 0 is none, but the directory's.
-fn release(dpb: &Dpb, blocks: &mut [bool], numbers: &[u16])
-    ensures size { length blocks.new ≡ length blocks.old }
-    ensures value { (b : ℕ) → b < length blocks.old → slice_index_or blocks.new b true ≡ (slice_index_or blocks.old b true && (is_directory_block dpb.now b || not (nat_lt 0 b && list_any (λ number. number == b) numbers.now))) }
+fn release(dpb: &Dpb, blocks: &mut Bits, numbers: &[u16])
+    requires { length blocks.old ≡ 512 }
+    ensures size { length blocks.new ≡ 512 }
+    ensures value { (b : ℕ) → b < 512 → slice_index_or blocks.new b true ≡ (slice_index_or blocks.old b true && (is_directory_block dpb.now b || not (nat_lt 0 b && list_any (λ number. number == b) numbers.now))) }
 {
     for number in numbers {
-        let block = usize::from(*number);
-        if 0 < block && block < blocks.len() && !is_directory_block(dpb, *number) {
-            blocks[block] = false;
+        if 0 < *number && !is_directory_block(dpb, *number) {
+            blocks.remove(usize::from(*number));
         }
     }
 }

@@ -1,8 +1,8 @@
 //! Worked directories and names.
 
 use crate::{
-    DirectoryError, Entry, Extent, Fcb, Pattern, Reserved, block_at, entry, find, first_free,
-    login, parse_fcb, put_entry,
+    DirectoryError, Entry, Extent, Fcb, LentImage, Pattern, Reserved, block_at, entry, find,
+    first_free, login, parse_fcb, put_entry,
 };
 use cpm_geom::{Format, Image};
 use std::alloc::Global;
@@ -54,15 +54,15 @@ fn all_files() -> Pattern {
 fn blank_directory_has_no_file(rt: HostRuntime) {
     let image = blank(&rt, rt.alloc());
     assert_eq!(rt;
-        find(&image, &all_files(), 0),
+        find(&LentImage::new(&image), &all_files(), 0),
         Err(DirectoryError::NotFound)
     );
-    assert_eq!(rt; find(&image, &Pattern::Every, 63), Ok(63));
+    assert_eq!(rt; find(&LentImage::new(&image), &Pattern::Every, 63), Ok(63));
     assert_eq!(rt;
-        find(&image, &Pattern::Every, 64),
+        find(&LentImage::new(&image), &Pattern::Every, 64),
         Err(DirectoryError::NotFound)
     );
-    assert_eq!(rt; first_free(&image), Ok(0));
+    assert_eq!(rt; first_free(&LentImage::new(&image)), Ok(0));
 }
 
 #[test]
@@ -71,12 +71,12 @@ fn an_entry_is_found_where_it_was_put(rt: HostRuntime) {
     put(&rt, &mut image, 5, &text_file(2));
     assert!(rt; at(&rt, &image, 5) == text_file(2));
     assert_eq!(rt; at(&rt, &image, 4).user, 0xE5);
-    assert_eq!(rt; find(&image, &all_files(), 0), Ok(5));
+    assert_eq!(rt; find(&LentImage::new(&image), &all_files(), 0), Ok(5));
     assert_eq!(rt;
-        find(&image, &all_files(), 6),
+        find(&LentImage::new(&image), &all_files(), 6),
         Err(DirectoryError::NotFound)
     );
-    assert_eq!(rt; first_free(&image), Ok(0));
+    assert_eq!(rt; first_free(&LentImage::new(&image)), Ok(0));
     assert_eq!(rt;
         image
             .record(1)
@@ -89,10 +89,13 @@ fn an_entry_is_found_where_it_was_put(rt: HostRuntime) {
 fn the_65th_entry_is_not_free(rt: HostRuntime) {
     let mut image = blank(&rt, rt.alloc());
     for index in 0..64u16 {
-        assert_eq!(rt; first_free(&image), Ok(index));
+        assert_eq!(rt; first_free(&LentImage::new(&image)), Ok(index));
         put(&rt, &mut image, index, &text_file(2));
     }
-    assert_eq!(rt; first_free(&image), Err(DirectoryError::NoEntryFree));
+    assert_eq!(rt;
+        first_free(&LentImage::new(&image)),
+        Err(DirectoryError::NoEntryFree)
+    );
 }
 
 #[test]
@@ -100,7 +103,7 @@ fn the_lowest_blocks_are_taken(rt: HostRuntime) {
     let mut image = blank(&rt, rt.alloc());
     put(&rt, &mut image, 0, &text_file(3));
     put(&rt, &mut image, 1, &text_file(0xF3));
-    let mut reserved = login(&image);
+    let mut reserved = login(&LentImage::new(&image));
     for (block, want) in [
         (0, true),
         (1, true),

@@ -2,7 +2,7 @@
 //! were copied to it, EMPTY.TXT, ONE.TXT (read-only) and WHOLE.BIN of user 0, RECORD.DAT of user 3 (a system file) and
 //! LARGE.BIN of user 15, of 0, 1, 16,384, 128 and 60,000 bytes. Its four sectors that matter here are kept as they were.
 
-use crate::{Entry, Pattern, entry, find, login};
+use crate::{Entry, LentImage, Pattern, entry, find, login};
 use cpm_geom::Image;
 use std::alloc::Global;
 use std::process::Abort;
@@ -135,14 +135,14 @@ fn finds_files_and_blocks(rt: HostRuntime) {
         name: *b"RECORD  DAT",
         group: None,
     };
-    assert_eq!(&rt; find(&image, &system, 0), Ok(2));
+    assert_eq!(&rt; find(&LentImage::new(&image), &system, 0), Ok(2));
     let last = Pattern::Files {
         user: 15,
         name: *b"LARGE   ???",
         group: Some(3),
     };
-    assert_eq!(&rt; find(&image, &last, 0), Ok(7));
-    let mut reserved = login(&image);
+    assert_eq!(&rt; find(&LentImage::new(&image), &last, 0), Ok(7));
+    let mut reserved = login(&LentImage::new(&image));
     assert!(&rt; reserved.contains(0x4E));
     assert_eq!(&rt; reserved.take_lowest(), Ok(0x4F));
 }

@@ -63,7 +63,7 @@ fn image_of(drive: Option<Drive>) -> Option<Image>
     ensures { result ≡ image_of drive }
 {
     match drive {
-        Some(Drive { image, .. }) => Some(image),
+        Some(Drive { image, .. }) => Some(image.into_image()),
         None => None,
     }
 }

@@ -9,6 +9,7 @@ ghost use Rattle.cpm_disks.specs.Files.{marked_drive, next_ahead, open_file, clo
 use crate::codes::{NONE, code_or_none, put_random};
 use crate::disks::Disks;
 use crate::{lent, own};
+use cpm_directory::LentImage;
 use cpm_drive::{file_size, open_lent, peek_next};
 use cpm_files::{Answer, Fault, Fcb};
 use cpm_geom::Image;
@@ -19,8 +20,8 @@ impl Disks {
         ensures { (buffer : List ℕ) → file_call result self.new fcb.new buffer ≡ open_file self.old system.now fcb.old buffer }
     {
         let number = self.use_named(system, fcb.drive)?;
-        let image = self.image_at(system, number);
-        Ok(code_or_none(open_lent(image, self.user, fcb)))
+        let image = self.lent_at(system, number);
+        Ok(code_or_none(open_lent(&image, self.user, fcb)))
     }
 
     /// CLOSE FILE: a directory code, or FFh where the entry is not there or has other blocks.
@@ -140,12 +141,12 @@ impl Disks {
             (λ answer. Err answer ≡ ahead (marked_drive self.now system.now drive) self.now.user fcb.now) }
     {
         if !self.is_own(drive) {
-            return peek_next(system, &self.system, self.user, fcb);
+            return peek_next(&LentImage::new(system), &self.system, self.user, fcb);
         }
         let Some(own) = &self.drives[usize::from(drive)] else {
             unreachable!()
         };
-        peek_next(&own.image, &own.marks, self.user, fcb)
+        peek_next(&own.image.lent(), &own.marks, self.user, fcb)
     }
 
     /// WRITE SEQUENTIAL: 0, 1 where no extent can be had, or 2 where no block is free.
@@ -231,8 +232,8 @@ impl Disks {
         ensures { (buffer : List ℕ) → file_call result self.new fcb.new buffer ≡ compute_size self.old system.now fcb.old buffer }
     {
         let number = self.use_named(system, fcb.drive)?;
-        let image = self.image_at(system, number);
-        match file_size(image, self.user, &fcb.extent.name) {
+        let image = self.lent_at(system, number);
+        match file_size(&image, self.user, &fcb.extent.name) {
             Some(records) => {
                 put_random(fcb, records);
                 Ok(0)

@@ -80,10 +80,10 @@ impl Disks {
         ensures { (fcb : Fcb) → file_call (Ok result) self.new fcb buffer.new ≡ search_on sought.now self.old system.now fcb buffer.old }
     {
         self.use_drive(system, sought.drive);
-        let image = self.image_at(system, sought.drive);
+        let image = self.lent_at(system, sought.drive);
         let dpb = image.format().dpb();
         let pattern = sought.pattern(&dpb, self.user);
-        match cpm_drive::search(image, &pattern, sought.next, buffer) {
+        match cpm_drive::search(&image, &pattern, sought.next, buffer) {
             Some(index) => {
                 self.sought = Some(sought.from(index + 1));
                 directory_code(index)

@@ -7,6 +7,7 @@ ghost use Rattle.cpm_disks.specs.Disks.{own_drive, is_there, drive_at};
 ghost use Rattle.cpm_disks.specs.Selecting.{ready, used, select, choice, unmarked, drive_unmarked, has_bit, reset_from, reset, rebooted_disks, drives_reset, protect};
 
 use crate::disks::{Disks, is_in};
+use cpm_directory::LentImage;
 use cpm_drive::{Drive, Marks};
 use cpm_files::Fault;
 use cpm_geom::Image;
@@ -40,7 +41,20 @@ impl Disks {
         let Some(own) = &self.drives[usize::from(drive)] else {
             unreachable!()
         };
-        &own.image
+        own.image.image()
+    }
+
+    /// The image of a drive that is there, with its entries where the drive is the session's own.
+    pub fn lent_at<'a>(&'a self, system: &'a Image, drive: u8) -> LentImage<'a>
+        ensures { result ≡ (drive_at self.now system.now drive).image }
+    {
+        if !self.is_own(drive) {
+            return LentImage::new(system);
+        }
+        let Some(own) = &self.drives[usize::from(drive)] else {
+            unreachable!()
+        };
+        own.image.lent()
     }
 
     /// Uses a drive that is there: it is logged in, unless it was before.
@@ -151,7 +165,7 @@ fn make_lent_ready(image: &Image, marks: &mut Marks)
 {
     marks.is_protected = true;
     if !marks.is_logged_in {
-        marks.log_in(image);
+        marks.log_in(&LentImage::new(image));
     }
 }
 

@@ -7,9 +7,8 @@ ghost use Rattle.cpm_directory.specs.Directory.{entries_of};
 ghost use Rattle.cpm_drive.specs.Judged.{entries_after};
 
 use cpm_directory::directory::DELETED;
-use cpm_directory::{Pattern, entry};
+use cpm_directory::{LentImage, Pattern};
 use cpm_files::Entry;
-use cpm_geom::Image;
 
 /// An entry of the directory that a call is about to write.
 #[derive(Clone, Copy, PartialEq, Eq, Debug)]
@@ -19,7 +18,7 @@ pub struct Change {
 }
 
 /// The entry at an index, once a change is written.
-pub(crate) fn entry_after(image: &Image, change: Option<Change>, index: u16) -> Entry
+pub(crate) fn entry_after(image: &LentImage<'_>, change: Option<Change>, index: u16) -> Entry
     requires { index ≤ (dpb_of image.now.format).last_entry }
     ensures { result ≡ entry_at (entries_after (entries_of image.now) change) index }
 {
@@ -28,16 +27,16 @@ pub(crate) fn entry_after(image: &Image, change: Option<Change>, index: u16) -> 
             if change.index == index {
                 change.entry
             } else {
-                entry(image, index)
+                image.entry(index)
             }
         }
-        None => entry(image, index),
+        None => image.entry(index),
     }
 }
 
 /// The index of the first entry of a user, a name and a group, once a change is written.
 pub(crate) fn first_match(
-    image: &Image,
+    image: &LentImage<'_>,
     change: Option<Change>,
     user: u8,
     name: &[u8; 11],
@@ -62,7 +61,7 @@ pub(crate) fn first_match(
 }
 
 /// The index of the first entry that is not in use, once a change is written.
-pub(crate) fn first_free(image: &Image, change: Option<Change>) -> Option<u16>
+pub(crate) fn first_free(image: &LentImage<'_>, change: Option<Change>) -> Option<u16>
     ensures { MatchOption result
         (length (entries_of image.now) ≤ first_free (entries_after (entries_of image.now) change))
         (λ index. (index ≡ first_free (entries_after (entries_of image.now) change)) × (index ≤ (dpb_of image.now.format).last_entry)) }

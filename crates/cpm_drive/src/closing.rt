@@ -12,7 +12,7 @@ ghost use Rattle.cpm_drive.specs.Judged.{close_of, change_of, IsWithin, agreeing
 
 use crate::change::{Change, first_match};
 use crate::drive::{Drive, directory_code};
-use cpm_directory::entry;
+use cpm_directory::LentImage;
 use cpm_files::{Entry, Extent, Fault, Fcb};
 use cpm_geom::{Dpb, Image};
 
@@ -57,7 +57,7 @@ impl Closing {
 pub fn close_lent(image: &Image, user: u8, fcb: &mut Fcb) -> Result<Option<u8>, Fault>
     ensures { (result, fcb.new) ≡ close_answer fcb.old (close_function (dpb_of image.now.format) true (entries_of image.now) user fcb.old.extent) }
 {
-    judge_close(image, true, user, &fcb.extent).answer(fcb)
+    judge_close(&LentImage::new(image), true, user, &fcb.extent).answer(fcb)
 }
 
 impl Drive {
@@ -68,14 +68,19 @@ impl Drive {
         ensures value { closed_file result self.new fcb.new ≡ after_close self.old fcb.old (close_function (dpb_of self.old.image.format) self.old.marks.is_protected (entries_of self.old.image) user fcb.old.extent) }
         ensures blocks { MarksEachBlock self.old → MarksEachBlock self.new }
     {
-        let closing = judge_close(&self.image, self.marks.is_protected, user, &fcb.extent);
+        let closing = judge_close(
+            &self.image.lent(),
+            self.marks.is_protected,
+            user,
+            &fcb.extent,
+        );
         self.write_change(closing.change());
         closing.answer(fcb)
     }
 }
 
 /// What a close of an extent comes to. Nothing is written.
-pub fn judge_close(image: &Image, is_protected: bool, user: u8, extent: &Extent) -> Closing
+pub fn judge_close(image: &LentImage<'_>, is_protected: bool, user: u8, extent: &Extent) -> Closing
     ensures value { close_of (entries_of image.now) result ≡ close_extent (dpb_of image.now.format) is_protected (entries_of image.now) user extent.now }
     ensures within { IsWithin (dpb_of image.now.format) (change_of result) }
 {
@@ -87,7 +92,7 @@ pub fn judge_close(image: &Image, is_protected: bool, user: u8, extent: &Extent)
     if has_bad_block(&dpb, &extent.blocks) {
         return Closing::Fault(Fault::BadSector);
     }
-    let stored = entry(image, index);
+    let stored = image.entry(index);
     if !agree(&extent.blocks, &stored.extent.blocks) {
         return Closing::Refused;
     }

@@ -10,7 +10,7 @@ ghost use Rattle.cpm_drive.specs.Judged.{with_change, IsWithin};
 ghost use Rattle.cpm_drive.specs.Reads.{lent_drive};
 
 use crate::change::Change;
-use cpm_directory::{Reserved, login, put_entry};
+use cpm_directory::{LentImage, ListedImage, Reserved, login};
 use cpm_geom::{Format, Image};
 
 /// What the system keeps of a drive beside its image.
@@ -26,7 +26,7 @@ pub struct Marks {
 /// A drive of a session's own.
 #[derive(Drop)]
 pub struct Drive {
-    pub image: Image,
+    pub image: ListedImage,
     pub marks: Marks,
 }
 
@@ -50,7 +50,7 @@ impl Marks {
     }
 
     /// Logs the drive of an image in: its directory's blocks and those of its files are reserved.
-    pub fn log_in(&mut self, image: &Image)
+    pub fn log_in(&mut self, image: &LentImage<'_>)
         ensures marks { self.new ≡ logged_in_marks image.now self.old }
         ensures blocks { MarksEachBlock (lent_drive image.now self.new) }
     {
@@ -66,6 +66,7 @@ impl Drive {
         ensures blocks { MarksEachBlock result }
     {
         let marks = Marks::new(image.format(), false);
+        let image = ListedImage::new(image);
         Drive { image, marks }
     }
 
@@ -74,7 +75,7 @@ impl Drive {
         ensures drive { self.new ≡ logged_in self.old }
         ensures blocks { MarksEachBlock self.new }
     {
-        self.marks.log_in(&self.image);
+        self.marks.log_in(&self.image.lent());
     }
 
     /// Writes an entry that a call changes, unless the drive is protected.
@@ -87,7 +88,7 @@ impl Drive {
     {
         if let Some(change) = change {
             if !self.marks.is_protected {
-                put_entry(&mut self.image, change.index, &change.entry);
+                self.image.put_entry(change.index, &change.entry);
             }
         }
     }

@@ -11,9 +11,8 @@ ghost use Rattle.cpm_drive.specs.Writes.{drive_written};
 
 use crate::drive::{Drive, directory_code};
 use cpm_directory::directory::DELETED;
-use cpm_directory::{Pattern, entry, find, is_named, put_entry, without_files};
+use cpm_directory::{LentImage, Pattern, find, is_named, without_files};
 use cpm_files::{Entry, Extent, Fault};
-use cpm_geom::Image;
 
 /// What becomes of each entry of a name.
 #[derive(Clone, Copy, PartialEq, Eq, Debug)]
@@ -68,7 +67,7 @@ fn with_attributes(name: &[u8; 11], attributes: &[u8; 11]) -> [u8; 11]
 }
 
 /// The index of the first entry of a name.
-fn first_named(image: &Image, user: u8, name: &[u8; 11]) -> Option<u16>
+fn first_named(image: &LentImage<'_>, user: u8, name: &[u8; 11]) -> Option<u16>
     ensures { MatchOption result
         (length (entries_of image.now) ≤ first_named (entries_of image.now) user name.now)
         (λ index. (index ≡ first_named (entries_of image.now) user name.now) × (index < length (entries_of image.now))) }
@@ -85,11 +84,11 @@ fn first_named(image: &Image, user: u8, name: &[u8; 11]) -> Option<u16>
 }
 
 /// Whether an entry of a name is read-only.
-fn has_read_only(image: &Image, user: u8, name: &[u8; 11]) -> bool
+fn has_read_only(image: &LentImage<'_>, user: u8, name: &[u8; 11]) -> bool
     ensures { result ≡ list_any (protects user name.now) (entries_of image.now) }
 {
     for index in 0..image.format().dpb().last_entry + 1 {
-        if protects(user, name, &entry(image, index)) {
+        if protects(user, name, &image.entry(index)) {
             return true;
         }
     }
@@ -111,9 +110,9 @@ impl Drive {
         ensures blocks { MarksEachBlock self.old → MarksEachBlock self.new }
     {
         for index in 0..self.image.format().dpb().last_entry + 1 {
-            let entry = entry(&self.image, index);
+            let entry = self.image.entry(index);
             if is_named(user, name, &entry) {
-                put_entry(&mut self.image, index, &alteration.of(&entry));
+                self.image.put_entry(index, &alteration.of(&entry));
             }
         }
     }
@@ -125,13 +124,14 @@ impl Drive {
         ensures value { (result, self.new) ≡ after_named self.old (erase_function (dpb_of self.old.image.format) (volume_of self.old.image self.old.marks.reserved) user name.now) }
         ensures blocks { MarksEachBlock self.old → MarksEachBlock self.new }
     {
-        let Some(first) = first_named(&self.image, user, name) else {
+        let image = self.image.lent();
+        let Some(first) = first_named(&image, user, name) else {
             return Ok(None);
         };
-        if has_read_only(&self.image, user, name) {
+        if has_read_only(&image, user, name) {
             return Err(Fault::FileReadOnly);
         }
-        self.marks.reserved = without_files(&self.marks.reserved, &self.image, user, name);
+        self.marks.reserved = without_files(&self.marks.reserved, &image, user, name);
         self.alter_files(user, name, &Alteration::Deletion);
         Ok(Some(directory_code(first)))
     }
@@ -148,10 +148,11 @@ impl Drive {
         ensures value { (result, self.new) ≡ after_named self.old (rename_function (volume_of self.old.image self.old.marks.reserved) user old_name.now new_name.now) }
         ensures blocks { MarksEachBlock self.old → MarksEachBlock self.new }
     {
-        let Some(first) = first_named(&self.image, user, old_name) else {
+        let image = self.image.lent();
+        let Some(first) = first_named(&image, user, old_name) else {
             return Ok(None);
         };
-        if has_read_only(&self.image, user, old_name) {
+        if has_read_only(&image, user, old_name) {
             return Err(Fault::FileReadOnly);
         }
         self.alter_files(user, old_name, &Alteration::Renaming(*new_name));
@@ -165,7 +166,7 @@ impl Drive {
         ensures value { (Ok result, self.new) ≡ after_named self.old (attributes_function (volume_of self.old.image self.old.marks.reserved) user name.now) }
         ensures blocks { MarksEachBlock self.old → MarksEachBlock self.new }
     {
-        let first = first_named(&self.image, user, name)?;
+        let first = first_named(&self.image.lent(), user, name)?;
         self.alter_files(user, name, &Alteration::Marking(*name));
         Some(directory_code(first))
     }

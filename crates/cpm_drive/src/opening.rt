@@ -12,12 +12,11 @@ ghost use Rattle.cpm_drive.specs.Judged.{entries_after, make_of, IsWithin};
 use crate::change::{Change, entry_after, first_free, first_match};
 use crate::closing::group_of;
 use crate::drive::{Drive, directory_code};
-use cpm_directory::entry;
+use cpm_directory::LentImage;
 use cpm_files::{Entry, Extent, Fcb};
-use cpm_geom::Image;
 
 /// OPEN FILE on an image that is lent: as `Drive::open_file`.
-pub fn open_lent(image: &Image, user: u8, fcb: &mut Fcb) -> Option<u8>
+pub fn open_lent(image: &LentImage<'_>, user: u8, fcb: &mut Fcb) -> Option<u8>
     ensures { (result, fcb.new) ≡ after_open fcb.old (open_index (dpb_of image.now.format) (entries_of image.now) user fcb.old.extent) (open_function (dpb_of image.now.format) (entries_of image.now) user fcb.old.extent) }
 {
     let number = u16::from(fcb.extent.ex % 32);
@@ -26,7 +25,7 @@ pub fn open_lent(image: &Image, user: u8, fcb: &mut Fcb) -> Option<u8>
         Some(index) => index,
         None => return None,
     };
-    match opened_to_read(&entry(image, index).extent, number) {
+    match opened_to_read(&image.entry(index).extent, number) {
         Some(extent) => {
             fcb.extent = extent;
             Some(directory_code(index))
@@ -41,7 +40,7 @@ impl Drive {
     pub fn open_file(&self, user: u8, fcb: &mut Fcb) -> Option<u8>
         ensures { (result, fcb.new) ≡ after_open fcb.old (open_index (dpb_of self.now.image.format) (entries_of self.now.image) user fcb.old.extent) (open_function (dpb_of self.now.image.format) (entries_of self.now.image) user fcb.old.extent) }
     {
-        open_lent(&self.image, user, fcb)
+        open_lent(&self.image.lent(), user, fcb)
     }
 
     /// MAKE FILE: the first entry that is not in use and the file control block become a new extent of its EX, with S2
@@ -51,7 +50,7 @@ impl Drive {
         ensures blocks { MarksEachBlock self.old → MarksEachBlock self.new }
     {
         let number = u16::from(fcb.extent.ex % 32);
-        match make_extent(&self.image, None, user, &fcb.extent, number) {
+        match make_extent(&self.image.lent(), None, user, &fcb.extent, number) {
             Some(change) => {
                 self.write_change(Some(change));
                 fcb.extent = change.entry.extent;
@@ -104,7 +103,7 @@ fn opened_to_read(stored: &Extent, number: u16) -> Option<Extent>
 
 /// The extent of a number of a file, if an entry is of its group.
 pub(crate) fn open_extent(
-    image: &Image,
+    image: &LentImage<'_>,
     change: Option<Change>,
     user: u8,
     name: &[u8; 11],
@@ -122,7 +121,7 @@ pub(crate) fn open_extent(
 
 /// The same to read it: an entry of a lesser number is none.
 pub(crate) fn open_to_read(
-    image: &Image,
+    image: &LentImage<'_>,
     change: Option<Change>,
     user: u8,
     name: &[u8; 11],
@@ -157,7 +156,7 @@ fn made(extent: &Extent, number: u16) -> Extent
 
 /// A new extent of a number at the first entry that is not in use, if one is.
 pub(crate) fn make_extent(
-    image: &Image,
+    image: &LentImage<'_>,
     change: Option<Change>,
     user: u8,
     extent: &Extent,

@@ -11,8 +11,8 @@ use crate::change::Change;
 use crate::closing::{Closing, judge_close};
 use crate::drive::Marks;
 use crate::opening::{make_extent, open_extent, open_to_read};
+use cpm_directory::LentImage;
 use cpm_files::{Answer, Extent, Fcb};
-use cpm_geom::Image;
 
 /// A record in another extent, and the answers where the open extent can't be closed and that one can't be had.
 #[derive(Clone, Copy, PartialEq, Eq, Debug)]
@@ -84,7 +84,7 @@ impl Arrival {
 
 /// Opens the extent that is sought, or makes it to write it, once the open one was closed.
 fn have_extent(
-    image: &Image,
+    image: &LentImage<'_>,
     marks: &Marks,
     access: Access,
     closed: Change,
@@ -124,7 +124,7 @@ fn have_extent(
 
 /// Closes the extent that is open, then has another.
 fn cross(
-    image: &Image,
+    image: &LentImage<'_>,
     marks: &Marks,
     access: Access,
     user: u8,
@@ -148,7 +148,7 @@ fn cross(
 
 /// Where a call stands at the record that is next in sequence.
 pub(crate) fn next_place(
-    image: &Image,
+    image: &LentImage<'_>,
     marks: &Marks,
     access: Access,
     user: u8,
@@ -177,7 +177,7 @@ pub(crate) fn next_place(
 
 /// Where a call stands at any record of the file, with the answer where its extent can't be had.
 pub(crate) fn place_at(
-    image: &Image,
+    image: &LentImage<'_>,
     marks: &Marks,
     access: Access,
     user: u8,

@@ -12,7 +12,7 @@ ghost use Rattle.cpm_drive.specs.Reads.{record_found, ahead, answer_of, read_of,
 use crate::change::Change;
 use crate::drive::{Drive, Marks};
 use crate::place::{Access, Arrival, next_place, place_at};
-use cpm_directory::block_at;
+use cpm_directory::{LentImage, block_at};
 use cpm_files::{Answer, Fault, Fcb};
 use cpm_geom::{Format, Image};
 
@@ -88,7 +88,7 @@ fn take_record(image: &Image, found: Result<u16, Answer>, buffer: &mut [u8; 128]
 }
 
 /// What READ SEQUENTIAL comes to. Nothing is written.
-fn judge_read_next(image: &Image, marks: &Marks, user: u8, fcb: &mut Fcb) -> Reading
+fn judge_read_next(image: &LentImage<'_>, marks: &Marks, user: u8, fcb: &mut Fcb) -> Reading
     ensures value { (buffer : List ℕ) → after_reading (lent_drive image.now marks.now) result fcb.new buffer ≡ after_call (lent_drive image.now marks.now) fcb.old buffer (read_next (dpb_of image.now.format) marks.now.is_protected (volume_of image.now marks.now.reserved) user fcb.old.extent fcb.old.current_record) }
     ensures record { record_found result.found fcb.new ≡ after_record fcb.old (read_next (dpb_of image.now.format) marks.now.is_protected (volume_of image.now marks.now.reserved) user fcb.old.extent fcb.old.current_record) }
     ensures within { IsWithin (dpb_of image.now.format) result.closed }
@@ -103,7 +103,13 @@ fn judge_read_next(image: &Image, marks: &Marks, user: u8, fcb: &mut Fcb) -> Rea
 }
 
 /// What READ RANDOM comes to. Nothing is written.
-fn judge_read_at(image: &Image, marks: &Marks, user: u8, number: u16, fcb: &mut Fcb) -> Reading
+fn judge_read_at(
+    image: &LentImage<'_>,
+    marks: &Marks,
+    user: u8,
+    number: u16,
+    fcb: &mut Fcb,
+) -> Reading
     ensures value { (buffer : List ℕ) → after_reading (lent_drive image.now marks.now) result fcb.new buffer ≡ after_call (lent_drive image.now marks.now) fcb.old buffer (read_at (dpb_of image.now.format) marks.now.is_protected (volume_of image.now marks.now.reserved) user fcb.old.extent fcb.old.current_record number) }
     ensures within { IsWithin (dpb_of image.now.format) result.closed }
     ensures there { IfOk result.found (λ number. IsRecord image.now.format number) }
@@ -126,7 +132,7 @@ fn judge_read_at(image: &Image, marks: &Marks, user: u8, number: u16, fcb: &mut 
 
 /// The record that READ SEQUENTIAL would give now, as it lies on the disk, or its answer without one. Nothing changes.
 pub fn peek_next<'a>(
-    image: &'a Image,
+    image: &LentImage<'a>,
     marks: &Marks,
     user: u8,
     fcb: &Fcb,
@@ -154,7 +160,7 @@ pub fn read_next_protected(
     ensures value { called result (lent_drive image.now marks.now) fcb.new buffer.new ≡ after_call (lent_drive image.now marks.now) fcb.old buffer.old (read_next (dpb_of image.now.format) true (volume_of image.now marks.now.reserved) user fcb.old.extent fcb.old.current_record) }
     ensures file { GivesRecord (lent_drive image.now marks.now) user fcb.old (position fcb.old.extent fcb.old.current_record) result buffer.new }
 {
-    let reading = judge_read_next(image, marks, user, fcb);
+    let reading = judge_read_next(&LentImage::new(image), marks, user, fcb);
     take_record(image, reading.found, buffer)
 }
 
@@ -171,7 +177,7 @@ pub fn read_at_protected(
     ensures value { called result (lent_drive image.now marks.now) fcb.new buffer.new ≡ after_call (lent_drive image.now marks.now) fcb.old buffer.old (read_at (dpb_of image.now.format) true (volume_of image.now marks.now.reserved) user fcb.old.extent fcb.old.current_record number) }
     ensures file { GivesRecord (lent_drive image.now marks.now) user fcb.old number result buffer.new }
 {
-    let reading = judge_read_at(image, marks, user, number, fcb);
+    let reading = judge_read_at(&LentImage::new(image), marks, user, number, fcb);
     take_record(image, reading.found, buffer)
 }
 
@@ -183,9 +189,9 @@ impl Drive {
         ensures file { GivesRecord self.old user fcb.old (position fcb.old.extent fcb.old.current_record) result buffer.new }
         ensures blocks { MarksEachBlock self.old → MarksEachBlock self.new }
     {
-        let reading = judge_read_next(&self.image, &self.marks, user, fcb);
+        let reading = judge_read_next(&self.image.lent(), &self.marks, user, fcb);
         self.write_change(reading.closed);
-        take_record(&self.image, reading.found, buffer)
+        take_record(self.image.image(), reading.found, buffer)
     }
 
     /// READ RANDOM: record `number` of the file, for which the extent may be closed and another one opened. The answer
@@ -201,8 +207,8 @@ impl Drive {
         ensures file { GivesRecord self.old user fcb.old number result buffer.new }
         ensures blocks { MarksEachBlock self.old → MarksEachBlock self.new }
     {
-        let reading = judge_read_at(&self.image, &self.marks, user, number, fcb);
+        let reading = judge_read_at(&self.image.lent(), &self.marks, user, number, fcb);
         self.write_change(reading.closed);
-        take_record(&self.image, reading.found, buffer)
+        take_record(self.image.image(), reading.found, buffer)
     }
 }

@@ -6,13 +6,17 @@ ghost use Rattle.cpm_files.specs.Names.{records_to, file_size};
 ghost use Rattle.cpm_directory.specs.Directory.{entries_of};
 ghost use Rattle.cpm_drive.specs.Named.{searched};
 
-use cpm_directory::{Pattern, entry, find, is_named};
+use cpm_directory::{LentImage, Pattern, find, is_named};
 use cpm_files::Entry;
-use cpm_geom::Image;
 
 /// SEARCH FOR FIRST and SEARCH FOR NEXT: the index of the first entry from a place on that is looked for. Its record of
 /// the directory comes into the buffer.
-pub fn search(image: &Image, pattern: &Pattern, from: u16, buffer: &mut [u8; 128]) -> Option<u16>
+pub fn search(
+    image: &LentImage<'_>,
+    pattern: &Pattern,
+    from: u16,
+    buffer: &mut [u8; 128],
+) -> Option<u16>
     ensures found { (result, buffer.new) ≡ searched image.now pattern.now from buffer.old }
     ensures within { IfSome result (λ index. index ≤ (dpb_of image.now.format).last_entry) }
 {
@@ -26,13 +30,13 @@ pub fn search(image: &Image, pattern: &Pattern, from: u16, buffer: &mut [u8; 128
 }
 
 /// COMPUTE FILE SIZE: the records up to the end of the last entry of a name, if there is one.
-pub fn file_size(image: &Image, user: u8, name: &[u8; 11]) -> Option<u32>
+pub fn file_size(image: &LentImage<'_>, user: u8, name: &[u8; 11]) -> Option<u32>
     ensures value { result ≡ file_size (entries_of image.now) user name.now }
     ensures small { IfSome result (λ size. size < 65664) }
 {
     let mut size = None;
     for index in 0..image.format().dpb().last_entry + 1 {
-        let entry = entry(image, index);
+        let entry = image.entry(index);
         if is_named(user, name, &entry) {
             size = Some(greater(size, records_to(&entry)));
         }

@@ -155,7 +155,7 @@ impl Drive {
         ensures value { called result self.new fcb.new bytes.now ≡ after_call self.old fcb.old bytes.now (write_next (dpb_of self.old.image.format) (volume_of self.old.image self.old.marks.reserved) user fcb.old.extent fcb.old.current_record bytes.now) }
         ensures blocks { MarksEachBlock self.new }
     {
-        let arrival = next_place(&self.image, &self.marks, Access::Write, user, fcb);
+        let arrival = next_place(&self.image.lent(), &self.marks, Access::Write, user, fcb);
         self.write_arrived(false, &arrival, 1, fcb, bytes)
     }
 
@@ -174,7 +174,7 @@ impl Drive {
         ensures blocks { MarksEachBlock self.new }
     {
         let arrival = place_at(
-            &self.image,
+            &self.image.lent(),
             &self.marks,
             Access::Write,
             user,

@@ -1,6 +1,7 @@
 //! Worked calls on files.
 
 use crate::images::{at, blank, fcb, put, text_image};
+use cpm_directory::LentImage;
 use cpm_drive::{Drive, Marks, open_lent, read_at_protected, read_next_protected};
 use cpm_files::{Answer, Entry, Extent, Fault, Fcb};
 use cpm_geom::Image;
@@ -67,11 +68,11 @@ fn text_file_is_read_at_random(rt: HostRuntime) {
 fn protected_image_is_read(rt: HostRuntime) {
     let image = text_image(&rt, rt.alloc());
     let mut marks = Marks::new(image.format(), true);
-    marks.log_in(&image);
+    marks.log_in(&LentImage::new(&image));
     assert!(rt; marks.is_protected);
     let mut file = fcb(0, b"T       TXT");
     let mut buffer = [0; 128];
-    assert_eq!(rt; open_lent(&image, 0, &mut file), Some(0));
+    assert_eq!(rt; open_lent(&LentImage::new(&image), 0, &mut file), Some(0));
     assert_eq!(rt;
         read_next_protected(&image, &marks, 0, &mut file, &mut buffer),
         Answer::Done
@@ -92,7 +93,7 @@ fn made_file_is_closed(rt: HostRuntime) {
     assert_eq!(rt; drive.make_file(0, &mut file), Some(0));
     file = with_map(&file, 3, 0);
     assert_eq!(rt; drive.close_file(0, &mut file), Ok(Some(0)));
-    let first = at(&rt, &drive.image, 0);
+    let first = at(&rt, drive.image.image(), 0);
     assert_eq!(rt; first.extent.record_count, 2);
     assert_eq!(rt; first.extent.blocks[0], 3);
     file = with_map(&file, 243, 0);
@@ -131,9 +132,9 @@ fn random_write_leaves_the_rest_of_its_block(rt: HostRuntime) {
         write_at_three(&rt, &mut drive, &mut file, false),
         Answer::Done
     );
-    assert_eq!(rt; byte(&rt, &drive.image, 18), 0xE5);
-    assert_eq!(rt; byte(&rt, &drive.image, 19), 0x41);
-    assert_eq!(rt; byte(&rt, &drive.image, 20), 0xE5);
+    assert_eq!(rt; byte(&rt, drive.image.image(), 18), 0xE5);
+    assert_eq!(rt; byte(&rt, drive.image.image(), 19), 0x41);
+    assert_eq!(rt; byte(&rt, drive.image.image(), 20), 0xE5);
     assert_eq!(rt; file.current_record, 3);
     assert_eq!(rt; file.extent.record_count, 4);
     assert_eq!(rt; file.extent.blocks[0], 2);
@@ -147,11 +148,11 @@ fn random_write_with_zero_fill_clears_its_block(rt: HostRuntime) {
         write_at_three(&rt, &mut drive, &mut file, true),
         Answer::Done
     );
-    assert_eq!(rt; byte(&rt, &drive.image, 15), 0xE5);
-    assert_eq!(rt; byte(&rt, &drive.image, 16), 0);
-    assert_eq!(rt; byte(&rt, &drive.image, 19), 0x41);
-    assert_eq!(rt; byte(&rt, &drive.image, 23), 0);
-    assert_eq!(rt; byte(&rt, &drive.image, 24), 0xE5);
+    assert_eq!(rt; byte(&rt, drive.image.image(), 15), 0xE5);
+    assert_eq!(rt; byte(&rt, drive.image.image(), 16), 0);
+    assert_eq!(rt; byte(&rt, drive.image.image(), 19), 0x41);
+    assert_eq!(rt; byte(&rt, drive.image.image(), 23), 0);
+    assert_eq!(rt; byte(&rt, drive.image.image(), 24), 0xE5);
 }
 
 /// A file whose second extent has a forged block, the directory's second: its first record is that of entry 32, which is
@@ -161,7 +162,7 @@ fn forged(rt: &impl Abort, alloc: Global) -> (Drive, Fcb) {
     put(rt, &mut image, 32, 0, b"T       DAT", (0, 128, 2));
     put(rt, &mut image, 40, 0, b"T       DAT", (1, 1, 1));
     let mut file = fcb(0, b"T       DAT");
-    assert_eq!(rt; open_lent(&image, 0, &mut file), Some(0));
+    assert_eq!(rt; open_lent(&LentImage::new(&image), 0, &mut file), Some(0));
     file.extent.blocks[3] = 9;
     file.current_record = 128;
     (drive(image), file)
@@ -175,7 +176,7 @@ fn closed_entry_is_there_when_it_is_read(rt: HostRuntime) {
     assert_eq!(rt; buffer[1], b'T');
     assert_eq!(rt; buffer[16], 2);
     assert_eq!(rt; buffer[19], 9);
-    assert_eq!(rt; at(&rt, &drive.image, 32).extent.blocks[3], 9);
+    assert_eq!(rt; at(&rt, drive.image.image(), 32).extent.blocks[3], 9);
     assert_eq!(rt; file.extent.ex, 1);
     assert_eq!(rt; file.current_record, 1);
 }

@@ -2,7 +2,7 @@
 
 use crate::drive::{drive, with_map};
 use crate::images::{at, blank, fcb, put, text_image};
-use cpm_directory::Pattern;
+use cpm_directory::{LentImage, Pattern};
 use cpm_drive::{Drive, Marks, close_lent, file_size, open_lent, search};
 use cpm_files::Fault;
 use cpm_geom::Image;
@@ -32,28 +32,55 @@ fn search_goes_from_entry_to_entry(rt: HostRuntime) {
     let image = many_files(&rt, rt.alloc());
     let mut buffer = [0; 128];
     let texts = files(0, b"????????TXT");
-    assert_eq!(rt; search(&image, &texts, 0, &mut buffer), Some(0));
+    assert_eq!(rt;
+        search(&LentImage::new(&image), &texts, 0, &mut buffer),
+        Some(0)
+    );
     assert_eq!(rt; buffer[97], b'U');
-    assert_eq!(rt; search(&image, &texts, 1, &mut buffer), Some(3));
-    assert_eq!(rt; search(&image, &texts, 4, &mut buffer), None);
+    assert_eq!(rt;
+        search(&LentImage::new(&image), &texts, 1, &mut buffer),
+        Some(3)
+    );
+    assert_eq!(rt;
+        search(&LentImage::new(&image), &texts, 4, &mut buffer),
+        None
+    );
     assert_eq!(rt; buffer[64], 0xE5);
     let commands = files(0, b"????????COM");
-    assert_eq!(rt; search(&image, &commands, 0, &mut buffer), Some(5));
+    assert_eq!(rt;
+        search(&LentImage::new(&image), &commands, 0, &mut buffer),
+        Some(5)
+    );
     assert_eq!(rt; buffer[0], 0xE5);
     assert_eq!(rt; buffer[41], b'C');
     let of_user_3 = files(3, b"???????????");
-    assert_eq!(rt; search(&image, &of_user_3, 0, &mut buffer), Some(1));
-    assert_eq!(rt; search(&image, &of_user_3, 2, &mut buffer), None);
+    assert_eq!(rt;
+        search(&LentImage::new(&image), &of_user_3, 0, &mut buffer),
+        Some(1)
+    );
+    assert_eq!(rt;
+        search(&LentImage::new(&image), &of_user_3, 2, &mut buffer),
+        None
+    );
 }
 
 #[test]
 fn search_of_every_entry_gives_erased_ones(rt: HostRuntime) {
     let image = many_files(&rt, rt.alloc());
     let mut buffer = [0; 128];
-    assert_eq!(rt; search(&image, &Pattern::Every, 2, &mut buffer), Some(2));
+    assert_eq!(rt;
+        search(&LentImage::new(&image), &Pattern::Every, 2, &mut buffer),
+        Some(2)
+    );
     assert_eq!(rt; buffer[32], 3);
-    assert_eq!(rt; search(&image, &Pattern::Every, 63, &mut buffer), Some(63));
-    assert_eq!(rt; search(&image, &Pattern::Every, 64, &mut buffer), None);
+    assert_eq!(rt;
+        search(&LentImage::new(&image), &Pattern::Every, 63, &mut buffer),
+        Some(63)
+    );
+    assert_eq!(rt;
+        search(&LentImage::new(&image), &Pattern::Every, 64, &mut buffer),
+        None
+    );
 }
 
 #[test]
@@ -79,10 +106,10 @@ fn erased_files_free_their_blocks(rt: HostRuntime) {
     let mut drive = drive(many_files(&rt, rt.alloc()));
     assert!(rt; !drive.marks.is_protected);
     assert_eq!(rt; drive.erase_files(0, b"????????TXT"), Ok(Some(0)));
-    assert_eq!(rt; at(&rt, &drive.image, 0).user, 0xE5);
-    assert_eq!(rt; at(&rt, &drive.image, 1).user, 3);
-    assert_eq!(rt; at(&rt, &drive.image, 3).user, 0xE5);
-    assert_eq!(rt; at(&rt, &drive.image, 5).user, 0);
+    assert_eq!(rt; at(&rt, drive.image.image(), 0).user, 0xE5);
+    assert_eq!(rt; at(&rt, drive.image.image(), 1).user, 3);
+    assert_eq!(rt; at(&rt, drive.image.image(), 3).user, 0xE5);
+    assert_eq!(rt; at(&rt, drive.image.image(), 5).user, 0);
     for (block, want) in [
         (0, true),
         (1, true),
@@ -122,7 +149,7 @@ fn read_only_file_refuses_all(rt: HostRuntime) {
         drive.rename_files(0, b"???????????", b"V       TXT"),
         Err(Fault::FileReadOnly)
     );
-    let first = at(&rt, &drive.image, 0);
+    let first = at(&rt, drive.image.image(), 0);
     assert_eq!(rt; first.user, 0);
     assert!(rt; first.extent.name == *b"T       TXT");
     assert!(rt; is_reserved(&drive, 2));
@@ -144,9 +171,9 @@ fn each_entry_is_renamed(rt: HostRuntime) {
         drive.rename_files(0, b"BIG     DAT", b"SMALL   DAT"),
         Ok(Some(1))
     );
-    assert!(rt; at(&rt, &drive.image, 0).extent.name == *b"T       TXT");
-    assert!(rt; at(&rt, &drive.image, 5).extent.name == *b"SMALL   DAT");
-    assert!(rt; at(&rt, &drive.image, 9).extent.name == *b"SMALL   DAT");
+    assert!(rt; at(&rt, drive.image.image(), 0).extent.name == *b"T       TXT");
+    assert!(rt; at(&rt, drive.image.image(), 5).extent.name == *b"SMALL   DAT");
+    assert!(rt; at(&rt, drive.image.image(), 9).extent.name == *b"SMALL   DAT");
     assert!(rt; !drive.marks.is_protected);
     assert_eq!(rt;
         drive.rename_files(0, b"BIG     DAT", b"SMALL   DAT"),
@@ -159,11 +186,11 @@ fn attributes_are_set_and_cleared(rt: HostRuntime) {
     let mut drive = drive(two_extents(&rt, rt.alloc()));
     assert!(rt; !drive.marks.is_protected);
     assert_eq!(rt; drive.set_attributes(0, b"BIG     \xC4AT"), Some(1));
-    assert!(rt; at(&rt, &drive.image, 5).extent.name == *b"BIG     \xC4AT");
-    assert!(rt; at(&rt, &drive.image, 9).extent.is_read_only());
+    assert!(rt; at(&rt, drive.image.image(), 5).extent.name == *b"BIG     \xC4AT");
+    assert!(rt; at(&rt, drive.image.image(), 9).extent.is_read_only());
     assert!(rt; !drive.marks.is_protected);
     assert_eq!(rt; drive.set_attributes(0, b"BIG     DAT"), Some(1));
-    assert!(rt; at(&rt, &drive.image, 5).extent.name == *b"BIG     DAT");
+    assert!(rt; at(&rt, drive.image.image(), 5).extent.name == *b"BIG     DAT");
     assert!(rt; !drive.marks.is_protected);
     assert_eq!(rt; drive.set_attributes(0, b"SMALL   DAT"), None);
 }
@@ -171,13 +198,25 @@ fn attributes_are_set_and_cleared(rt: HostRuntime) {
 #[test]
 fn size_is_by_the_last_extent(rt: HostRuntime) {
     let mut image = two_extents(&rt, rt.alloc());
-    assert_eq!(rt; file_size(&image, 0, b"BIG     DAT"), Some(129));
-    assert_eq!(rt; file_size(&image, 0, b"T       TXT"), Some(2));
-    assert_eq!(rt; file_size(&image, 0, b"???????????"), Some(129));
-    assert_eq!(rt; file_size(&image, 0, b"SMALL   DAT"), None);
-    assert_eq!(rt; file_size(&image, 3, b"BIG     DAT"), None);
+    assert_eq!(rt;
+        file_size(&LentImage::new(&image), 0, b"BIG     DAT"),
+        Some(129)
+    );
+    assert_eq!(rt;
+        file_size(&LentImage::new(&image), 0, b"T       TXT"),
+        Some(2)
+    );
+    assert_eq!(rt;
+        file_size(&LentImage::new(&image), 0, b"???????????"),
+        Some(129)
+    );
+    assert_eq!(rt; file_size(&LentImage::new(&image), 0, b"SMALL   DAT"), None);
+    assert_eq!(rt; file_size(&LentImage::new(&image), 3, b"BIG     DAT"), None);
     put(&rt, &mut image, 3, 0, b"EMPTY   DAT", (0, 0, 0));
-    assert_eq!(rt; file_size(&image, 0, b"EMPTY   DAT"), Some(0));
+    assert_eq!(rt;
+        file_size(&LentImage::new(&image), 0, b"EMPTY   DAT"),
+        Some(0)
+    );
 }
 
 #[test]
@@ -185,7 +224,7 @@ fn protected_image_is_closed_where_nothing_changes(rt: HostRuntime) {
     let image = text_image(&rt, rt.alloc());
     assert!(rt; !Marks::new(image.format(), true).is_logged_in);
     let mut file = fcb(0, b"T       TXT");
-    assert_eq!(rt; open_lent(&image, 0, &mut file), Some(0));
+    assert_eq!(rt; open_lent(&LentImage::new(&image), 0, &mut file), Some(0));
     assert_eq!(rt; close_lent(&image, 0, &mut file), Ok(Some(0)));
     assert_eq!(rt; close_lent(&image, 3, &mut file), Ok(None));
     file = with_map(&file, 2, 7);

@@ -10,6 +10,8 @@ mod images;
 #[cfg(test)]
 mod session;
 #[cfg(test)]
+mod session_directory;
+#[cfg(test)]
 mod session_drives;
 #[cfg(test)]
 mod session_writes;

@@ -32,9 +32,9 @@ loop-index-preserved c =
     let user = ap (λ (x : Entry). x.user) is in
     elim c.if-entry.branch [
       | then-entry w ↦ (
-        rw w.blocks-is (omega arith),
+        rw w.blocks-is w.mark.ensures.size,
         rw w.blocks-is (w.mark.ensures.zero ∙ c.loop-index.invariant.1),
-        λ b low high. rw w.blocks-is (entry_in_use b (entries_of c.args.image.now) c.loop-index.index no_entry (is_directory_block c.dpb-dpb.result b) (get_or c.loop-index.blocks b true) (get_or w.mark.new.blocks b true) below (λ e. w.if-entry.true (user ∙ e)) (c.loop-index.invariant.2 b low high) (w.mark.ensures.others b low (omega arith) ∙ ap (λ (x : Entry). get_or c.loop-index.blocks b true || list_any (λ number. eqb number b) x.extent.blocks) is)),
+        λ b low high. rw w.blocks-is (entry_in_use b (entries_of c.args.image.now) c.loop-index.index no_entry (is_directory_block c.dpb-dpb.result b) (get_or c.loop-index.blocks b true) (get_or w.mark.new.blocks b true) below (λ e. w.if-entry.true (user ∙ e)) (c.loop-index.invariant.2 b low high) (w.mark.ensures.others b low high ∙ ap (λ (x : Entry). get_or c.loop-index.blocks b true || list_any (λ number. eqb number b) x.extent.blocks) is)),
       )
       | else-entry w ↦ (
         rw w.blocks-is c.loop-index.invariant.0,
@@ -47,7 +47,7 @@ pub invariant_of-result : goal.invariant_of-result
 invariant_of-result c =
     let d : c.dpb-dpb.result ≡ dpb_of c.args.image.now.format = cc in
     let last = ap (λ (p : Dpb). p.last_block) d in
-    λ format. let same = same_count format c.args.image.now.format in omega arith
+    (c.loop-index.invariant.0, λ format. let same = same_count format c.args.image.now.format in omega arith)
 
 pub returns : goal.returns
 returns c =

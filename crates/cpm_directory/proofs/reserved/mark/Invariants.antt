@@ -4,4 +4,4 @@ use Rattle.cpm_directory.proofs.reserved.mark.Given as goal
 
 abbrev pub invariant-loop-number : goal.invariant-loop-number
 invariant-loop-number l =
-    (get_or l.blocks 0 true ≡ get_or l.initial.blocks 0 true) × ((b : ℕ) → 0 < b → b < length l.initial.blocks → get_or l.blocks b true ≡ (get_or l.initial.blocks b true || list_any (λ number. eqb number b) (take l.number-index l.numbers)))
+    (length l.blocks ≡ 512) × (get_or l.blocks 0 true ≡ get_or l.initial.blocks 0 true) × ((b : ℕ) → 0 < b → b < 512 → get_or l.blocks b true ≡ (get_or l.initial.blocks b true || list_any (λ number. eqb number b) (take l.number-index l.numbers)))

@@ -5,4 +5,4 @@ use Rattle.cpm_directory.proofs.reserved.release.Given as goal
 
 abbrev pub invariant-loop-number : goal.invariant-loop-number
 invariant-loop-number l =
-    (b : ℕ) → b < length l.initial.blocks → get_or l.blocks b true ≡ (get_or l.initial.blocks b true && (is_directory_block l.dpb b || not (ltb 0 b && list_any (λ number. eqb number b) (take l.number-index l.numbers))))
+    (length l.blocks ≡ 512) × ((b : ℕ) → b < 512 → get_or l.blocks b true ≡ (get_or l.initial.blocks b true && (is_directory_block l.dpb b || not (ltb 0 b && list_any (λ number. eqb number b) (take l.number-index l.numbers)))))

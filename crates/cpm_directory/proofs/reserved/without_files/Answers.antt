@@ -22,7 +22,7 @@ overflow_add-index-end c =
 
 pub loop-index-init : goal.loop-index-init
 loop-index-init c =
-    (c.reserved.told, λ b h. none_erased c.args.user c.args.name.now b (entries_of c.args.image.now) (get_or c.reserved.inside.blocks b true) (is_directory_block c.dpb-dpb.result b))
+    (rw c.copied-blocks.ensures c.reserved.invariant.0, λ b h. none_erased c.args.user c.args.name.now b (entries_of c.args.image.now) (get_or c.copied-blocks.result b true) (is_directory_block c.dpb-dpb.result b))
 
 pub loop-index-preserved : goal.loop-index-preserved
 unfolding entry_at
@@ -35,12 +35,12 @@ loop-index-preserved c =
     let named = sym (c.is_named.ensures ∙ ap (is_named c.args.user c.args.name.now) is) in
     elim c.if-is_named.branch [
       | then-is_named w ↦ (
-        rw w.blocks-is (w.release.ensures.size ∙ c.loop-index.invariant.0),
-        λ b h. rw w.blocks-is (entry_erased c.args.user c.args.name.now b (entries_of c.args.image.now) c.loop-index.index no_entry (get_or c.reserved.inside.blocks b true) (is_directory_block c.dpb-dpb.result b) (get_or c.loop-index.blocks b true) (get_or w.release.new.blocks b true) below (named ∙ w.if-is_named.true) (c.loop-index.invariant.1 b h) (w.release.ensures.value b (omega (arith, c.loop-index.invariant.0)) ∙ ap (λ (x : Entry). get_or c.loop-index.blocks b true && (is_directory_block c.dpb-dpb.result b || not (ltb 0 b && list_any (λ number. eqb number b) x.extent.blocks))) is)),
+        rw w.blocks-is w.release.ensures.size,
+        λ b h. rw w.blocks-is (entry_erased c.args.user c.args.name.now b (entries_of c.args.image.now) c.loop-index.index no_entry (get_or c.copied-blocks.result b true) (is_directory_block c.dpb-dpb.result b) (get_or c.loop-index.blocks b true) (get_or w.release.new.blocks b true) below (named ∙ w.if-is_named.true) (c.loop-index.invariant.1 b h) (w.release.ensures.value b h ∙ ap (λ (x : Entry). get_or c.loop-index.blocks b true && (is_directory_block c.dpb-dpb.result b || not (ltb 0 b && list_any (λ number. eqb number b) x.extent.blocks))) is)),
       )
       | else-is_named w ↦ (
         rw w.blocks-is c.loop-index.invariant.0,
-        λ b h. rw w.blocks-is (entry_stays c.args.user c.args.name.now b (entries_of c.args.image.now) c.loop-index.index no_entry (get_or c.reserved.inside.blocks b true) (is_directory_block c.dpb-dpb.result b) (get_or c.loop-index.blocks b true) below (named ∙ w.if-is_named.false) (c.loop-index.invariant.1 b h)),
+        λ b h. rw w.blocks-is (entry_stays c.args.user c.args.name.now b (entries_of c.args.image.now) c.loop-index.index no_entry (get_or c.copied-blocks.result b true) (is_directory_block c.dpb-dpb.result b) (get_or c.loop-index.blocks b true) below (named ∙ w.if-is_named.false) (c.loop-index.invariant.1 b h)),
       )
     ]
 
@@ -50,4 +50,6 @@ returns c =
     let last = ap (λ (p : Dpb). p.last_entry) d in
     let size = entries_length c.args.image.now in
     let all : take c.loop-index.index (entries_of c.args.image.now) ≡ entries_of c.args.image.now = ap (λ k. take k (entries_of c.args.image.now)) (let e : c.loop-index.index ≡ length (entries_of c.args.image.now) = omega arith in e) ∙ take-length (entries_of c.args.image.now) in
-    erased c.dpb-dpb.result c.args.user c.args.name.now (entries_of c.args.image.now) c.reserved.inside.blocks c.loop-index.blocks c.reserved.inside.count c.reserved.told c.loop-index.invariant.0 (count_small c.reserved.inside.count c.reserved.invariant) (λ b h. c.loop-index.invariant.1 b h ∙ ap (λ es. get_or c.reserved.inside.blocks b true && (is_directory_block c.dpb-dpb.result b || not (is_erased c.args.user c.args.name.now es b))) all) ∙ (ap (λ p. reserved_after p c.args.user c.args.name.now (entries_of c.args.image.now) (take c.reserved.inside.count c.reserved.inside.blocks)) d ∙ ap (reserved_after (dpb_of c.args.image.now.format) c.args.user c.args.name.now (entries_of c.args.image.now)) c.reserved.view_is)
+    let kept = erased c.dpb-dpb.result c.args.user c.args.name.now (entries_of c.args.image.now) c.copied-blocks.result c.loop-index.blocks c.reserved.inside.count (rw c.copied-blocks.ensures c.reserved.invariant.0) c.loop-index.invariant.0 (count_small c.reserved.inside.count c.reserved.invariant.1) (λ b h. c.loop-index.invariant.1 b h ∙ ap (λ es. get_or c.copied-blocks.result b true && (is_directory_block c.dpb-dpb.result b || not (is_erased c.args.user c.args.name.now es b))) all) in
+    let same = ap (λ blocks. reserved_after c.dpb-dpb.result c.args.user c.args.name.now (entries_of c.args.image.now) (take c.reserved.inside.count blocks)) c.copied-blocks.ensures in
+    kept ∙ (same ∙ (ap (λ p. reserved_after p c.args.user c.args.name.now (entries_of c.args.image.now) (take c.reserved.inside.count c.reserved.inside.blocks)) d ∙ ap (reserved_after (dpb_of c.args.image.now.format) c.args.user c.args.name.now (entries_of c.args.image.now)) c.reserved.view_is))

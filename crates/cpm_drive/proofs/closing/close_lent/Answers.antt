@@ -7,4 +7,4 @@ use Rattle.cpm_drive.proofs.closing.close_lent.Goals as goal
 pub returns : goal.returns
 unfolding close_function
 returns c =
-    c.answer.ensures (entries_of c.args.image.now) ∙ ap (close_answer c.args.fcb.now) c.judge_close.ensures.value
+    c.answer.ensures (entries_of c.args.image.now) ∙ ap (close_answer c.args.fcb.now) (rw c.new.ensures at c.judge_close.ensures.value)

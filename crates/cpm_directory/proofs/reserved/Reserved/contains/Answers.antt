@@ -8,14 +8,14 @@ pub returns-then-block-self : goal.returns-then-block-self
 returns-then-block-self c =
     let view : is_reserved (take c.self.inside.count c.self.inside.blocks) c.args.block ≡ is_reserved c.args.self.now c.args.block = ap (λ r. is_reserved r c.args.block) c.self.view_is in
     let same = ap (is_reserved (take c.self.inside.count c.self.inside.blocks)) c.from-block.ensures in
-    le-leb _ _ c.if-block-self.true ∙ (sym (past_is_reserved c.self.inside.blocks c.self.inside.count c.from-block.result (omega (arith, count_small c.self.inside.count c.self.invariant)) c.if-block-self.true) ∙ (same ∙ view))
+    le-leb _ _ c.if-block-self.true ∙ (sym (past_is_reserved c.self.inside.blocks c.self.inside.count c.from-block.result (omega (arith, c.self.invariant.0, count_small c.self.inside.count c.self.invariant.1)) c.if-block-self.true) ∙ (same ∙ view))
 
 pub returns-else-block-self : goal.returns-else-block-self
 returns-else-block-self c =
     let view : is_reserved (take c.self.inside.count c.self.inside.blocks) c.args.block ≡ is_reserved c.args.self.now c.args.block = ap (λ r. is_reserved r c.args.block) c.self.view_is in
     let same = ap (is_reserved (take c.self.inside.count c.self.inside.blocks)) c.from-block.ensures in
-    sym (below_is_reserved c.self.inside.blocks c.self.inside.count c.from-block.result (omega (arith, count_small c.self.inside.count c.self.invariant)) c.if-block-self.false) ∙ (same ∙ view)
+    c.contains.ensures ∙ (sym (below_is_reserved c.self.inside.blocks c.self.inside.count c.from-block.result (omega (arith, c.self.invariant.0, count_small c.self.inside.count c.self.invariant.1)) c.if-block-self.false) ∙ (same ∙ view))
 
-pub bounds-self-inside-block : goal.bounds-self-inside-block
-bounds-self-inside-block c =
-    let small = count_small c.self.inside.count c.self.invariant in omega arith
+pub contains-requires : goal.contains-requires
+contains-requires c =
+    let small = count_small c.self.inside.count c.self.invariant.1 in omega arith

@@ -1,5 +1,5 @@
 use Rattle.std.proofs.Common.{◌≡◌, ◌+◌, false, ap, arith}
-use Rattle.std.proofs.lemmas.List.{take-replicate}
+use Rattle.std.proofs.lemmas.List.{take-replicate, length-replicate}
 use Rattle.cpm_geom.specs.Geometry.{dpb_of}
 use Rattle.cpm_geom.specs.declared.dpb.Dpb.{Dpb}
 use Rattle.cpm_directory.proofs.DriveLemmas.{last_block_small}
@@ -10,7 +10,7 @@ pub invariant_of-result : goal.invariant_of-result
 invariant_of-result c =
     let d : c.dpb.result ≡ dpb_of c.args.format = cc in
     let last = ap (λ (p : Dpb). p.last_block) d in
-    λ format. let same = same_count format c.args.format in omega arith
+    (rw c.none.ensures (length-replicate 512 false), λ format. let same = same_count format c.args.format in omega arith)
 
 pub returns : goal.returns
 returns c =
@@ -18,4 +18,4 @@ returns c =
     let last = ap (λ (p : Dpb). p.last_block) d in
     let small = last_block_small c.args.format in
     let e : c.from.result + 1 ≡ (dpb_of c.args.format).last_block + 1 = omega arith in
-    rw e (take-replicate ((dpb_of c.args.format).last_block + 1) 512 false (omega arith))
+    rw (e, c.none.ensures) (take-replicate ((dpb_of c.args.format).last_block + 1) 512 false (omega arith))

@@ -11,8 +11,8 @@ returns-in_err-number c =
 
 pub returns-in-Some : goal.returns-in-Some
 returns-in-Some c =
-    λ buffer. rw c.put_random.ensures (rw c.in-Some.is at (size_call c.args.self.now c.use_named.new.self c.args.system.now c.image_at-image.result.now c.args.fcb.now buffer c.in_ok-number.number c.file_size.result c.in_ok-number.ensures c.image_at-image.ensures c.file_size.ensures.value))
+    λ buffer. rw c.put_random.ensures (rw c.in-Some.is at (size_call c.args.self.now c.use_named.new.self c.args.system.now c.lent_at-image.result c.args.fcb.now buffer c.in_ok-number.number c.file_size.result c.in_ok-number.ensures c.lent_at-image.ensures c.file_size.ensures.value))
 
 pub returns-in-None : goal.returns-in-None
 returns-in-None c =
-    λ buffer. rw c.put_random-in-None.ensures (rw c.in-None.is at (size_call c.args.self.now c.use_named.new.self c.args.system.now c.image_at-image.result.now c.args.fcb.now buffer c.in_ok-number.number c.file_size.result c.in_ok-number.ensures c.image_at-image.ensures c.file_size.ensures.value))
+    λ buffer. rw c.put_random-in-None.ensures (rw c.in-None.is at (size_call c.args.self.now c.use_named.new.self c.args.system.now c.lent_at-image.result c.args.fcb.now buffer c.in_ok-number.number c.file_size.result c.in_ok-number.ensures c.lent_at-image.ensures c.file_size.ensures.value))

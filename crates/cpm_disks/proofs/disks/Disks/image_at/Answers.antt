@@ -15,4 +15,4 @@ unreachable-requires c =
 
 pub returns : goal.returns
 returns c =
-    sym (ap (λ (d : Drive). d.image) (drive_at-own c.args.self.now c.args.system.now c.args.drive c.in-Some.own (is_own_drive c.args.self.now c.from.result c.args.drive c.in-Some.own c.index-self-from.result c.from.ensures (omega (arith, c.is_own.ensures.within c.if-not-is_own.false)) c.in-Some.is)))
+    c.image.ensures ∙ sym (ap (λ (d : Drive). d.image) (drive_at-own c.args.self.now c.args.system.now c.args.drive c.in-Some.own (is_own_drive c.args.self.now c.from.result c.args.drive c.in-Some.own c.index-self-from.result c.from.ensures (omega (arith, c.is_own.ensures.within c.if-not-is_own.false)) c.in-Some.is)))

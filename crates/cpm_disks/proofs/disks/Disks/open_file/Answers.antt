@@ -11,4 +11,4 @@ returns-in_err-number c =
 
 pub returns : goal.returns
 returns c =
-    λ buffer. rw c.code_or_none.ensures (open_call c.args.self.now c.use_named.new.self c.args.system.now c.image_at-image.result.now c.args.fcb.now c.open_lent.new.fcb buffer c.in_ok-number.number c.open_lent.result c.in_ok-number.ensures c.image_at-image.ensures c.open_lent.ensures)
+    λ buffer. rw c.code_or_none.ensures (open_call c.args.self.now c.use_named.new.self c.args.system.now c.lent_at-image.result c.args.fcb.now c.open_lent.new.fcb buffer c.in_ok-number.number c.open_lent.result c.in_ok-number.ensures c.lent_at-image.ensures c.open_lent.ensures)

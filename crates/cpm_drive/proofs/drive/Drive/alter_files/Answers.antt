@@ -32,7 +32,7 @@ loop-index-preserved c =
           let e = w.of.ensures ∙ ap (altered c.args.alteration.now) is in
           let puts = rw e at w.put_entry.ensures in (
             rw w.self-is (ap (λ (disk : Disk). disk.format) puts.bytes ∙ kept.0),
-            rw w.self-is (one_put c.loop-index.self w.put_entry.new.image c.loop-index.index _ _ puts ∙ (ap (drive_written c.loop-index.self) (sym (left_named c.args.user c.args.name.now (altered c.args.alteration.now) (entries_of c.args.self.now.image) c.loop-index.index below (named ∙ w.if-is_named.true))) ∙ kept.1)),
+            rw w.self-is (one_put c.loop-index.self w.put_entry.new.self c.loop-index.index _ _ puts ∙ (ap (drive_written c.loop-index.self) (sym (left_named c.args.user c.args.name.now (altered c.args.alteration.now) (entries_of c.args.self.now.image) c.loop-index.index below (named ∙ w.if-is_named.true))) ∙ kept.1)),
             λ k low high. rw w.self-is (puts.others k (λ same. omega arith) ∙ kept.2 k (omega arith) high),
           )
           )

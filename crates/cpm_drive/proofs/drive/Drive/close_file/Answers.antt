@@ -7,4 +7,4 @@ pub returns-clause-value : goal.returns-clause-value
 unfolding close_function
 returns-clause-value c =
     let closing = c.judge_close-closing in
-    closes c.args.self.now _ c.args.fcb.now _ closing.result _ _ closing.ensures.value closing.ensures.within (rw c.change.ensures at c.write_change.ensures.drive) (c.answer.ensures (entries_of c.args.self.now.image))
+    closes c.args.self.now _ c.args.fcb.now _ closing.result _ _ (rw c.lent.ensures at closing.ensures.value) (rw c.lent.ensures at closing.ensures.within) (rw c.change.ensures at c.write_change.ensures.drive) (c.answer.ensures (entries_of c.args.self.now.image))

@@ -6,17 +6,17 @@ use Rattle.cpm_drive.proofs.drive.Drive.erase_files.Goals as goal
 
 pub returns-in_default-clause-value : goal.returns-in_default-clause-value
 returns-in_default-clause-value c =
-    erase_none c.args.self.now c.args.user c.args.name.now c.in_default.ensures
+    erase_none c.args.self.now c.args.user c.args.name.now (rw c.lent-image.ensures at c.in_default.ensures)
 
 pub returns-then-has_read_only-clause-value : goal.returns-then-has_read_only-clause-value
 returns-then-has_read_only-clause-value c =
-    let found = c.in-Some.ensures in
-    erase_refused c.args.self.now c.args.user c.args.name.now c.in-Some.first found.0 found.1 (sym c.has_read_only.ensures ∙ c.if-has_read_only.true)
+    let found = rw c.lent-image.ensures at c.in-Some.ensures in
+    erase_refused c.args.self.now c.args.user c.args.name.now c.in-Some.first found.0 found.1 (sym (rw c.lent-image.ensures at c.has_read_only.ensures) ∙ c.if-has_read_only.true)
 
 pub returns-clause-value : goal.returns-clause-value
 returns-clause-value c =
-    let found = c.in-Some.ensures in
-    rw (c.directory_code.ensures, c.alter_files.ensures.drive, c.without_files-self.ensures) (erases c.args.self.now c.args.user c.args.name.now c.in-Some.first found.0 found.1 c.requires (sym c.has_read_only.ensures ∙ c.if-has_read_only.false))
+    let found = rw c.lent-image.ensures at c.in-Some.ensures in
+    rw (c.directory_code.ensures, c.alter_files.ensures.drive, c.without_files-self.ensures, c.lent-image.ensures) (erases c.args.self.now c.args.user c.args.name.now c.in-Some.first found.0 found.1 c.requires (sym (rw c.lent-image.ensures at c.has_read_only.ensures) ∙ c.if-has_read_only.false))
 
 pub returns-clause-blocks : goal.returns-clause-blocks
 unfolding reserved_after

@@ -10,7 +10,7 @@ pub returns-then-not-self-clause-drive : goal.returns-then-not-self-clause-drive
 returns-then-not-self-clause-drive c =
     let is : c.args.change ≡ Some c.in-Some.change = cc in
     let free : c.args.self.now.marks.is_protected ≡ false = cc in
-    rw is (drive_put c.args.self.now c.in-Some.change c.put_entry.new.image free c.put_entry.ensures)
+    rw is (drive_put c.args.self.now c.in-Some.change c.put_entry.new.self free c.put_entry.ensures)
 
 pub returns-then-not-self-clause-blocks : goal.returns-then-not-self-clause-blocks
 returns-then-not-self-clause-blocks c = λ h. h ∙ ap (λ (disk : Disk). (dpb_of disk.format).last_block + 1) (sym c.put_entry.ensures.bytes)

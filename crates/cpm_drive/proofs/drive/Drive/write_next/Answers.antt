@@ -7,5 +7,5 @@ use Rattle.cpm_drive.proofs.drive.Drive.write_next.Goals as goal
 pub returns-clause-value : goal.returns-clause-value
 unfolding write_next
 returns-clause-value c =
-    let p = c.next_place-arrival.ensures.place ∙ ap (λ b. next_place (dpb_of c.args.self.now.image.format) writing b (volume_of c.args.self.now.image c.args.self.now.marks.reserved) c.args.user c.args.fcb.now.extent c.args.fcb.now.current_record) c.requires.writable in
+    let p = (rw c.lent.ensures at c.next_place-arrival.ensures.place) ∙ ap (λ b. next_place (dpb_of c.args.self.now.image.format) writing b (volume_of c.args.self.now.image c.args.self.now.marks.reserved) c.args.user c.args.fcb.now.extent c.args.fcb.now.current_record) c.requires.writable in
     c.write_arrived.ensures.value ∙ ap (λ place. after_call c.args.self.now c.args.fcb.now c.args.bytes.now (write_in (dpb_of c.args.self.now.image.format) false c.args.fcb.now.current_record 1 c.args.bytes.now place)) p

@@ -1,0 +1,82 @@
+//! An image that is lent to a call.
+
+ghost use Rattle.std.specs.Prelude.{◌≡◌, ◌≤◌, MatchResult, length};
+ghost use Rattle.cpm_geom.specs.Disk.{IsDisk, sector_at};
+ghost use Rattle.cpm_geom.specs.Geometry.{dpb_of, record_index, IsRecord};
+ghost use Rattle.cpm_files.specs.Files.{entry_at};
+ghost use Rattle.cpm_directory.specs.Directory.{entries_of};
+
+use crate::directory::entry;
+use cpm_files::Entry;
+use cpm_geom::{Format, GeomError, Image};
+use std::marker::Model;
+
+/// An image that is lent to a call, seen as its disk. The entries of its directory may be lent with it.
+#[derive(Drop)]
+pub struct LentImage<'a> {
+    image: &'a Image,
+    entries: Option<&'a [Entry; 64]>,
+}
+
+impl<'a> Model for LentImage<'a> {
+    ghost use Rattle.std.specs.Prelude.{◌≡◌, IfSome};
+    ghost use Rattle.cpm_geom.specs.Disk.{Disk};
+    ghost use Rattle.cpm_directory.specs.Directory.{entries_of};
+
+    ghost Value = { Disk };
+
+    ghost view = { λ lent. lent.image.now };
+
+    ghost invariant = { λ lent. IfSome lent.entries (λ entries. entries.now ≡ entries_of lent.image.now) };
+}
+
+impl<'a> LentImage<'a> {
+    /// An image whose entries aren't kept.
+    pub fn new(image: &'a Image) -> LentImage<'a>
+        ensures { result ≡ image.now }
+    {
+        LentImage {
+            image,
+            entries: None,
+        }
+    }
+
+    /// An image with the entries of its directory.
+    pub(crate) fn with_entries(image: &'a Image, entries: &'a [Entry; 64]) -> LentImage<'a>
+        requires { entries.now ≡ entries_of image.now }
+        ensures { result ≡ image.now }
+    {
+        LentImage {
+            image,
+            entries: Some(entries),
+        }
+    }
+
+    /// The image's format.
+    pub fn format(&self) -> Format
+        ensures format { result ≡ self.now.format }
+        ensures whole { IsDisk self.now }
+    {
+        self.image.format()
+    }
+
+    /// The bytes of a record.
+    pub fn record(&self, number: u16) -> Result<&'a [u8], GeomError>
+        ensures { MatchResult result
+            (λ bytes. IsRecord self.now.format number × (bytes.now ≡ sector_at self.now (record_index self.now.format number)) × (length bytes.now ≡ 128))
+            (λ e. ¬ IsRecord self.now.format number × (e ≡ GeomError.NoSuchSector)) }
+    {
+        self.image.record(number)
+    }
+
+    /// The entry at an index.
+    pub fn entry(&self, index: u16) -> Entry
+        requires { index ≤ (dpb_of self.now.format).last_entry }
+        ensures value { result ≡ entry_at (entries_of self.now) index }
+    {
+        match self.entries {
+            Some(entries) => entries[usize::from(index)],
+            None => entry(self.image, index),
+        }
+    }
+}
