@@ -1,8 +1,8 @@
 -- A host with its store is what it is to be.
-use Rattle.std.proofs.Common.{◌≡◌, ℕ, ◌+◌, ◌<◌, true, false, List, Option, None, Some, sym, ap, ◌∙◌, subst}
+use Rattle.std.proofs.Common.{◌≡◌, ℕ, ◌<◌, List, Option, None, Some, sym, ap, ◌∙◌, subst}
 use Rattle.std.specs.Prelude.{IfSome}
 use Rattle.cpm_geom.specs.Disk.{Disk}
-use Rattle.cpm_memory.specs.Contents.{Contents, is_written, byte_at}
+use Rattle.cpm_memory.specs.Contents.{is_written, byte_at}
 use Rattle.cpm_memory.specs.Frames.{Frames, IsSound, IsTaken, memories, memory_at, memory_of, place_of}
 use Rattle.cpm_memory.specs.Tabulated.{length-tabulated}
 use Rattle.cpm_memory.proofs.Bytes.{byte_at-table, place_of-cases}
@@ -10,7 +10,7 @@ use Rattle.cpm_memory.proofs.Copies.{boot-lt, written-place, place-written, plac
 use Rattle.cpm_memory.proofs.Places.{boot-bytes, same_table, same_page}
 use Rattle.cpm_slots.specs.MachineState.{MachineState}
 use Rattle.cpm_sessions.specs.declared.seats.Seat.{Seat}
-use Rattle.cpm_sessions.specs.Host.{Host, slot_at}
+use Rattle.cpm_sessions.specs.Host.{slot_at}
 use Rattle.cpm_sessions.specs.Housed.{Housed, table_of, LivesIn, Lives, IsHoused}
 use Rattle.cpm_sessions.specs.Seating.{contents_at, housed_of, IsSeated}
 use Rattle.cpm_sessions.proofs.FreeFrames.{free-frames}

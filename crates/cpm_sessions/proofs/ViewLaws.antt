@@ -1,16 +1,58 @@
--- What a view leaves of its store.
+-- What is left of a store when a view of a table ends, with a mirror or without.
 use Rattle.std.proofs.Common.{◌≡◌, ℕ, ◌<◌, subst, None, Some, is_some, unwrap_or, get_or, set, sym, ap, ◌∙◌}
+use Rattle.std.specs.Borrow.{GName}
 use Rattle.cpm_memory.specs.Contents.{Contents, Surroundings}
-use Rattle.cpm_memory.specs.Frames.{Frames, IsTaken, KeepsStamps, memories, memory_at, memory_of, stamps_at}
-use Rattle.cpm_memory.specs.Memories.{memory-reserved, HasReservation-taken}
+use Rattle.cpm_memory.specs.Frames.{Frames, HasReservation, IsTaken, KeepsStamps, memories, memory_at, memory_of, stamps_at}
+use Rattle.cpm_memory.specs.Memories.{memories-after, memory-reserved, surroundings_at, HasReservation-taken}
 use Rattle.cpm_memory.specs.Tabulated.{length-tabulated}
 use Rattle.cpm_memory.specs.Opening.{opening}
-use Rattle.cpm_memory.specs.View.{store_of, table_of, contents_of, stamps_of, surroundings_of, ViewLeads, memories-after_view}
+use Rattle.cpm_memory.specs.View as view
 use Rattle.cpm_memory.specs.declared.view.View.{View}
+use Rattle.cpm_mirror.specs.Mirrored as mirrored
+use Rattle.cpm_mirror.specs.declared.mirrored.MirroredView.{MirroredView}
 use Rattle.cpm_decode.specs.Cache.{IsRightFor}
 use Rattle.cpm_decode.specs.declared.cache.DecodeCache.{DecodeCache}
 use Rattle.cpm_sessions.specs.Seating.{contents_at, ChangesAt}
 use Rattle.cpm_sessions.proofs.SeatLaws.{taken-within, contents-set}
+
+-- A table of a store was lent, and this is what both are when the loan ends.
+pub record Lent (store s s' : Frames) (table t t' : ℕ) : Type 0 where
+  pub whole : s ≡ store
+  pub number : t ≡ table
+  pub memory : get_or (memories store) table None ≡ Some (memory_of s t)
+  pub same : t' ≡ t
+  pub left : memories s' ≡ set (memories s) t (Some (memory_of s' t'))
+  pub frames : s'.private ≡ s.private
+
+-- what a table's store is, where the surroundings of the table stayed
+memories-left : (loan loan' : GName) (s s' : Frames) (t t' : ℕ) → HasReservation s' t' → t' < 64 → surroundings_at loan' s' t' ≡ surroundings_at loan s t → memories s' ≡ set (memories s) t (Some (memory_of s' t'))
+memories-left loan loan' s s' t t' taken within e =
+    let same : t' ≡ t = ap (λ (x : Surroundings). x.table) e in
+    memories-after loan' s s' t' taken within
+    (ap (λ (x : Surroundings). record { loan = Some loan'; table = t'; frames = x.frames; others = x.others }) e ∙ ap (λ n. record { loan = Some loan'; table = t'; frames = s.private; others = set (memories s) n None }) (sym same))
+    ∙ ap (λ n. set (memories s) n (Some (memory_of s' t'))) same
+
+pub lent-view : (v w : View) (store : Frames) (table : ℕ) → view.store_of v ≡ store → view.table_of v ≡ table → get_or (memories store) table None ≡ Some (view.contents_of v) → view.surroundings_of w ≡ view.surroundings_of v →
+    Lent store (view.store_of v) (view.store_of w) table (view.table_of v) (view.table_of w)
+lent-view v w store table e f g around = record {
+  whole = e;
+  number = f;
+  memory = g;
+  same = ap (λ (x : Surroundings). x.table) around;
+  left = memories-left v.store.ghost_name w.store.ghost_name v.store.now w.store.now v.table w.table w.taken w.within around;
+  frames = ap (λ (x : Surroundings). x.frames) around;
+}
+
+pub lent-mirrored : (v w : MirroredView) (store : Frames) (table : ℕ) → mirrored.store_of v ≡ store → mirrored.table_of v ≡ table → get_or (memories store) table None ≡ Some (mirrored.contents_of v) → mirrored.surroundings_of w ≡ mirrored.surroundings_of v →
+    Lent store (mirrored.store_of v) (mirrored.store_of w) table (mirrored.table_of v) (mirrored.table_of w)
+lent-mirrored v w store table e f g around = record {
+  whole = e;
+  number = f;
+  memory = g;
+  same = ap (λ (x : Surroundings). x.table) around;
+  left = memories-left v.store.ghost_name w.store.ghost_name v.store.now w.store.now v.table w.table (HasReservation-taken w.store.now w.table w.within w.taken) w.within around;
+  frames = ap (λ (x : Surroundings). x.frames) around;
+}
 
 -- what was lent, and what is left
 pub record Leaves (store new : Frames) (table : ℕ) (lent left : Contents) : Type 0 where
@@ -19,39 +61,36 @@ pub record Leaves (store new : Frames) (table : ℕ) (lent left : Contents) : Ty
   pub memories : memories new ≡ set (memories store) table (Some left)
   pub frames : new.private ≡ store.private
 
-pub leaves : (v w : View) (store : Frames) (table : ℕ) → store_of v ≡ store → table_of v ≡ table → get_or (memories store) table None ≡ Some (contents_of v) → surroundings_of w ≡ surroundings_of v → Leaves store (store_of w) table (contents_of v) (contents_of w)
-leaves v w store table e f g around =
-    let all : memories (store_of w) ≡ set (memories store) table (Some (contents_of w)) = memories-after_view v w around ∙ ap (λ s. set (memories s) (table_of v) (Some (contents_of w))) e ∙ ap (λ t. set (memories store) t (Some (contents_of w))) f in
+pub leaves : (store s s' : Frames) (table t t' : ℕ) → Lent store s s' table t t' → Leaves store s' table (memory_of s t) (memory_of s' t')
+leaves store s s' table t t' h =
+    let all : memories s' ≡ set (memories store) table (Some (memory_of s' t')) = h.left ∙ ap (λ x. set (memories x) t (Some (memory_of s' t'))) h.whole ∙ ap (λ n. set (memories store) n (Some (memory_of s' t'))) h.number in
     record {
-      old = ap (λ o. unwrap_or o (opening 0)) g;
-      now = ap (λ m. contents_at m table) all ∙ contents-set (memories store) table (contents_of w) (ap is_some g);
+      old = ap (λ o. unwrap_or o (opening 0)) h.memory;
+      now = ap (λ m. contents_at m table) all ∙ contents-set (memories store) table (memory_of s' t') (ap is_some h.memory);
       memories = all;
-      frames = ap (λ (x : Surroundings). x.frames) around ∙ ap (λ (s : Frames). s.private) e;
+      frames = h.frames ∙ ap (λ (x : Frames). x.private) h.whole;
     }
 
 pub changes : (store new : Frames) (table : ℕ) (lent left : Contents) → Leaves store new table lent left → ChangesAt table (memories store) (memories new)
 changes store new table lent left k = record { memories = k.memories ∙ ap (λ c. set (memories store) table (Some c)) (sym k.now) }
 
--- a cache that is right for the memory of a table is right for the view of it
-pub right-lent : (v : View) (store : Frames) (table : ℕ) (cache : DecodeCache) → store_of v ≡ store → table_of v ≡ table → get_or (memories store) table None ≡ Some (contents_of v) →
-    IsRightFor (contents_at (memories store) table) (stamps_at store table) cache → IsRightFor (contents_of v) (stamps_of v) cache
-right-lent v store table cache e f g right =
-    let stamps : stamps_at store table ≡ stamps_of v = ap (λ s. stamps_at s table) (sym e) ∙ ap (stamps_at (store_of v)) (sym f) in
-    subst (λ c. IsRightFor c (stamps_of v) cache) (ap (λ o. unwrap_or o (opening 0)) g)
+-- a cache that is right for the memory of a table is right for what is lent of it
+pub right-lent : (store s : Frames) (table t : ℕ) (cache : DecodeCache) → s ≡ store → t ≡ table → get_or (memories store) table None ≡ Some (memory_of s t) →
+    IsRightFor (contents_at (memories store) table) (stamps_at store table) cache → IsRightFor (memory_of s t) (stamps_at s t) cache
+right-lent store s table t cache e f g right =
+    let stamps : stamps_at store table ≡ stamps_at s t = ap (λ x. stamps_at x table) (sym e) ∙ ap (stamps_at s) (sym f) in
+    subst (λ c. IsRightFor c (stamps_at s t) cache) (ap (λ o. unwrap_or o (opening 0)) g)
     (subst (λ x. IsRightFor (contents_at (memories store) table) x cache) stamps right)
 
--- and back, when the view ends
-pub right-left : (v w : View) (store : Frames) (table : ℕ) (cache : DecodeCache) → store_of v ≡ store → table_of v ≡ table → get_or (memories store) table None ≡ Some (contents_of v) → surroundings_of w ≡ surroundings_of v →
-    IsRightFor (contents_of w) (stamps_of w) cache → IsRightFor (contents_at (memories (store_of w)) table) (stamps_at (store_of w) table) cache
-right-left v w store table cache e f g around right =
-    let same : table_of w ≡ table = ap (λ (x : Surroundings). x.table) around ∙ f in
-    subst (λ c. IsRightFor c (stamps_at (store_of w) table) cache) (sym (leaves v w store table e f g around).now)
-    (subst (λ t. IsRightFor (contents_of w) (stamps_at (store_of w) t) cache) same right)
+-- and back, when the loan ends
+pub right-left : (store s s' : Frames) (table t t' : ℕ) (cache : DecodeCache) → Lent store s s' table t t' → IsRightFor (memory_of s' t') (stamps_at s' t') cache → IsRightFor (contents_at (memories s') table) (stamps_at s' table) cache
+right-left store s s' table t t' cache h right =
+    subst (λ c. IsRightFor c (stamps_at s' table) cache) (sym (leaves store s s' table t t' h).now)
+    (subst (λ n. IsRightFor (memory_of s' t') (stamps_at s' n) cache) (h.same ∙ h.number) right)
 
 -- the stamps of the other tables are as they were
-pub keeps-stamps : (v w : View) (store : Frames) (table : ℕ) → store_of v ≡ store → table_of v ≡ table → ViewLeads v w → KeepsStamps store (store_of w) table
-keeps-stamps v w store table e f leads =
-    subst (λ s. KeepsStamps s (store_of w) table) e (subst (KeepsStamps (store_of v) (store_of w)) f leads.other_stamps)
+pub keeps-stamps : (store s s' : Frames) (table t : ℕ) → s ≡ store → t ≡ table → KeepsStamps s s' t → KeepsStamps store s' table
+keeps-stamps store s s' table t e f kept = subst (λ x. KeepsStamps x s' table) e (subst (KeepsStamps s s') f kept)
 
 -- the memory of a table that is taken
 pub contents-of : (s : Frames) (t : ℕ) → IsTaken s t → contents_at (memories s) t ≡ memory_of s t

@@ -1,5 +1,5 @@
 -- A host with its store, and where the memories of its slots lie. (own)
-use Rattle.std.specs.Prelude.{◌≡◌, ℕ, ◌+◌, ◌*◌, ◌/◌, ◌%◌, ◌<◌, ◌≤◌, true, false, ◌==◌, if◌then◌else◌, List, [], ◌∷◌, sum_by, Option, Some, None, IfSome, Result, Ok, Err, slice_index}
+use Rattle.std.specs.Prelude.{◌≡◌, ℕ, ◌+◌, ◌/◌, ◌%◌, ◌<◌, ◌≤◌, true, false, ◌==◌, if◌then◌else◌, List, [], ◌∷◌, sum_by, Option, Some, None, IfSome, Result, Ok, Err, slice_index}
 use Rattle.cpm_memory.specs.Contents.{byte_at, is_written, room_of}
 use Rattle.cpm_memory.specs.Frames.{Frames, IsTaken, boot_of, place_of, frame_of, memory_of, used_of}
 use Rattle.cpm_memory.specs.Opening.{opening_byte}

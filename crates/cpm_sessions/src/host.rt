@@ -23,6 +23,7 @@ use cpm_console::Console;
 use cpm_decode::DecodeCache;
 use cpm_geom::Image;
 use cpm_memory::{FrameStore, TableId};
+use cpm_mirror::Mirror;
 use cpm_slots::steps::Runner;
 use cpm_slots::{Closed, End, Granted, Look, OpenError, Opening};
 use std::alloc::{AllocError, Global};
@@ -45,6 +46,8 @@ pub struct Host {
     openings: u64,
     store: FrameStore,
     seats: Vec<Seat>,
+    /// A mirror for the memory that is worked on. What is in it makes no difference to any slot.
+    mirror: Mirror,
 }
 
 impl Model for Host {
@@ -61,8 +64,8 @@ impl Model for Host {
     ghost invariant = { λ h. IsHost (housed_of h.system h.frames h.openings h.store h.seats.items).host × IsSeated (memories h.store) h.seats.items × (h.store.private ≡ h.frames) × IsSound h.store × AllCached (memories h.store) h.store.stamps h.seats.items };
 }
 
-/// What a host takes memory for: its frames, and its places.
-fn allocate(alloc: Global, frames: u16) -> Result<(FrameStore, Vec<Seat>), AllocError>
+/// What a host takes memory for: its frames, its places and its mirror.
+fn allocate(alloc: Global, frames: u16) -> Result<(FrameStore, Vec<Seat>, Mirror), AllocError>
     requires { frames ≤ 16384 }
     ensures frames { IfOk result (λ r. r.0.private ≡ frames) }
     ensures sound { IfOk result (λ r. IsSound r.0) }
@@ -71,7 +74,8 @@ fn allocate(alloc: Global, frames: u16) -> Result<(FrameStore, Vec<Seat>), Alloc
 {
     let store = FrameStore::new(alloc, frames)?;
     let seats = Vec::with_capacity(alloc, PLACES)?;
-    Ok((store, seats))
+    let mirror = Mirror::new(alloc)?;
+    Ok((store, seats, mirror))
 }
 
 impl Host {
@@ -86,12 +90,13 @@ impl Host {
         ensures refused { IfErr result (λ r. (r.0 ≡ system) × (r.1 ≡ OpenError.OutOfMemory)) }
     {
         match allocate(alloc, frames) {
-            Ok((store, seats)) => Ok(Host {
+            Ok((store, seats, mirror)) => Ok(Host {
                 system,
                 frames,
                 openings: 0,
                 store,
                 seats,
+                mirror,
             }),
             Err(_) => Err((system, OpenError::OutOfMemory)),
         }
@@ -168,6 +173,7 @@ impl Host {
             Some(place) => Ok(grant_at(
                 &mut self.seats,
                 &mut self.store,
+                &mut self.mirror,
                 &self.system,
                 place,
                 steps,

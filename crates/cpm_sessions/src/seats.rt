@@ -17,11 +17,16 @@ ghost use Rattle.cpm_sessions.specs.Place.{IsPlace, Serves, IsServed};
 ghost use Rattle.cpm_sessions.specs.Seating.{contents_at, slots_of, IsSeated, AllCached, ChangesAt};
 
 use crate::event::{Refusal, Reply, SlotId};
+use cpm_bdos::Mode;
 use cpm_console::Console;
 use cpm_geom::Image;
 use cpm_memory::{FrameStore, Memory, TableId};
+use cpm_mirror::{Mirror, MirroredView};
 use cpm_slots::steps::{self, Runner};
 use cpm_slots::{Closed, Granted, Look, until};
+
+/// The fewest steps for which the memory is mirrored. Below them its copy costs more than the steps gain by it.
+const LEAST_MIRRORED: u64 = 1024;
 
 /// A session under the number of its opening, with the table of its memory.
 #[derive(Drop)]
@@ -143,10 +148,12 @@ pub fn take_list_at(seats: &mut Vec<Seat>, place: usize, out: &mut [u8]) -> usiz
     take_list_from(&mut seat.runner, out)
 }
 
-/// Executes the greatest number of steps, at most `steps`, that can be made in a session whose memory is a table of the store.
+/// Executes the greatest number of steps, at most `steps`, that can be made in a session whose memory is a table of the store. Where it
+/// begins in a program, and there are steps enough, the memory is mirrored for them.
 fn grant_table(
     runner: &mut Runner,
     store: &mut FrameStore,
+    mirror: &mut Mirror,
     table: TableId,
     system: &Image,
     steps: u64,
@@ -164,14 +171,19 @@ fn grant_table(
     ensures frames { store.new.private ≡ store.old.private }
     ensures store { IsSoundStore store.new }
 {
-    let mut view = store.view(table);
-    steps::grant(system, runner, &mut view, steps)
+    if steps < LEAST_MIRRORED || runner.session.mode != Mode::Program {
+        let mut view = store.view(table);
+        return steps::grant(system, runner, &mut view, steps);
+    }
+    let mut mirrored = MirroredView::new(store, table, mirror);
+    steps::grant(system, runner, &mut mirrored, steps)
 }
 
 /// Executes the greatest number of steps, at most `steps`, that can be made in the session at a place.
 pub fn grant_at(
     seats: &mut Vec<Seat>,
     store: &mut FrameStore,
+    mirror: &mut Mirror,
     system: &Image,
     place: usize,
     steps: u64,
@@ -186,7 +198,7 @@ pub fn grant_at(
     ensures store { IsSoundStore store.new }
 {
     let seat = &mut seats[place];
-    grant_table(&mut seat.runner, store, seat.table, system, steps)
+    grant_table(&mut seat.runner, store, mirror, seat.table, system, steps)
 }
 
 /// Executes the greatest number of steps, at most `steps`, that can be made and of which none but the first begins in the

@@ -1,9 +1,8 @@
-use Rattle.std.proofs.Common.{◌≡◌, ℕ, ◌<◌, List, [], get_or, set, ap, sym, ◌∙◌, arith}
+use Rattle.std.proofs.Common.{◌≡◌, ℕ, List, [], get_or, set, ap, sym, ◌∙◌}
 use Rattle.std.proofs.lemmas.List.{get_or_read_under}
-use Rattle.cpm_memory.specs.Frames.{Frames, stamps_at}
-use Rattle.cpm_memory.specs.Kept.{IsKept, with_stamp}
+use Rattle.cpm_memory.specs.Frames.{Frames}
+use Rattle.cpm_memory.specs.Kept.{with_stamp}
 use Rattle.cpm_memory.specs.Stamps.{after_stamp}
-use Rattle.cpm_memory.specs.Raised.{AreTablesStamps-raised}
 use Rattle.cpm_memory.proofs.store.FrameStore.raise_stamp.Goals as goal
 
 pub returns-clause-raised : goal.returns-clause-raised

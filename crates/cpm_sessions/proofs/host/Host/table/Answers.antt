@@ -1,4 +1,4 @@
-use Rattle.std.proofs.Common.{◌≡◌, List, Option, None, Some, sym, ap, ◌∙◌, subst}
+use Rattle.std.proofs.Common.{◌≡◌, List, Option, None, sym, ap, ◌∙◌, subst}
 use Rattle.std.specs.Prelude.{slice_get, IfSome}
 use Rattle.cpm_memory.specs.Contents.{Contents}
 use Rattle.cpm_memory.specs.Frames.{memories, IsTaken}
@@ -6,7 +6,7 @@ use Rattle.cpm_sessions.specs.declared.seats.Seat.{Seat}
 use Rattle.cpm_sessions.specs.Host.{slot_at}
 use Rattle.cpm_sessions.specs.Place.{LiesAt}
 use Rattle.cpm_sessions.specs.Housed.{Housed, table_of, table_reply, LivesIn}
-use Rattle.cpm_sessions.specs.Seating.{slots_of, lodgings_of, housed_of}
+use Rattle.cpm_sessions.specs.Seating.{slots_of, housed_of}
 use Rattle.cpm_sessions.proofs.Lodgings.{sits, no-table, place-table, place-taken}
 use Rattle.cpm_sessions.proofs.HousedLaws.{lives-there}
 use Rattle.cpm_sessions.proofs.host.Host.table.Goals as goal
