@@ -26,7 +26,7 @@ use cpm_slots::steps::{self, Runner};
 use cpm_slots::{Closed, Granted, Look, until};
 
 /// The fewest steps for which the memory is mirrored. Below them its copy costs more than the steps gain by it.
-const LEAST_MIRRORED: u64 = 1024;
+const LEAST_MIRRORED: u64 = 1_500;
 
 /// A session under the number of its opening, with the table of its memory.
 #[derive(Drop)]
