@@ -1,7 +1,6 @@
 //! Worked rows: which openings a host takes, what its slots reply, and what a refused allocation leaves.
 
 mod frames;
-mod mirror;
 mod stops;
 
 use crate::event::{Event, Refusal, Reply, Request, SlotId};
