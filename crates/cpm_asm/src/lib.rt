@@ -20,6 +20,3 @@ mod word;
 pub use encode::{Encoding, encoded};
 pub use error::{AsmError, AsmErrorKind};
 pub use pass::assemble;
-
-#[cfg(test)]
-mod tests;

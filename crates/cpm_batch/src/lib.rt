@@ -8,6 +8,3 @@ mod output;
 pub use error::ReadError;
 pub use input::{Input, Inputs, read_inputs};
 pub use output::{SessionFiles, outputs_of};
-
-#[cfg(test)]
-mod tests;

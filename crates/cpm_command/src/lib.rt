@@ -11,6 +11,3 @@ pub use fault::{Fault, UsageError, Word, shown, shown_line};
 pub use read::command;
 pub use task::Task;
 pub use usage::{HELP_TEXT, help};
-
-#[cfg(test)]
-mod tests;

@@ -13,6 +13,3 @@ mod values;
 pub use config::{Config, Session};
 pub use fault::{ConfigError, KeyFault};
 pub use field::{Field, Place};
-
-#[cfg(test)]
-mod tests;

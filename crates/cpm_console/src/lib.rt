@@ -9,6 +9,3 @@ pub mod line;
 pub use console::{Console, KEYS, RING, STEP_OUTPUT};
 pub use laws::erased_as_typed;
 pub use line::{Keystroke, Line, Progress};
-
-#[cfg(test)]
-mod tests;

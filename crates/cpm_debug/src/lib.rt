@@ -14,6 +14,3 @@ mod write;
 pub use debug::run_debug;
 pub use error::DebugError;
 pub use order::Order;
-
-#[cfg(test)]
-mod tests;

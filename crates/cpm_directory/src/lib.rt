@@ -19,8 +19,3 @@ pub use lent::LentImage;
 pub use listed::ListedImage;
 pub use pattern::{Pattern, is_named};
 pub use reserved::{Reserved, login, without_files};
-
-#[cfg(test)]
-mod tests;
-#[cfg(test)]
-mod written_by_cpmtools;

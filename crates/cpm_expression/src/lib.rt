@@ -19,6 +19,3 @@ pub use reader::value_of;
 pub use tokens::{Atom, Operator, Prefix, Token};
 pub use values::Valued;
 pub use words::{ByteForm, Keyword, Operation, Register, WordForm, keyword_of};
-
-#[cfg(test)]
-mod tests;

@@ -10,6 +10,3 @@ pub use dpb::Dpb;
 pub use format::Format;
 pub use image::{GeomError, Image};
 pub use laws::records_lie_apart;
-
-#[cfg(test)]
-mod tests;

@@ -26,10 +26,3 @@ pub use input::{MOST_FILE, read_whole};
 pub use list::run_list;
 pub use report::{Report, SessionReport};
 pub use run::run_host;
-
-#[cfg(test)]
-mod lab_tests;
-#[cfg(test)]
-mod run_tests;
-#[cfg(test)]
-mod tests;

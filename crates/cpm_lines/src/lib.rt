@@ -11,6 +11,3 @@ mod registers;
 pub use dump::dump_line;
 pub use listing::list_line;
 pub use registers::regs_line;
-
-#[cfg(test)]
-mod tests;

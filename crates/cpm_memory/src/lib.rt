@@ -20,6 +20,3 @@ pub use memory::Memory;
 pub use pages::TableId;
 pub use store::{FrameStore, MemoryError};
 pub use view::View;
-
-#[cfg(test)]
-mod tests;

@@ -1,5 +1,6 @@
 //! Every instruction of the 8080: assembled, listed, and listed and assembled again.
 
+use crate::same::{same, same_at};
 use arrayvec::ArrayString;
 use cpm_asm::{AsmError, AsmErrorKind, assemble};
 use cpm_lines::list_line;
@@ -290,7 +291,7 @@ fn bytes_of<'a>(text: &str, bytes: &'a [u8; 3]) -> &'a [u8] {
 /// Fails unless a source has this image.
 fn check(rt: &(impl Abort + AllocGlobal), source: &str, image: &[u8]) {
     match assemble(rt.alloc(), source.as_bytes()) {
-        Ok(found) => assert_eq!(rt; found.as_slice(), image, "at {source}"),
+        Ok(found) => same_at(rt, source, found.as_slice(), image),
         Err(error) => panic!(rt; "{error} at {source}"),
     }
 }
@@ -313,7 +314,7 @@ fn lists_each_opcode(rt: HostRuntime) {
             _ => write!(wanted, "0100  {opcode:02X} 34 12  {text}"),
         };
         assert!(rt; shown.is_ok());
-        assert_eq!(rt; list_line(0x0100, bytes).as_str(), wanted.as_str());
+        same(&rt, list_line(0x0100, bytes).as_str(), wanted.as_str());
     }
 }
 

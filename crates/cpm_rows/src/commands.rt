@@ -1,6 +1,7 @@
 //! Commands that are typed at machines without a program.
 
 use crate::run::{blank, opening_of};
+use crate::same::same;
 use cpm_flags::Cpu;
 use cpm_geom::Image;
 use cpm_slots::{End, Machine, Opening, Why};
@@ -40,7 +41,7 @@ fn disk_of(rt: &impl Abort, alloc: Global, name: &[u8; 11], start: &[u8]) -> Res
 /// Presses keys, all of which must be accepted.
 fn press(rt: &impl Abort, machine: &mut Machine, keys: &[u8]) {
     for key in keys {
-        assert_eq!(rt; machine.key(*key), Ok(()));
+        same(rt, machine.key(*key), Ok(()));
     }
 }
 
@@ -56,7 +57,7 @@ fn types(
     press(rt, machine, keys);
     assert!(rt; steps >= 1);
     let granted = machine.grant(system, steps - 1);
-    assert_eq!(rt; granted.why, Why::All);
+    same(rt, granted.why, Why::All);
     assert!(rt; !machine.look().waiting, "{keys:?}");
     machine.step(system);
     assert!(rt; machine.look().waiting, "{keys:?}");
@@ -67,8 +68,8 @@ fn types(
 fn shows(rt: &impl Abort, machine: &mut Machine, shown: &[u8]) {
     let mut out = [0; 256];
     let count = machine.take(&mut out);
-    assert_eq!(rt; &out[..count], shown);
-    assert_eq!(rt; machine.look().console, 0);
+    same(rt, &out[..count], shown);
+    same(rt, machine.look().console, 0);
 }
 
 /// An entry of drive A.
@@ -90,8 +91,8 @@ fn saves_and_lists_in_26_steps(rt: HostRuntime) -> Result<(), Fail> {
     let mut machine = machine_on(rt.alloc(), 256, blank(rt.alloc())?)?;
     press(&rt, &mut machine, b"SAVE 1 T.DAT\rDIR\r");
     let granted = machine.grant(&system, 26);
-    assert_eq!(rt; granted.executed, 26);
-    assert_eq!(rt; granted.why, Why::All);
+    same(&rt, granted.executed, 26);
+    same(&rt, granted.why, Why::All);
     assert!(rt; machine.look().waiting);
     shows(
         &rt,
@@ -99,8 +100,8 @@ fn saves_and_lists_in_26_steps(rt: HostRuntime) -> Result<(), Fail> {
         b"\r\nA>SAVE 1 T.DAT\r\r\nA>DIR\r\r\nA: T        DAT\r\nA>",
     );
     let entry = entry_of(&rt, machine, 0);
-    assert_eq!(rt; &entry[..12], b"\0T       DAT".as_slice());
-    assert_eq!(rt; &entry[12..18], [0u8, 0, 0, 2, 2, 0].as_slice());
+    same(&rt, &entry[..12], b"\0T       DAT".as_slice());
+    same(&rt, &entry[12..18], [0u8, 0, 0, 2, 2, 0].as_slice());
     Ok(())
 }
 
@@ -118,8 +119,8 @@ fn lists_nothing(
         machine.grant(system, steps);
     }
     let look = machine.look();
-    assert_eq!(rt; look.ended, End::Running);
-    assert_eq!(rt; look.count, 50);
+    same(rt, look.ended, End::Running);
+    same(rt, look.count, 50);
     shows(rt, &mut machine, b"\r\nA>DIR\r\r\nNO FILE\r\nA>");
     Ok(())
 }
@@ -142,12 +143,12 @@ fn a_program_comes_to_its_quota(rt: HostRuntime) -> Result<(), Fail> {
     let mut machine = machine_on(rt.alloc(), 16, image)?;
     press(&rt, &mut machine, b"W\r");
     let granted = machine.grant(&system, 1000);
-    assert_eq!(rt; granted.executed, 26);
-    assert_eq!(rt; granted.why, Why::Stopped);
+    same(&rt, granted.executed, 26);
+    same(&rt, granted.why, Why::Stopped);
     let look = machine.look();
-    assert_eq!(rt; look.ended, End::Quota);
-    assert_eq!(rt; look.pages, 9);
-    assert_eq!(rt; (look.regs.h, look.regs.l), (0x26, 0x00));
+    same(&rt, look.ended, End::Quota);
+    same(&rt, look.pages, 9);
+    same(&rt, (look.regs.h, look.regs.l), (0x26, 0x00));
     Ok(())
 }
 
@@ -191,7 +192,7 @@ fn erases_after_a_yes(rt: HostRuntime) -> Result<(), Fail> {
         b"ERA *.*\r\r\nALL (Y/N)?y\r\r\nA>",
     );
     let entry = entry_of(&rt, machine, 0);
-    assert_eq!(rt; entry[0], 0xE5);
+    same(&rt, entry[0], 0xE5);
     Ok(())
 }
 
@@ -218,7 +219,7 @@ fn renames(rt: HostRuntime) -> Result<(), Fail> {
         b"REN TWO.TXT=ONE.TXT\r\r\nFILE EXISTS\r\nA>",
     );
     let entry = entry_of(&rt, machine, 0);
-    assert_eq!(rt; &entry[..12], b"\0TWO     TXT".as_slice());
+    same(&rt, &entry[..12], b"\0TWO     TXT".as_slice());
     Ok(())
 }
 
@@ -255,9 +256,9 @@ fn users_and_drives(rt: HostRuntime) -> Result<(), Fail> {
         9,
         b"USER 5\r\r\nA>",
     );
-    assert_eq!(rt; machine.peek(0x0004), 0x50);
+    same(&rt, machine.peek(0x0004), 0x50);
     types(&rt, &mut machine, &system, b"b:\r", 5, b"b:\r\r\nB>");
-    assert_eq!(rt; machine.peek(0x0004), 0x51);
+    same(&rt, machine.peek(0x0004), 0x51);
     types(
         &rt,
         &mut machine,
@@ -266,7 +267,7 @@ fn users_and_drives(rt: HostRuntime) -> Result<(), Fail> {
         10,
         b"USER 16\r\r\nUSER?\r\nB>",
     );
-    assert_eq!(rt; machine.peek(0x0004), 0x51);
+    same(&rt, machine.peek(0x0004), 0x51);
     // a drive that is not there; the key boots, and the drive stays
     types(
         &rt,
@@ -308,8 +309,8 @@ fn a_program_is_saved_and_run(rt: HostRuntime) -> Result<(), Fail> {
     );
     types(&rt, &mut machine, &system, b"copy\r", 16, b"copy\rA\r\nA>");
     let entry = entry_of(&rt, machine, 1);
-    assert_eq!(rt; &entry[..12], b"\0COPY    COM".as_slice());
-    assert_eq!(rt; &entry[12..18], [0u8, 0, 0, 2, 3, 0].as_slice());
+    same(&rt, &entry[..12], b"\0COPY    COM".as_slice());
+    same(&rt, &entry[12..18], [0u8, 0, 0, 2, 3, 0].as_slice());
     Ok(())
 }
 
@@ -344,6 +345,6 @@ fn a_program_ends_by_a_warm_boot(rt: HostRuntime) -> Result<(), Fail> {
     let mut machine = machine_on(rt.alloc(), 256, image)?;
     types(&rt, &mut machine, &system, b"", 1, b"\r\nA>");
     types(&rt, &mut machine, &system, b"W\r", 10, b"W\r\r\nA>");
-    assert_eq!(rt; machine.look().ended, End::Running);
+    same(&rt, machine.look().ended, End::Running);
     Ok(())
 }

@@ -1,6 +1,7 @@
 //! Programs that read keys, each on a machine of its own.
 
 use crate::run::{blank, machine_of};
+use crate::same::same;
 use cpm_flags::Cpu;
 use cpm_slots::{End, KeysFull, Machine, Why};
 use std::process::Abort;
@@ -48,7 +49,7 @@ const TYPED: [Typed; 3] = [
 /// Presses keys, all of which must be accepted.
 fn press(rt: &impl Abort, machine: &mut Machine, keys: &[u8]) {
     for key in keys {
-        assert_eq!(rt; machine.key(*key), Ok(()));
+        same(rt, machine.key(*key), Ok(()));
     }
 }
 
@@ -59,13 +60,13 @@ fn reads_keys_that_wait(rt: HostRuntime) -> Result<(), Fail> {
         let mut machine = machine_of(rt.alloc(), Cpu::I8080, row.program)?;
         press(&rt, &mut machine, row.keys);
         let granted = machine.grant(&system, 1_000_000);
-        assert_eq!(rt; granted.executed, row.executed);
-        assert_eq!(rt; machine.look().ended, End::Exited);
+        same(&rt, granted.executed, row.executed);
+        same(&rt, machine.look().ended, End::Exited);
         let mut out = [0; 32];
         let count = machine.take(&mut out);
-        assert_eq!(rt; &out[..count], row.shown);
+        same(&rt, &out[..count], row.shown);
         for (address, byte) in row.bytes {
-            assert_eq!(rt; machine.peek(*address), *byte);
+            same(&rt, machine.peek(*address), *byte);
         }
     }
     Ok(())
@@ -89,11 +90,11 @@ fn sees_a_key_at_its_count(rt: HostRuntime) -> Result<(), Fail> {
         press(&rt, &mut machine, b"x");
         machine.grant(&system, 1_000_000);
         let look = machine.look();
-        assert_eq!(rt; look.count, 1014);
-        assert_eq!(rt; look.ended, End::Exited);
+        same(&rt, look.count, 1014);
+        same(&rt, look.ended, End::Exited);
         let mut out = [0; 8];
         let count = machine.take(&mut out);
-        assert_eq!(rt; &out[..count], b"x".as_slice());
+        same(&rt, &out[..count], b"x".as_slice());
     }
     Ok(())
 }
@@ -105,15 +106,15 @@ const READS: &[u8] = &[0x0E, 0x01, 0xCD, 0x05, 0x00, 0xC9];
 fn waits_for_a_key(rt: HostRuntime) -> Result<(), Fail> {
     let system = blank(rt.alloc())?;
     let mut machine = machine_of(rt.alloc(), Cpu::I8080, READS)?;
-    assert_eq!(rt; machine.look().waiting, false);
+    same(&rt, machine.look().waiting, false);
     let granted = machine.grant(&system, 100);
-    assert_eq!(rt; granted.executed, 100);
-    assert_eq!(rt; granted.why, Why::All);
-    assert_eq!(rt; machine.look().waiting, true);
+    same(&rt, granted.executed, 100);
+    same(&rt, granted.why, Why::All);
+    same(&rt, machine.look().waiting, true);
     press(&rt, &mut machine, b"k");
-    assert_eq!(rt; machine.look().waiting, false);
-    assert_eq!(rt; machine.grant(&system, 100).why, Why::Stopped);
-    assert_eq!(rt; machine.look().waiting, false);
+    same(&rt, machine.look().waiting, false);
+    same(&rt, machine.grant(&system, 100).why, Why::Stopped);
+    same(&rt, machine.look().waiting, false);
     Ok(())
 }
 
@@ -122,14 +123,14 @@ fn keeps_4096_keys_and_refuses_the_next(rt: HostRuntime) -> Result<(), Fail> {
     let system = blank(rt.alloc())?;
     let mut machine = machine_of(rt.alloc(), Cpu::I8080, READS)?;
     for number in 0..4096u16 {
-        assert_eq!(rt; machine.key((number % 64) as u8 + 0x20), Ok(()));
+        same(&rt, machine.key((number % 64) as u8 + 0x20), Ok(()));
     }
-    assert_eq!(rt; machine.key(b'!'), Err(KeysFull));
-    assert_eq!(rt; machine.look().keys, 4096);
+    same(&rt, machine.key(b'!'), Err(KeysFull));
+    same(&rt, machine.look().keys, 4096);
     machine.grant(&system, 100);
-    assert_eq!(rt; machine.look().keys, 4095);
-    assert_eq!(rt; machine.key(b'!'), Ok(()));
-    assert_eq!(rt; machine.look().keys, 4096);
-    assert_eq!(rt; machine.look().ended, End::Exited);
+    same(&rt, machine.look().keys, 4095);
+    same(&rt, machine.key(b'!'), Ok(()));
+    same(&rt, machine.look().keys, 4096);
+    same(&rt, machine.look().ended, End::Exited);
     Ok(())
 }

@@ -1,6 +1,7 @@
 //! Programs that call the BDOS on drives, each on a machine of its own.
 
 use crate::run::{blank, machine_of};
+use crate::same::same;
 use cpm_flags::Cpu;
 use cpm_slots::End;
 use std::test::Fail;
@@ -35,13 +36,13 @@ fn faults_show_their_message_and_boot(rt: HostRuntime) -> Result<(), Fail> {
     let system = blank(rt.alloc())?;
     for row in &FAULTY {
         let mut machine = machine_of(rt.alloc(), Cpu::I8080, row.program)?;
-        assert_eq!(rt; machine.key(0x20), Ok(()));
+        same(&rt, machine.key(0x20), Ok(()));
         let granted = machine.grant(&system, 1_000_000);
-        assert_eq!(rt; granted.executed, row.executed);
-        assert_eq!(rt; machine.look().ended, End::Exited);
+        same(&rt, granted.executed, row.executed);
+        same(&rt, machine.look().ended, End::Exited);
         let mut out = [0; 32];
         let count = machine.take(&mut out);
-        assert_eq!(rt; &out[..count], row.shown);
+        same(&rt, &out[..count], row.shown);
     }
     Ok(())
 }
@@ -61,7 +62,7 @@ fn writes_a_file_to_drive_a(rt: HostRuntime) -> Result<(), Fail> {
     let system = blank(rt.alloc())?;
     let mut machine = machine_of(rt.alloc(), Cpu::Z80, WRITES)?;
     machine.grant(&system, 1_000_000);
-    assert_eq!(rt; machine.look().ended, End::Exited);
+    same(&rt, machine.look().ended, End::Exited);
     let mut drives = machine.finish().drives.into_iter();
     let Some(Some(image)) = drives.next() else {
         panic!(&rt; "drive A is missing");
@@ -70,18 +71,18 @@ fn writes_a_file_to_drive_a(rt: HostRuntime) -> Result<(), Fail> {
     let Ok(entries) = image.record(0) else {
         panic!(&rt; "the directory is missing");
     };
-    assert_eq!(rt; entries[0], 0);
-    assert_eq!(rt; entries[1], b'A');
-    assert_eq!(rt; entries[2], b' ');
-    assert_eq!(rt; entries[15], 1);
-    assert_eq!(rt; entries[16], 2);
-    assert_eq!(rt; entries[17], 0);
-    assert_eq!(rt; entries[32], 0xE5);
+    same(&rt, entries[0], 0);
+    same(&rt, entries[1], b'A');
+    same(&rt, entries[2], b' ');
+    same(&rt, entries[15], 1);
+    same(&rt, entries[16], 2);
+    same(&rt, entries[17], 0);
+    same(&rt, entries[32], 0xE5);
     // record 0 of block 2
     let Ok(record) = image.record(16) else {
         panic!(&rt; "the record is missing");
     };
-    assert_eq!(rt; record[0], b'A');
-    assert_eq!(rt; record[1], 0);
+    same(&rt, record[0], b'A');
+    same(&rt, record[1], 0);
     Ok(())
 }

@@ -10,6 +10,8 @@ mod console;
 #[cfg(test)]
 mod disks;
 #[cfg(test)]
+mod memory;
+#[cfg(test)]
 mod openings;
 #[cfg(test)]
 mod programs;
@@ -17,6 +19,8 @@ mod programs;
 mod programs_z80;
 #[cfg(test)]
 mod run;
+#[cfg(test)]
+mod same;
 #[cfg(test)]
 mod stops;
 #[cfg(test)]

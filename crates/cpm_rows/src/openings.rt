@@ -1,6 +1,7 @@
 //! Which openings are refused, and what a machine is at its opening.
 
 use crate::run::{blank, opening_of};
+use crate::same::same;
 use cpm_flags::Cpu;
 use cpm_slots::{End, Machine, OpenError, Opening, Why};
 use std::alloc::Global;
@@ -14,10 +15,10 @@ fn refused(rt: &impl Abort, alloc: Global, opening: Opening, wanted: OpenError) 
     match Machine::new(alloc, opening) {
         Ok(_) => panic!(rt; "{quota} pages and {count} drives are taken"),
         Err((back, error)) => {
-            assert_eq!(rt; error, wanted);
-            assert_eq!(rt; back.cpu, cpu);
-            assert_eq!(rt; back.quota, quota);
-            assert_eq!(rt; back.drives.len(), count);
+            same(rt, error, wanted);
+            same(rt, back.cpu, cpu);
+            same(rt, back.quota, quota);
+            same(rt, back.drives.len(), count);
         }
     }
 }
@@ -36,11 +37,11 @@ fn refused_with(
     match Machine::with_program(alloc, opening, program) {
         Ok(_) => panic!(rt; "{quota} pages, {count} drives and {length} bytes are taken"),
         Err((back, bytes, error)) => {
-            assert_eq!(rt; error, wanted);
-            assert_eq!(rt; back.cpu, cpu);
-            assert_eq!(rt; back.quota, quota);
-            assert_eq!(rt; back.drives.len(), count);
-            assert_eq!(rt; bytes.len(), length);
+            same(rt, error, wanted);
+            same(rt, back.cpu, cpu);
+            same(rt, back.quota, quota);
+            same(rt, back.drives.len(), count);
+            same(rt, bytes.len(), length);
             assert!(rt; bytes.iter().all(|byte| *byte == 7));
         }
     }
@@ -91,7 +92,7 @@ fn longest_program_is_taken(rt: HostRuntime) -> Result<(), Fail> {
     let longest = vec![in rt.alloc(); 0u8; 58_112]?;
     let opening = opening_of(rt.alloc(), Cpu::I8080, 256, 4)?;
     match Machine::with_program(rt.alloc(), opening, longest) {
-        Ok(machine) => assert_eq!(rt; machine.look().pages, 228),
+        Ok(machine) => same(&rt, machine.look().pages, 228),
         Err((_, _, error)) => return Err(Fail::from(error)),
     }
     Ok(())
@@ -105,10 +106,10 @@ fn gives_the_drives_back(rt: HostRuntime) -> Result<(), Fail> {
         Err((_, error)) => return Err(Fail::from(error)),
     };
     for (place, drive) in machine.finish().drives.into_iter().enumerate() {
-        assert_eq!(rt; drive.is_some(), place < 2);
+        same(&rt, drive.is_some(), place < 2);
         if let Some(image) = drive {
             let bytes = image.into_bytes();
-            assert_eq!(rt; bytes.len(), 256_256);
+            same(&rt, bytes.len(), 256_256);
             assert!(rt; bytes.iter().all(|byte| *byte == 0xE5));
         }
     }
@@ -125,16 +126,16 @@ fn opens_at_the_command_processor(rt: HostRuntime) -> Result<(), Fail> {
             Err((_, error)) => return Err(Fail::from(error)),
         };
         let look = machine.look();
-        assert_eq!(rt; look.regs.pc, 0xE406);
-        assert_eq!(rt; look.regs.sp, 0xEBFE);
-        assert_eq!(rt; look.regs.a, 0);
-        assert_eq!(rt; look.pages, 0);
-        assert_eq!(rt; look.count, 0);
-        assert_eq!(rt; machine.peek(0x0005), 0xC3);
-        assert_eq!(rt; machine.peek(0x0100), 0);
-        assert_eq!(rt; machine.grant(&system, 10).why, Why::All);
-        assert_eq!(rt; machine.look().ended, End::Running);
-        assert_eq!(rt; machine.look().count, 10);
+        same(&rt, look.regs.pc, 0xE406);
+        same(&rt, look.regs.sp, 0xEBFE);
+        same(&rt, look.regs.a, 0);
+        same(&rt, look.pages, 0);
+        same(&rt, look.count, 0);
+        same(&rt, machine.peek(0x0005), 0xC3);
+        same(&rt, machine.peek(0x0100), 0);
+        same(&rt, machine.grant(&system, 10).why, Why::All);
+        same(&rt, machine.look().ended, End::Running);
+        same(&rt, machine.look().count, 10);
     }
     Ok(())
 }

@@ -1,4 +1,5 @@
 use crate::run::{blank, machine_of, run};
+use crate::same::same;
 use cpm_flags::Cpu;
 use cpm_slots::{End, Why};
 use std::alloc::Global;
@@ -75,16 +76,16 @@ const PRINTING: [Row; 7] = [
 fn shows_and_ends(rt: HostRuntime) -> Result<(), Fail> {
     for row in &PRINTING {
         let mut ran = run(rt.alloc(), Cpu::I8080, row.program)?;
-        assert_eq!(rt; ran.granted.executed, row.executed);
-        assert_eq!(rt; ran.granted.why, Why::Stopped);
+        same(&rt, ran.granted.executed, row.executed);
+        same(&rt, ran.granted.why, Why::Stopped);
         let look = ran.machine.look();
-        assert_eq!(rt; look.ended, row.ended);
-        assert_eq!(rt; look.count, row.executed);
+        same(&rt, look.ended, row.ended);
+        same(&rt, look.count, row.executed);
         let mut out = [0; 64];
         let count = ran.machine.take(&mut out);
-        assert_eq!(rt; count, row.shown.len());
-        assert_eq!(rt; &out[..count], row.shown);
-        assert_eq!(rt; ran.machine.take_list(&mut out), 0);
+        same(&rt, count, row.shown.len());
+        same(&rt, &out[..count], row.shown);
+        same(&rt, ran.machine.take_list(&mut out), 0);
     }
     Ok(())
 }
@@ -96,11 +97,11 @@ fn ends_where_it_should(rt: HostRuntime) -> Result<(), Fail> {
         Cpu::I8080,
         &[0x0E, 0x02, 0x1E, 0x41, 0xCD, 0x05, 0x00, 0xC9],
     )?;
-    assert_eq!(rt; exited.machine.look().regs.pc, 0xE406);
+    same(&rt, exited.machine.look().regs.pc, 0xE406);
     let illegal = run(rt.alloc(), Cpu::I8080, &[0x08])?;
-    assert_eq!(rt; illegal.machine.look().regs.pc, 0x0100);
+    same(&rt, illegal.machine.look().regs.pc, 0x0100);
     let closed = illegal.machine.finish();
-    assert_eq!(rt; closed.look.count, 1);
+    same(&rt, closed.look.count, 1);
     Ok(())
 }
 
@@ -114,12 +115,12 @@ fn calls_whatever_bytes_lie_there(rt: HostRuntime) -> Result<(), Fail> {
             0x3E, 0x76, 0x32, 0x06, 0xEC, 0x0E, 0x0C, 0xCD, 0x05, 0x00, 0xC9,
         ],
     )?;
-    assert_eq!(rt; ran.granted.executed, 8);
+    same(&rt, ran.granted.executed, 8);
     let look = ran.machine.look();
-    assert_eq!(rt; look.ended, End::Exited);
-    assert_eq!(rt; look.regs.h, 0x00);
-    assert_eq!(rt; look.regs.l, 0x22);
-    assert_eq!(rt; look.regs.a, 0x22);
+    same(&rt, look.ended, End::Exited);
+    same(&rt, look.regs.h, 0x00);
+    same(&rt, look.regs.l, 0x22);
+    same(&rt, look.regs.a, 0x22);
     Ok(())
 }
 
@@ -174,16 +175,16 @@ const HALTING: [Left; 6] = [
 fn halts_with_flags(rt: HostRuntime) -> Result<(), Fail> {
     for row in &HALTING {
         let ran = run(rt.alloc(), Cpu::I8080, row.program)?;
-        assert_eq!(rt; ran.granted.executed, row.executed);
-        assert_eq!(rt; ran.machine.look().ended, End::Halted);
+        same(&rt, ran.granted.executed, row.executed);
+        same(&rt, ran.machine.look().ended, End::Halted);
         for (address, byte) in row.bytes {
-            assert_eq!(rt; ran.machine.peek(*address), *byte);
+            same(&rt, ran.machine.peek(*address), *byte);
         }
     }
     let sum = run(rt.alloc(), Cpu::I8080, HALTING[5].program)?;
     let regs = sum.machine.look().regs;
-    assert_eq!(rt; regs.h, 0);
-    assert_eq!(rt; regs.l, 0);
+    same(&rt, regs.h, 0);
+    same(&rt, regs.l, 0);
     Ok(())
 }
 
@@ -194,14 +195,18 @@ fn full_ring_blocks(rt: HostRuntime) -> Result<(), Fail> {
         Cpu::I8080,
         &[0x0E, 0x09, 0x11, 0x00, 0x80, 0xCD, 0x05, 0x00, 0xC9],
     )?;
-    assert_eq!(rt; ran.granted.executed, 4_101);
-    assert_eq!(rt; ran.granted.why, Why::Blocked);
-    assert_eq!(rt; ran.machine.look().console, 4_097);
+    same(&rt, ran.granted.executed, 4_101);
+    same(&rt, ran.granted.why, Why::Blocked);
+    same(&rt, ran.machine.look().console, 4_097);
     assert!(rt; !ran.machine.step(&ran.system));
     let mut out = [1; 8192];
-    assert_eq!(rt; ran.machine.take(&mut out), 4_097);
+    same(&rt, ran.machine.take(&mut out), 4_097);
     assert!(rt; out.iter().position(|byte| *byte != 0) == Some(4_097));
-    assert_eq!(rt; ran.machine.grant(&ran.system, 1_000_000).executed, 4_097);
+    same(
+        &rt,
+        ran.machine.grant(&ran.system, 1_000_000).executed,
+        4_097,
+    );
     Ok(())
 }
 
@@ -210,16 +215,16 @@ fn steps_one_by_one(rt: HostRuntime) -> Result<(), Fail> {
     let system = blank(rt.alloc())?;
     let program = [0x0E, 0x02, 0x1E, 0x41, 0xCD, 0x05, 0x00, 0xC9];
     let mut machine = machine_of(rt.alloc(), Cpu::I8080, &program)?;
-    assert_eq!(rt; machine.look().pages, 2);
+    same(&rt, machine.look().pages, 2);
     for _ in 0..7 {
         assert!(rt; machine.step(&system));
     }
     assert!(rt; !machine.step(&system));
     let none = machine.grant(&system, 5);
-    assert_eq!(rt; none.executed, 0);
-    assert_eq!(rt; none.why, Why::Stopped);
-    assert_eq!(rt; machine.grant(&system, 0).why, Why::All);
-    assert_eq!(rt; machine.look().ended, End::Exited);
+    same(&rt, none.executed, 0);
+    same(&rt, none.why, Why::Stopped);
+    same(&rt, machine.grant(&system, 0).why, Why::All);
+    same(&rt, machine.look().ended, End::Exited);
     Ok(())
 }
 
@@ -233,11 +238,11 @@ fn runs_what_it_stored_over_an_instruction(rt: HostRuntime) -> Result<(), Fail> 
             0x3C, 0x21, 0x00, 0x01, 0x36, 0x04, 0x78, 0xB7, 0xCA, 0x00, 0x01, 0x76,
         ],
     )?;
-    assert_eq!(rt; ran.granted.executed, 13);
+    same(&rt, ran.granted.executed, 13);
     let look = ran.machine.look();
-    assert_eq!(rt; look.ended, End::Halted);
-    assert_eq!(rt; look.regs.a, 0x01);
-    assert_eq!(rt; look.regs.b, 0x01);
+    same(&rt, look.ended, End::Halted);
+    same(&rt, look.regs.a, 0x01);
+    same(&rt, look.regs.b, 0x01);
     Ok(())
 }
 
@@ -260,10 +265,10 @@ fn run_rare(alloc: Global, cpu: Cpu, rare: &[u8; 2]) -> Result<(End, u64, u16), 
 fn decodes_a_rare_instruction_anew_where_it_was_stored_over(rt: HostRuntime) -> Result<(), Fail> {
     // DAA and NOP; IM 1; LD A,R: each is kept decoded, and HLT comes in its place
     let ended = (End::Halted, 6, 0x0101);
-    assert_eq!(rt; run_rare(rt.alloc(), Cpu::I8080, &[0x27, 0x00])?, ended);
-    assert_eq!(rt; run_rare(rt.alloc(), Cpu::Z80, &[0x27, 0x00])?, ended);
+    same(&rt, run_rare(rt.alloc(), Cpu::I8080, &[0x27, 0x00])?, ended);
+    same(&rt, run_rare(rt.alloc(), Cpu::Z80, &[0x27, 0x00])?, ended);
     let ended = (End::Halted, 5, 0x0101);
-    assert_eq!(rt; run_rare(rt.alloc(), Cpu::Z80, &[0xED, 0x56])?, ended);
-    assert_eq!(rt; run_rare(rt.alloc(), Cpu::Z80, &[0xED, 0x5F])?, ended);
+    same(&rt, run_rare(rt.alloc(), Cpu::Z80, &[0xED, 0x56])?, ended);
+    same(&rt, run_rare(rt.alloc(), Cpu::Z80, &[0xED, 0x5F])?, ended);
     Ok(())
 }

@@ -1,4 +1,5 @@
 use crate::run::{machine_of, run};
+use crate::same::same;
 use cpm_flags::Cpu;
 use cpm_slots::{End, Why};
 use std::test::Fail;
@@ -66,14 +67,14 @@ const HALTING: [Left; 8] = [
 fn halts_with_flags(rt: HostRuntime) -> Result<(), Fail> {
     for row in &HALTING {
         let ran = run(rt.alloc(), Cpu::Z80, row.program)?;
-        assert_eq!(rt; ran.granted.executed, row.executed);
-        assert_eq!(rt; ran.machine.look().ended, End::Halted);
+        same(&rt, ran.granted.executed, row.executed);
+        same(&rt, ran.machine.look().ended, End::Halted);
         for (address, byte) in row.bytes {
-            assert_eq!(rt; ran.machine.peek(*address), *byte);
+            same(&rt, ran.machine.peek(*address), *byte);
         }
     }
     let counted = run(rt.alloc(), Cpu::Z80, HALTING[6].program)?;
-    assert_eq!(rt; counted.machine.look().regs.b, 0);
+    same(&rt, counted.machine.look().regs.b, 0);
     Ok(())
 }
 
@@ -85,37 +86,37 @@ const MOVE_ALL: [u8; 12] = [
 #[test]
 fn each_repetition_is_a_step(rt: HostRuntime) -> Result<(), Fail> {
     let whole = run(rt.alloc(), Cpu::Z80, &MOVE_ALL)?;
-    assert_eq!(rt; whole.granted.executed, 65_540);
-    assert_eq!(rt; whole.granted.why, Why::Stopped);
+    same(&rt, whole.granted.executed, 65_540);
+    same(&rt, whole.granted.why, Why::Stopped);
     let look = whole.machine.look();
-    assert_eq!(rt; look.ended, End::Halted);
-    assert_eq!(rt; look.pages, 256);
-    assert_eq!(rt; look.regs.b, 0);
-    assert_eq!(rt; look.regs.c, 0);
+    same(&rt, look.ended, End::Halted);
+    same(&rt, look.pages, 256);
+    same(&rt, look.regs.b, 0);
+    same(&rt, look.regs.c, 0);
     assert!(rt; !look.regs.flags.zero && !look.regs.flags.parity && !look.regs.flags.carry);
     let mut cut = machine_of(rt.alloc(), Cpu::Z80, &MOVE_ALL)?;
     let opening = cut.peek(0x0005);
     for _ in 0..65_540 {
-        assert_eq!(rt; cut.grant(&whole.system, 1).executed, 1);
+        same(&rt, cut.grant(&whole.system, 1).executed, 1);
     }
-    assert_eq!(rt; cut.grant(&whole.system, 1).executed, 0);
-    assert_eq!(rt; cut.look(), look);
-    assert_eq!(rt; cut.peek(0x0005), opening);
-    assert_eq!(rt; cut.peek(0x0100), 0x21);
+    same(&rt, cut.grant(&whole.system, 1).executed, 0);
+    same(&rt, cut.look(), look);
+    same(&rt, cut.peek(0x0005), opening);
+    same(&rt, cut.peek(0x0100), 0x21);
     Ok(())
 }
 
 #[test]
 fn a_prefix_without_a_row_is_illegal(rt: HostRuntime) -> Result<(), Fail> {
     let ran = run(rt.alloc(), Cpu::Z80, &[0xDD, 0x44])?;
-    assert_eq!(rt; ran.granted.executed, 1);
+    same(&rt, ran.granted.executed, 1);
     let look = ran.machine.look();
-    assert_eq!(rt; look.ended, End::Illegal);
-    assert_eq!(rt; look.regs.pc, 0x0100);
+    same(&rt, look.ended, End::Illegal);
+    same(&rt, look.regs.pc, 0x0100);
     // what is no instruction of the 8080 exchanges AF here
     let exchanged = run(rt.alloc(), Cpu::Z80, &[0x3E, 0x05, 0x08, 0x76])?;
-    assert_eq!(rt; exchanged.granted.executed, 3);
-    assert_eq!(rt; exchanged.machine.look().regs.a, 0);
-    assert_eq!(rt; exchanged.machine.look().regs.alternate.a, 5);
+    same(&rt, exchanged.granted.executed, 3);
+    same(&rt, exchanged.machine.look().regs.a, 0);
+    same(&rt, exchanged.machine.look().regs.alternate.a, 5);
     Ok(())
 }

@@ -1,6 +1,7 @@
 //! Grants that stop before the program comes to an address.
 
 use crate::run::{blank, machine_of};
+use crate::same::same;
 use cpm_flags::Cpu;
 use cpm_slots::{End, Granted, Why};
 use std::test::Fail;
@@ -21,37 +22,40 @@ const BDOS: u16 = 0xEC06;
 fn stops_before_a_call_and_counts_nothing_for_it(rt: HostRuntime) -> Result<(), Fail> {
     let system = blank(rt.alloc())?;
     let mut machine = machine_of(rt.alloc(), Cpu::I8080, LETTER)?;
-    assert_eq!(rt; machine.grant(&system, 2).why, Why::All);
+    same(&rt, machine.grant(&system, 2).why, Why::All);
     let granted = machine.grant_until(&system, 100, BDOS);
-    assert_eq!(rt;
+    same(
+        &rt,
         granted,
         Granted {
             executed: 2,
-            why: Why::Break
-        }
+            why: Why::Break,
+        },
     );
     let look = machine.look();
-    assert_eq!(rt; look.regs.pc, BDOS);
-    assert_eq!(rt; look.regs.sp, 0xEBFC);
-    assert_eq!(rt; look.count, 4);
-    assert_eq!(rt; look.console, 0);
+    same(&rt, look.regs.pc, BDOS);
+    same(&rt, look.regs.sp, 0xEBFC);
+    same(&rt, look.count, 4);
+    same(&rt, look.console, 0);
     // From there it goes on, since the first step may begin at the address.
     let granted = machine.grant_until(&system, 100, BDOS);
-    assert_eq!(rt;
+    same(
+        &rt,
         granted,
         Granted {
             executed: 3,
-            why: Why::Stopped
-        }
+            why: Why::Stopped,
+        },
     );
-    assert_eq!(rt; machine.look().ended, End::Exited);
+    same(&rt, machine.look().ended, End::Exited);
     let granted = machine.grant_until(&system, 100, BDOS);
-    assert_eq!(rt;
+    same(
+        &rt,
         granted,
         Granted {
             executed: 0,
-            why: Why::Stopped
-        }
+            why: Why::Stopped,
+        },
     );
     Ok(())
 }
@@ -61,34 +65,37 @@ fn names_the_first_reason_that_fits(rt: HostRuntime) -> Result<(), Fail> {
     let system = blank(rt.alloc())?;
     let mut machine = machine_of(rt.alloc(), Cpu::I8080, LETTER)?;
     let granted = machine.grant_until(&system, 0, 0x0100);
-    assert_eq!(rt;
+    same(
+        &rt,
         granted,
         Granted {
             executed: 0,
-            why: Why::All
-        }
+            why: Why::All,
+        },
     );
     // The fourth step would begin there: all four were not asked for, then they are.
     let granted = machine.grant_until(&system, 4, BDOS);
-    assert_eq!(rt;
+    same(
+        &rt,
         granted,
         Granted {
             executed: 4,
-            why: Why::All
-        }
+            why: Why::All,
+        },
     );
     let mut machine = machine_of(rt.alloc(), Cpu::I8080, CIRCLE)?;
     for _ in 0..3 {
         let granted = machine.grant_until(&system, 5, 0x0100);
-        assert_eq!(rt;
+        same(
+            &rt,
             granted,
             Granted {
                 executed: 1,
-                why: Why::Break
-            }
+                why: Why::Break,
+            },
         );
     }
-    assert_eq!(rt; machine.look().count, 3);
+    same(&rt, machine.look().count, 3);
     Ok(())
 }
 
@@ -97,32 +104,35 @@ fn stops_before_each_step_of_a_call_that_waits(rt: HostRuntime) -> Result<(), Fa
     let system = blank(rt.alloc())?;
     let mut machine = machine_of(rt.alloc(), Cpu::I8080, READS)?;
     let granted = machine.grant(&system, 100);
-    assert_eq!(rt;
+    same(
+        &rt,
         granted,
         Granted {
             executed: 100,
-            why: Why::All
-        }
+            why: Why::All,
+        },
     );
     assert!(rt; machine.look().waiting);
     let granted = machine.grant_until(&system, 10, BDOS);
-    assert_eq!(rt;
+    same(
+        &rt,
         granted,
         Granted {
             executed: 1,
-            why: Why::Break
-        }
+            why: Why::Break,
+        },
     );
-    assert_eq!(rt; machine.key(b'k'), Ok(()));
+    same(&rt, machine.key(b'k'), Ok(()));
     let granted = machine.grant_until(&system, 10, 0x0105);
-    assert_eq!(rt;
+    same(
+        &rt,
         granted,
         Granted {
             executed: 1,
-            why: Why::Break
-        }
+            why: Why::Break,
+        },
     );
-    assert_eq!(rt; machine.look().regs.a, b'k');
-    assert_eq!(rt; machine.look().keys, 0);
+    same(&rt, machine.look().regs.a, b'k');
+    same(&rt, machine.look().keys, 0);
     Ok(())
 }

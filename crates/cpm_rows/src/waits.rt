@@ -1,6 +1,7 @@
 //! Machines that wait for a key: each step counts, however many there are.
 
 use crate::run::{blank, machine_of, opening_of};
+use crate::same::same;
 use cpm_flags::Cpu;
 use cpm_slots::{End, Granted, Machine, Why};
 use std::process::Abort;
@@ -17,8 +18,8 @@ const MANY: u64 = 0x8000_0000_0000_0000;
 
 /// The grant executed so many steps, and ended for this reason.
 fn granted(rt: &impl Abort, granted: Granted, executed: u64, why: Why) {
-    assert_eq!(rt; granted.executed, executed);
-    assert_eq!(rt; granted.why, why);
+    same(rt, granted.executed, executed);
+    same(rt, granted.why, why);
 }
 
 #[test]
@@ -27,14 +28,14 @@ fn waits_up_to_the_last_count(rt: HostRuntime) -> Result<(), Fail> {
     let mut machine = machine_of(rt.alloc(), Cpu::I8080, READS)?;
     granted(&rt, machine.grant(&system, 100), 100, Why::All);
     assert!(rt; machine.look().waiting);
-    assert_eq!(rt; machine.look().count, 100);
+    same(&rt, machine.look().count, 100);
     granted(&rt, machine.grant_until(&system, 10, BDOS), 1, Why::Break);
-    assert_eq!(rt; machine.look().count, 101);
+    same(&rt, machine.look().count, 101);
     let last = machine.grant(&system, 18_446_744_073_709_551_615);
     granted(&rt, last, 18_446_744_073_709_551_514, Why::Stopped);
     let look = machine.look();
-    assert_eq!(rt; look.ended, End::CountEnd);
-    assert_eq!(rt; look.count, 18_446_744_073_709_551_615);
+    same(&rt, look.ended, End::CountEnd);
+    same(&rt, look.count, 18_446_744_073_709_551_615);
     assert!(rt; !look.waiting);
     granted(&rt, machine.grant(&system, 5), 0, Why::Stopped);
     granted(&rt, machine.grant(&system, 0), 0, Why::All);
@@ -53,14 +54,14 @@ fn takes_a_key_after_many_waits(rt: HostRuntime) -> Result<(), Fail> {
         MANY / 2,
         Why::All,
     );
-    assert_eq!(rt; machine.look().ended, End::Running);
+    same(&rt, machine.look().ended, End::Running);
     assert!(rt; machine.look().waiting);
-    assert_eq!(rt; machine.key(b'k'), Ok(()));
+    same(&rt, machine.key(b'k'), Ok(()));
     // The key, the return and the end.
     granted(&rt, machine.grant(&system, 100), 3, Why::Stopped);
     let look = machine.look();
-    assert_eq!(rt; look.ended, End::Exited);
-    assert_eq!(rt; look.count, MANY + MANY / 2 + 3);
+    same(&rt, look.ended, End::Exited);
+    same(&rt, look.count, MANY + MANY / 2 + 3);
     Ok(())
 }
 
@@ -78,11 +79,11 @@ fn waits_for_a_line(rt: HostRuntime) -> Result<(), Fail> {
         granted(&rt, machine.grant_until(&system, MANY, pc), MANY, Why::All);
         let look = machine.look();
         assert!(rt; look.waiting);
-        assert_eq!(rt; look.ended, End::Running);
-        assert_eq!(rt; look.count, MANY + 1000);
+        same(&rt, look.ended, End::Running);
+        same(&rt, look.count, MANY + 1000);
         let mut out = [0; 64];
         let count = machine.take(&mut out);
-        assert_eq!(rt; &out[..count], b"\r\nA>".as_slice());
+        same(&rt, &out[..count], b"\r\nA>".as_slice());
     }
     Ok(())
 }

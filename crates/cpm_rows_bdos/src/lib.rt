@@ -6,4 +6,8 @@ mod calls;
 #[cfg(test)]
 mod commands;
 #[cfg(test)]
+mod console;
+#[cfg(test)]
+mod same;
+#[cfg(test)]
 mod trial;

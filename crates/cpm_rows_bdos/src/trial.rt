@@ -1,5 +1,6 @@
 //! A session with a memory and a system drive by itself, called by a program or by its user.
 
+use crate::same::{same, same_at};
 use cpm_bdos::{Mode, Session, Went};
 use cpm_ccp::ccp_step;
 use cpm_console::Console;
@@ -131,28 +132,28 @@ impl Trial {
     /// Calls a function of one step, and gives its result.
     pub fn result(&mut self, rt: &impl Abort, function: u8, parameter: u16) -> u16 {
         self.call(function, parameter);
-        assert_eq!(rt; self.step(rt), Went::Returned);
+        same(rt, self.step(rt), Went::Returned);
         self.returned(rt)
     }
 
     /// The result of a call that returned.
     pub fn returned(&self, rt: &impl Abort) -> u16 {
         let regs = self.session.regs;
-        assert_eq!(rt; regs.pc, BACK);
-        assert_eq!(rt; regs.sp, 0xEBFE);
-        assert_eq!(rt; regs.a, regs.l);
-        assert_eq!(rt; regs.b, regs.h);
-        assert_eq!(rt; self.session.mode, Mode::Program);
-        256 * u16::from(regs.h) + u16::from(regs.l)
+        same(rt, regs.pc, BACK);
+        same(rt, regs.sp, 0xEBFE);
+        same(rt, regs.a, regs.l);
+        same(rt, regs.b, regs.h);
+        same(rt, self.session.mode, Mode::Program);
+        (u16::from(regs.h) << 8) | u16::from(regs.l)
     }
 
     /// Calls a function that ends in a fault with this message, and boots by a key.
     pub fn fails(&mut self, rt: &impl Abort, function: u8, parameter: u16, message: &[u8]) {
         self.call(function, parameter);
-        assert_eq!(rt; self.step(rt), Went::GoesOn);
+        same(rt, self.step(rt), Went::GoesOn);
         self.shows(rt, message);
         self.press(rt, b" ");
-        assert_eq!(rt; self.step(rt), Went::Reboot);
+        same(rt, self.step(rt), Went::Reboot);
         self.is_rebooted(rt);
     }
 
@@ -167,23 +168,23 @@ impl Trial {
     pub fn shows(&mut self, rt: &impl Abort, expected: &[u8]) {
         let mut out = [0; 1024];
         let count = self.session.console.take(&mut out);
-        assert_eq!(rt; &out[..count], expected);
-        assert_eq!(rt; self.session.console.held(), 0);
+        same(rt, &out[..count], expected);
+        same(rt, self.session.console.held(), 0);
     }
 
     /// Takes all list bytes, which must be these.
     pub fn lists(&mut self, rt: &impl Abort, expected: &[u8]) {
         let mut out = [0; 64];
         let count = self.session.console.take_list(&mut out);
-        assert_eq!(rt; &out[..count], expected);
-        assert_eq!(rt; self.session.console.held_list(), 0);
+        same(rt, &out[..count], expected);
+        same(rt, self.session.console.held_list(), 0);
     }
 
     /// The session was booted anew.
     pub fn is_rebooted(&self, rt: &impl Abort) {
-        assert_eq!(rt; self.session.regs.pc, 0xE406);
-        assert_eq!(rt; self.session.regs.sp, 0xEBFE);
-        assert_eq!(rt; self.session.mode, Mode::Program);
+        same(rt, self.session.regs.pc, 0xE406);
+        same(rt, self.session.regs.sp, 0xEBFE);
+        same(rt, self.session.mode, Mode::Program);
         assert!(rt; !self.session.console.list_echo());
     }
 
@@ -217,7 +218,7 @@ impl Trial {
 
     /// Types keys at a prompt that was shown, which must show this in so many steps.
     pub fn session(&mut self, rt: &impl Abort, keys: &[u8], steps: u32, expected: &[u8]) {
-        assert_eq!(rt; self.types(rt, keys), steps, "{keys:?}");
+        same_at(rt, keys, self.types(rt, keys), steps);
         self.shows(rt, expected);
     }
 

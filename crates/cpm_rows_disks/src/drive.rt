@@ -1,6 +1,7 @@
 //! Worked calls on files.
 
 use crate::images::{at, blank, fcb, put, text_image};
+use crate::same::same;
 use cpm_directory::LentImage;
 use cpm_drive::{Drive, Marks, open_lent, read_at_protected, read_next_protected};
 use cpm_files::{Answer, Entry, Extent, Fault, Fcb};
@@ -33,17 +34,26 @@ fn text_file_is_read_in_sequence(rt: HostRuntime) {
     let mut drive = drive(text_image(&rt, rt.alloc()));
     let mut file = fcb(0, b"T       TXT");
     let mut buffer = [0; 128];
-    assert_eq!(rt; drive.open_file(0, &mut file), Some(0));
-    assert_eq!(rt; drive.read_next(0, &mut file, &mut buffer), Answer::Done);
-    assert_eq!(rt; buffer[0], 0x41);
-    assert_eq!(rt; drive.read_next(0, &mut file, &mut buffer), Answer::Done);
-    assert_eq!(rt;
+    same(&rt, drive.open_file(0, &mut file), Some(0));
+    same(
+        &rt,
         drive.read_next(0, &mut file, &mut buffer),
-        Answer::NoRecord
+        Answer::Done,
     );
-    assert_eq!(rt; buffer[0], 0x42);
-    assert_eq!(rt; buffer[127], 0x42);
-    assert_eq!(rt; file.current_record, 2);
+    same(&rt, buffer[0], 0x41);
+    same(
+        &rt,
+        drive.read_next(0, &mut file, &mut buffer),
+        Answer::Done,
+    );
+    same(
+        &rt,
+        drive.read_next(0, &mut file, &mut buffer),
+        Answer::NoRecord,
+    );
+    same(&rt, buffer[0], 0x42);
+    same(&rt, buffer[127], 0x42);
+    same(&rt, file.current_record, 2);
 }
 
 #[test]
@@ -51,16 +61,22 @@ fn text_file_is_read_at_random(rt: HostRuntime) {
     let mut drive = drive(text_image(&rt, rt.alloc()));
     let mut file = fcb(0, b"T       TXT");
     let mut buffer = [0; 128];
-    assert_eq!(rt; drive.open_file(0, &mut file), Some(0));
-    assert_eq!(rt; drive.read_at(0, 1, &mut file, &mut buffer), Answer::Done);
-    assert_eq!(rt; buffer[5], 0x42);
-    assert_eq!(rt;
-        drive.read_at(0, 2, &mut file, &mut buffer),
-        Answer::NoRecord
+    same(&rt, drive.open_file(0, &mut file), Some(0));
+    same(
+        &rt,
+        drive.read_at(0, 1, &mut file, &mut buffer),
+        Answer::Done,
     );
-    assert_eq!(rt;
+    same(&rt, buffer[5], 0x42);
+    same(
+        &rt,
+        drive.read_at(0, 2, &mut file, &mut buffer),
+        Answer::NoRecord,
+    );
+    same(
+        &rt,
         drive.read_at(0, 256, &mut file, &mut buffer),
-        Answer::NoExtent
+        Answer::NoExtent,
     );
 }
 
@@ -72,42 +88,48 @@ fn protected_image_is_read(rt: HostRuntime) {
     assert!(rt; marks.is_protected);
     let mut file = fcb(0, b"T       TXT");
     let mut buffer = [0; 128];
-    assert_eq!(rt; open_lent(&LentImage::new(&image), 0, &mut file), Some(0));
-    assert_eq!(rt;
+    same(
+        &rt,
+        open_lent(&LentImage::new(&image), 0, &mut file),
+        Some(0),
+    );
+    same(
+        &rt,
         read_next_protected(&image, &marks, 0, &mut file, &mut buffer),
-        Answer::Done
+        Answer::Done,
     );
-    assert_eq!(rt; buffer[0], 0x41);
-    assert_eq!(rt;
+    same(&rt, buffer[0], 0x41);
+    same(
+        &rt,
         read_at_protected(&image, &marks, 0, 1, &mut file, &mut buffer),
-        Answer::Done
+        Answer::Done,
     );
-    assert_eq!(rt; buffer[0], 0x42);
+    same(&rt, buffer[0], 0x42);
 }
 
 #[test]
 fn made_file_is_closed(rt: HostRuntime) {
     let mut drive = drive(blank(&rt, rt.alloc()));
     let mut file = fcb(0, b"T       DAT");
-    assert_eq!(rt; drive.close_file(0, &mut file), Ok(None));
-    assert_eq!(rt; drive.make_file(0, &mut file), Some(0));
+    same(&rt, drive.close_file(0, &mut file), Ok(None));
+    same(&rt, drive.make_file(0, &mut file), Some(0));
     file = with_map(&file, 3, 0);
-    assert_eq!(rt; drive.close_file(0, &mut file), Ok(Some(0)));
+    same(&rt, drive.close_file(0, &mut file), Ok(Some(0)));
     let first = at(&rt, drive.image.image(), 0);
-    assert_eq!(rt; first.extent.record_count, 2);
-    assert_eq!(rt; first.extent.blocks[0], 3);
+    same(&rt, first.extent.record_count, 2);
+    same(&rt, first.extent.blocks[0], 3);
     file = with_map(&file, 243, 0);
-    assert_eq!(rt; drive.close_file(0, &mut file), Err(Fault::BadSector));
+    same(&rt, drive.close_file(0, &mut file), Err(Fault::BadSector));
     file = with_map(&file, 4, 0);
-    assert_eq!(rt; drive.close_file(0, &mut file), Ok(None));
+    same(&rt, drive.close_file(0, &mut file), Ok(None));
     file = with_map(&file, 3, 5);
     drive.marks.is_protected = true;
-    assert_eq!(rt; drive.close_file(0, &mut file), Err(Fault::ReadOnly));
+    same(&rt, drive.close_file(0, &mut file), Err(Fault::ReadOnly));
 }
 
 /// One random write at record 3 of a new file.
 fn write_at_three(rt: &impl Abort, drive: &mut Drive, file: &mut Fcb, clears: bool) -> Answer {
-    assert_eq!(rt; drive.make_file(0, file), Some(0));
+    same(rt, drive.make_file(0, file), Some(0));
     drive.log_in();
     assert!(rt; !drive.marks.is_protected);
     if clears {
@@ -128,31 +150,33 @@ fn byte(rt: &impl Abort, image: &Image, record: u16) -> u8 {
 fn random_write_leaves_the_rest_of_its_block(rt: HostRuntime) {
     let mut drive = drive(blank(&rt, rt.alloc()));
     let mut file = fcb(0, b"T       DAT");
-    assert_eq!(rt;
+    same(
+        &rt,
         write_at_three(&rt, &mut drive, &mut file, false),
-        Answer::Done
+        Answer::Done,
     );
-    assert_eq!(rt; byte(&rt, drive.image.image(), 18), 0xE5);
-    assert_eq!(rt; byte(&rt, drive.image.image(), 19), 0x41);
-    assert_eq!(rt; byte(&rt, drive.image.image(), 20), 0xE5);
-    assert_eq!(rt; file.current_record, 3);
-    assert_eq!(rt; file.extent.record_count, 4);
-    assert_eq!(rt; file.extent.blocks[0], 2);
+    same(&rt, byte(&rt, drive.image.image(), 18), 0xE5);
+    same(&rt, byte(&rt, drive.image.image(), 19), 0x41);
+    same(&rt, byte(&rt, drive.image.image(), 20), 0xE5);
+    same(&rt, file.current_record, 3);
+    same(&rt, file.extent.record_count, 4);
+    same(&rt, file.extent.blocks[0], 2);
 }
 
 #[test]
 fn random_write_with_zero_fill_clears_its_block(rt: HostRuntime) {
     let mut drive = drive(blank(&rt, rt.alloc()));
     let mut file = fcb(0, b"T       DAT");
-    assert_eq!(rt;
+    same(
+        &rt,
         write_at_three(&rt, &mut drive, &mut file, true),
-        Answer::Done
+        Answer::Done,
     );
-    assert_eq!(rt; byte(&rt, drive.image.image(), 15), 0xE5);
-    assert_eq!(rt; byte(&rt, drive.image.image(), 16), 0);
-    assert_eq!(rt; byte(&rt, drive.image.image(), 19), 0x41);
-    assert_eq!(rt; byte(&rt, drive.image.image(), 23), 0);
-    assert_eq!(rt; byte(&rt, drive.image.image(), 24), 0xE5);
+    same(&rt, byte(&rt, drive.image.image(), 15), 0xE5);
+    same(&rt, byte(&rt, drive.image.image(), 16), 0);
+    same(&rt, byte(&rt, drive.image.image(), 19), 0x41);
+    same(&rt, byte(&rt, drive.image.image(), 23), 0);
+    same(&rt, byte(&rt, drive.image.image(), 24), 0xE5);
 }
 
 /// A file whose second extent has a forged block, the directory's second: its first record is that of entry 32, which is
@@ -162,7 +186,11 @@ fn forged(rt: &impl Abort, alloc: Global) -> (Drive, Fcb) {
     put(rt, &mut image, 32, 0, b"T       DAT", (0, 128, 2));
     put(rt, &mut image, 40, 0, b"T       DAT", (1, 1, 1));
     let mut file = fcb(0, b"T       DAT");
-    assert_eq!(rt; open_lent(&LentImage::new(&image), 0, &mut file), Some(0));
+    same(
+        rt,
+        open_lent(&LentImage::new(&image), 0, &mut file),
+        Some(0),
+    );
     file.extent.blocks[3] = 9;
     file.current_record = 128;
     (drive(image), file)
@@ -172,21 +200,29 @@ fn forged(rt: &impl Abort, alloc: Global) -> (Drive, Fcb) {
 fn closed_entry_is_there_when_it_is_read(rt: HostRuntime) {
     let (mut drive, mut file) = forged(&rt, rt.alloc());
     let mut buffer = [0; 128];
-    assert_eq!(rt; drive.read_next(0, &mut file, &mut buffer), Answer::Done);
-    assert_eq!(rt; buffer[1], b'T');
-    assert_eq!(rt; buffer[16], 2);
-    assert_eq!(rt; buffer[19], 9);
-    assert_eq!(rt; at(&rt, drive.image.image(), 32).extent.blocks[3], 9);
-    assert_eq!(rt; file.extent.ex, 1);
-    assert_eq!(rt; file.current_record, 1);
+    same(
+        &rt,
+        drive.read_next(0, &mut file, &mut buffer),
+        Answer::Done,
+    );
+    same(&rt, buffer[1], b'T');
+    same(&rt, buffer[16], 2);
+    same(&rt, buffer[19], 9);
+    same(&rt, at(&rt, drive.image.image(), 32).extent.blocks[3], 9);
+    same(&rt, file.extent.ex, 1);
+    same(&rt, file.current_record, 1);
 }
 
 #[test]
 fn closed_entry_is_there_when_it_is_read_at_random(rt: HostRuntime) {
     let (mut drive, mut file) = forged(&rt, rt.alloc());
     let mut buffer = [0; 128];
-    assert_eq!(rt; drive.read_at(0, 128, &mut file, &mut buffer), Answer::Done);
-    assert_eq!(rt; buffer[16], 2);
-    assert_eq!(rt; buffer[19], 9);
-    assert_eq!(rt; file.current_record, 0);
+    same(
+        &rt,
+        drive.read_at(0, 128, &mut file, &mut buffer),
+        Answer::Done,
+    );
+    same(&rt, buffer[16], 2);
+    same(&rt, buffer[19], 9);
+    same(&rt, file.current_record, 0);
 }

@@ -2,6 +2,7 @@
 
 use crate::drive::{drive, with_map};
 use crate::images::{at, blank, fcb, put, text_image};
+use crate::same::{same, same_at};
 use cpm_directory::{LentImage, Pattern};
 use cpm_drive::{Drive, Marks, close_lent, file_size, open_lent, search};
 use cpm_files::Fault;
@@ -32,35 +33,41 @@ fn search_goes_from_entry_to_entry(rt: HostRuntime) {
     let image = many_files(&rt, rt.alloc());
     let mut buffer = [0; 128];
     let texts = files(0, b"????????TXT");
-    assert_eq!(rt;
+    same(
+        &rt,
         search(&LentImage::new(&image), &texts, 0, &mut buffer),
-        Some(0)
+        Some(0),
     );
-    assert_eq!(rt; buffer[97], b'U');
-    assert_eq!(rt;
+    same(&rt, buffer[97], b'U');
+    same(
+        &rt,
         search(&LentImage::new(&image), &texts, 1, &mut buffer),
-        Some(3)
+        Some(3),
     );
-    assert_eq!(rt;
+    same(
+        &rt,
         search(&LentImage::new(&image), &texts, 4, &mut buffer),
-        None
+        None,
     );
-    assert_eq!(rt; buffer[64], 0xE5);
+    same(&rt, buffer[64], 0xE5);
     let commands = files(0, b"????????COM");
-    assert_eq!(rt;
+    same(
+        &rt,
         search(&LentImage::new(&image), &commands, 0, &mut buffer),
-        Some(5)
+        Some(5),
     );
-    assert_eq!(rt; buffer[0], 0xE5);
-    assert_eq!(rt; buffer[41], b'C');
+    same(&rt, buffer[0], 0xE5);
+    same(&rt, buffer[41], b'C');
     let of_user_3 = files(3, b"???????????");
-    assert_eq!(rt;
+    same(
+        &rt,
         search(&LentImage::new(&image), &of_user_3, 0, &mut buffer),
-        Some(1)
+        Some(1),
     );
-    assert_eq!(rt;
+    same(
+        &rt,
         search(&LentImage::new(&image), &of_user_3, 2, &mut buffer),
-        None
+        None,
     );
 }
 
@@ -68,18 +75,21 @@ fn search_goes_from_entry_to_entry(rt: HostRuntime) {
 fn search_of_every_entry_gives_erased_ones(rt: HostRuntime) {
     let image = many_files(&rt, rt.alloc());
     let mut buffer = [0; 128];
-    assert_eq!(rt;
+    same(
+        &rt,
         search(&LentImage::new(&image), &Pattern::Every, 2, &mut buffer),
-        Some(2)
+        Some(2),
     );
-    assert_eq!(rt; buffer[32], 3);
-    assert_eq!(rt;
+    same(&rt, buffer[32], 3);
+    same(
+        &rt,
         search(&LentImage::new(&image), &Pattern::Every, 63, &mut buffer),
-        Some(63)
+        Some(63),
     );
-    assert_eq!(rt;
+    same(
+        &rt,
         search(&LentImage::new(&image), &Pattern::Every, 64, &mut buffer),
-        None
+        None,
     );
 }
 
@@ -105,11 +115,11 @@ fn is_reserved(drive: &Drive, block: u16) -> bool {
 fn erased_files_free_their_blocks(rt: HostRuntime) {
     let mut drive = drive(many_files(&rt, rt.alloc()));
     assert!(rt; !drive.marks.is_protected);
-    assert_eq!(rt; drive.erase_files(0, b"????????TXT"), Ok(Some(0)));
-    assert_eq!(rt; at(&rt, drive.image.image(), 0).user, 0xE5);
-    assert_eq!(rt; at(&rt, drive.image.image(), 1).user, 3);
-    assert_eq!(rt; at(&rt, drive.image.image(), 3).user, 0xE5);
-    assert_eq!(rt; at(&rt, drive.image.image(), 5).user, 0);
+    same(&rt, drive.erase_files(0, b"????????TXT"), Ok(Some(0)));
+    same(&rt, at(&rt, drive.image.image(), 0).user, 0xE5);
+    same(&rt, at(&rt, drive.image.image(), 1).user, 3);
+    same(&rt, at(&rt, drive.image.image(), 3).user, 0xE5);
+    same(&rt, at(&rt, drive.image.image(), 5).user, 0);
     for (block, want) in [
         (0, true),
         (1, true),
@@ -118,10 +128,10 @@ fn erased_files_free_their_blocks(rt: HostRuntime) {
         (4, true),
         (5, true),
     ] {
-        assert_eq!(rt; is_reserved(&drive, block), want, "block {block}");
+        same_at(&rt, block, is_reserved(&drive, block), want);
     }
     assert!(rt; !drive.marks.is_protected);
-    assert_eq!(rt; drive.erase_files(0, b"????????TXT"), Ok(None));
+    same(&rt, drive.erase_files(0, b"????????TXT"), Ok(None));
 }
 
 #[test]
@@ -130,7 +140,7 @@ fn erase_leaves_the_directory_reserved(rt: HostRuntime) {
     put(&rt, &mut image, 6, 0, b"FORGED  DAT", (0, 1, 1));
     let mut drive = drive(image);
     assert!(rt; !drive.marks.is_protected);
-    assert_eq!(rt; drive.erase_files(0, b"FORGED  DAT"), Ok(Some(2)));
+    same(&rt, drive.erase_files(0, b"FORGED  DAT"), Ok(Some(2)));
     assert!(rt; is_reserved(&drive, 1));
 }
 
@@ -140,17 +150,19 @@ fn read_only_file_refuses_all(rt: HostRuntime) {
     put(&rt, &mut image, 1, 0, b"U       \xD4XT", (0, 1, 3));
     let mut drive = drive(image);
     assert!(rt; !drive.marks.is_protected);
-    assert_eq!(rt;
+    same(
+        &rt,
         drive.erase_files(0, b"???????????"),
-        Err(Fault::FileReadOnly)
+        Err(Fault::FileReadOnly),
     );
     assert!(rt; !drive.marks.is_protected);
-    assert_eq!(rt;
+    same(
+        &rt,
         drive.rename_files(0, b"???????????", b"V       TXT"),
-        Err(Fault::FileReadOnly)
+        Err(Fault::FileReadOnly),
     );
     let first = at(&rt, drive.image.image(), 0);
-    assert_eq!(rt; first.user, 0);
+    same(&rt, first.user, 0);
     assert!(rt; first.extent.name == *b"T       TXT");
     assert!(rt; is_reserved(&drive, 2));
 }
@@ -167,17 +179,19 @@ fn two_extents(rt: &impl Abort, alloc: Global) -> Image {
 fn each_entry_is_renamed(rt: HostRuntime) {
     let mut drive = drive(two_extents(&rt, rt.alloc()));
     assert!(rt; !drive.marks.is_protected);
-    assert_eq!(rt;
+    same(
+        &rt,
         drive.rename_files(0, b"BIG     DAT", b"SMALL   DAT"),
-        Ok(Some(1))
+        Ok(Some(1)),
     );
     assert!(rt; at(&rt, drive.image.image(), 0).extent.name == *b"T       TXT");
     assert!(rt; at(&rt, drive.image.image(), 5).extent.name == *b"SMALL   DAT");
     assert!(rt; at(&rt, drive.image.image(), 9).extent.name == *b"SMALL   DAT");
     assert!(rt; !drive.marks.is_protected);
-    assert_eq!(rt;
+    same(
+        &rt,
         drive.rename_files(0, b"BIG     DAT", b"SMALL   DAT"),
-        Ok(None)
+        Ok(None),
     );
 }
 
@@ -185,37 +199,49 @@ fn each_entry_is_renamed(rt: HostRuntime) {
 fn attributes_are_set_and_cleared(rt: HostRuntime) {
     let mut drive = drive(two_extents(&rt, rt.alloc()));
     assert!(rt; !drive.marks.is_protected);
-    assert_eq!(rt; drive.set_attributes(0, b"BIG     \xC4AT"), Some(1));
+    same(&rt, drive.set_attributes(0, b"BIG     \xC4AT"), Some(1));
     assert!(rt; at(&rt, drive.image.image(), 5).extent.name == *b"BIG     \xC4AT");
     assert!(rt; at(&rt, drive.image.image(), 9).extent.is_read_only());
     assert!(rt; !drive.marks.is_protected);
-    assert_eq!(rt; drive.set_attributes(0, b"BIG     DAT"), Some(1));
+    same(&rt, drive.set_attributes(0, b"BIG     DAT"), Some(1));
     assert!(rt; at(&rt, drive.image.image(), 5).extent.name == *b"BIG     DAT");
     assert!(rt; !drive.marks.is_protected);
-    assert_eq!(rt; drive.set_attributes(0, b"SMALL   DAT"), None);
+    same(&rt, drive.set_attributes(0, b"SMALL   DAT"), None);
 }
 
 #[test]
 fn size_is_by_the_last_extent(rt: HostRuntime) {
     let mut image = two_extents(&rt, rt.alloc());
-    assert_eq!(rt;
+    same(
+        &rt,
         file_size(&LentImage::new(&image), 0, b"BIG     DAT"),
-        Some(129)
+        Some(129),
     );
-    assert_eq!(rt;
+    same(
+        &rt,
         file_size(&LentImage::new(&image), 0, b"T       TXT"),
-        Some(2)
+        Some(2),
     );
-    assert_eq!(rt;
+    same(
+        &rt,
         file_size(&LentImage::new(&image), 0, b"???????????"),
-        Some(129)
+        Some(129),
     );
-    assert_eq!(rt; file_size(&LentImage::new(&image), 0, b"SMALL   DAT"), None);
-    assert_eq!(rt; file_size(&LentImage::new(&image), 3, b"BIG     DAT"), None);
+    same(
+        &rt,
+        file_size(&LentImage::new(&image), 0, b"SMALL   DAT"),
+        None,
+    );
+    same(
+        &rt,
+        file_size(&LentImage::new(&image), 3, b"BIG     DAT"),
+        None,
+    );
     put(&rt, &mut image, 3, 0, b"EMPTY   DAT", (0, 0, 0));
-    assert_eq!(rt;
+    same(
+        &rt,
         file_size(&LentImage::new(&image), 0, b"EMPTY   DAT"),
-        Some(0)
+        Some(0),
     );
 }
 
@@ -224,9 +250,13 @@ fn protected_image_is_closed_where_nothing_changes(rt: HostRuntime) {
     let image = text_image(&rt, rt.alloc());
     assert!(rt; !Marks::new(image.format(), true).is_logged_in);
     let mut file = fcb(0, b"T       TXT");
-    assert_eq!(rt; open_lent(&LentImage::new(&image), 0, &mut file), Some(0));
-    assert_eq!(rt; close_lent(&image, 0, &mut file), Ok(Some(0)));
-    assert_eq!(rt; close_lent(&image, 3, &mut file), Ok(None));
+    same(
+        &rt,
+        open_lent(&LentImage::new(&image), 0, &mut file),
+        Some(0),
+    );
+    same(&rt, close_lent(&image, 0, &mut file), Ok(Some(0)));
+    same(&rt, close_lent(&image, 3, &mut file), Ok(None));
     file = with_map(&file, 2, 7);
-    assert_eq!(rt; close_lent(&image, 0, &mut file), Err(Fault::ReadOnly));
+    same(&rt, close_lent(&image, 0, &mut file), Err(Fault::ReadOnly));
 }

@@ -2,11 +2,17 @@
 #![tactic(auto)]
 
 #[cfg(test)]
+mod directory;
+#[cfg(test)]
 mod drive;
 #[cfg(test)]
 mod drive_names;
 #[cfg(test)]
+mod geometry;
+#[cfg(test)]
 mod images;
+#[cfg(test)]
+mod same;
 #[cfg(test)]
 mod session;
 #[cfg(test)]
@@ -15,3 +21,5 @@ mod session_directory;
 mod session_drives;
 #[cfg(test)]
 mod session_writes;
+#[cfg(test)]
+mod written_by_cpmtools;

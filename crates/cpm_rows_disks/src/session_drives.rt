@@ -1,6 +1,7 @@
 //! Worked drives of a session: which are there, the system drive, and searches.
 
 use crate::images::{blank, fcb, put, text_image};
+use crate::same::{same, same_at};
 use crate::session::session;
 use cpm_disks::Disks;
 use cpm_files::Fault;
@@ -18,13 +19,13 @@ fn missing_drives_are_faults(rt: HostRuntime) {
             Err(Fault::Select)
         };
         let mut file = fcb(drive, b"T       TXT");
-        assert_eq!(rt; disks.open_file(&system, &mut file), want, "drive {drive}");
+        same_at(&rt, drive, disks.open_file(&system, &mut file), want);
         let there = drive == 0 || drive == 15;
-        assert_eq!(rt; disks.is_there(drive), there, "drive {drive}");
+        same_at(&rt, drive, disks.is_there(drive), there);
     }
-    assert_eq!(rt; disks.login_vector(), 0x8001);
-    assert_eq!(rt; disks.select(&system, 1), Err(Fault::Select));
-    assert_eq!(rt; disks.current, 0);
+    same(&rt, disks.login_vector(), 0x8001);
+    same(&rt, disks.select(&system, 1), Err(Fault::Select));
+    same(&rt, disks.current, 0);
 }
 
 #[test]
@@ -34,12 +35,24 @@ fn reads_look_for_their_drive_first(rt: HostRuntime) {
     let mut file = fcb(2, b"T       TXT");
     let mut buffer = [0; 128];
     let missing = Err(Fault::Select);
-    assert_eq!(rt; disks.close_file(&system, &mut file), missing);
-    assert_eq!(rt; disks.read_next(&system, &mut file, &mut buffer), missing);
-    assert_eq!(rt; disks.read_random(&system, &mut file, &mut buffer), missing);
-    assert_eq!(rt; disks.compute_size(&system, &mut file), missing);
-    assert_eq!(rt; disks.set_random_record(&system, &mut file), missing);
-    assert_eq!(rt; disks.search_first(&system, &file, &mut buffer), missing);
+    same(&rt, disks.close_file(&system, &mut file), missing);
+    same(
+        &rt,
+        disks.read_next(&system, &mut file, &mut buffer),
+        missing,
+    );
+    same(
+        &rt,
+        disks.read_random(&system, &mut file, &mut buffer),
+        missing,
+    );
+    same(&rt, disks.compute_size(&system, &mut file), missing);
+    same(&rt, disks.set_random_record(&system, &mut file), missing);
+    same(
+        &rt,
+        disks.search_first(&system, &file, &mut buffer),
+        missing,
+    );
 }
 
 #[test]
@@ -48,12 +61,24 @@ fn writes_look_for_their_drive_first(rt: HostRuntime) {
     let mut disks = session(&rt, rt.alloc(), blank(&rt, rt.alloc()));
     let mut file = fcb(2, b"T       TXT");
     let missing = Err(Fault::Select);
-    assert_eq!(rt; disks.make_file(&system, &mut file), missing);
-    assert_eq!(rt; disks.write_next(&system, &mut file, &[0; 128]), missing);
-    assert_eq!(rt; disks.write_random(&system, &mut file, &[0; 128]), missing);
-    assert_eq!(rt; disks.erase_files(&system, &file), missing);
-    assert_eq!(rt; disks.rename_files(&system, &file, b"U       TXT"), missing);
-    assert_eq!(rt; disks.set_attributes(&system, &file), missing);
+    same(&rt, disks.make_file(&system, &mut file), missing);
+    same(
+        &rt,
+        disks.write_next(&system, &mut file, &[0; 128]),
+        missing,
+    );
+    same(
+        &rt,
+        disks.write_random(&system, &mut file, &[0; 128]),
+        missing,
+    );
+    same(&rt, disks.erase_files(&system, &file), missing);
+    same(
+        &rt,
+        disks.rename_files(&system, &file, b"U       TXT"),
+        missing,
+    );
+    same(&rt, disks.set_attributes(&system, &file), missing);
 }
 
 #[test]
@@ -65,13 +90,13 @@ fn four_drives_are_there(rt: HostRuntime) {
     }
     let mut disks = Disks::new(images);
     for (drive, want) in [(3, Ok(0)), (4, Err(Fault::Select)), (15, Ok(0)), (1, Ok(0))] {
-        assert_eq!(rt; disks.select(&system, drive), want, "drive {drive}");
+        same_at(&rt, drive, disks.select(&system, drive), want);
     }
-    assert_eq!(rt; disks.current, 1);
-    assert_eq!(rt; disks.login_vector(), 0x800A);
+    same(&rt, disks.current, 1);
+    same(&rt, disks.login_vector(), 0x800A);
     disks.reset(&system);
-    assert_eq!(rt; disks.current, 0);
-    assert_eq!(rt; disks.login_vector(), 0x0001);
+    same(&rt, disks.current, 0);
+    same(&rt, disks.login_vector(), 0x0001);
 }
 
 #[test]
@@ -79,12 +104,12 @@ fn marks_are_lost_by_a_warm_boot(rt: HostRuntime) {
     let system = blank(&rt, rt.alloc());
     let mut disks = session(&rt, rt.alloc(), blank(&rt, rt.alloc()));
     disks.protect(&system);
-    assert_eq!(rt; disks.login_vector(), 0);
-    assert_eq!(rt; disks.read_only_vector(), 0x8001);
-    assert_eq!(rt; disks.select(&system, 0), Ok(0));
+    same(&rt, disks.login_vector(), 0);
+    same(&rt, disks.read_only_vector(), 0x8001);
+    same(&rt, disks.select(&system, 0), Ok(0));
     disks.reboot();
-    assert_eq!(rt; disks.login_vector(), 0);
-    assert_eq!(rt; disks.read_only_vector(), 0x8000);
+    same(&rt, disks.login_vector(), 0);
+    same(&rt, disks.read_only_vector(), 0x8000);
 }
 
 #[test]
@@ -93,14 +118,18 @@ fn system_drive_is_read(rt: HostRuntime) {
     let mut disks = session(&rt, rt.alloc(), blank(&rt, rt.alloc()));
     let mut file = fcb(16, b"T       TXT");
     let mut buffer = [0; 128];
-    assert_eq!(rt; disks.open_file(&system, &mut file), Ok(0));
-    assert_eq!(rt; disks.read_next(&system, &mut file, &mut buffer), Ok(0));
-    assert_eq!(rt; buffer[9], 0x41);
+    same(&rt, disks.open_file(&system, &mut file), Ok(0));
+    same(&rt, disks.read_next(&system, &mut file, &mut buffer), Ok(0));
+    same(&rt, buffer[9], 0x41);
     file.random_record = [1, 0, 0];
-    assert_eq!(rt; disks.read_random(&system, &mut file, &mut buffer), Ok(0));
-    assert_eq!(rt; buffer[9], 0x42);
-    assert_eq!(rt; disks.close_file(&system, &mut file), Ok(0));
-    assert_eq!(rt; disks.login_vector(), 0x8000);
+    same(
+        &rt,
+        disks.read_random(&system, &mut file, &mut buffer),
+        Ok(0),
+    );
+    same(&rt, buffer[9], 0x42);
+    same(&rt, disks.close_file(&system, &mut file), Ok(0));
+    same(&rt, disks.login_vector(), 0x8000);
 }
 
 #[test]
@@ -109,13 +138,25 @@ fn system_drive_is_not_written(rt: HostRuntime) {
     let mut disks = session(&rt, rt.alloc(), blank(&rt, rt.alloc()));
     let mut file = fcb(16, b"T       TXT");
     let refused = Err(Fault::ReadOnly);
-    assert_eq!(rt; disks.open_file(&system, &mut file), Ok(0));
-    assert_eq!(rt; disks.write_next(&system, &mut file, &[0; 128]), refused);
-    assert_eq!(rt; disks.write_random(&system, &mut file, &[0; 128]), refused);
-    assert_eq!(rt; disks.make_file(&system, &mut file), refused);
-    assert_eq!(rt; disks.erase_files(&system, &file), refused);
-    assert_eq!(rt; disks.rename_files(&system, &file, b"U       TXT"), refused);
-    assert_eq!(rt; disks.set_attributes(&system, &file), refused);
+    same(&rt, disks.open_file(&system, &mut file), Ok(0));
+    same(
+        &rt,
+        disks.write_next(&system, &mut file, &[0; 128]),
+        refused,
+    );
+    same(
+        &rt,
+        disks.write_random(&system, &mut file, &[0; 128]),
+        refused,
+    );
+    same(&rt, disks.make_file(&system, &mut file), refused);
+    same(&rt, disks.erase_files(&system, &file), refused);
+    same(
+        &rt,
+        disks.rename_files(&system, &file, b"U       TXT"),
+        refused,
+    );
+    same(&rt, disks.set_attributes(&system, &file), refused);
 }
 
 #[test]
@@ -125,13 +166,13 @@ fn search_is_kept_in_its_session(rt: HostRuntime) {
     let mut other = session(&rt, rt.alloc(), text_image(&rt, rt.alloc()));
     let any = fcb(0, b"???????????");
     let mut buffer = [0; 128];
-    assert_eq!(rt; disks.search_first(&system, &any, &mut buffer), Ok(0));
-    assert_eq!(rt; other.search_next(&system, &mut buffer), 0xFF);
-    assert_eq!(rt; other.search_first(&system, &any, &mut buffer), Ok(0));
-    assert_eq!(rt; disks.search_next(&system, &mut buffer), 0xFF);
-    assert_eq!(rt; disks.search_first(&system, &any, &mut buffer), Ok(0));
+    same(&rt, disks.search_first(&system, &any, &mut buffer), Ok(0));
+    same(&rt, other.search_next(&system, &mut buffer), 0xFF);
+    same(&rt, other.search_first(&system, &any, &mut buffer), Ok(0));
+    same(&rt, disks.search_next(&system, &mut buffer), 0xFF);
+    same(&rt, disks.search_first(&system, &any, &mut buffer), Ok(0));
     disks.reboot();
-    assert_eq!(rt; disks.search_next(&system, &mut buffer), 0xFF);
+    same(&rt, disks.search_next(&system, &mut buffer), 0xFF);
 }
 
 #[test]
@@ -144,15 +185,15 @@ fn search_goes_on_for_another_user(rt: HostRuntime) {
     let mut disks = session(&rt, rt.alloc(), image);
     let any = fcb(0, b"???????????");
     let mut buffer = [0; 128];
-    assert_eq!(rt; disks.search_first(&system, &any, &mut buffer), Ok(0));
+    same(&rt, disks.search_first(&system, &any, &mut buffer), Ok(0));
     disks.user = 1;
-    assert_eq!(rt; disks.search_next(&system, &mut buffer), 1);
-    assert_eq!(rt; buffer[33], b'B');
+    same(&rt, disks.search_next(&system, &mut buffer), 1);
+    same(&rt, buffer[33], b'B');
     disks.user = 0;
     disks.reset(&system);
     disks.reset_drives(0xFFFF);
-    assert_eq!(rt; disks.search_next(&system, &mut buffer), 2);
-    assert_eq!(rt; disks.search_next(&system, &mut buffer), 0xFF);
+    same(&rt, disks.search_next(&system, &mut buffer), 2);
+    same(&rt, disks.search_next(&system, &mut buffer), 0xFF);
 }
 
 #[test]
@@ -161,14 +202,14 @@ fn every_entry_is_found(rt: HostRuntime) {
     let mut disks = session(&rt, rt.alloc(), text_image(&rt, rt.alloc()));
     let every = fcb(b'?', b"T       TXT");
     let mut buffer = [0; 128];
-    assert_eq!(rt; disks.search_first(&system, &every, &mut buffer), Ok(0));
-    assert_eq!(rt; buffer[1], b'T');
-    assert_eq!(rt; disks.select(&system, 15), Ok(0));
+    same(&rt, disks.search_first(&system, &every, &mut buffer), Ok(0));
+    same(&rt, buffer[1], b'T');
+    same(&rt, disks.select(&system, 15), Ok(0));
     for index in 1..64u8 {
-        assert_eq!(rt; disks.search_next(&system, &mut buffer), index % 4);
+        same(&rt, disks.search_next(&system, &mut buffer), index % 4);
     }
-    assert_eq!(rt; disks.search_next(&system, &mut buffer), 0xFF);
-    assert_eq!(rt; disks.search_next(&system, &mut buffer), 0xFF);
-    assert_eq!(rt; disks.search_first(&system, &every, &mut buffer), Ok(0));
-    assert_eq!(rt; buffer[1], 0xE5);
+    same(&rt, disks.search_next(&system, &mut buffer), 0xFF);
+    same(&rt, disks.search_next(&system, &mut buffer), 0xFF);
+    same(&rt, disks.search_first(&system, &every, &mut buffer), Ok(0));
+    same(&rt, buffer[1], 0xE5);
 }

@@ -14,6 +14,8 @@ mod jumps;
 #[cfg(test)]
 mod programs;
 #[cfg(test)]
+mod same;
+#[cfg(test)]
 mod trial;
 #[cfg(test)]
 mod words;

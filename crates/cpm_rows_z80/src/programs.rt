@@ -1,5 +1,6 @@
 //! Whole programs, and instructions that are none.
 
+use crate::same::same;
 use crate::trial::{Case, Trial, check};
 use cpm_decode::{DecodedZ80, ExtendedOp, OpZ80, Ran};
 use cpm_execz80::execz80;
@@ -56,10 +57,10 @@ fn sets_a_bit_at_an_index(rt: HostRuntime) -> Result<(), Fail> {
     let program = [0xDD, 0x21, 0x00, 0x80, 0xDD, 0xCB, 0x05, 0xC6, 0x76];
     let mut trial = Trial::load(rt.alloc(), &program)?;
     trial.go_on(10);
-    assert_eq!(rt; trial.ran, Ran::Halt);
-    assert_eq!(rt; trial.steps, 3);
-    assert_eq!(rt; trial.memory.get(0x8005), 0x01);
-    assert_eq!(rt; trial.regs.refresh, 5);
+    same(&rt, trial.ran, Ran::Halt);
+    same(&rt, trial.steps, 3);
+    same(&rt, trial.memory.get(0x8005), 0x01);
+    same(&rt, trial.regs.refresh, 5);
     Ok(())
 }
 
@@ -70,13 +71,13 @@ fn moves_the_whole_memory_onto_itself(rt: HostRuntime) -> Result<(), Fail> {
     ];
     let mut trial = Trial::load(rt.alloc(), &program)?;
     trial.go_on(100_000);
-    assert_eq!(rt; trial.ran, Ran::Halt);
-    assert_eq!(rt; trial.steps, 65_540);
-    assert_eq!(rt; trial.pairs(), [0x0000, 0x0000, 0x0000, 0x0000]);
-    assert_eq!(rt; trial.memory.touched(), 256);
+    same(&rt, trial.ran, Ran::Halt);
+    same(&rt, trial.steps, 65_540);
+    same(&rt, trial.pairs(), [0x0000, 0x0000, 0x0000, 0x0000]);
+    same(&rt, trial.memory.touched(), 256);
     let before = Trial::load(rt.alloc(), &program)?;
     for address in 0..0xffff {
-        assert_eq!(rt; trial.memory.get(address), before.memory.get(address));
+        same(&rt, trial.memory.get(address), before.memory.get(address));
     }
     Ok(())
 }
@@ -99,10 +100,10 @@ fn others_are_illegal(rt: HostRuntime) -> Result<(), Fail> {
         let mut trial = Trial::load(rt.alloc(), program)?;
         let before = trial.regs;
         trial.go_on(10);
-        assert_eq!(rt; trial.ran, Ran::Illegal);
-        assert_eq!(rt; trial.steps, 1);
-        assert_eq!(rt; trial.regs, before);
-        assert_eq!(rt; trial.memory.touched(), 1);
+        same(&rt, trial.ran, Ran::Illegal);
+        same(&rt, trial.steps, 1);
+        same(&rt, trial.regs, before);
+        same(&rt, trial.memory.touched(), 1);
     }
     Ok(())
 }
@@ -121,11 +122,11 @@ fn returns_from_interrupts(rt: HostRuntime) -> Result<(), Fail> {
         };
         if has_room(&trial.memory) {
             let ran = execz80(&mut trial.regs, &mut trial.memory, &decoded);
-            assert_eq!(rt; ran, Ran::Done);
+            same(&rt, ran, Ran::Done);
         }
-        assert_eq!(rt; trial.regs.iff1, allowed);
-        assert_eq!(rt; trial.regs.iff2, true);
-        assert_eq!(rt; trial.regs.sp, 0xec00);
+        same(&rt, trial.regs.iff1, allowed);
+        same(&rt, trial.regs.iff2, true);
+        same(&rt, trial.regs.sp, 0xec00);
     }
     Ok(())
 }

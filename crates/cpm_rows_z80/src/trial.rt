@@ -1,5 +1,6 @@
 //! A program in a memory by itself.
 
+use crate::same::same;
 use cpm_decode::Ran;
 use cpm_execz80::stepz80;
 use cpm_flags::{Alternate, Cpu, Flags, Regs, pack};
@@ -111,11 +112,11 @@ pub fn check(rt: &impl Abort, alloc: Global, cases: &[Case]) -> Result<(), Alloc
     for case in cases {
         let mut trial = Trial::load(alloc, case.program)?;
         trial.go_on(100);
-        assert_eq!(rt; trial.ran, Ran::Halt);
-        assert_eq!(rt; trial.steps, case.steps);
-        assert_eq!(rt; trial.pairs(), case.after);
+        same(rt, trial.ran, Ran::Halt);
+        same(rt, trial.steps, case.steps);
+        same(rt, trial.pairs(), case.after);
         for (address, value) in case.bytes {
-            assert_eq!(rt; trial.memory.get(*address), *value);
+            same(rt, trial.memory.get(*address), *value);
         }
     }
     Ok(())

@@ -11,6 +11,3 @@ pub use count::count_of;
 pub use fault::{LineFault, ScriptError};
 pub use keys::{are_keys, first_key};
 pub use script::{Key, read_keys};
-
-#[cfg(test)]
-mod tests;

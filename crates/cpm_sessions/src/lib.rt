@@ -9,6 +9,3 @@ mod seats;
 
 pub use event::{Event, Refusal, Reply, Request, SlotId};
 pub use host::{Host, LEAST_FRAMES, MOST_FRAMES, PLACES};
-
-#[cfg(test)]
-mod tests;

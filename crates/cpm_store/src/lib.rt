@@ -10,6 +10,3 @@ pub use laws::writes_are_kept;
 pub use memory::MemoryStore;
 pub use store::{Store, StoreError};
 pub use writes::{Output, WriteError, write_all};
-
-#[cfg(test)]
-mod tests;

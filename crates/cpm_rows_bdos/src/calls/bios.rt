@@ -1,5 +1,6 @@
 //! Calls of the BIOS.
 
+use crate::same::same;
 use crate::trial::{BACK, Trial};
 use cpm_bdos::{Mode, Went};
 use cpm_memory::Memory;
@@ -10,16 +11,16 @@ use std::test::Fail;
 fn call(rt: &impl Abort, trial: &mut Trial, number: u8) -> u8 {
     trial.come(0xFB00 + u16::from(number));
     let before = trial.session.regs;
-    assert_eq!(rt; trial.bios(rt, number), Went::Returned);
+    same(rt, trial.bios(rt, number), Went::Returned);
     let mut after = trial.session.regs;
     let a = after.a;
-    assert_eq!(rt; after.pc, BACK);
-    assert_eq!(rt; after.sp, 0xEBFE);
+    same(rt, after.pc, BACK);
+    same(rt, after.sp, 0xEBFE);
     after.a = before.a;
     after.pc = before.pc;
     after.sp = before.sp;
-    assert_eq!(rt; after, before);
-    assert_eq!(rt; trial.session.mode, Mode::Program);
+    same(rt, after, before);
+    same(rt, trial.session.mode, Mode::Program);
     a
 }
 
@@ -27,23 +28,23 @@ fn call(rt: &impl Abort, trial: &mut Trial, number: u8) -> u8 {
 fn console_and_list_device(rt: HostRuntime) -> Result<(), Fail> {
     let mut trial = Trial::new(rt.alloc())?;
     trial.session.console.set_list_echo(true);
-    assert_eq!(rt; call(&rt, &mut trial, 2), 0x00);
+    same(&rt, call(&rt, &mut trial, 2), 0x00);
     trial.press(&rt, &[b'k', 0x13]);
-    assert_eq!(rt; call(&rt, &mut trial, 2), 0xFF);
-    assert_eq!(rt; call(&rt, &mut trial, 3), b'k');
+    same(&rt, call(&rt, &mut trial, 2), 0xFF);
+    same(&rt, call(&rt, &mut trial, 3), b'k');
     // C is 55h; no look for ^S, no echo
-    assert_eq!(rt; call(&rt, &mut trial, 4), 0x55);
+    same(&rt, call(&rt, &mut trial, 4), 0x55);
     trial.shows(&rt, b"U");
     trial.lists(&rt, b"");
-    assert_eq!(rt; call(&rt, &mut trial, 5), 0x55);
+    same(&rt, call(&rt, &mut trial, 5), 0x55);
     trial.shows(&rt, b"");
     trial.lists(&rt, b"U");
-    assert_eq!(rt; call(&rt, &mut trial, 6), 0x55);
-    assert_eq!(rt; call(&rt, &mut trial, 7), 0x1A);
-    assert_eq!(rt; call(&rt, &mut trial, 15), 0xFF);
+    same(&rt, call(&rt, &mut trial, 6), 0x55);
+    same(&rt, call(&rt, &mut trial, 7), 0x1A);
+    same(&rt, call(&rt, &mut trial, 15), 0xFF);
     trial.shows(&rt, b"");
     trial.lists(&rt, b"");
-    assert_eq!(rt; trial.session.console.pending(), 1);
+    same(&rt, trial.session.console.pending(), 1);
     Ok(())
 }
 
@@ -52,9 +53,9 @@ fn console_input_waits(rt: HostRuntime) -> Result<(), Fail> {
     let mut trial = Trial::new(rt.alloc())?;
     trial.come(0xFB03);
     let before = trial.session.regs;
-    assert_eq!(rt; trial.bios(&rt, 3), Went::Waits);
-    assert_eq!(rt; trial.session.regs, before);
-    assert_eq!(rt; trial.session.mode, Mode::Program);
+    same(&rt, trial.bios(&rt, 3), Went::Waits);
+    same(&rt, trial.session.regs, before);
+    same(&rt, trial.session.mode, Mode::Program);
     Ok(())
 }
 
@@ -64,7 +65,7 @@ fn boots(rt: HostRuntime) -> Result<(), Fail> {
     trial.store(0x0000, &[1, 2, 3, 4, 5, 6, 7, 8]);
     trial.session.console.set_list_echo(true);
     trial.come(0xFB01);
-    assert_eq!(rt; trial.bios(&rt, 1), Went::Reboot);
+    same(&rt, trial.bios(&rt, 1), Went::Reboot);
     trial.is_rebooted(&rt);
     for (address, byte) in [
         (0, 0xC3),
@@ -76,11 +77,11 @@ fn boots(rt: HostRuntime) -> Result<(), Fail> {
         (6, 0x06),
         (7, 0xEC),
     ] {
-        assert_eq!(rt; trial.memory.get(address), byte);
+        same(&rt, trial.memory.get(address), byte);
     }
     trial.come(0xFB00);
-    assert_eq!(rt; trial.bios(&rt, 0), Went::Reboot);
-    assert_eq!(rt; trial.memory.get(3), 0);
-    assert_eq!(rt; trial.memory.get(4), 0);
+    same(&rt, trial.bios(&rt, 0), Went::Reboot);
+    same(&rt, trial.memory.get(3), 0);
+    same(&rt, trial.memory.get(4), 0);
     Ok(())
 }

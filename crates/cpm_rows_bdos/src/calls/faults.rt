@@ -1,5 +1,6 @@
 //! Faults of the disk system.
 
+use crate::same::same;
 use crate::trial::Trial;
 use cpm_bdos::{Mode, Went};
 use cpm_files::Fault;
@@ -9,8 +10,8 @@ use std::test::Fail;
 /// Comes into a fault.
 fn fail(rt: &impl Abort, trial: &mut Trial, fault: Fault, drive: u8) {
     assert!(rt; trial.session.console.held() <= 4096);
-    assert_eq!(rt; trial.session.fault(fault, drive), Went::GoesOn);
-    assert_eq!(rt; trial.session.mode, Mode::Fault);
+    same(rt, trial.session.fault(fault, drive), Went::GoesOn);
+    same(rt, trial.session.mode, Mode::Fault);
 }
 
 #[test]
@@ -21,11 +22,11 @@ fn a_fault_waits_for_a_key_and_boots(rt: HostRuntime) -> Result<(), Fail> {
     fail(&rt, &mut trial, Fault::ReadOnly, 15);
     trial.shows(&rt, b"\r\nBdos Err On P: R/O");
     trial.lists(&rt, b"");
-    assert_eq!(rt; trial.step(&rt), Went::Waits);
+    same(&rt, trial.step(&rt), Went::Waits);
     trial.press(&rt, b" y");
-    assert_eq!(rt; trial.step(&rt), Went::Reboot);
+    same(&rt, trial.step(&rt), Went::Reboot);
     trial.is_rebooted(&rt);
-    assert_eq!(rt; trial.session.console.first_key(), Some(b'y'));
+    same(&rt, trial.session.console.first_key(), Some(b'y'));
     trial.shows(&rt, b"");
     Ok(())
 }
@@ -35,7 +36,7 @@ fn each_fault_has_its_message(rt: HostRuntime) -> Result<(), Fail> {
     let mut trial = Trial::new(rt.alloc())?;
     fail(&rt, &mut trial, Fault::BadSector, 0);
     trial.shows(&rt, b"\r\nBdos Err On A: Bad Sector");
-    assert_eq!(rt; trial.session.console.column(), 25);
+    same(&rt, trial.session.console.column(), 25);
     fail(&rt, &mut trial, Fault::Select, 14);
     trial.shows(&rt, b"\r\nBdos Err On O: Select");
     fail(&rt, &mut trial, Fault::FileReadOnly, 17);

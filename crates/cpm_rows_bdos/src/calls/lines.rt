@@ -1,5 +1,6 @@
 //! Lines that are read.
 
+use crate::same::same;
 use crate::trial::Trial;
 use cpm_bdos::{Mode, Went};
 use cpm_memory::Memory;
@@ -10,16 +11,16 @@ fn edits_a_line(rt: HostRuntime) -> Result<(), Fail> {
     let mut trial = Trial::new(rt.alloc())?;
     trial.store(0x8000, &[0x0A]);
     trial.call(10, 0x8000);
-    assert_eq!(rt; trial.step(&rt), Went::Waits);
-    assert_eq!(rt; trial.session.mode, Mode::Program);
+    same(&rt, trial.step(&rt), Went::Waits);
+    same(&rt, trial.session.mode, Mode::Program);
     trial.press(&rt, &[0x41, 0x42, 0x08, 0x43, 0x0D]);
     for _ in 0..4 {
-        assert_eq!(rt; trial.step(&rt), Went::GoesOn);
-        assert_eq!(rt; trial.session.mode, Mode::Line);
-        assert_eq!(rt; trial.session.regs.pc, 0xEC06);
+        same(&rt, trial.step(&rt), Went::GoesOn);
+        same(&rt, trial.session.mode, Mode::Line);
+        same(&rt, trial.session.regs.pc, 0xEC06);
     }
-    assert_eq!(rt; trial.step(&rt), Went::Returned);
-    assert_eq!(rt; trial.returned(&rt), 0);
+    same(&rt, trial.step(&rt), Went::Returned);
+    same(&rt, trial.returned(&rt), 0);
     trial.shows(&rt, &[0x41, 0x42, 0x08, 0x20, 0x08, 0x43, 0x0D]);
     for (address, byte) in [
         (0x8000, 0x0A),
@@ -28,7 +29,7 @@ fn edits_a_line(rt: HostRuntime) -> Result<(), Fail> {
         (0x8003, 0x43),
         (0x8004, 0x00),
     ] {
-        assert_eq!(rt; trial.memory.get(address), byte);
+        same(&rt, trial.memory.get(address), byte);
     }
     Ok(())
 }
@@ -39,11 +40,11 @@ fn a_line_of_no_character_takes_no_key(rt: HostRuntime) -> Result<(), Fail> {
     trial.store(0x8000, &[0x00, 0x07]);
     trial.press(&rt, b"A");
     trial.call(10, 0x8000);
-    assert_eq!(rt; trial.step(&rt), Went::Returned);
-    assert_eq!(rt; trial.returned(&rt), 0);
+    same(&rt, trial.step(&rt), Went::Returned);
+    same(&rt, trial.returned(&rt), 0);
     trial.shows(&rt, b"\r");
-    assert_eq!(rt; trial.memory.get(0x8001), 0);
-    assert_eq!(rt; trial.session.console.pending(), 1);
+    same(&rt, trial.memory.get(0x8001), 0);
+    same(&rt, trial.session.console.pending(), 1);
     Ok(())
 }
 
@@ -53,14 +54,14 @@ fn a_full_line_ends(rt: HostRuntime) -> Result<(), Fail> {
     trial.store(0xFFFE, &[0x02]);
     trial.call(10, 0xFFFE);
     trial.press(&rt, b"QRS");
-    assert_eq!(rt; trial.step(&rt), Went::GoesOn);
-    assert_eq!(rt; trial.step(&rt), Went::Returned);
+    same(&rt, trial.step(&rt), Went::GoesOn);
+    same(&rt, trial.step(&rt), Went::Returned);
     trial.shows(&rt, b"QR\r");
     // addresses go on at 0000h
-    assert_eq!(rt; trial.memory.get(0xFFFF), 2);
-    assert_eq!(rt; trial.memory.get(0x0000), b'Q');
-    assert_eq!(rt; trial.memory.get(0x0001), b'R');
-    assert_eq!(rt; trial.session.console.pending(), 1);
+    same(&rt, trial.memory.get(0xFFFF), 2);
+    same(&rt, trial.memory.get(0x0000), b'Q');
+    same(&rt, trial.memory.get(0x0001), b'R');
+    same(&rt, trial.session.console.pending(), 1);
     Ok(())
 }
 
@@ -70,13 +71,13 @@ fn break_in_an_empty_line_boots(rt: HostRuntime) -> Result<(), Fail> {
     trial.store(0x8000, &[0x0A]);
     trial.call(10, 0x8000);
     trial.press(&rt, &[0x10, 0x03]);
-    assert_eq!(rt; trial.step(&rt), Went::GoesOn);
+    same(&rt, trial.step(&rt), Went::GoesOn);
     assert!(rt; trial.session.console.list_echo());
-    assert_eq!(rt; trial.step(&rt), Went::Reboot);
+    same(&rt, trial.step(&rt), Went::Reboot);
     trial.is_rebooted(&rt);
     trial.shows(&rt, b"^C");
     trial.lists(&rt, b"^C");
-    assert_eq!(rt; trial.memory.get(0x8001), 0);
+    same(&rt, trial.memory.get(0x8001), 0);
     Ok(())
 }
 
@@ -84,20 +85,20 @@ fn break_in_an_empty_line_boots(rt: HostRuntime) -> Result<(), Fail> {
 fn a_line_echoes_to_the_list_device(rt: HostRuntime) -> Result<(), Fail> {
     let mut trial = Trial::new(rt.alloc())?;
     trial.store(0x8000, &[0x0A]);
-    assert_eq!(rt; trial.result(&rt, 2, 0x0041), 0);
+    same(&rt, trial.result(&rt, 2, 0x0041), 0);
     trial.call(10, 0x8000);
     // a tab from column 1, ^P, a character, ^C in a line that isn't empty, the end
     trial.press(&rt, &[0x09, 0x10, b'Z', 0x03, 0x0A]);
     for _ in 0..4 {
-        assert_eq!(rt; trial.step(&rt), Went::GoesOn);
+        same(&rt, trial.step(&rt), Went::GoesOn);
     }
-    assert_eq!(rt; trial.step(&rt), Went::Returned);
+    same(&rt, trial.step(&rt), Went::Returned);
     trial.shows(&rt, b"A       Z^C\r");
     trial.lists(&rt, b"Z^C\r");
-    assert_eq!(rt; trial.memory.get(0x8001), 3);
-    assert_eq!(rt; trial.memory.get(0x8002), 0x09);
-    assert_eq!(rt; trial.memory.get(0x8004), 0x03);
-    assert_eq!(rt; trial.result(&rt, 2, 0x0042), 0);
+    same(&rt, trial.memory.get(0x8001), 3);
+    same(&rt, trial.memory.get(0x8002), 0x09);
+    same(&rt, trial.memory.get(0x8004), 0x03);
+    same(&rt, trial.result(&rt, 2, 0x0042), 0);
     trial.lists(&rt, b"B");
     Ok(())
 }

@@ -1,5 +1,6 @@
 //! Output, and its hold by ^S.
 
+use crate::same::same;
 use crate::trial::Trial;
 use cpm_bdos::{Held, Mode, Went};
 use cpm_memory::Memory;
@@ -8,12 +9,12 @@ use std::test::Fail;
 #[test]
 fn shows_a_byte(rt: HostRuntime) -> Result<(), Fail> {
     let mut trial = Trial::new(rt.alloc())?;
-    assert_eq!(rt; trial.result(&rt, 2, 0x5541), 0);
-    assert_eq!(rt; trial.result(&rt, 2, 0x0009), 0);
+    same(&rt, trial.result(&rt, 2, 0x5541), 0);
+    same(&rt, trial.result(&rt, 2, 0x0009), 0);
     trial.shows(&rt, b"A       ");
     trial.lists(&rt, b"");
-    assert_eq!(rt; trial.session.regs.c, 2);
-    assert_eq!(rt; trial.session.regs.e, 9);
+    same(&rt, trial.session.regs.c, 2);
+    same(&rt, trial.session.regs.e, 9);
     Ok(())
 }
 
@@ -22,15 +23,15 @@ fn a_byte_waits_for_the_end_of_a_hold(rt: HostRuntime) -> Result<(), Fail> {
     let mut trial = Trial::new(rt.alloc())?;
     trial.press(&rt, &[0x13, 0x20]);
     trial.call(2, 0x0041);
-    assert_eq!(rt; trial.step(&rt), Went::GoesOn);
-    assert_eq!(rt; trial.session.mode, Mode::Hold(Held::Call));
-    assert_eq!(rt; trial.session.regs.pc, 0xEC06);
+    same(&rt, trial.step(&rt), Went::GoesOn);
+    same(&rt, trial.session.mode, Mode::Hold(Held::Call));
+    same(&rt, trial.session.regs.pc, 0xEC06);
     trial.shows(&rt, b"");
-    assert_eq!(rt; trial.step(&rt), Went::GoesOn);
-    assert_eq!(rt; trial.session.mode, Mode::Program);
+    same(&rt, trial.step(&rt), Went::GoesOn);
+    same(&rt, trial.session.mode, Mode::Program);
     trial.shows(&rt, b"");
-    assert_eq!(rt; trial.step(&rt), Went::Returned);
-    assert_eq!(rt; trial.returned(&rt), 0);
+    same(&rt, trial.step(&rt), Went::Returned);
+    same(&rt, trial.returned(&rt), 0);
     trial.shows(&rt, b"A");
     Ok(())
 }
@@ -42,13 +43,13 @@ fn break_ends_a_hold(rt: HostRuntime) -> Result<(), Fail> {
     trial.session.console.set_list_echo(true);
     trial.store(0x0000, &[0, 0, 0]);
     trial.call(2, 0x0041);
-    assert_eq!(rt; trial.step(&rt), Went::GoesOn);
-    assert_eq!(rt; trial.step(&rt), Went::Reboot);
+    same(&rt, trial.step(&rt), Went::GoesOn);
+    same(&rt, trial.step(&rt), Went::Reboot);
     trial.is_rebooted(&rt);
     trial.shows(&rt, b"");
     trial.lists(&rt, b"");
-    assert_eq!(rt; trial.memory.get(0x0000), 0xC3);
-    assert_eq!(rt; trial.memory.get(0x0002), 0xFA);
+    same(&rt, trial.memory.get(0x0000), 0xC3);
+    same(&rt, trial.memory.get(0x0002), 0xFA);
     Ok(())
 }
 
@@ -57,13 +58,13 @@ fn a_hold_looks_for_stop_again(rt: HostRuntime) -> Result<(), Fail> {
     let mut trial = Trial::new(rt.alloc())?;
     trial.press(&rt, &[0x13, 0x20, 0x13, 0x13]);
     trial.call(2, 0x0041);
-    assert_eq!(rt; trial.step(&rt), Went::GoesOn);
-    assert_eq!(rt; trial.step(&rt), Went::GoesOn);
-    assert_eq!(rt; trial.step(&rt), Went::GoesOn);
-    assert_eq!(rt; trial.session.mode, Mode::Hold(Held::Call));
+    same(&rt, trial.step(&rt), Went::GoesOn);
+    same(&rt, trial.step(&rt), Went::GoesOn);
+    same(&rt, trial.step(&rt), Went::GoesOn);
+    same(&rt, trial.session.mode, Mode::Hold(Held::Call));
     // a second ^S is a key as any other
-    assert_eq!(rt; trial.step(&rt), Went::GoesOn);
-    assert_eq!(rt; trial.step(&rt), Went::Returned);
+    same(&rt, trial.step(&rt), Went::GoesOn);
+    same(&rt, trial.step(&rt), Went::Returned);
     trial.shows(&rt, b"A");
     Ok(())
 }
@@ -73,22 +74,26 @@ fn a_text_is_held_in_the_middle(rt: HostRuntime) -> Result<(), Fail> {
     let mut trial = Trial::new(rt.alloc())?;
     trial.store(0x8000, b"HI$");
     trial.call(9, 0x8000);
-    assert_eq!(rt; trial.step(&rt), Went::GoesOn);
+    same(&rt, trial.step(&rt), Went::GoesOn);
     trial.press(&rt, &[0x13]);
-    assert_eq!(rt; trial.step(&rt), Went::GoesOn);
-    assert_eq!(rt; trial.session.mode, Mode::Hold(Held::Text { next: 0x8001 }));
-    assert_eq!(rt; trial.step(&rt), Went::Waits);
+    same(&rt, trial.step(&rt), Went::GoesOn);
+    same(
+        &rt,
+        trial.session.mode,
+        Mode::Hold(Held::Text { next: 0x8001 }),
+    );
+    same(&rt, trial.step(&rt), Went::Waits);
     trial.shows(&rt, b"H");
     trial.press(&rt, b"q");
-    assert_eq!(rt; trial.step(&rt), Went::GoesOn);
-    assert_eq!(rt; trial.session.mode, Mode::Text { next: 0x8001 });
-    assert_eq!(rt; trial.step(&rt), Went::GoesOn);
+    same(&rt, trial.step(&rt), Went::GoesOn);
+    same(&rt, trial.session.mode, Mode::Text { next: 0x8001 });
+    same(&rt, trial.step(&rt), Went::GoesOn);
     trial.shows(&rt, b"I");
     // no look at the end of the text
     trial.press(&rt, &[0x13]);
-    assert_eq!(rt; trial.step(&rt), Went::Returned);
-    assert_eq!(rt; trial.returned(&rt), 0);
-    assert_eq!(rt; trial.session.console.first_key(), Some(0x13));
+    same(&rt, trial.step(&rt), Went::Returned);
+    same(&rt, trial.returned(&rt), 0);
+    same(&rt, trial.session.console.first_key(), Some(0x13));
     trial.shows(&rt, b"");
     Ok(())
 }
@@ -99,14 +104,14 @@ fn a_text_is_held_before_it_begins(rt: HostRuntime) -> Result<(), Fail> {
     trial.store(0x8000, b"A\tB$");
     trial.call(9, 0x8000);
     trial.press(&rt, &[0x13, 0x20]);
-    assert_eq!(rt; trial.step(&rt), Went::GoesOn);
-    assert_eq!(rt; trial.session.mode, Mode::Hold(Held::Call));
-    assert_eq!(rt; trial.step(&rt), Went::GoesOn);
-    assert_eq!(rt; trial.session.mode, Mode::Program);
+    same(&rt, trial.step(&rt), Went::GoesOn);
+    same(&rt, trial.session.mode, Mode::Hold(Held::Call));
+    same(&rt, trial.step(&rt), Went::GoesOn);
+    same(&rt, trial.session.mode, Mode::Program);
     for _ in 0..3 {
-        assert_eq!(rt; trial.step(&rt), Went::GoesOn);
+        same(&rt, trial.step(&rt), Went::GoesOn);
     }
-    assert_eq!(rt; trial.step(&rt), Went::Returned);
+    same(&rt, trial.step(&rt), Went::Returned);
     trial.shows(&rt, b"A       B");
     Ok(())
 }
@@ -114,27 +119,27 @@ fn a_text_is_held_before_it_begins(rt: HostRuntime) -> Result<(), Fail> {
 #[test]
 fn echoes_to_the_list_device(rt: HostRuntime) -> Result<(), Fail> {
     let mut trial = Trial::new(rt.alloc())?;
-    assert_eq!(rt; trial.result(&rt, 5, 0x0009), 0);
+    same(&rt, trial.result(&rt, 5, 0x0009), 0);
     trial.lists(&rt, b"\t");
     trial.shows(&rt, b"");
     trial.session.console.set_list_echo(true);
-    assert_eq!(rt; trial.result(&rt, 2, 0x0041), 0);
-    assert_eq!(rt; trial.result(&rt, 2, 0x0009), 0);
+    same(&rt, trial.result(&rt, 2, 0x0041), 0);
+    same(&rt, trial.result(&rt, 2, 0x0009), 0);
     trial.shows(&rt, b"A       ");
     trial.lists(&rt, b"A       ");
     // functions 5 and 6 go to one device alone
-    assert_eq!(rt; trial.result(&rt, 5, 0x0042), 0);
-    assert_eq!(rt; trial.result(&rt, 6, 0x0043), 0);
+    same(&rt, trial.result(&rt, 5, 0x0042), 0);
+    same(&rt, trial.result(&rt, 6, 0x0043), 0);
     trial.shows(&rt, b"C");
     trial.lists(&rt, b"B");
     trial.store(0x8000, b"T$");
     trial.call(9, 0x8000);
-    assert_eq!(rt; trial.step(&rt), Went::GoesOn);
-    assert_eq!(rt; trial.step(&rt), Went::Returned);
+    same(&rt, trial.step(&rt), Went::GoesOn);
+    same(&rt, trial.step(&rt), Went::Returned);
     trial.shows(&rt, b"T");
     trial.lists(&rt, b"T");
     trial.call(0, 0);
-    assert_eq!(rt; trial.step(&rt), Went::Reboot);
+    same(&rt, trial.step(&rt), Went::Reboot);
     trial.is_rebooted(&rt);
     Ok(())
 }

@@ -1,6 +1,7 @@
 //! A file of two records, read.
 
 use crate::calls::disk::{FCB, name_file, seek, text_disk};
+use crate::same::same;
 use crate::trial::Trial;
 use cpm_bdos::Went;
 use std::alloc::Global;
@@ -11,24 +12,24 @@ use std::test::Fail;
 fn opened(rt: &impl Abort, alloc: Global) -> Result<Trial, Fail> {
     let mut trial = Trial::on(alloc, text_disk(rt, alloc))?;
     name_file(&mut trial, FCB, 0, b"T       TXT");
-    assert_eq!(rt; trial.result(rt, 15, FCB), 0x00);
+    same(rt, trial.result(rt, 15, FCB), 0x00);
     Ok(trial)
 }
 
 #[test]
 fn reads_a_file_to_its_end(rt: HostRuntime) -> Result<(), Fail> {
     let mut trial = opened(&rt, rt.alloc())?;
-    assert_eq!(rt; trial.bytes::<5>(FCB + 12), [0, 0, 0, 2, 2]);
+    same(&rt, trial.bytes::<5>(FCB + 12), [0, 0, 0, 2, 2]);
     for (code, byte) in [(0x00, 0x41), (0x00, 0x42), (0x01, 0x42)] {
-        assert_eq!(rt; trial.result(&rt, 20, FCB), code);
-        assert_eq!(rt; trial.bytes::<128>(0x0080), [byte; 128]);
+        same(&rt, trial.result(&rt, 20, FCB), code);
+        same(&rt, trial.bytes::<128>(0x0080), [byte; 128]);
     }
     // the record that the file control block stands at, and the size of the file
-    assert_eq!(rt; trial.result(&rt, 36, FCB), 0x00);
-    assert_eq!(rt; trial.bytes::<3>(FCB + 33), [2, 0, 0]);
+    same(&rt, trial.result(&rt, 36, FCB), 0x00);
+    same(&rt, trial.bytes::<3>(FCB + 33), [2, 0, 0]);
     seek(&mut trial, [9, 9, 9]);
-    assert_eq!(rt; trial.result(&rt, 35, FCB), 0x00);
-    assert_eq!(rt; trial.bytes::<3>(FCB + 33), [2, 0, 0]);
+    same(&rt, trial.result(&rt, 35, FCB), 0x00);
+    same(&rt, trial.bytes::<3>(FCB + 33), [2, 0, 0]);
     Ok(())
 }
 
@@ -42,8 +43,8 @@ fn reads_records_by_number(rt: HostRuntime) -> Result<(), Fail> {
         ([0, 0, 1], 0x06),
     ] {
         seek(&mut trial, number);
-        assert_eq!(rt; trial.result(&rt, 33, FCB), code);
-        assert_eq!(rt; trial.bytes::<128>(0x0080), [0x42; 128]);
+        same(&rt, trial.result(&rt, 33, FCB), code);
+        same(&rt, trial.bytes::<128>(0x0080), [0x42; 128]);
     }
     Ok(())
 }
@@ -52,25 +53,25 @@ fn reads_records_by_number(rt: HostRuntime) -> Result<(), Fail> {
 fn searches_the_directory(rt: HostRuntime) -> Result<(), Fail> {
     let mut trial = Trial::on(rt.alloc(), text_disk(&rt, rt.alloc()))?;
     // without a search there is no next entry
-    assert_eq!(rt; trial.result(&rt, 18, 0), 0xFF);
+    same(&rt, trial.result(&rt, 18, 0), 0xFF);
     name_file(&mut trial, FCB, 0, b"???????????");
-    assert_eq!(rt; trial.result(&rt, 17, FCB), 0x00);
-    assert_eq!(rt; trial.bytes::<12>(0x0080), *b"\x00T       TXT");
-    assert_eq!(rt; trial.bytes::<96>(0x00A0), [0xE5; 96]);
-    assert_eq!(rt; trial.result(&rt, 18, 0), 0xFF);
-    assert_eq!(rt; trial.result(&rt, 18, 0), 0xFF);
+    same(&rt, trial.result(&rt, 17, FCB), 0x00);
+    same(&rt, trial.bytes::<12>(0x0080), *b"\x00T       TXT");
+    same(&rt, trial.bytes::<96>(0x00A0), [0xE5; 96]);
+    same(&rt, trial.result(&rt, 18, 0), 0xFF);
+    same(&rt, trial.result(&rt, 18, 0), 0xFF);
     // a `?` as the drive is every entry, free ones too
     name_file(&mut trial, FCB, b'?', b"NO     NAME");
-    assert_eq!(rt; trial.result(&rt, 17, FCB), 0x00);
+    same(&rt, trial.result(&rt, 17, FCB), 0x00);
     for index in 1..64 {
-        assert_eq!(rt; trial.result(&rt, 18, 0), index % 4);
+        same(&rt, trial.result(&rt, 18, 0), index % 4);
     }
-    assert_eq!(rt; trial.result(&rt, 18, 0), 0xFF);
+    same(&rt, trial.result(&rt, 18, 0), 0xFF);
     // a warm boot ends a search
-    assert_eq!(rt; trial.result(&rt, 17, FCB), 0x00);
+    same(&rt, trial.result(&rt, 17, FCB), 0x00);
     trial.call(0, 0);
-    assert_eq!(rt; trial.step(&rt), Went::Reboot);
-    assert_eq!(rt; trial.result(&rt, 18, 0), 0xFF);
+    same(&rt, trial.step(&rt), Went::Reboot);
+    same(&rt, trial.result(&rt, 18, 0), 0xFF);
     Ok(())
 }
 
@@ -79,12 +80,12 @@ fn a_search_goes_by_user_and_extent(rt: HostRuntime) -> Result<(), Fail> {
     let mut trial = Trial::on(rt.alloc(), text_disk(&rt, rt.alloc()))?;
     name_file(&mut trial, FCB, 1, b"T       T?T");
     trial.store(FCB + 12, &[1]);
-    assert_eq!(rt; trial.result(&rt, 17, FCB), 0xFF);
+    same(&rt, trial.result(&rt, 17, FCB), 0xFF);
     trial.store(FCB + 12, b"?");
-    assert_eq!(rt; trial.result(&rt, 17, FCB), 0x00);
-    assert_eq!(rt; trial.result(&rt, 32, 0x0003), 0x00);
-    assert_eq!(rt; trial.result(&rt, 17, FCB), 0xFF);
-    assert_eq!(rt; trial.result(&rt, 15, FCB), 0xFF);
+    same(&rt, trial.result(&rt, 17, FCB), 0x00);
+    same(&rt, trial.result(&rt, 32, 0x0003), 0x00);
+    same(&rt, trial.result(&rt, 17, FCB), 0xFF);
+    same(&rt, trial.result(&rt, 15, FCB), 0xFF);
     Ok(())
 }
 
@@ -101,8 +102,8 @@ fn a_record_number_past_the_extent_asks_for_the_next(rt: HostRuntime) -> Result<
     let mut trial = opened(&rt, rt.alloc())?;
     for current_record in [128, 129, 200, 255] {
         trial.store(FCB + 32, &[current_record]);
-        assert_eq!(rt; trial.result(&rt, 20, FCB), 0x01);
-        assert_eq!(rt; trial.bytes::<1>(FCB + 32), [current_record]);
+        same(&rt, trial.result(&rt, 20, FCB), 0x01);
+        same(&rt, trial.bytes::<1>(FCB + 32), [current_record]);
     }
     Ok(())
 }

@@ -1,6 +1,7 @@
 //! Sectors of drives, by calls of the BIOS.
 
 use crate::calls::disk::text_disk;
+use crate::same::same;
 use crate::trial::{BACK, Trial};
 use cpm_bdos::Went;
 use cpm_flags::Regs;
@@ -18,17 +19,17 @@ fn call(rt: &impl Abort, trial: &mut Trial, number: u8, word: u16) -> (u8, u16) 
     trial.session.regs.b = (word >> 8) as u8;
     trial.session.regs.c = (word & 0xff) as u8;
     let before = trial.session.regs;
-    assert_eq!(rt; trial.bios(rt, number), Went::Returned);
+    same(rt, trial.bios(rt, number), Went::Returned);
     let mut after = trial.session.regs;
     let results = (after.a, pair_hl(&after));
-    assert_eq!(rt; after.pc, BACK);
-    assert_eq!(rt; after.sp, 0xEBFE);
+    same(rt, after.pc, BACK);
+    same(rt, after.sp, 0xEBFE);
     after.a = before.a;
     after.h = before.h;
     after.l = before.l;
     after.pc = before.pc;
     after.sp = before.sp;
-    assert_eq!(rt; after, before);
+    same(rt, after, before);
     results
 }
 
@@ -36,9 +37,9 @@ fn call(rt: &impl Abort, trial: &mut Trial, number: u8, word: u16) -> (u8, u16) 
 fn selects_drives_by_their_headers(rt: HostRuntime) -> Result<(), Fail> {
     let mut trial = Trial::new(rt.alloc())?;
     for (drive, header) in [(15, 0xFCC0), (0, 0xFC40), (1, 0x0000), (255, 0x0000)] {
-        assert_eq!(rt; call(&rt, &mut trial, 9, drive), (0x55, header));
+        same(&rt, call(&rt, &mut trial, 9, drive), (0x55, header));
     }
-    assert_eq!(rt; trial.session.place.drive, 0);
+    same(&rt, trial.session.place.drive, 0);
     Ok(())
 }
 
@@ -58,10 +59,10 @@ fn translates_sectors(rt: HostRuntime) -> Result<(), Fail> {
         regs.c = (sector & 0xff) as u8;
         regs.d = (table >> 8) as u8;
         regs.e = (table & 0xff) as u8;
-        assert_eq!(rt; trial.bios(&rt, 16), Went::Returned);
+        same(&rt, trial.bios(&rt, 16), Went::Returned);
         let regs = trial.session.regs;
-        assert_eq!(rt; pair_hl(&regs), physical);
-        assert_eq!(rt; regs.a, 0x55);
+        same(&rt, pair_hl(&regs), physical);
+        same(&rt, regs.a, 0x55);
     }
     Ok(())
 }
@@ -69,31 +70,31 @@ fn translates_sectors(rt: HostRuntime) -> Result<(), Fail> {
 #[test]
 fn reads_and_writes_sectors(rt: HostRuntime) -> Result<(), Fail> {
     let mut trial = Trial::on(rt.alloc(), text_disk(&rt, rt.alloc()))?;
-    assert_eq!(rt; call(&rt, &mut trial, 10, 2), (0x55, 0x5555));
-    assert_eq!(rt; call(&rt, &mut trial, 11, 0), (0x55, 0x5555));
-    assert_eq!(rt; call(&rt, &mut trial, 13, 0), (1, 0x5555));
-    assert_eq!(rt; call(&rt, &mut trial, 11, 1), (0x55, 0x5555));
-    assert_eq!(rt; call(&rt, &mut trial, 13, 0), (0, 0x5555));
-    assert_eq!(rt; trial.bytes::<128>(0x0080), trial.record(&rt, 0));
+    same(&rt, call(&rt, &mut trial, 10, 2), (0x55, 0x5555));
+    same(&rt, call(&rt, &mut trial, 11, 0), (0x55, 0x5555));
+    same(&rt, call(&rt, &mut trial, 13, 0), (1, 0x5555));
+    same(&rt, call(&rt, &mut trial, 11, 1), (0x55, 0x5555));
+    same(&rt, call(&rt, &mut trial, 13, 0), (0, 0x5555));
+    same(&rt, trial.bytes::<128>(0x0080), trial.record(&rt, 0));
     // the second record of track 2 is its sector 7
     trial.store(0x8000, &[0x77; 128]);
-    assert_eq!(rt; call(&rt, &mut trial, 12, 0x8000), (0x55, 0x5555));
-    assert_eq!(rt; call(&rt, &mut trial, 11, 7), (0x55, 0x5555));
-    assert_eq!(rt; call(&rt, &mut trial, 14, 0), (0, 0x5555));
-    assert_eq!(rt; trial.record(&rt, 1), [0x77; 128]);
+    same(&rt, call(&rt, &mut trial, 12, 0x8000), (0x55, 0x5555));
+    same(&rt, call(&rt, &mut trial, 11, 7), (0x55, 0x5555));
+    same(&rt, call(&rt, &mut trial, 14, 0), (0, 0x5555));
+    same(&rt, trial.record(&rt, 1), [0x77; 128]);
     for (track, sector) in [(76, 27), (77, 1), (0x0102, 1), (2, 0x0107)] {
-        assert_eq!(rt; call(&rt, &mut trial, 10, track), (0x55, 0x5555));
-        assert_eq!(rt; call(&rt, &mut trial, 11, sector), (0x55, 0x5555));
-        assert_eq!(rt; call(&rt, &mut trial, 13, 0), (1, 0x5555));
-        assert_eq!(rt; call(&rt, &mut trial, 14, 0), (1, 0x5555));
+        same(&rt, call(&rt, &mut trial, 10, track), (0x55, 0x5555));
+        same(&rt, call(&rt, &mut trial, 11, sector), (0x55, 0x5555));
+        same(&rt, call(&rt, &mut trial, 13, 0), (1, 0x5555));
+        same(&rt, call(&rt, &mut trial, 14, 0), (1, 0x5555));
     }
     // HOME is track 0; the system drive is read, and never written
-    assert_eq!(rt; call(&rt, &mut trial, 8, 0), (0x55, 0x5555));
-    assert_eq!(rt; trial.session.place.track, 0);
-    assert_eq!(rt; call(&rt, &mut trial, 11, 1), (0x55, 0x5555));
-    assert_eq!(rt; call(&rt, &mut trial, 9, 15), (0x55, 0xFCC0));
-    assert_eq!(rt; call(&rt, &mut trial, 14, 0), (1, 0x5555));
-    assert_eq!(rt; call(&rt, &mut trial, 13, 0), (0, 0x5555));
-    assert_eq!(rt; trial.bytes::<128>(0x8000), [0xE5; 128]);
+    same(&rt, call(&rt, &mut trial, 8, 0), (0x55, 0x5555));
+    same(&rt, trial.session.place.track, 0);
+    same(&rt, call(&rt, &mut trial, 11, 1), (0x55, 0x5555));
+    same(&rt, call(&rt, &mut trial, 9, 15), (0x55, 0xFCC0));
+    same(&rt, call(&rt, &mut trial, 14, 0), (1, 0x5555));
+    same(&rt, call(&rt, &mut trial, 13, 0), (0, 0x5555));
+    same(&rt, trial.bytes::<128>(0x8000), [0xE5; 128]);
     Ok(())
 }

@@ -1,5 +1,6 @@
 //! When a session waits for a key.
 
+use crate::same::same;
 use crate::trial::Trial;
 use cpm_bdos::{CommandPart, Held, Mode, waits};
 use cpm_files::Fault;
@@ -16,7 +17,7 @@ fn waits_for_a_key(rt: &impl Abort, trial: &mut Trial) {
     assert!(rt; is_waiting(trial));
     trial.press(rt, b"x");
     assert!(rt; !is_waiting(trial));
-    assert_eq!(rt; trial.session.console.next_key(), Some(b'x'));
+    same(rt, trial.session.console.next_key(), Some(b'x'));
 }
 
 #[test]
@@ -39,7 +40,7 @@ fn waits_where_a_key_is_needed(rt: HostRuntime) -> Result<(), Fail> {
     trial.store(0x8000, &[2]);
     trial.press(&rt, b"A");
     let _went = trial.step(&rt);
-    assert_eq!(rt; trial.session.mode, Mode::Line);
+    same(&rt, trial.session.mode, Mode::Line);
     waits_for_a_key(&rt, &mut trial);
     trial.session.mode = Mode::Command(CommandPart::Line);
     waits_for_a_key(&rt, &mut trial);

@@ -1,6 +1,7 @@
 //! Files that are written on a blank disk.
 
 use crate::calls::disk::{FCB, name_file, seek};
+use crate::same::same;
 use crate::trial::Trial;
 use std::alloc::Global;
 use std::process::Abort;
@@ -10,7 +11,7 @@ use std::test::Fail;
 fn made(rt: &impl Abort, alloc: Global) -> Result<Trial, Fail> {
     let mut trial = Trial::new(alloc)?;
     name_file(&mut trial, FCB, 0, b"T       DAT");
-    assert_eq!(rt; trial.result(rt, 22, FCB), 0x00);
+    same(rt, trial.result(rt, 22, FCB), 0x00);
     Ok(trial)
 }
 
@@ -18,9 +19,9 @@ fn made(rt: &impl Abort, alloc: Global) -> Result<Trial, Fail> {
 fn with_129_records(rt: &impl Abort, alloc: Global) -> Result<Trial, Fail> {
     let mut trial = made(rt, alloc)?;
     for _ in 0..129 {
-        assert_eq!(rt; trial.result(rt, 21, FCB), 0x00);
+        same(rt, trial.result(rt, 21, FCB), 0x00);
     }
-    assert_eq!(rt; trial.result(rt, 16, FCB), 0x01);
+    same(rt, trial.result(rt, 16, FCB), 0x01);
     Ok(trial)
 }
 
@@ -28,10 +29,10 @@ fn with_129_records(rt: &impl Abort, alloc: Global) -> Result<Trial, Fail> {
 fn has_two_extents(rt: &impl Abort, trial: &Trial) {
     let first =
         *b"\x00T       DAT\x00\x00\x00\x80\x02\x03\x04\x05\x06\x07\x08\x09\x0a\x0b\x0c\x0d\x0e\x0f\x10\x11";
-    assert_eq!(rt; trial.entry(rt, 0), first);
+    same(rt, trial.entry(rt, 0), first);
     let mut second = [0; 32];
     second[..17].copy_from_slice(b"\x00T       DAT\x01\x00\x00\x01\x12");
-    assert_eq!(rt; trial.entry(rt, 1), second);
+    same(rt, trial.entry(rt, 1), second);
 }
 
 /// The user and the name of the first directory entry.
@@ -46,7 +47,7 @@ fn start_of_entry(rt: &impl Abort, trial: &Trial) -> [u8; 12] {
 fn a_file_grows_into_a_second_extent(rt: HostRuntime) -> Result<(), Fail> {
     let trial = with_129_records(&rt, rt.alloc())?;
     has_two_extents(&rt, &trial);
-    assert_eq!(rt; trial.entry(&rt, 2), [0xE5; 32]);
+    same(&rt, trial.entry(&rt, 2), [0xE5; 32]);
     Ok(())
 }
 
@@ -54,9 +55,9 @@ fn a_file_grows_into_a_second_extent(rt: HostRuntime) -> Result<(), Fail> {
 fn one_file_fills_the_disk(rt: HostRuntime) -> Result<(), Fail> {
     let mut trial = made(&rt, rt.alloc())?;
     for _ in 0..1928 {
-        assert_eq!(rt; trial.result(&rt, 21, FCB), 0x00);
+        same(&rt, trial.result(&rt, 21, FCB), 0x00);
     }
-    assert_eq!(rt; trial.result(&rt, 21, FCB), 0x02);
+    same(&rt, trial.result(&rt, 21, FCB), 0x02);
     Ok(())
 }
 
@@ -65,9 +66,9 @@ fn a_directory_has_64_entries(rt: HostRuntime) -> Result<(), Fail> {
     let mut trial = Trial::new(rt.alloc())?;
     for index in 0..64 {
         name_file(&mut trial, FCB, 0, b"T       DAT");
-        assert_eq!(rt; trial.result(&rt, 22, FCB), index % 4);
+        same(&rt, trial.result(&rt, 22, FCB), index % 4);
     }
-    assert_eq!(rt; trial.result(&rt, 22, FCB), 0xFF);
+    same(&rt, trial.result(&rt, 22, FCB), 0xFF);
     Ok(())
 }
 
@@ -78,13 +79,13 @@ fn a_record_is_written_by_number(rt: HostRuntime) -> Result<(), Fail> {
         let mut trial = made(&rt, rt.alloc())?;
         trial.store(0x0080, &[0x41; 128]);
         seek(&mut trial, [3, 0, 0]);
-        assert_eq!(rt; trial.result(&rt, function, FCB), 0x00);
+        same(&rt, trial.result(&rt, function, FCB), 0x00);
         for record in 16..24 {
             let byte = if record == 19 { 0x41 } else { rest };
-            assert_eq!(rt; trial.record(&rt, record), [byte; 128]);
+            same(&rt, trial.record(&rt, record), [byte; 128]);
         }
-        assert_eq!(rt; trial.bytes::<2>(FCB + 15), [4, 2]);
-        assert_eq!(rt; trial.bytes::<1>(FCB + 32), [3]);
+        same(&rt, trial.bytes::<2>(FCB + 15), [4, 2]);
+        same(&rt, trial.bytes::<1>(FCB + 32), [3]);
     }
     Ok(())
 }
@@ -92,12 +93,12 @@ fn a_record_is_written_by_number(rt: HostRuntime) -> Result<(), Fail> {
 #[test]
 fn erased_blocks_are_free(rt: HostRuntime) -> Result<(), Fail> {
     let mut trial = with_129_records(&rt, rt.alloc())?;
-    assert_eq!(rt; trial.result(&rt, 19, FCB), 0x00);
+    same(&rt, trial.result(&rt, 19, FCB), 0x00);
     name_file(&mut trial, FCB, 0, b"U       DAT");
-    assert_eq!(rt; trial.result(&rt, 22, FCB), 0x00);
-    assert_eq!(rt; trial.result(&rt, 21, FCB), 0x00);
-    assert_eq!(rt; trial.bytes::<2>(FCB + 15), [1, 2]);
-    assert_eq!(rt; start_of_entry(&rt, &trial), *b"\x00U       DAT");
+    same(&rt, trial.result(&rt, 22, FCB), 0x00);
+    same(&rt, trial.result(&rt, 21, FCB), 0x00);
+    same(&rt, trial.bytes::<2>(FCB + 15), [1, 2]);
+    same(&rt, start_of_entry(&rt, &trial), *b"\x00U       DAT");
     Ok(())
 }
 
@@ -105,10 +106,10 @@ fn erased_blocks_are_free(rt: HostRuntime) -> Result<(), Fail> {
 fn a_close_merges_block_numbers(rt: HostRuntime) -> Result<(), Fail> {
     let mut trial = with_129_records(&rt, rt.alloc())?;
     trial.store(FCB + 16, &[0]);
-    assert_eq!(rt; trial.result(&rt, 16, FCB), 0x01);
-    assert_eq!(rt; trial.bytes::<1>(FCB + 16), [0x12]);
+    same(&rt, trial.result(&rt, 16, FCB), 0x01);
+    same(&rt, trial.bytes::<1>(FCB + 16), [0x12]);
     trial.store(FCB + 16, &[5]);
-    assert_eq!(rt; trial.result(&rt, 16, FCB), 0xFF);
+    same(&rt, trial.result(&rt, 16, FCB), 0xFF);
     has_two_extents(&rt, &trial);
     Ok(())
 }
@@ -117,18 +118,18 @@ fn a_close_merges_block_numbers(rt: HostRuntime) -> Result<(), Fail> {
 fn files_are_renamed_and_get_attributes(rt: HostRuntime) -> Result<(), Fail> {
     let mut trial = made(&rt, rt.alloc())?;
     trial.store(FCB + 16, b"\x00NEW     TXT");
-    assert_eq!(rt; trial.result(&rt, 23, FCB), 0x00);
-    assert_eq!(rt; start_of_entry(&rt, &trial), *b"\x00NEW     TXT");
+    same(&rt, trial.result(&rt, 23, FCB), 0x00);
+    same(&rt, start_of_entry(&rt, &trial), *b"\x00NEW     TXT");
     // the high bit of the first character of the type
     name_file(&mut trial, FCB, 0, b"NEW     \xD4XT");
-    assert_eq!(rt; trial.result(&rt, 30, FCB), 0x00);
-    assert_eq!(rt; start_of_entry(&rt, &trial), *b"\x00NEW     \xD4XT");
+    same(&rt, trial.result(&rt, 30, FCB), 0x00);
+    same(&rt, start_of_entry(&rt, &trial), *b"\x00NEW     \xD4XT");
     name_file(&mut trial, FCB, 0, b"NEW     TXT");
     trial.fails(&rt, 19, FCB, b"\r\nBdos Err On A: File R/O");
     name_file(&mut trial, FCB, 0, b"T       DAT");
-    assert_eq!(rt; trial.result(&rt, 23, FCB), 0xFF);
-    assert_eq!(rt; trial.result(&rt, 30, FCB), 0xFF);
-    assert_eq!(rt; trial.result(&rt, 19, FCB), 0xFF);
+    same(&rt, trial.result(&rt, 23, FCB), 0xFF);
+    same(&rt, trial.result(&rt, 30, FCB), 0xFF);
+    same(&rt, trial.result(&rt, 19, FCB), 0xFF);
     Ok(())
 }
 
@@ -136,11 +137,11 @@ fn files_are_renamed_and_get_attributes(rt: HostRuntime) -> Result<(), Fail> {
 fn protected_drives_are_not_written(rt: HostRuntime) -> Result<(), Fail> {
     let mut trial = Trial::new(rt.alloc())?;
     name_file(&mut trial, FCB, 0, b"T       DAT");
-    assert_eq!(rt; trial.result(&rt, 28, 0), 0x00);
-    assert_eq!(rt; trial.result(&rt, 29, 0), 0x8001);
+    same(&rt, trial.result(&rt, 28, 0), 0x00);
+    same(&rt, trial.result(&rt, 29, 0), 0x8001);
     trial.fails(&rt, 22, FCB, b"\r\nBdos Err On A: R/O");
     // a warm boot ends the protection, but not that of the system drive
-    assert_eq!(rt; trial.result(&rt, 22, FCB), 0x00);
+    same(&rt, trial.result(&rt, 22, FCB), 0x00);
     trial.store(FCB, &[16]);
     for function in [19, 21, 22, 23, 30, 34, 40] {
         trial.fails(&rt, function, FCB, b"\r\nBdos Err On P: R/O");

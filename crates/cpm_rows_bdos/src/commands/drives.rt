@@ -1,5 +1,6 @@
 //! Drives' letters, USER, and the prompt.
 
+use crate::same::same;
 use crate::trial::{Trial, disk_of};
 use std::test::Fail;
 
@@ -8,16 +9,17 @@ fn a_letter_is_the_current_drive(rt: HostRuntime) -> Result<(), Fail> {
     let mut trial = Trial::new(rt.alloc())?;
     trial.store(0x0004, &[0x20]);
     trial.session(&rt, b"P:\r", 1 + 3 + 2, b"\r\nA>P:\r\r\nP>");
-    assert_eq!(rt; trial.bytes(0x0004), [0x2F]);
-    assert_eq!(rt;
+    same(&rt, trial.bytes(0x0004), [0x2F]);
+    same(
+        &rt,
         (trial.session.disks.current, trial.session.disks.user),
-        (15, 2)
+        (15, 2),
     );
     trial.session(&rt, b" a: \r", 5 + 2, b" a: \r\r\nA>");
-    assert_eq!(rt; trial.bytes(0x0004), [0x20]);
+    same(&rt, trial.bytes(0x0004), [0x20]);
     trial.session(&rt, b"A: X\r", 5 + 2, b"A: X\r\r\nA:?\r\nA>");
     trial.session(&rt, b"B:\r", 3 + 1, b"B:\r\r\nBdos Err On B: Select");
-    assert_eq!(rt; trial.bytes(0x0004), [0x20]);
+    same(&rt, trial.bytes(0x0004), [0x20]);
     trial.session(&rt, b" ", 2, b"\r\nA>");
     Ok(())
 }
@@ -28,13 +30,14 @@ fn a_missing_drive_prompts_as_a(rt: HostRuntime) -> Result<(), Fail> {
     trial.store(0x0004, &[0x37]);
     trial.session.buffer = 0x8000;
     trial.prompts(&rt);
-    assert_eq!(rt; trial.bytes(0x0004), [0x37]);
-    assert_eq!(rt;
+    same(&rt, trial.bytes(0x0004), [0x37]);
+    same(
+        &rt,
         (trial.session.disks.current, trial.session.disks.user),
-        (0, 3)
+        (0, 3),
     );
-    assert_eq!(rt; trial.session.disks.login_vector(), 1);
-    assert_eq!(rt; trial.session.buffer, 0x0080);
+    same(&rt, trial.session.disks.login_vector(), 1);
+    same(&rt, trial.session.buffer, 0x0080);
     Ok(())
 }
 
@@ -56,7 +59,7 @@ fn users_have_their_own_files(rt: HostRuntime) -> Result<(), Fail> {
         8 + 2 + 4 + 3,
         b"USER 15\r\r\nA>DIR\r\r\nA: LAST     TXT\r\nA>",
     );
-    assert_eq!(rt; trial.bytes(0x0004), [0xF0]);
+    same(&rt, trial.bytes(0x0004), [0xF0]);
     trial.session(
         &rt,
         b"user 000\rdir\r",
@@ -66,6 +69,6 @@ fn users_have_their_own_files(rt: HostRuntime) -> Result<(), Fail> {
     trial.session(&rt, b"USER 16\r", 8 + 2, b"USER 16\r\r\nUSER?\r\nA>");
     trial.session(&rt, b"USER\r", 5 + 2, b"USER\r\r\nUSER?\r\nA>");
     trial.session(&rt, b"USER 1A\r", 8 + 2, b"USER 1A\r\r\nUSER?\r\nA>");
-    assert_eq!(rt; trial.bytes(0x0004), [0x00]);
+    same(&rt, trial.bytes(0x0004), [0x00]);
     Ok(())
 }

@@ -1,5 +1,6 @@
 //! ERA.
 
+use crate::same::same;
 use crate::trial::{Trial, disk_of};
 use std::alloc::Global;
 use std::process::Abort;
@@ -36,7 +37,7 @@ fn users(rt: &impl Abort, trial: &Trial) -> [u8; 4] {
 fn erases_the_files_of_a_name(rt: HostRuntime) -> Result<(), Fail> {
     let mut trial = trial(&rt, rt.alloc())?;
     trial.session(&rt, b"ERA TWO.TXT\r", 12 + 2, b"ERA TWO.TXT\r\r\nA>");
-    assert_eq!(rt; users(&rt, &trial), [0x00, 0xE5, 0x00, 0x01]);
+    same(&rt, users(&rt, &trial), [0x00, 0xE5, 0x00, 0x01]);
     trial.session(
         &rt,
         b"ERA TWO.TXT\r",
@@ -44,7 +45,7 @@ fn erases_the_files_of_a_name(rt: HostRuntime) -> Result<(), Fail> {
         b"ERA TWO.TXT\r\r\nNO FILE\r\nA>",
     );
     trial.session(&rt, b"era *.txt\r", 10 + 2, b"era *.txt\r\r\nA>");
-    assert_eq!(rt; users(&rt, &trial), [0xE5, 0xE5, 0x00, 0x01]);
+    same(&rt, users(&rt, &trial), [0xE5, 0xE5, 0x00, 0x01]);
     Ok(())
 }
 
@@ -66,7 +67,7 @@ fn faults_leave_the_files(rt: HostRuntime) -> Result<(), Fail> {
         8 + 1,
         b"ERA D:X\r\r\nBdos Err On D: Select",
     );
-    assert_eq!(rt; users(&rt, &trial), [0x00, 0x00, 0x00, 0x01]);
+    same(&rt, users(&rt, &trial), [0x00, 0x00, 0x00, 0x01]);
     Ok(())
 }
 
@@ -81,7 +82,7 @@ fn all_files_are_asked_for(rt: HostRuntime) -> Result<(), Fail> {
         8 + 1 + 1 + 2,
         b"ERA *.*\r\r\nALL (Y/N)?\r\r\nA>",
     );
-    assert_eq!(rt; users(&rt, &trial), [0x00, 0x00, 0x00, 0x01]);
+    same(&rt, users(&rt, &trial), [0x00, 0x00, 0x00, 0x01]);
     // a read-only file among them refuses all
     trial.session(
         &rt,
@@ -96,7 +97,7 @@ fn all_files_are_asked_for(rt: HostRuntime) -> Result<(), Fail> {
         10 + 2 + 12 + 2,
         b"ERA ???.*\r\r\nA>ERA LOCKED.\r\r\nNO FILE\r\nA>",
     );
-    assert_eq!(rt; users(&rt, &trial), [0xE5, 0xE5, 0x00, 0x01]);
+    same(&rt, users(&rt, &trial), [0xE5, 0xE5, 0x00, 0x01]);
     Ok(())
 }
 

@@ -1,5 +1,6 @@
 //! The line behind the prompt.
 
+use crate::same::same;
 use crate::trial::Trial;
 use std::test::Fail;
 
@@ -56,10 +57,10 @@ fn the_list_device_echoes(rt: HostRuntime) -> Result<(), Fail> {
     trial.session(&rt, b"\x10DIR\r", 5 + 2, b"DIR\r\r\nNO FILE\r\nA>");
     let mut out = [0; 64];
     let count = trial.session.console.take_list(&mut out);
-    assert_eq!(rt; &out[..count], b"DIR\r\r\nNO FILE\r\nA>".as_slice());
+    same(&rt, &out[..count], b"DIR\r\r\nNO FILE\r\nA>".as_slice());
     // but not the text of a fault
     trial.session(&rt, b"C:\r", 3 + 1, b"C:\r\r\nBdos Err On C: Select");
     let count = trial.session.console.take_list(&mut out);
-    assert_eq!(rt; &out[..count], b"C:\r".as_slice());
+    same(&rt, &out[..count], b"C:\r".as_slice());
     Ok(())
 }

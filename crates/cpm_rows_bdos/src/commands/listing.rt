@@ -1,5 +1,6 @@
 //! DIR.
 
+use crate::same::same;
 use crate::trial::{Trial, disk_of};
 use cpm_bdos::{CommandPart, Held, Mode, Went};
 use std::test::Fail;
@@ -84,19 +85,19 @@ fn stop_holds_what_would_be_shown(rt: HostRuntime) -> Result<(), Fail> {
     trial.prompts(&rt);
     trial.session(&rt, b"DIR\r\x13", 5, b"DIR\r");
     let first = Held::Command(CommandPart::Begin);
-    assert_eq!(rt; trial.session.mode, Mode::Hold(first));
+    same(&rt, trial.session.mode, Mode::Hold(first));
     // it is looked for again where the part begins anew
     trial.session(&rt, b"X\x13", 2, b"");
-    assert_eq!(rt; trial.session.mode, Mode::Hold(first));
+    same(&rt, trial.session.mode, Mode::Hold(first));
     trial.press(&rt, b"X");
-    assert_eq!(rt; trial.command_step(&rt), Went::GoesOn);
-    assert_eq!(rt; trial.command_step(&rt), Went::GoesOn);
+    same(&rt, trial.command_step(&rt), Went::GoesOn);
+    same(&rt, trial.command_step(&rt), Went::GoesOn);
     trial.session(&rt, b"\x13", 1, b"\r\nA: ONE      COM");
     let second = Held::Command(CommandPart::Directory { next: 1, column: 1 });
-    assert_eq!(rt; trial.session.mode, Mode::Hold(second));
+    same(&rt, trial.session.mode, Mode::Hold(second));
     trial.press(&rt, b"Y");
-    assert_eq!(rt; trial.command_step(&rt), Went::GoesOn);
-    assert_eq!(rt; trial.command_step(&rt), Went::GoesOn);
+    same(&rt, trial.command_step(&rt), Went::GoesOn);
+    same(&rt, trial.command_step(&rt), Went::GoesOn);
     // the end after files shows nothing: the key goes into the next line
     trial.session(&rt, b"\x13", 3, b" : TWO      TXT\r\nA>^S");
     trial.session(&rt, b"\x08", 1, b"\x08 \x08\x08 \x08");

@@ -1,5 +1,6 @@
 //! Lines and what they are.
 
+use crate::same::{same, same_at};
 use cpm_ccp::{Command, parse_command};
 use cpm_directory::{Extent, Fcb};
 use std::process::Abort;
@@ -24,7 +25,7 @@ pub fn file(drive: u8, name: &[u8; 11]) -> Fcb {
 
 /// Fails unless the line is this command where A is the current drive.
 pub fn check(rt: &impl Abort, line: &[u8], wanted: Command) {
-    assert_eq!(rt; parse_command(line, 0), wanted, "{line:?}");
+    same_at(rt, line, parse_command(line, 0), wanted);
 }
 
 /// Fails unless the line runs a program of this name.
@@ -141,9 +142,10 @@ fn files_are_renamed_on_one_drive(rt: HostRuntime) {
     let old = file(2, b"OLD        ");
     check(&rt, b"REN B:NEW.TXT=OLD", Command::Rename { old, new });
     check(&rt, b"REN B:NEW.TXT=B:OLD", Command::Rename { old, new });
-    assert_eq!(rt;
+    same(
+        &rt,
         parse_command(b"REN B:NEW.TXT=B:OLD", 9),
-        Command::Rename { old, new }
+        Command::Rename { old, new },
     );
     check_unknown(&rt, b"REN.X A=B");
     check_program(&rt, b"RENAME A=B", file(0, b"RENAME  COM"));
@@ -152,20 +154,22 @@ fn files_are_renamed_on_one_drive(rt: HostRuntime) {
 #[test]
 fn drives_of_old_names_are_the_new_ones_drive(rt: HostRuntime) {
     let line = b"REN NEW=A:OLD";
-    assert_eq!(rt; parse_command(line, 1), Command::RenameForm);
+    same(&rt, parse_command(line, 1), Command::RenameForm);
     let new = file(1, b"NEW        ");
     let old = file(1, b"OLD        ");
-    assert_eq!(rt;
+    same(
+        &rt,
         parse_command(b"REN A:NEW=OLD", 1),
-        Command::Rename { old, new }
+        Command::Rename { old, new },
     );
     check(&rt, b"REN A:NEW=B:OLD", Command::RenameForm);
     check(&rt, b"REN NEW=B:OLD", Command::RenameForm);
     let new = file(0, b"NEW        ");
     let old = file(0, b"OLD        ");
-    assert_eq!(rt;
+    same(
+        &rt,
         parse_command(b"REN NEW=P:OLD", 15),
-        Command::Rename { old, new }
+        Command::Rename { old, new },
     );
 }
 

@@ -1,5 +1,6 @@
 //! Programs: the loader, and what they find.
 
+use crate::same::same;
 use crate::trial::{Trial, blank, disk_of, put_entry};
 use cpm_bdos::{CommandPart, Mode, Went};
 use cpm_ccp::load_step;
@@ -50,13 +51,17 @@ fn a_program_starts_with_its_tail(rt: HostRuntime) -> Result<(), Fail> {
         b"\r\nA>w  b:in.txt *.c out\r",
     );
     let regs = trial.session.regs;
-    assert_eq!(rt; (regs.pc, regs.sp, regs.h), (0x0100, 0xEBFE, 0x77));
-    assert_eq!(rt; trial.session.buffer, 0x0080);
-    assert_eq!(rt; trial.bytes(0x0100), *b"\x21\x00\x20\x77\x24\xC3\x03\x01");
-    assert_eq!(rt; trial.bytes(0x005C), *b"\x02IN      TXT\0\0\0\0");
-    assert_eq!(rt; trial.bytes(0x006C), *b"\x00????????C  \0\0\0\0");
-    assert_eq!(rt; trial.bytes(0x007C), *b"\0UUU\x12  B:IN.TXT *.C OUT\0U");
-    assert_eq!(rt; trial.bytes(0xEBFE), [0x06, 0xE4]);
+    same(&rt, (regs.pc, regs.sp, regs.h), (0x0100, 0xEBFE, 0x77));
+    same(&rt, trial.session.buffer, 0x0080);
+    same(
+        &rt,
+        trial.bytes(0x0100),
+        *b"\x21\x00\x20\x77\x24\xC3\x03\x01",
+    );
+    same(&rt, trial.bytes(0x005C), *b"\x02IN      TXT\0\0\0\0");
+    same(&rt, trial.bytes(0x006C), *b"\x00????????C  \0\0\0\0");
+    same(&rt, trial.bytes(0x007C), *b"\0UUU\x12  B:IN.TXT *.C OUT\0U");
+    same(&rt, trial.bytes(0xEBFE), [0x06, 0xE4]);
     Ok(())
 }
 
@@ -64,15 +69,15 @@ fn a_program_starts_with_its_tail(rt: HostRuntime) -> Result<(), Fail> {
 fn a_program_without_a_tail(rt: HostRuntime) -> Result<(), Fail> {
     let mut trial = Trial::on(rt.alloc(), disk(&rt, rt.alloc()))?;
     trial.session(&rt, b"W\r", 6, b"\r\nA>W\r");
-    assert_eq!(rt; trial.bytes(0x005C), *b"\0           \0\0\0\0");
-    assert_eq!(rt; trial.bytes(0x006C), *b"\0           \0\0\0\0\0");
-    assert_eq!(rt; trial.bytes(0x0080), [0, 0]);
+    same(&rt, trial.bytes(0x005C), *b"\0           \0\0\0\0");
+    same(&rt, trial.bytes(0x006C), *b"\0           \0\0\0\0\0");
+    same(&rt, trial.bytes(0x0080), [0, 0]);
     // the first word's name may end before the word does
     let mut trial = Trial::on(rt.alloc(), disk(&rt, rt.alloc()))?;
     trial.session(&rt, b"A:W=X Y=Z\r", 1 + 10 + 3, b"\r\nA>A:W=X Y=Z\r");
-    assert_eq!(rt; trial.bytes(0x005C), *b"\0Y          \0\0\0\0");
-    assert_eq!(rt; trial.bytes(0x006C), *b"\0           \0\0\0\0\0");
-    assert_eq!(rt; trial.bytes(0x0080), *b"\x04 Y=Z\0");
+    same(&rt, trial.bytes(0x005C), *b"\0Y          \0\0\0\0");
+    same(&rt, trial.bytes(0x006C), *b"\0           \0\0\0\0\0");
+    same(&rt, trial.bytes(0x0080), *b"\x04 Y=Z\0");
     Ok(())
 }
 
@@ -93,8 +98,8 @@ fn words_that_are_no_program(rt: HostRuntime) -> Result<(), Fail> {
 fn records_that_fit_and_one_too_many(rt: HostRuntime) -> Result<(), Fail> {
     let mut trial = Trial::on(rt.alloc(), big(&rt, rt.alloc(), 454))?;
     trial.session(&rt, b"BIG\r", 1 + 4 + 1 + 454 + 1, b"\r\nA>BIG\r");
-    assert_eq!(rt; trial.session.regs.pc, 0x0100);
-    assert_eq!(rt; trial.bytes(0xE3FF), [0xC9, 0x00]);
+    same(&rt, trial.session.regs.pc, 0x0100);
+    same(&rt, trial.bytes(0xE3FF), [0xC9, 0x00]);
     let mut trial = Trial::on(rt.alloc(), big(&rt, rt.alloc(), 455))?;
     trial.session(
         &rt,
@@ -102,7 +107,7 @@ fn records_that_fit_and_one_too_many(rt: HostRuntime) -> Result<(), Fail> {
         1 + 4 + 1 + 455 + 1,
         b"\r\nA>BIG\r\r\nBAD LOAD\r\nA>",
     );
-    assert_eq!(rt; trial.bytes(0xE3FF), [0xC9, 0x00]);
+    same(&rt, trial.bytes(0xE3FF), [0xC9, 0x00]);
     Ok(())
 }
 
@@ -129,14 +134,15 @@ fn entries_that_lie(rt: HostRuntime) -> Result<(), Fail> {
     trial.session(&rt, b" ", 2, b"\r\nA>");
     trial.store(0x0100, b"\xC9");
     trial.session(&rt, b"LOW\r", 4 + 2, b"LOW\r");
-    assert_eq!(rt;
+    same(
+        &rt,
         (trial.session.regs.pc, trial.session.mode),
-        (0x0100, Mode::Program)
+        (0x0100, Mode::Program),
     );
-    assert_eq!(rt; trial.bytes(0x0100), [0xC9, 0x00]);
+    same(&rt, trial.bytes(0x0100), [0xC9, 0x00]);
     trial.session.regs.pc = 0xE406;
     trial.session(&rt, b"EMPTY\r", 1 + 6 + 2, b"\r\nA>EMPTY\r");
-    assert_eq!(rt; trial.session.regs.pc, 0x0100);
+    same(&rt, trial.session.regs.pc, 0x0100);
     Ok(())
 }
 
@@ -145,17 +151,18 @@ fn the_loader_by_itself(rt: HostRuntime) -> Result<(), Fail> {
     let mut trial = Trial::on(rt.alloc(), disk(&rt, rt.alloc()))?;
     trial.press(&rt, b"W\r");
     for _ in 0..4 {
-        assert_eq!(rt; trial.command_step(&rt), Went::GoesOn);
+        same(&rt, trial.command_step(&rt), Went::GoesOn);
     }
-    assert_eq!(rt;
+    same(
+        &rt,
         trial.session.mode,
-        Mode::Command(CommandPart::Load { next: 0x0100 })
+        Mode::Command(CommandPart::Load { next: 0x0100 }),
     );
     for went in [Went::GoesOn, Went::Returned, Went::GoesOn] {
         assert!(rt; trial.session.console.has_room() && cpm_memory::has_room(&trial.memory));
         let did = load_step(&mut trial.session, &mut trial.memory, &trial.system);
-        assert_eq!(rt; did, went);
+        same(&rt, did, went);
     }
-    assert_eq!(rt; trial.session.regs.pc, 0x0100);
+    same(&rt, trial.session.regs.pc, 0x0100);
     Ok(())
 }

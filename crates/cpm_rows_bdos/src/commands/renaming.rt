@@ -1,5 +1,6 @@
 //! REN.
 
+use crate::same::same;
 use crate::trial::{Trial, disk_of};
 use std::alloc::Global;
 use std::process::Abort;
@@ -37,8 +38,8 @@ fn every_entry_gets_the_new_name(rt: HostRuntime) -> Result<(), Fail> {
         20 + 2,
         b"REN NEW.DOC=OLD.TXT\r\r\nA>",
     );
-    assert_eq!(rt; name(&rt, &trial, 0), *b"NEW     DOC");
-    assert_eq!(rt; name(&rt, &trial, 1), *b"NEW     DOC");
+    same(&rt, name(&rt, &trial, 0), *b"NEW     DOC");
+    same(&rt, name(&rt, &trial, 1), *b"NEW     DOC");
     trial.session(
         &rt,
         b"REN NEW.DOC=OLD.TXT\r",
@@ -57,7 +58,7 @@ fn every_entry_gets_the_new_name(rt: HostRuntime) -> Result<(), Fail> {
         18 + 2,
         b"REN A:X_A:NEW.DOC\r\r\nA>",
     );
-    assert_eq!(rt; name(&rt, &trial, 1), *b"X          ");
+    same(&rt, name(&rt, &trial, 1), *b"X          ");
     Ok(())
 }
 
@@ -88,7 +89,7 @@ fn bad_forms(rt: HostRuntime) -> Result<(), Fail> {
         14 + 2,
         b"REN OLD NEW.X\r\r\nREN?\r\nA>",
     );
-    assert_eq!(rt; name(&rt, &trial, 0), *b"OLD     TXT");
+    same(&rt, name(&rt, &trial, 0), *b"OLD     TXT");
     Ok(())
 }
 
@@ -114,7 +115,7 @@ fn faults_leave_the_names(rt: HostRuntime) -> Result<(), Fail> {
         18 + 1,
         b"REN B:NEW=OLD.TXT\r\r\nBdos Err On B: Select",
     );
-    assert_eq!(rt; name(&rt, &trial, 0), *b"OLD     TXT");
-    assert_eq!(rt; trial.entry(&rt, 2)[9], 0xC3);
+    same(&rt, name(&rt, &trial, 0), *b"OLD     TXT");
+    same(&rt, trial.entry(&rt, 2)[9], 0xC3);
     Ok(())
 }

@@ -1,5 +1,6 @@
 //! SAVE.
 
+use crate::same::same;
 use crate::trial::{Trial, blank, put_entry};
 use std::test::Fail;
 
@@ -16,9 +17,9 @@ fn saves_pages_from_0100h_on(rt: HostRuntime) -> Result<(), Fail> {
     );
     let mut entry = [0; 32];
     entry[..17].copy_from_slice(b"\x00T       DAT\x00\x00\x00\x02\x02");
-    assert_eq!(rt; trial.entry(&rt, 0), entry);
-    assert_eq!(rt; trial.record(&rt, 16), [0x41; 128]);
-    assert_eq!(rt; trial.record(&rt, 17), [0x42; 128]);
+    same(&rt, trial.entry(&rt, 0), entry);
+    same(&rt, trial.record(&rt, 16), [0x41; 128]);
+    same(&rt, trial.record(&rt, 17), [0x42; 128]);
     Ok(())
 }
 
@@ -27,11 +28,11 @@ fn no_page_makes_an_empty_file_in_place_of_another(rt: HostRuntime) -> Result<()
     let mut trial = Trial::new(rt.alloc())?;
     trial.prompts(&rt);
     trial.session(&rt, b"SAVE 2 X\r", 9 + 6 + 1, b"SAVE 2 X\r\r\nA>");
-    assert_eq!(rt; trial.entry(&rt, 0)[15], 4);
+    same(&rt, trial.entry(&rt, 0)[15], 4);
     trial.session(&rt, b"SAVE 00 X\r", 10 + 2 + 1, b"SAVE 00 X\r\r\nA>");
-    assert_eq!(rt; trial.entry(&rt, 0)[15], 0);
-    assert_eq!(rt; trial.entry(&rt, 0)[16], 0);
-    assert_eq!(rt; trial.entry(&rt, 1)[0], 0xE5);
+    same(&rt, trial.entry(&rt, 0)[15], 0);
+    same(&rt, trial.entry(&rt, 0)[16], 0);
+    same(&rt, trial.entry(&rt, 1)[0], 0xE5);
     Ok(())
 }
 
@@ -48,7 +49,7 @@ fn bad_forms(rt: HostRuntime) -> Result<(), Fail> {
         12 + 2,
         b"SAVE 1 B:X*\r\r\nSAVE?\r\nA>",
     );
-    assert_eq!(rt; trial.entry(&rt, 0)[0], 0xE5);
+    same(&rt, trial.entry(&rt, 0)[0], 0xE5);
     Ok(())
 }
 
@@ -101,6 +102,6 @@ fn a_full_directory_or_disk_has_no_space(rt: HostRuntime) -> Result<(), Fail> {
     // the entry that was made stays, and isn't closed
     let mut entry = [0; 32];
     entry[..12].copy_from_slice(b"\x00X          ");
-    assert_eq!(rt; trial.entry(&rt, 15), entry);
+    same(&rt, trial.entry(&rt, 15), entry);
     Ok(())
 }

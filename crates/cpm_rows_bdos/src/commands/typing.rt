@@ -1,5 +1,6 @@
 //! TYPE.
 
+use crate::same::same;
 use crate::trial::{Trial, disk_of};
 use cpm_bdos::{CommandPart, Held, Mode};
 use std::alloc::Global;
@@ -90,7 +91,7 @@ fn stop_holds_what_would_be_shown(rt: HostRuntime) -> Result<(), Fail> {
     let _open = trial.command_step(&rt);
     trial.session(&rt, b"\x13", 1, b"\r\n");
     let held = Held::Command(CommandPart::Show);
-    assert_eq!(rt; trial.session.mode, Mode::Hold(held));
+    same(&rt, trial.session.mode, Mode::Hold(held));
     trial.session(&rt, b" ", 3, b"HI      X\r\n\r\nA>");
     // a record that begins with the end shows nothing, and so does the end of a file
     trial.press(&rt, b"TYPE NOTHING.TXT\r");

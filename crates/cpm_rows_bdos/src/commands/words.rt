@@ -1,6 +1,7 @@
 //! The words of lines, and what programs find of them.
 
 use crate::commands::parsing::{check, check_program, check_unknown, file};
+use crate::same::same;
 use crate::trial::{Trial, disk_of};
 use cpm_ccp::Command;
 use std::test::Fail;
@@ -122,9 +123,9 @@ fn programs_find_two_names(rt: HostRuntime) -> Result<(), Fail> {
         trial.press(&rt, b"W");
         trial.press(&rt, names.tail);
         trial.types(&rt, b"\r");
-        assert_eq!(rt; trial.session.regs.pc, 0x0100);
-        assert_eq!(rt; trial.bytes(0x005C), names.first);
-        assert_eq!(rt; trial.bytes(0x006C), names.second);
+        same(&rt, trial.session.regs.pc, 0x0100);
+        same(&rt, trial.bytes(0x005C), names.first);
+        same(&rt, trial.bytes(0x006C), names.second);
     }
     Ok(())
 }

@@ -1,0 +1,99 @@
+//! Worked images.
+
+use crate::same::same;
+use cpm_geom::{Dpb, Format, GeomError, Image, records_lie_apart};
+use std::alloc::Global;
+use std::process::Abort;
+use std::test::Fail;
+
+fn blank(rt: &impl Abort, alloc: Global) -> Image {
+    let bytes = vec![in alloc; 0xE5u8; 256_256].expect(rt, "memory");
+    match Image::from_bytes(bytes) {
+        Ok(image) => image,
+        Err(_) => panic!(rt; "a blank image is refused"),
+    }
+}
+
+#[test]
+fn blank_disk_is_all_e5(rt: HostRuntime) -> Result<(), Fail> {
+    let image = Image::blank(rt.alloc(), Format::Ibm3740)?;
+    same(&rt, image.format(), Format::Ibm3740);
+    let bytes = image.into_bytes();
+    same(&rt, bytes.len(), 256_256);
+    assert!(rt; bytes.iter().all(|byte| *byte == 0xE5));
+    Ok(())
+}
+
+#[test]
+fn other_lengths_come_back(rt: HostRuntime) -> Result<(), Fail> {
+    for length in [0, 256_255, 256_257] {
+        let bytes = vec![in rt.alloc(); 0xE5u8; length]?;
+        match Image::from_bytes(bytes) {
+            Ok(_) => panic!(&rt; "{length} bytes are accepted"),
+            Err((bytes, error)) => {
+                same(&rt, bytes.len(), length);
+                same(&rt, error, GeomError::WrongLength);
+            }
+        }
+    }
+    Ok(())
+}
+
+#[test]
+fn last_record_is_there(rt: HostRuntime) {
+    let image = blank(&rt, rt.alloc());
+    same(&rt, image.format(), Format::Ibm3740);
+    same(&rt, image.format().dpb().last_block, 242);
+    assert!(rt; image.record(1949).is_ok());
+    same(&rt, image.record(1950).err(), Some(GeomError::NoSuchSector));
+    assert!(rt; image.sector(76, 26).is_ok());
+    for (track, sector) in [(77, 1), (0, 0), (0, 27)] {
+        same(
+            &rt,
+            image.sector(track, sector).err(),
+            Some(GeomError::NoSuchSector),
+        );
+    }
+}
+
+#[test]
+fn records_follow_the_skew(rt: HostRuntime) {
+    let mut image = blank(&rt, rt.alloc());
+    records_lie_apart();
+    same(&rt, image.put_record(1, &[0x41; 128]), Ok(()));
+    same(&rt, image.put_record(26, &[0x42; 128]), Ok(()));
+    same(&rt, image.put_sector(0, 26, &[0x43; 128]), Ok(()));
+    same(
+        &rt,
+        image.put_record(1950, &[0x44; 128]),
+        Err(GeomError::NoSuchSector),
+    );
+    same(
+        &rt,
+        image.put_sector(77, 1, &[0x44; 128]),
+        Err(GeomError::NoSuchSector),
+    );
+    same(
+        &rt,
+        image
+            .sector(2, 7)
+            .map(|bytes| bytes.iter().all(|b| *b == 0x41)),
+        Ok(true),
+    );
+    same(
+        &rt,
+        image
+            .sector(3, 1)
+            .map(|bytes| bytes.iter().all(|b| *b == 0x42)),
+        Ok(true),
+    );
+    let bytes = image.into_bytes();
+    same(&rt, bytes.len(), 256_256);
+    same(&rt, bytes.iter().filter(|b| **b != 0xE5).count(), 384);
+    same(&rt, bytes.iter().position(|b| *b != 0xE5), Some(25 * 128));
+    same(
+        &rt,
+        bytes.iter().rposition(|b| *b == 0x41),
+        Some((2 * 26 + 7) * 128 - 1),
+    );
+}

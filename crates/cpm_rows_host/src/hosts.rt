@@ -1,0 +1,352 @@
+//! Worked rows: which openings a host takes, what its slots reply, and what a refused allocation leaves.
+
+mod frames;
+mod stops;
+
+use crate::same::same;
+use cpm_flags::Cpu;
+use cpm_geom::{Format, Image};
+use cpm_sessions::{Event, Host, Refusal, Reply, Request, SlotId};
+use cpm_slots::{End, Granted, OpenError, Opening, Why};
+use std::alloc::Global;
+use std::process::Abort;
+use std::test::Fail;
+
+/// A blank drive.
+fn blank(alloc: Global) -> Result<Image, Fail> {
+    Ok(Image::blank(alloc, Format::Ibm3740)?)
+}
+
+/// An opening with so many blank drives.
+fn opening_of(alloc: Global, quota: u16, count: usize) -> Result<Opening, Fail> {
+    let mut drives = Vec::with_capacity(alloc, count)?;
+    for _ in 0..count {
+        drives.push(blank(alloc)?)?;
+    }
+    Ok(Opening {
+        cpu: Cpu::I8080,
+        quota,
+        drives,
+    })
+}
+
+/// A disk of the file `W.COM` of user 0, whose one record in block 2 begins so.
+fn disk_of(rt: &impl Abort, alloc: Global, program: &[u8]) -> Result<Image, Fail> {
+    let mut image = blank(alloc)?;
+    let mut entries = [0xE5; 128];
+    entries[..32].fill(0);
+    entries[1..12].copy_from_slice(b"W       COM");
+    entries[15] = 1;
+    entries[16] = 2;
+    image.put_record(0, &entries).expect(rt, "the directory");
+    let mut record = [0; 128];
+    assert!(rt; program.len() <= 128);
+    record[..program.len()].copy_from_slice(program);
+    image.put_record(16, &record).expect(rt, "the record");
+    Ok(image)
+}
+
+/// A host with a blank system drive.
+fn host_of(rt: &impl Abort, alloc: Global, frames: u16) -> Result<Host, Fail> {
+    assert!(rt; frames >= 16);
+    assert!(rt; frames <= 16_384);
+    match Host::new(alloc, blank(alloc)?, frames) {
+        Ok(host) => Ok(host),
+        Err((_, error)) => Err(Fail::from(error)),
+    }
+}
+
+/// Opens a slot with one blank drive.
+fn open(host: &mut Host, alloc: Global, quota: u16) -> Result<SlotId, Fail> {
+    match host.open(alloc, opening_of(alloc, quota, 1)?) {
+        Ok(id) => Ok(id),
+        Err((_, error)) => Err(Fail::from(error)),
+    }
+}
+
+/// Opens a slot with the program as `W.COM` on drive A, and types its name.
+fn open_with(
+    rt: &impl Abort,
+    host: &mut Host,
+    alloc: Global,
+    quota: u16,
+    program: &[u8],
+) -> Result<SlotId, Fail> {
+    let opening = Opening {
+        cpu: Cpu::I8080,
+        quota,
+        drives: vec![in alloc; disk_of(rt, alloc, program)?]?,
+    };
+    match host.open(alloc, opening) {
+        Ok(id) => {
+            press(rt, host, id, b"W\r");
+            Ok(id)
+        }
+        Err((_, error)) => Err(Fail::from(error)),
+    }
+}
+
+/// Presses keys, all of which must be accepted.
+fn press(rt: &impl Abort, host: &mut Host, id: SlotId, keys: &[u8]) {
+    for key in keys {
+        same(rt, host.key(id, *key), Ok(()));
+    }
+}
+
+/// The opening is refused for this reason, and comes back.
+fn refused(rt: &impl Abort, host: &mut Host, alloc: Global, opening: Opening, wanted: OpenError) {
+    let quota = opening.quota;
+    let count = opening.drives.len();
+    match host.open(alloc, opening) {
+        Ok(_) => panic!(rt; "{quota} pages and {count} drives are taken"),
+        Err((back, error)) => {
+            same(rt, error, wanted);
+            same(rt, back.quota, quota);
+            same(rt, back.drives.len(), count);
+        }
+    }
+}
+
+#[test]
+fn frames_bound_the_quotas(rt: HostRuntime) -> Result<(), Fail> {
+    let mut host = host_of(&rt, rt.alloc(), 512)?;
+    for number in 0..32 {
+        same(&rt, open(&mut host, rt.alloc(), 16)?, SlotId(number));
+    }
+    let opening = opening_of(rt.alloc(), 16, 1)?;
+    refused(&rt, &mut host, rt.alloc(), opening, OpenError::NoFrames);
+    assert!(rt; host.close(SlotId(3)).is_ok());
+    same(&rt, open(&mut host, rt.alloc(), 16)?, SlotId(32));
+    let opening = opening_of(rt.alloc(), 16, 1)?;
+    refused(&rt, &mut host, rt.alloc(), opening, OpenError::NoFrames);
+    Ok(())
+}
+
+#[test]
+fn opens_64_slots(rt: HostRuntime) -> Result<(), Fail> {
+    let mut host = host_of(&rt, rt.alloc(), 1024)?;
+    for number in 0..64 {
+        same(&rt, open(&mut host, rt.alloc(), 16)?, SlotId(number));
+    }
+    for (quota, count, wanted) in [
+        (16, 1, OpenError::NoSlot),
+        (15, 1, OpenError::BadQuota),
+        (257, 0, OpenError::BadQuota),
+        (16, 0, OpenError::BadDrives),
+        (16, 5, OpenError::BadDrives),
+    ] {
+        let opening = opening_of(rt.alloc(), quota, count)?;
+        refused(&rt, &mut host, rt.alloc(), opening, wanted);
+    }
+    Ok(())
+}
+
+#[test]
+fn closed_numbers_are_refused(rt: HostRuntime) -> Result<(), Fail> {
+    let mut host = host_of(&rt, rt.alloc(), 16)?;
+    let first = open(&mut host, rt.alloc(), 16)?;
+    match host.close(first) {
+        Ok(closed) => {
+            same(&rt, closed.look.count, 0);
+            assert!(rt; closed.drives[0].is_some());
+            assert!(rt; closed.drives[1].is_none());
+        }
+        Err(refusal) => return Err(Fail::from(refusal)),
+    }
+    let second = open(&mut host, rt.alloc(), 16)?;
+    same(&rt, first, SlotId(0));
+    same(&rt, second, SlotId(1));
+    same(&rt, host.key(first, 0x41), Err(Refusal::NoSuchSlot));
+    same(&rt, host.look(first), Err(Refusal::NoSuchSlot));
+    same(&rt, host.peek(first, 0), Err(Refusal::NoSuchSlot));
+    same(&rt, host.grant(first, 1), Err(Refusal::NoSuchSlot));
+    same(&rt, host.grant_until(first, 1, 0), Err(Refusal::NoSuchSlot));
+    same(&rt, host.table(first), Err(Refusal::NoSuchSlot));
+    assert!(rt; host.close(first).is_err());
+    let look = host.look(second)?;
+    same(&rt, look.keys, 0);
+    same(&rt, look.count, 0);
+    Ok(())
+}
+
+/// Runs until all keys are read: the bytes 21h that were refused are not among what is shown, and 22h is its last key.
+fn echoes_no_refused_key(host: &mut Host, id: SlotId) -> Result<bool, Refusal> {
+    let mut out = [0; 8192];
+    for _ in 0..8 {
+        host.grant(id, 1000)?;
+        let count = host.take(id, &mut out)?;
+        if out[..count].contains(&0x21) {
+            return Ok(false);
+        }
+        if host.look(id)?.waiting {
+            return Ok(out[..count].ends_with(b"\""));
+        }
+    }
+    Ok(false)
+}
+
+#[test]
+fn keys_are_bounded(rt: HostRuntime) -> Result<(), Fail> {
+    let mut host = host_of(&rt, rt.alloc(), 32)?;
+    let full = open(&mut host, rt.alloc(), 16)?;
+    let other = open(&mut host, rt.alloc(), 16)?;
+    for _ in 0..4096 {
+        same(&rt, host.key(full, 0x20), Ok(()));
+    }
+    same(&rt, host.key(full, 0x21), Err(Refusal::KeysFull));
+    same(&rt, host.look(full)?.keys, 4096);
+    // The prompt, and the first key.
+    same(&rt, host.grant(full, 2)?.executed, 2);
+    same(&rt, host.key(full, 0x22), Ok(()));
+    same(&rt, host.key(full, 0x21), Err(Refusal::KeysFull));
+    assert!(rt; echoes_no_refused_key(&mut host, full)?);
+    same(&rt, host.key(other, 0x21), Ok(()));
+    same(&rt, host.look(other)?.keys, 1);
+    Ok(())
+}
+
+fn ask(slot: SlotId, request: Request) -> Event {
+    Event { slot, request }
+}
+
+#[test]
+fn replies_stand_at_their_events(rt: HostRuntime) -> Result<(), Fail> {
+    let mut host = host_of(&rt, rt.alloc(), 64)?;
+    let first = open(&mut host, rt.alloc(), 16)?;
+    let second = open(&mut host, rt.alloc(), 16)?;
+    let events = [
+        ask(second, Request::Grant(3)),
+        ask(first, Request::Peek(0x0005)),
+        ask(second, Request::Key(0x41)),
+        ask(first, Request::Look),
+        ask(first, Request::Close),
+        ask(first, Request::Grant(1)),
+        ask(second, Request::Grant(0)),
+        ask(first, Request::Take),
+        ask(second, Request::Look),
+    ];
+    let mut replies = [
+        Reply::Done,
+        Reply::Done,
+        Reply::Done,
+        Reply::Done,
+        Reply::Done,
+        Reply::Done,
+        Reply::Done,
+        Reply::Done,
+        Reply::Done,
+        Reply::Peeked(7),
+    ];
+    host.run(&events, &mut replies);
+    let three = Granted {
+        executed: 3,
+        why: Why::All,
+    };
+    let none = Granted {
+        executed: 0,
+        why: Why::All,
+    };
+    assert!(rt; matches!(&replies[0], Reply::Granted(granted) if *granted == three));
+    assert!(rt; matches!(&replies[1], Reply::Peeked(0xC3)));
+    assert!(rt; matches!(&replies[2], Reply::Done));
+    assert!(rt;
+        matches!(&replies[3], Reply::Looked(look) if look.count == 0 && look.ended == End::Running)
+    );
+    assert!(rt; matches!(&replies[4], Reply::Done));
+    assert!(rt; matches!(&replies[5], Reply::Refused(Refusal::NoSuchSlot)));
+    assert!(rt; matches!(&replies[6], Reply::Granted(granted) if *granted == none));
+    assert!(rt; matches!(&replies[7], Reply::Refused(Refusal::NoSuchSlot)));
+    assert!(rt; matches!(&replies[8], Reply::Looked(look) if look.count == 3));
+    assert!(rt; matches!(&replies[9], Reply::Peeked(7)));
+    Ok(())
+}
+
+#[test]
+fn grants_are_cut_alike(rt: HostRuntime) -> Result<(), Fail> {
+    let mut host = host_of(&rt, rt.alloc(), 64)?;
+    let whole = open(&mut host, rt.alloc(), 16)?;
+    let cut = open(&mut host, rt.alloc(), 16)?;
+    same(&rt, host.grant(whole, 50)?.executed, 50);
+    for _ in 0..50 {
+        same(&rt, host.grant(cut, 1)?.executed, 1);
+    }
+    same(&rt, host.look(whole)?, host.look(cut)?);
+    let mut one = [0; 8192];
+    let mut other = [0; 8192];
+    let taken = host.take(whole, &mut one)?;
+    same(&rt, host.take(cut, &mut other)?, taken);
+    same(&rt, one, other);
+    same(&rt, host.take_list(cut, &mut other)?, 0);
+    Ok(())
+}
+
+/// Passes with any one allocation refused: the opening comes back, and can be tried again.
+#[test]
+fn want_of_memory_hands_the_opening_back(rt: HostRuntime) -> Result<(), Fail> {
+    let mut host = host_of(&rt, rt.alloc(), 16)?;
+    let opening = opening_of(rt.alloc(), 16, 2)?;
+    match host.open(rt.alloc(), opening) {
+        Ok(id) => same(&rt, id, SlotId(0)),
+        Err((back, error)) => {
+            same(&rt, error, OpenError::OutOfMemory);
+            same(&rt, back.quota, 16);
+            same(&rt, back.drives.len(), 2);
+            match host.open(rt.alloc(), back) {
+                Ok(id) => same(&rt, id, SlotId(0)),
+                Err((_, again)) => return Err(Fail::from(again)),
+            }
+        }
+    }
+    same(&rt, host.look(SlotId(0))?.count, 0);
+    Ok(())
+}
+
+#[test]
+fn openings_are_refused_in_order(rt: HostRuntime) -> Result<(), Fail> {
+    let mut host = host_of(&rt, rt.alloc(), 40)?;
+    same(&rt, open(&mut host, rt.alloc(), 16)?, SlotId(0));
+    for (quota, count, wanted) in [
+        (257, 5, OpenError::BadQuota),
+        (256, 5, OpenError::BadDrives),
+        (256, 4, OpenError::NoFrames),
+        (25, 1, OpenError::NoFrames),
+    ] {
+        let opening = opening_of(rt.alloc(), quota, count)?;
+        refused(&rt, &mut host, rt.alloc(), opening, wanted);
+        same(&rt, host.look(SlotId(0))?.count, 0);
+    }
+    same(&rt, open(&mut host, rt.alloc(), 24)?, SlotId(1));
+    assert!(rt; host.close(SlotId(0)).is_ok());
+    same(&rt, open(&mut host, rt.alloc(), 16)?, SlotId(2));
+    Ok(())
+}
+
+#[test]
+fn full_hosts_number_on(rt: HostRuntime) -> Result<(), Fail> {
+    let mut host = host_of(&rt, rt.alloc(), 16_384)?;
+    for _ in 0..64 {
+        open(&mut host, rt.alloc(), 256)?;
+    }
+    let opening = opening_of(rt.alloc(), 256, 1)?;
+    refused(&rt, &mut host, rt.alloc(), opening, OpenError::NoSlot);
+    assert!(rt; host.close(SlotId(63)).is_ok());
+    same(&rt, open(&mut host, rt.alloc(), 256)?, SlotId(64));
+    Ok(())
+}
+
+/// Passes with any one allocation refused: the drive comes back, and can be used again.
+#[test]
+fn want_of_memory_hands_the_drive_back(rt: HostRuntime) -> Result<(), Fail> {
+    let mut host = match Host::new(rt.alloc(), blank(rt.alloc())?, 32) {
+        Ok(host) => host,
+        Err((system, error)) => {
+            same(&rt, error, OpenError::OutOfMemory);
+            match Host::new(rt.alloc(), system, 32) {
+                Ok(host) => host,
+                Err((_, again)) => return Err(Fail::from(again)),
+            }
+        }
+    };
+    same(&rt, open(&mut host, rt.alloc(), 32)?, SlotId(0));
+    Ok(())
+}

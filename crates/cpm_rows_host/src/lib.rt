@@ -1,0 +1,19 @@
+//! Worked runs: the commands of a host over readers, writers and stores that may fail, its sessions, and its debugger.
+#![tactic(auto)]
+
+#[cfg(test)]
+mod commands;
+#[cfg(test)]
+mod debugger;
+#[cfg(test)]
+mod hosts;
+#[cfg(test)]
+mod lab;
+#[cfg(test)]
+mod mirror;
+#[cfg(test)]
+mod refusals;
+#[cfg(test)]
+mod runs;
+#[cfg(test)]
+mod same;

@@ -1,0 +1,22 @@
+//! Worked texts: sources, expressions, command lines, configurations, key scripts and lines of output, and the files of a
+//! host.
+#![tactic(auto)]
+
+#[cfg(test)]
+mod batches;
+#[cfg(test)]
+mod command_lines;
+#[cfg(test)]
+mod configurations;
+#[cfg(test)]
+mod expressions;
+#[cfg(test)]
+mod key_scripts;
+#[cfg(test)]
+mod lines;
+#[cfg(test)]
+mod same;
+#[cfg(test)]
+mod sources;
+#[cfg(test)]
+mod stores;
