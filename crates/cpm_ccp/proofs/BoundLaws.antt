@@ -1,5 +1,5 @@
 -- Every step of the command processor is bounded.
-use Rattle.std.proofs.Common.{◌≡◌, ℕ, ◌+◌, ◌*◌, ◌%◌, ◌≤◌, Bool, true, false, ◌&&◌, not, List, [], ◌∷◌, ◌++◌, length, take, refl, ◌∙◌, arith, Option, Some, None, Result, Ok, Err, inl, inr}
+use Rattle.std.proofs.Common.{◌≡◌, ℕ, ◌+◌, ◌*◌, ◌%◌, ◌≤◌, Bool, true, false, ◌&&◌, not, List, [], ◌∷◌, ◌++◌, length, take, refl, arith, Option, Some, None, Result, Ok, Err, inl, inr}
 use Rattle.std.specs.Prelude.{if◌then◌else◌, ◌==◌}
 use Rattle.std.proofs.lemmas.List.{length-append, length-take, length-map}
 use Rattle.std.proofs.lemmas.Bool.{lt-ltb, le-ltb, cases_lt}
@@ -9,14 +9,13 @@ use Rattle.cpm_console.specs.Editing.{key_into_line}
 use Rattle.cpm_console.specs.declared.line.Progress.{Progress}
 use Rattle.cpm_console.specs.declared.line.Progress.TheVariants as line
 use Rattle.cpm_console.proofs.Growth.{IsWithin-said, IsWithin-same, length-expanded, IsWithin-key_into_line}
-use Rattle.cpm_memory.specs.Contents.{Contents, byte_at, run_at, touched_of, after_run, after_change}
+use Rattle.cpm_memory.specs.Contents.{Contents, byte_at, run_at, after_change}
 use Rattle.cpm_memory.specs.Room.{touched_of-after_change, limit-after_change}
 use Rattle.cpm_memory.proofs.Runs.{touched_of-run, limit-run}
 use Rattle.cpm_files.specs.declared.fcb.Fcb.{Fcb}
 use Rattle.cpm_files.specs.declared.answer.Fault.{Fault as Failure}
 use Rattle.cpm_files.specs.declared.answer.Fault.TheVariants as failure
 use Rattle.cpm_files.specs.Files.{entry_at}
-use Rattle.cpm_directory.specs.CommandLine.{fcb_named, rest_of}
 use Rattle.cpm_disks.specs.Disks.{is_there}
 use Rattle.cpm_disks.specs.Selecting.{used}
 use Rattle.cpm_disks.specs.Calls.{drive_named}
@@ -31,13 +30,12 @@ use Rattle.cpm_bdos.specs.declared.session.CommandPart.TheVariants as part
 use Rattle.cpm_bdos.specs.declared.session.Mode.{Mode}
 use Rattle.cpm_bdos.specs.declared.session.Mode.TheVariants.{Program, Text, Line, Hold, Fault, Command}
 use Rattle.cpm_bdos.specs.declared.session.Went.TheVariants.{Returned, GoesOn}
-use Rattle.cpm_bdos.proofs.Pages.{pages-le}
 use Rattle.cpm_bdos.proofs.Bounded.{within_fault, bounded_faulted, bounded_rebooted}
+use Rattle.cpm_bdos.proofs.Pages.{pages-le}
 use Rattle.cpm_ccp.specs.declared.message.Message.{Message}
 use Rattle.cpm_ccp.specs.declared.message.Message.TheVariants as message
 use Rattle.cpm_ccp.specs.declared.command.Command.{Command as Typed}
 use Rattle.cpm_ccp.specs.declared.command.Command.TheVariants as typed
-use Rattle.cpm_ccp.specs.Capitals.{capital}
 use Rattle.cpm_ccp.specs.Message.{message_text}
 use Rattle.cpm_ccp.specs.Command.{command_of}
 use Rattle.cpm_ccp.specs.Words.{first_word, tail_of}
@@ -46,10 +44,11 @@ use Rattle.cpm_ccp.specs.Prompt.{drive_asked, chosen, prompt_text, prompted, wit
 use Rattle.cpm_ccp.specs.Listing.{before_file, file_text, entries_listed, next_listed, has_next, file_shown, listing_ended, drive_used, listed, shows_file, listed_on}
 use Rattle.cpm_ccp.specs.FileCommands.{by_code, erased, asked, is_yes, erased_all, has_new_name, renamed, after_make, made, after_erase, save_begun, after_write, saved, after_close, closed}
 use Rattle.cpm_ccp.specs.Showing.{after_open, show_begun, text_of, ends_in, wrote_all, record_shown, after_read, next_shown, shows_record, shown_on}
-use Rattle.cpm_ccp.specs.Loading.{unknown, load_begun, name_bytes, default_files, memory_started, started, loaded, load_record, load_in, load}
+use Rattle.cpm_ccp.specs.Loading.{unknown, load_begun, started, loaded, load_record, load_in, load}
 use Rattle.cpm_ccp.specs.Loading as loading
 use Rattle.cpm_ccp.specs.Step.{looks_first, begun_by, begun, in_part, in_mode, ccp}
 use Rattle.cpm_ccp.proofs.TextLemmas.{first_word-le, tail_of-le}
+use Rattle.cpm_ccp.proofs.StartLemmas.{length-line_of, pages_started, limit_started}
 
 bounded_if : (b : Bool) (s : Session) (m : Contents) (x y : Did) → IsBounded s m x → IsBounded s m y → IsBounded s m (if b then x else y)
 bounded_if true s m x y hx hy = hx
@@ -280,9 +279,6 @@ within_shown_on system s =
 
 -- ---- the loader
 
-length-line_of : (s : Session) → length (line_of s) ≡ length s.line.characters
-length-line_of s = length-map s.line.characters capital
-
 within_unknown : (s : Session) → length s.line.characters ≤ 255 → Within s (unknown s)
 within_unknown s few =
     let short = first_word-le (line_of s) in
@@ -297,40 +293,6 @@ within_load_begun : (system : Disk) (file : Fcb) (s : Session) → length s.line
 unfolding load_begun
 within_load_begun system file s few =
     let c = open_file s.disks system file own_record in within_opened c.answer (with_call s c) few
-
-length-name_bytes : (text : List ℕ) → length (name_bytes (fcb_named text)) ≡ 16
-unfolding name_bytes fcb_named
-length-name_bytes text = refl
-
-length-default_files : (tail : List ℕ) → length (default_files tail) ≡ 33
-unfolding default_files
-length-default_files tail =
-    let first = length-name_bytes tail in
-    let second = length-name_bytes (rest_of tail) in
-    simp (length-append) (omega (arith, first, second))
-
--- four runs of bytes lie in eight pages at most
-pages_started : (tail : List ℕ) (m : Contents) → length tail ≤ 255 → touched_of (memory_started tail m) ≤ touched_of m + 8
-unfolding memory_started
-pages_started tail m few =
-    let size = length-default_files tail in
-    let one = after_run m 92 (default_files tail) in
-    let two = after_run one 128 (length tail ∷ []) in
-    let three = after_run two 129 (tail ++ (0 ∷ [])) in
-    let more = length-append tail (0 ∷ []) in
-    let a = touched_of-run m 92 (default_files tail) (omega arith) (omega (arith, size)) in
-    let b = touched_of-run one 128 (length tail ∷ []) (omega arith) (omega arith) in
-    let c = touched_of-run two 129 (tail ++ (0 ∷ [])) (omega arith) (omega (arith, more)) in
-    let d = touched_of-run three 60414 (6 ∷ 228 ∷ []) (omega arith) (omega arith) in
-    omega (arith, a, b, c, d, pages-le 92 (length (default_files tail)), pages-le 128 1, pages-le 129 (length (tail ++ (0 ∷ []))), pages-le 60414 2)
-
-pub limit_started : (tail : List ℕ) (m : Contents) → (memory_started tail m).limit ≡ m.limit
-unfolding memory_started
-limit_started tail m =
-    let one = after_run m 92 (default_files tail) in
-    let two = after_run one 128 (length tail ∷ []) in
-    let three = after_run two 129 (tail ++ (0 ∷ [])) in
-    limit-run three 60414 (6 ∷ 228 ∷ []) ∙ (limit-run two 129 (tail ++ (0 ∷ [])) ∙ (limit-run one 128 (length tail ∷ []) ∙ limit-run m 92 (default_files tail)))
 
 bounded_started : (s : Session) (m : Contents) → length s.line.characters ≤ 255 → IsBounded s m (started s m)
 bounded_started s m few =

@@ -7,6 +7,7 @@ pub mod LoadingTexts
 pub mod ListingLemmas
 pub mod WaitLaws
 pub mod BehindLaws
+pub mod StartLemmas
 pub mod BoundLaws
 pub mod LimitLaws
 pub mod KeyLaws

@@ -30,7 +30,7 @@ use Rattle.cpm_ccp.specs.Prompt.{with_drive, with_user, after_key, take_key, edi
 use Rattle.cpm_ccp.specs.Loading.{after_read, load_record}
 use Rattle.cpm_ccp.specs.Step.{looks_first, begun_by, begun, in_part, in_mode}
 use Rattle.cpm_ccp.specs.Laws.{LimitLaw}
-use Rattle.cpm_ccp.proofs.BoundLaws.{limit_started}
+use Rattle.cpm_ccp.proofs.StartLemmas.{limit_started}
 
 abbrev KeepsLimit : Contents → Did → Type 0
 KeepsLimit m d = d.memory.limit ≡ m.limit

@@ -1,5 +1,6 @@
 pub mod AloneLemmas
 pub mod TextLemmas
+pub mod OrderLemmas
 pub mod PaceLemmas
 pub mod HostLemmas
 pub mod PlayerLemmas
