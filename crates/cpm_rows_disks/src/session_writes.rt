@@ -151,29 +151,32 @@ fn maps_are_merged_by_a_close(rt: HostRuntime) {
     check_entries(&rt, &first_image(&rt, disks));
 }
 
+/// No function writes a record of the file, for this reason.
+fn refuses_records(
+    rt: &impl Abort,
+    disks: &mut Disks,
+    system: &Image,
+    file: &mut Fcb,
+    fault: Fault,
+) {
+    let record = [1; 128];
+    same(rt, disks.write_next(system, file, &record), Err(fault));
+    same(rt, disks.write_random(system, file, &record), Err(fault));
+    same(
+        rt,
+        disks.write_random_cleared(system, file, &record),
+        Err(fault),
+    );
+}
+
 #[test]
 fn protected_drive_is_not_written(rt: HostRuntime) {
     let system = blank(&rt, rt.alloc());
     let mut disks = session(&rt, rt.alloc(), text_image(&rt, rt.alloc()));
     disks.protect(&system);
     let mut file = fcb(0, b"T       TXT");
-    let refused = Err(Fault::ReadOnly);
     same(&rt, disks.open_file(&system, &mut file), Ok(0));
-    same(
-        &rt,
-        disks.write_next(&system, &mut file, &[1; 128]),
-        refused,
-    );
-    same(
-        &rt,
-        disks.write_random(&system, &mut file, &[1; 128]),
-        refused,
-    );
-    same(
-        &rt,
-        disks.write_random_cleared(&system, &mut file, &[1; 128]),
-        refused,
-    );
+    refuses_records(&rt, &mut disks, &system, &mut file, Fault::ReadOnly);
     same(&rt, disks.close_file(&system, &mut file), Ok(0));
     check_record(&rt, &first_image(&rt, disks), 16, 0x41);
 }
@@ -201,24 +204,9 @@ fn read_only_file_is_not_written(rt: HostRuntime) {
     let system = blank(&rt, rt.alloc());
     let mut disks = session(&rt, rt.alloc(), text_image(&rt, rt.alloc()));
     let mut file = fcb(0, b"T       TXT");
-    let refused = Err(Fault::FileReadOnly);
     same(&rt, disks.open_file(&system, &mut file), Ok(0));
     file.extent.name[8] = b'T' + 0x80;
-    same(
-        &rt,
-        disks.write_next(&system, &mut file, &[1; 128]),
-        refused,
-    );
-    same(
-        &rt,
-        disks.write_random(&system, &mut file, &[1; 128]),
-        refused,
-    );
-    same(
-        &rt,
-        disks.write_random_cleared(&system, &mut file, &[1; 128]),
-        refused,
-    );
+    refuses_records(&rt, &mut disks, &system, &mut file, Fault::FileReadOnly);
     check_record(&rt, &first_image(&rt, disks), 16, 0x41);
 }
 
