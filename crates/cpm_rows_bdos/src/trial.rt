@@ -5,7 +5,7 @@ use cpm_bdos::{Mode, Session, Went};
 use cpm_ccp::ccp_step;
 use cpm_console::Console;
 use cpm_geom::Image;
-use cpm_memory::{FlatMemory, get_run, has_room, set_byte, set_word};
+use cpm_memory::{FlatMemory, Memory, get_run, has_room, set_byte, set_word};
 use std::alloc::{AllocError, Global};
 use std::process::Abort;
 
@@ -127,6 +127,41 @@ impl Trial {
         assert!(rt; has_room(&self.memory));
         self.session
             .bios_step(&mut self.memory, &self.system, number)
+    }
+
+    /// One step of the BDOS, which must go so.
+    pub fn goes(&mut self, rt: &impl Abort, wanted: Went) {
+        same(rt, self.step(rt), wanted);
+    }
+
+    /// Calls a function of one step, which must give this.
+    pub fn gives(&mut self, rt: &impl Abort, function: u8, parameter: u16, wanted: u16) {
+        same(rt, self.result(rt, function, parameter), wanted);
+    }
+
+    /// A call returned, and gave this.
+    pub fn has_returned(&self, rt: &impl Abort, wanted: u16) {
+        same(rt, self.returned(rt), wanted);
+    }
+
+    /// The session's mode is this one.
+    pub fn is_in(&self, rt: &impl Abort, wanted: Mode) {
+        same(rt, self.session.mode, wanted);
+    }
+
+    /// PC is here.
+    pub fn is_at(&self, rt: &impl Abort, wanted: u16) {
+        same(rt, self.session.regs.pc, wanted);
+    }
+
+    /// The byte at an address is this one.
+    pub fn has_byte(&self, rt: &impl Abort, address: u16, wanted: u8) {
+        same(rt, self.memory.get(address), wanted);
+    }
+
+    /// Turns the echo to the list device on.
+    pub fn echo_to_list(&mut self) {
+        self.session.console.set_list_echo(true);
     }
 
     /// Calls a function of one step, and gives its result.

@@ -1,5 +1,6 @@
 //! Worked rows: which openings a host takes, what its slots reply, and what a refused allocation leaves.
 
+mod calls;
 mod frames;
 mod stops;
 
@@ -58,7 +59,7 @@ fn host_of(rt: &impl Abort, alloc: Global, frames: u16) -> Result<Host, Fail> {
 
 /// Opens a slot with one blank drive.
 fn open(host: &mut Host, alloc: Global, quota: u16) -> Result<SlotId, Fail> {
-    match host.open(alloc, opening_of(alloc, quota, 1)?) {
+    match calls::open_slot(host, alloc, opening_of(alloc, quota, 1)?) {
         Ok(id) => Ok(id),
         Err((_, error)) => Err(Fail::from(error)),
     }
@@ -77,7 +78,7 @@ fn open_with(
         quota,
         drives: vec![in alloc; disk_of(rt, alloc, program)?]?,
     };
-    match host.open(alloc, opening) {
+    match calls::open_slot(host, alloc, opening) {
         Ok(id) => {
             press(rt, host, id, b"W\r");
             Ok(id)
@@ -89,7 +90,7 @@ fn open_with(
 /// Presses keys, all of which must be accepted.
 fn press(rt: &impl Abort, host: &mut Host, id: SlotId, keys: &[u8]) {
     for key in keys {
-        same(rt, host.key(id, *key), Ok(()));
+        same(rt, calls::key(host, id, *key), Ok(()));
     }
 }
 
@@ -97,7 +98,7 @@ fn press(rt: &impl Abort, host: &mut Host, id: SlotId, keys: &[u8]) {
 fn refused(rt: &impl Abort, host: &mut Host, alloc: Global, opening: Opening, wanted: OpenError) {
     let quota = opening.quota;
     let count = opening.drives.len();
-    match host.open(alloc, opening) {
+    match calls::open_slot(host, alloc, opening) {
         Ok(_) => panic!(rt; "{quota} pages and {count} drives are taken"),
         Err((back, error)) => {
             same(rt, error, wanted);
@@ -115,7 +116,7 @@ fn frames_bound_the_quotas(rt: HostRuntime) -> Result<(), Fail> {
     }
     let opening = opening_of(rt.alloc(), 16, 1)?;
     refused(&rt, &mut host, rt.alloc(), opening, OpenError::NoFrames);
-    assert!(rt; host.close(SlotId(3)).is_ok());
+    assert!(rt; calls::close(&mut host, SlotId(3)).is_ok());
     same(&rt, open(&mut host, rt.alloc(), 16)?, SlotId(32));
     let opening = opening_of(rt.alloc(), 16, 1)?;
     refused(&rt, &mut host, rt.alloc(), opening, OpenError::NoFrames);
@@ -145,7 +146,7 @@ fn opens_64_slots(rt: HostRuntime) -> Result<(), Fail> {
 fn closed_numbers_are_refused(rt: HostRuntime) -> Result<(), Fail> {
     let mut host = host_of(&rt, rt.alloc(), 16)?;
     let first = open(&mut host, rt.alloc(), 16)?;
-    match host.close(first) {
+    match calls::close(&mut host, first) {
         Ok(closed) => {
             same(&rt, closed.look.count, 0);
             assert!(rt; closed.drives[0].is_some());
@@ -156,14 +157,26 @@ fn closed_numbers_are_refused(rt: HostRuntime) -> Result<(), Fail> {
     let second = open(&mut host, rt.alloc(), 16)?;
     same(&rt, first, SlotId(0));
     same(&rt, second, SlotId(1));
-    same(&rt, host.key(first, 0x41), Err(Refusal::NoSuchSlot));
-    same(&rt, host.look(first), Err(Refusal::NoSuchSlot));
-    same(&rt, host.peek(first, 0), Err(Refusal::NoSuchSlot));
-    same(&rt, host.grant(first, 1), Err(Refusal::NoSuchSlot));
-    same(&rt, host.grant_until(first, 1, 0), Err(Refusal::NoSuchSlot));
+    same(
+        &rt,
+        calls::key(&mut host, first, 0x41),
+        Err(Refusal::NoSuchSlot),
+    );
+    same(&rt, calls::look(&mut host, first), Err(Refusal::NoSuchSlot));
+    same(&rt, calls::peek(&host, first, 0), Err(Refusal::NoSuchSlot));
+    same(
+        &rt,
+        calls::grant(&mut host, first, 1),
+        Err(Refusal::NoSuchSlot),
+    );
+    same(
+        &rt,
+        calls::grant_until(&mut host, first, 1, 0),
+        Err(Refusal::NoSuchSlot),
+    );
     same(&rt, host.table(first), Err(Refusal::NoSuchSlot));
-    assert!(rt; host.close(first).is_err());
-    let look = host.look(second)?;
+    assert!(rt; calls::close(&mut host, first).is_err());
+    let look = calls::look(&mut host, second)?;
     same(&rt, look.keys, 0);
     same(&rt, look.count, 0);
     Ok(())
@@ -173,12 +186,12 @@ fn closed_numbers_are_refused(rt: HostRuntime) -> Result<(), Fail> {
 fn echoes_no_refused_key(host: &mut Host, id: SlotId) -> Result<bool, Refusal> {
     let mut out = [0; 8192];
     for _ in 0..8 {
-        host.grant(id, 1000)?;
-        let count = host.take(id, &mut out)?;
+        calls::grant(host, id, 1000)?;
+        let count = calls::take(host, id, &mut out)?;
         if out[..count].contains(&0x21) {
             return Ok(false);
         }
-        if host.look(id)?.waiting {
+        if calls::look(host, id)?.waiting {
             return Ok(out[..count].ends_with(b"\""));
         }
     }
@@ -191,17 +204,25 @@ fn keys_are_bounded(rt: HostRuntime) -> Result<(), Fail> {
     let full = open(&mut host, rt.alloc(), 16)?;
     let other = open(&mut host, rt.alloc(), 16)?;
     for _ in 0..4096 {
-        same(&rt, host.key(full, 0x20), Ok(()));
+        same(&rt, calls::key(&mut host, full, 0x20), Ok(()));
     }
-    same(&rt, host.key(full, 0x21), Err(Refusal::KeysFull));
-    same(&rt, host.look(full)?.keys, 4096);
+    same(
+        &rt,
+        calls::key(&mut host, full, 0x21),
+        Err(Refusal::KeysFull),
+    );
+    same(&rt, calls::look(&mut host, full)?.keys, 4096);
     // The prompt, and the first key.
-    same(&rt, host.grant(full, 2)?.executed, 2);
-    same(&rt, host.key(full, 0x22), Ok(()));
-    same(&rt, host.key(full, 0x21), Err(Refusal::KeysFull));
+    same(&rt, calls::grant(&mut host, full, 2)?.executed, 2);
+    same(&rt, calls::key(&mut host, full, 0x22), Ok(()));
+    same(
+        &rt,
+        calls::key(&mut host, full, 0x21),
+        Err(Refusal::KeysFull),
+    );
     assert!(rt; echoes_no_refused_key(&mut host, full)?);
-    same(&rt, host.key(other, 0x21), Ok(()));
-    same(&rt, host.look(other)?.keys, 1);
+    same(&rt, calls::key(&mut host, other, 0x21), Ok(()));
+    same(&rt, calls::look(&mut host, other)?.keys, 1);
     Ok(())
 }
 
@@ -237,7 +258,7 @@ fn replies_stand_at_their_events(rt: HostRuntime) -> Result<(), Fail> {
         Reply::Done,
         Reply::Peeked(7),
     ];
-    host.run(&events, &mut replies);
+    calls::run(&mut host, &events, &mut replies);
     let three = Granted {
         executed: 3,
         why: Why::All,
@@ -266,17 +287,21 @@ fn grants_are_cut_alike(rt: HostRuntime) -> Result<(), Fail> {
     let mut host = host_of(&rt, rt.alloc(), 64)?;
     let whole = open(&mut host, rt.alloc(), 16)?;
     let cut = open(&mut host, rt.alloc(), 16)?;
-    same(&rt, host.grant(whole, 50)?.executed, 50);
+    same(&rt, calls::grant(&mut host, whole, 50)?.executed, 50);
     for _ in 0..50 {
-        same(&rt, host.grant(cut, 1)?.executed, 1);
+        same(&rt, calls::grant(&mut host, cut, 1)?.executed, 1);
     }
-    same(&rt, host.look(whole)?, host.look(cut)?);
+    same(
+        &rt,
+        calls::look(&mut host, whole)?,
+        calls::look(&mut host, cut)?,
+    );
     let mut one = [0; 8192];
     let mut other = [0; 8192];
-    let taken = host.take(whole, &mut one)?;
-    same(&rt, host.take(cut, &mut other)?, taken);
+    let taken = calls::take(&mut host, whole, &mut one)?;
+    same(&rt, calls::take(&mut host, cut, &mut other)?, taken);
     same(&rt, one, other);
-    same(&rt, host.take_list(cut, &mut other)?, 0);
+    same(&rt, calls::take_list(&mut host, cut, &mut other)?, 0);
     Ok(())
 }
 
@@ -285,19 +310,19 @@ fn grants_are_cut_alike(rt: HostRuntime) -> Result<(), Fail> {
 fn want_of_memory_hands_the_opening_back(rt: HostRuntime) -> Result<(), Fail> {
     let mut host = host_of(&rt, rt.alloc(), 16)?;
     let opening = opening_of(rt.alloc(), 16, 2)?;
-    match host.open(rt.alloc(), opening) {
+    match calls::open_slot(&mut host, rt.alloc(), opening) {
         Ok(id) => same(&rt, id, SlotId(0)),
         Err((back, error)) => {
             same(&rt, error, OpenError::OutOfMemory);
             same(&rt, back.quota, 16);
             same(&rt, back.drives.len(), 2);
-            match host.open(rt.alloc(), back) {
+            match calls::open_slot(&mut host, rt.alloc(), back) {
                 Ok(id) => same(&rt, id, SlotId(0)),
                 Err((_, again)) => return Err(Fail::from(again)),
             }
         }
     }
-    same(&rt, host.look(SlotId(0))?.count, 0);
+    same(&rt, calls::look(&mut host, SlotId(0))?.count, 0);
     Ok(())
 }
 
@@ -313,10 +338,10 @@ fn openings_are_refused_in_order(rt: HostRuntime) -> Result<(), Fail> {
     ] {
         let opening = opening_of(rt.alloc(), quota, count)?;
         refused(&rt, &mut host, rt.alloc(), opening, wanted);
-        same(&rt, host.look(SlotId(0))?.count, 0);
+        same(&rt, calls::look(&mut host, SlotId(0))?.count, 0);
     }
     same(&rt, open(&mut host, rt.alloc(), 24)?, SlotId(1));
-    assert!(rt; host.close(SlotId(0)).is_ok());
+    assert!(rt; calls::close(&mut host, SlotId(0)).is_ok());
     same(&rt, open(&mut host, rt.alloc(), 16)?, SlotId(2));
     Ok(())
 }
@@ -329,7 +354,7 @@ fn full_hosts_number_on(rt: HostRuntime) -> Result<(), Fail> {
     }
     let opening = opening_of(rt.alloc(), 256, 1)?;
     refused(&rt, &mut host, rt.alloc(), opening, OpenError::NoSlot);
-    assert!(rt; host.close(SlotId(63)).is_ok());
+    assert!(rt; calls::close(&mut host, SlotId(63)).is_ok());
     same(&rt, open(&mut host, rt.alloc(), 256)?, SlotId(64));
     Ok(())
 }

@@ -14,21 +14,23 @@ fn refusal(rt: &(impl Abort + AllocGlobal), words: &[&str]) -> String {
     }
 }
 
+/// Lines with a program, and how many steps it may do.
+const FILES_AND_STEPS: [(&[&str], u64); 7] = [
+    (&["cpmhost", "com", "a.com"], 1_000_000),
+    (&["cpmhost", "com", "a.com", "--steps", "5"], 5),
+    (&["cpmhost", "com", "--steps", "5", "a.com"], 5),
+    (&["cpmhost", "com", "a.com", "--steps=5"], 5),
+    (&["cpmhost", "com", "a.com", "--steps", "+5"], 5),
+    (&["cpmhost", "com", "--", "a.com"], 1_000_000),
+    (
+        &["cpmhost", "com", "a.com", "--steps", "18446744073709551615"],
+        u64::MAX,
+    ),
+];
+
 #[test]
 fn takes_a_file_and_steps(rt: HostRuntime) {
-    let lines: [(&[&str], u64); 7] = [
-        (&["cpmhost", "com", "a.com"], 1_000_000),
-        (&["cpmhost", "com", "a.com", "--steps", "5"], 5),
-        (&["cpmhost", "com", "--steps", "5", "a.com"], 5),
-        (&["cpmhost", "com", "a.com", "--steps=5"], 5),
-        (&["cpmhost", "com", "a.com", "--steps", "+5"], 5),
-        (&["cpmhost", "com", "--", "a.com"], 1_000_000),
-        (
-            &["cpmhost", "com", "a.com", "--steps", "18446744073709551615"],
-            u64::MAX,
-        ),
-    ];
-    for (words, steps) in lines {
+    for (words, steps) in FILES_AND_STEPS {
         let wanted = Ok(Task::Com {
             file: "a.com",
             cpu: Cpu::I8080,
@@ -39,48 +41,50 @@ fn takes_a_file_and_steps(rt: HostRuntime) {
     }
 }
 
+/// Lines with a program, and the processor and steps that it gets.
+const PROCESSORS: [(&[&str], &str, Cpu, u64); 7] = [
+    (&["cpmhost", "com", "a.com"], "a.com", Cpu::I8080, 1_000_000),
+    (
+        &["cpmhost", "com", "a.com", "--z80"],
+        "a.com",
+        Cpu::Z80,
+        1_000_000,
+    ),
+    (
+        &["cpmhost", "com", "--z80", "a.com"],
+        "a.com",
+        Cpu::Z80,
+        1_000_000,
+    ),
+    (
+        &["cpmhost", "com", "--z80", "a.com", "--steps", "5"],
+        "a.com",
+        Cpu::Z80,
+        5,
+    ),
+    (
+        &["cpmhost", "com", "--steps=5", "--z80", "a.com"],
+        "a.com",
+        Cpu::Z80,
+        5,
+    ),
+    (
+        &["cpmhost", "com", "--z80", "--", "--z80"],
+        "--z80",
+        Cpu::Z80,
+        1_000_000,
+    ),
+    (
+        &["cpmhost", "com", "--", "--z80"],
+        "--z80",
+        Cpu::I8080,
+        1_000_000,
+    ),
+];
+
 #[test]
 fn takes_a_processor(rt: HostRuntime) {
-    let lines: [(&[&str], &str, Cpu, u64); 7] = [
-        (&["cpmhost", "com", "a.com"], "a.com", Cpu::I8080, 1_000_000),
-        (
-            &["cpmhost", "com", "a.com", "--z80"],
-            "a.com",
-            Cpu::Z80,
-            1_000_000,
-        ),
-        (
-            &["cpmhost", "com", "--z80", "a.com"],
-            "a.com",
-            Cpu::Z80,
-            1_000_000,
-        ),
-        (
-            &["cpmhost", "com", "--z80", "a.com", "--steps", "5"],
-            "a.com",
-            Cpu::Z80,
-            5,
-        ),
-        (
-            &["cpmhost", "com", "--steps=5", "--z80", "a.com"],
-            "a.com",
-            Cpu::Z80,
-            5,
-        ),
-        (
-            &["cpmhost", "com", "--z80", "--", "--z80"],
-            "--z80",
-            Cpu::Z80,
-            1_000_000,
-        ),
-        (
-            &["cpmhost", "com", "--", "--z80"],
-            "--z80",
-            Cpu::I8080,
-            1_000_000,
-        ),
-    ];
-    for (words, file, cpu, steps) in lines {
+    for (words, file, cpu, steps) in PROCESSORS {
         let wanted = Ok(Task::Com {
             file,
             cpu,
@@ -91,21 +95,23 @@ fn takes_a_processor(rt: HostRuntime) {
     }
 }
 
+/// Lines with a program and its keys.
+const KEY_SCRIPTS: [&[&str]; 4] = [
+    &["cpmhost", "com", "a.com", "--keys", "a.keys"],
+    &["cpmhost", "com", "--keys", "a.keys", "a.com"],
+    &["cpmhost", "com", "--keys=a.keys", "--", "a.com"],
+    &[
+        "cpmhost",
+        "com",
+        "--steps=1000000",
+        "--keys=a.keys",
+        "a.com",
+    ],
+];
+
 #[test]
 fn takes_a_key_script(rt: HostRuntime) {
-    let lines: [&[&str]; 4] = [
-        &["cpmhost", "com", "a.com", "--keys", "a.keys"],
-        &["cpmhost", "com", "--keys", "a.keys", "a.com"],
-        &["cpmhost", "com", "--keys=a.keys", "--", "a.com"],
-        &[
-            "cpmhost",
-            "com",
-            "--steps=1000000",
-            "--keys=a.keys",
-            "a.com",
-        ],
-    ];
-    for words in lines {
+    for words in KEY_SCRIPTS {
         let wanted = Ok(Task::Com {
             file: "a.com",
             cpu: Cpu::I8080,
@@ -122,14 +128,16 @@ fn takes_a_configuration(rt: HostRuntime) {
     assert_eq!(rt; command(rt.alloc(), &["cpmhost", "run", "a.toml"]), wanted);
 }
 
+/// Lines with a program to debug, and its processor.
+const DEBUGGED: [(&[&str], Cpu); 3] = [
+    (&["cpmhost", "debug", "a.com"], Cpu::I8080),
+    (&["cpmhost", "debug", "a.com", "--z80"], Cpu::Z80),
+    (&["cpmhost", "debug", "--z80", "a.com"], Cpu::Z80),
+];
+
 #[test]
 fn takes_a_program_to_debug(rt: HostRuntime) {
-    let lines: [(&[&str], Cpu); 3] = [
-        (&["cpmhost", "debug", "a.com"], Cpu::I8080),
-        (&["cpmhost", "debug", "a.com", "--z80"], Cpu::Z80),
-        (&["cpmhost", "debug", "--z80", "a.com"], Cpu::Z80),
-    ];
-    for (words, cpu) in lines {
+    for (words, cpu) in DEBUGGED {
         let wanted = Ok(Task::Debug { file: "a.com", cpu });
         assert_eq!(rt; command(rt.alloc(), words), wanted, "at {words:?}");
     }
@@ -149,188 +157,192 @@ fn takes_a_source_and_a_file_to_list(rt: HostRuntime) {
     assert_eq!(rt; command(rt.alloc(), &["cpmhost", "list", "a.com"]), list);
 }
 
+/// What is said of a number of steps.
+const NUMBER: &str =
+    "for '--steps': a number from 0 to 18446744073709551615 is wanted; try 'cpmhost --help'";
+
+/// Lines that are no task, and what is said of them, in two parts.
+const WRONG: [(&[&str], &str, &str); 35] = [
+    (
+        &[],
+        "no command was given; try 'cpmhost com FILE' or 'cpmhost --help'",
+        "",
+    ),
+    (
+        &["cpmhost"],
+        "no command was given; try 'cpmhost com FILE' or 'cpmhost --help'",
+        "",
+    ),
+    (
+        &["cpmhost", "frob"],
+        "unknown command 'frob'; try 'cpmhost --help'",
+        "",
+    ),
+    (
+        &["cpmhost", "comm", "x"],
+        "unknown command 'comm'; try 'cpmhost --help'",
+        "",
+    ),
+    (
+        &["cpmhost", ""],
+        "unknown command ''; try 'cpmhost --help'",
+        "",
+    ),
+    (
+        &["cpmhost", "--frob"],
+        "unexpected argument '--frob'; try 'cpmhost --help'",
+        "",
+    ),
+    (
+        &["cpmhost", "com"],
+        "the argument <FILE> is missing; try 'cpmhost --help'",
+        "",
+    ),
+    (
+        &["cpmhost", "com", "a", "b"],
+        "unexpected argument 'b'; try 'cpmhost --help'",
+        "",
+    ),
+    (
+        &["cpmhost", "com", "a", "-x\n"],
+        "unexpected argument '-x'; try 'cpmhost --help'",
+        "",
+    ),
+    (
+        &["cpmhost", "com", "a", "b\n\x1bc"],
+        "unexpected argument 'b??c'; try 'cpmhost --help'",
+        "",
+    ),
+    (
+        &["cpmhost", "com", "a", "--steps"],
+        "a value is wanted for '--steps <N>'; try 'cpmhost --help'",
+        "",
+    ),
+    (
+        &["cpmhost", "com", "a", "--steps", "x"],
+        "invalid value 'x' ",
+        NUMBER,
+    ),
+    (
+        &["cpmhost", "com", "a", "--steps", "-1"],
+        "unexpected argument '-1'; try 'cpmhost --help'",
+        "",
+    ),
+    (
+        &["cpmhost", "com", "a", "--steps="],
+        "invalid value '' ",
+        NUMBER,
+    ),
+    (
+        &["cpmhost", "com", "a", "--steps=-1"],
+        "invalid value '-1' ",
+        NUMBER,
+    ),
+    (
+        &["cpmhost", "com", "a", "--steps", "18446744073709551616"],
+        "invalid value '18446744073709551616' ",
+        NUMBER,
+    ),
+    (
+        &["cpmhost", "com", "a", "--steps=1", "--steps=2"],
+        "the argument '--steps <N>' was given twice; try 'cpmhost --help'",
+        "",
+    ),
+    (
+        &["cpmhost", "com", "a", "--z80", "--z80"],
+        "the argument '--z80' was given twice; try 'cpmhost --help'",
+        "",
+    ),
+    (
+        &["cpmhost", "com", "a", "--z80=1"],
+        "unexpected value '1' for '--z80' found; no more were expected; try 'cpmhost --help'",
+        "",
+    ),
+    (
+        &["cpmhost", "com", "--z80"],
+        "the argument <FILE> is missing; try 'cpmhost --help'",
+        "",
+    ),
+    (
+        &["cpmhost", "com", "a", "--z8"],
+        "unexpected argument '--z8'; try 'cpmhost --help'",
+        "",
+    ),
+    (
+        &["cpmhost", "--z80", "com", "a"],
+        "unexpected argument '--z80'; try 'cpmhost --help'",
+        "",
+    ),
+    (
+        &["cpmhost", "asm"],
+        "the argument <SOURCE> is missing; try 'cpmhost --help'",
+        "",
+    ),
+    (
+        &["cpmhost", "asm", "a"],
+        "the argument <OUT> is missing; try 'cpmhost --help'",
+        "",
+    ),
+    (
+        &["cpmhost", "asm", "a", "b", "c"],
+        "unexpected argument 'c'; try 'cpmhost --help'",
+        "",
+    ),
+    (
+        &["cpmhost", "asm", "a", "b", "--z80"],
+        "unexpected argument '--z80'; try 'cpmhost --help'",
+        "",
+    ),
+    (
+        &["cpmhost", "list"],
+        "the argument <FILE> is missing; try 'cpmhost --help'",
+        "",
+    ),
+    (
+        &["cpmhost", "list", "a", "b"],
+        "unexpected argument 'b'; try 'cpmhost --help'",
+        "",
+    ),
+    (
+        &["cpmhost", "com", "a", "--keys"],
+        "a value is wanted for '--keys <SCRIPT>'; try 'cpmhost --help'",
+        "",
+    ),
+    (
+        &["cpmhost", "com", "a", "--keys=b", "--keys=c"],
+        "the argument '--keys <SCRIPT>' was given twice; try 'cpmhost --help'",
+        "",
+    ),
+    (
+        &["cpmhost", "run"],
+        "the argument <CONFIG> is missing; try 'cpmhost --help'",
+        "",
+    ),
+    (
+        &["cpmhost", "run", "a", "b"],
+        "unexpected argument 'b'; try 'cpmhost --help'",
+        "",
+    ),
+    (
+        &["cpmhost", "run", "a", "--keys", "b"],
+        "unexpected argument '--keys'; try 'cpmhost --help'",
+        "",
+    ),
+    (
+        &["cpmhost", "debug", "--z80"],
+        "the argument <FILE> is missing; try 'cpmhost --help'",
+        "",
+    ),
+    (
+        &["cpmhost", "debug", "a", "--steps", "5"],
+        "unexpected argument '--steps'; try 'cpmhost --help'",
+        "",
+    ),
+];
+
 #[test]
 fn names_what_is_wrong(rt: HostRuntime) {
-    let number =
-        "for '--steps': a number from 0 to 18446744073709551615 is wanted; try 'cpmhost --help'";
-    let lines: [(&[&str], &str, &str); 35] = [
-        (
-            &[],
-            "no command was given; try 'cpmhost com FILE' or 'cpmhost --help'",
-            "",
-        ),
-        (
-            &["cpmhost"],
-            "no command was given; try 'cpmhost com FILE' or 'cpmhost --help'",
-            "",
-        ),
-        (
-            &["cpmhost", "frob"],
-            "unknown command 'frob'; try 'cpmhost --help'",
-            "",
-        ),
-        (
-            &["cpmhost", "comm", "x"],
-            "unknown command 'comm'; try 'cpmhost --help'",
-            "",
-        ),
-        (
-            &["cpmhost", ""],
-            "unknown command ''; try 'cpmhost --help'",
-            "",
-        ),
-        (
-            &["cpmhost", "--frob"],
-            "unexpected argument '--frob'; try 'cpmhost --help'",
-            "",
-        ),
-        (
-            &["cpmhost", "com"],
-            "the argument <FILE> is missing; try 'cpmhost --help'",
-            "",
-        ),
-        (
-            &["cpmhost", "com", "a", "b"],
-            "unexpected argument 'b'; try 'cpmhost --help'",
-            "",
-        ),
-        (
-            &["cpmhost", "com", "a", "-x\n"],
-            "unexpected argument '-x'; try 'cpmhost --help'",
-            "",
-        ),
-        (
-            &["cpmhost", "com", "a", "b\n\x1bc"],
-            "unexpected argument 'b??c'; try 'cpmhost --help'",
-            "",
-        ),
-        (
-            &["cpmhost", "com", "a", "--steps"],
-            "a value is wanted for '--steps <N>'; try 'cpmhost --help'",
-            "",
-        ),
-        (
-            &["cpmhost", "com", "a", "--steps", "x"],
-            "invalid value 'x' ",
-            number,
-        ),
-        (
-            &["cpmhost", "com", "a", "--steps", "-1"],
-            "unexpected argument '-1'; try 'cpmhost --help'",
-            "",
-        ),
-        (
-            &["cpmhost", "com", "a", "--steps="],
-            "invalid value '' ",
-            number,
-        ),
-        (
-            &["cpmhost", "com", "a", "--steps=-1"],
-            "invalid value '-1' ",
-            number,
-        ),
-        (
-            &["cpmhost", "com", "a", "--steps", "18446744073709551616"],
-            "invalid value '18446744073709551616' ",
-            number,
-        ),
-        (
-            &["cpmhost", "com", "a", "--steps=1", "--steps=2"],
-            "the argument '--steps <N>' was given twice; try 'cpmhost --help'",
-            "",
-        ),
-        (
-            &["cpmhost", "com", "a", "--z80", "--z80"],
-            "the argument '--z80' was given twice; try 'cpmhost --help'",
-            "",
-        ),
-        (
-            &["cpmhost", "com", "a", "--z80=1"],
-            "unexpected value '1' for '--z80' found; no more were expected; try 'cpmhost --help'",
-            "",
-        ),
-        (
-            &["cpmhost", "com", "--z80"],
-            "the argument <FILE> is missing; try 'cpmhost --help'",
-            "",
-        ),
-        (
-            &["cpmhost", "com", "a", "--z8"],
-            "unexpected argument '--z8'; try 'cpmhost --help'",
-            "",
-        ),
-        (
-            &["cpmhost", "--z80", "com", "a"],
-            "unexpected argument '--z80'; try 'cpmhost --help'",
-            "",
-        ),
-        (
-            &["cpmhost", "asm"],
-            "the argument <SOURCE> is missing; try 'cpmhost --help'",
-            "",
-        ),
-        (
-            &["cpmhost", "asm", "a"],
-            "the argument <OUT> is missing; try 'cpmhost --help'",
-            "",
-        ),
-        (
-            &["cpmhost", "asm", "a", "b", "c"],
-            "unexpected argument 'c'; try 'cpmhost --help'",
-            "",
-        ),
-        (
-            &["cpmhost", "asm", "a", "b", "--z80"],
-            "unexpected argument '--z80'; try 'cpmhost --help'",
-            "",
-        ),
-        (
-            &["cpmhost", "list"],
-            "the argument <FILE> is missing; try 'cpmhost --help'",
-            "",
-        ),
-        (
-            &["cpmhost", "list", "a", "b"],
-            "unexpected argument 'b'; try 'cpmhost --help'",
-            "",
-        ),
-        (
-            &["cpmhost", "com", "a", "--keys"],
-            "a value is wanted for '--keys <SCRIPT>'; try 'cpmhost --help'",
-            "",
-        ),
-        (
-            &["cpmhost", "com", "a", "--keys=b", "--keys=c"],
-            "the argument '--keys <SCRIPT>' was given twice; try 'cpmhost --help'",
-            "",
-        ),
-        (
-            &["cpmhost", "run"],
-            "the argument <CONFIG> is missing; try 'cpmhost --help'",
-            "",
-        ),
-        (
-            &["cpmhost", "run", "a", "b"],
-            "unexpected argument 'b'; try 'cpmhost --help'",
-            "",
-        ),
-        (
-            &["cpmhost", "run", "a", "--keys", "b"],
-            "unexpected argument '--keys'; try 'cpmhost --help'",
-            "",
-        ),
-        (
-            &["cpmhost", "debug", "--z80"],
-            "the argument <FILE> is missing; try 'cpmhost --help'",
-            "",
-        ),
-        (
-            &["cpmhost", "debug", "a", "--steps", "5"],
-            "unexpected argument '--steps'; try 'cpmhost --help'",
-            "",
-        ),
-    ];
-    for (words, first, second) in lines {
+    for (words, first, second) in WRONG {
         let shown = refusal(&rt, words);
         let wanted = format!(in rt.alloc(); "{first}{second}").expect(&rt, "memory");
         same_at(&rt, words, shown.as_str(), wanted.as_str());

@@ -131,114 +131,113 @@ fn refuses_what_is_no_toml(rt: HostRuntime) {
     assert!(rt; matches!(error, Some(ConfigError::Text { line: 2, .. })));
 }
 
-#[test]
-fn refuses_keys(rt: HostRuntime) {
-    let wanted = |place: Place| ConfigError::Key(KeyFault::Wanted(place));
-    let edits: [(&str, &str, ConfigError); 17] = [
-        ("system = \"p.img\"\n", "", wanted(at_top(Field::System))),
-        (
-            "frames = 64",
-            "frames = \"64\"",
-            wanted(at_top(Field::Frames)),
-        ),
-        (
-            "frames = 64",
-            "frames = 64.0",
-            wanted(at_top(Field::Frames)),
-        ),
-        ("quantum = 1\n", "", wanted(at_top(Field::Quantum))),
-        ("frames", "Frames", ConfigError::Key(KeyFault::UnknownAtTop)),
-        ("[[session]]", "[session]", wanted(at_top(Field::Sessions))),
-        ("name = \"one\"", "", wanted(first(Field::Name))),
-        ("\"8080\"", "8080", wanted(first(Field::Cpu))),
-        ("quota = 16", "quota = true", wanted(first(Field::Quota))),
-        ("steps = 50\n", "", wanted(first(Field::Steps))),
-        ("[\"a.img\"]", "\"a.img\"", wanted(first(Field::Drives))),
-        (
-            "[\"a.img\"]",
-            "[\"a.img\", 1]",
-            wanted(first(Field::Drives)),
-        ),
-        ("console = \"one.txt\"\n", "", wanted(first(Field::Console))),
-        ("\"one.keys\"", "[]", wanted(first(Field::Keys))),
-        ("keys = ", "list = 5\nkeys = ", wanted(first(Field::List))),
-        ("keys = ", "out = \"o\"\nkeys = ", wanted(first(Field::Out))),
-        (
-            "keys = ",
-            "fork = \"one\"\nkeys = ",
-            ConfigError::Key(KeyFault::UnknownInSession(1)),
-        ),
-    ];
-    for (old, new, error) in edits {
-        let text = replaced(&rt, GOOD, old, new);
-        same_at(&rt, new, refusal(&rt, text.as_str()), error);
-    }
-    let head = "frames = 64\nquantum = 1\nsystem = \"p.img\"\n";
-    same(&rt, refusal(&rt, head), wanted(at_top(Field::Sessions)));
-    let text = joined(&rt, &[head, "session = [1]\n"]);
-    same(
-        &rt,
-        refusal(&rt, text.as_str()),
-        wanted(at_top(Field::Sessions)),
-    );
-    same(
-        &rt,
-        refusal(&rt, "frames = 64"),
-        wanted(at_top(Field::Quantum)),
-    );
-    same(
-        &rt,
-        refusal(&rt, "# nothing\n"),
-        wanted(at_top(Field::Frames)),
-    );
-}
+/// What is written in place of a text of the good configuration, and the session and the field at which something else is wanted then.
+const WANTED: [(&str, &str, u64, Field); 15] = [
+    ("system = \"p.img\"\n", "", 0, Field::System),
+    ("frames = 64", "frames = \"64\"", 0, Field::Frames),
+    ("frames = 64", "frames = 64.0", 0, Field::Frames),
+    ("quantum = 1\n", "", 0, Field::Quantum),
+    ("[[session]]", "[session]", 0, Field::Sessions),
+    ("name = \"one\"", "", 1, Field::Name),
+    ("\"8080\"", "8080", 1, Field::Cpu),
+    ("quota = 16", "quota = true", 1, Field::Quota),
+    ("steps = 50\n", "", 1, Field::Steps),
+    ("[\"a.img\"]", "\"a.img\"", 1, Field::Drives),
+    ("[\"a.img\"]", "[\"a.img\", 1]", 1, Field::Drives),
+    ("console = \"one.txt\"\n", "", 1, Field::Console),
+    ("\"one.keys\"", "[]", 1, Field::Keys),
+    ("keys = ", "list = 5\nkeys = ", 1, Field::List),
+    ("keys = ", "out = \"o\"\nkeys = ", 1, Field::Out),
+];
+
+/// The same for a key that there is not.
+const UNKNOWN: [(&str, &str, KeyFault); 2] = [
+    ("frames", "Frames", KeyFault::UnknownAtTop),
+    (
+        "keys = ",
+        "fork = \"one\"\nkeys = ",
+        KeyFault::UnknownInSession(1),
+    ),
+];
+
+/// Configurations that lack a key at the top, and the first one.
+const LACKING: [(&str, Field); 4] = [
+    (
+        "frames = 64\nquantum = 1\nsystem = \"p.img\"\n",
+        Field::Sessions,
+    ),
+    (
+        "frames = 64\nquantum = 1\nsystem = \"p.img\"\nsession = [1]\n",
+        Field::Sessions,
+    ),
+    ("frames = 64", Field::Quantum),
+    ("# nothing\n", Field::Frames),
+];
 
 #[test]
-fn refuses_values(rt: HostRuntime) {
-    let edits: [(&str, &str, Place); 22] = [
-        ("frames = 64", "frames = 15", at_top(Field::Frames)),
-        ("frames = 64", "frames = 16385", at_top(Field::Frames)),
-        ("frames = 64", "frames = -64", at_top(Field::Frames)),
-        ("quantum = 1", "quantum = 0", at_top(Field::Quantum)),
-        (
-            "quantum = 1",
-            "quantum = 1000000001",
-            at_top(Field::Quantum),
-        ),
-        ("\"one\"", "\"\"", first(Field::Name)),
-        ("\"one\"", "\"a2345678901234567\"", first(Field::Name)),
-        ("\"one\"", "\"one two\"", first(Field::Name)),
-        ("\"one\"", "\"é\"", first(Field::Name)),
-        ("\"one\"", "\"a.b\"", first(Field::Name)),
-        ("\"8080\"", "\"8085\"", first(Field::Cpu)),
-        ("\"8080\"", "\"Z80\"", first(Field::Cpu)),
-        ("quota = 16", "quota = 15", first(Field::Quota)),
-        ("quota = 16", "quota = 257", first(Field::Quota)),
-        ("quota = 16", "quota = -16", first(Field::Quota)),
-        ("steps = 50", "steps = -1", first(Field::Steps)),
-        ("steps = 50", "steps = 1000000000001", first(Field::Steps)),
-        ("[\"a.img\"]", "[]", first(Field::Drives)),
-        (
-            "[\"a.img\"]",
-            "[\"a\", \"b\", \"c\", \"d\", \"e\"]",
-            first(Field::Drives),
-        ),
-        ("keys = ", "out = []\nkeys = ", first(Field::Out)),
-        (
-            "keys = ",
-            "out = [\"a\", \"b\"]\nkeys = ",
-            first(Field::Out),
-        ),
-        ("quantum = 1", "quantum = -1", at_top(Field::Quantum)),
-    ];
-    for (old, new, place) in edits {
+fn refuses_keys(rt: HostRuntime) {
+    for (old, new, session, field) in WANTED {
+        let text = replaced(&rt, GOOD, old, new);
+        let wanted = KeyFault::Wanted(Place { session, field });
+        same_at(
+            &rt,
+            new,
+            refusal(&rt, text.as_str()),
+            ConfigError::Key(wanted),
+        );
+    }
+    for (old, new, wanted) in UNKNOWN {
         let text = replaced(&rt, GOOD, old, new);
         same_at(
             &rt,
             new,
             refusal(&rt, text.as_str()),
-            ConfigError::Range(place),
+            ConfigError::Key(wanted),
         );
+    }
+    for (text, field) in LACKING {
+        let wanted = KeyFault::Wanted(at_top(field));
+        same_at(&rt, text, refusal(&rt, text), ConfigError::Key(wanted));
+    }
+}
+
+/// What is written in place of a text of the good configuration, and the session and the field that is out of its range then.
+const OUT_OF_RANGE: [(&str, &str, u64, Field); 22] = [
+    ("frames = 64", "frames = 15", 0, Field::Frames),
+    ("frames = 64", "frames = 16385", 0, Field::Frames),
+    ("frames = 64", "frames = -64", 0, Field::Frames),
+    ("quantum = 1", "quantum = 0", 0, Field::Quantum),
+    ("quantum = 1", "quantum = 1000000001", 0, Field::Quantum),
+    ("\"one\"", "\"\"", 1, Field::Name),
+    ("\"one\"", "\"a2345678901234567\"", 1, Field::Name),
+    ("\"one\"", "\"one two\"", 1, Field::Name),
+    ("\"one\"", "\"é\"", 1, Field::Name),
+    ("\"one\"", "\"a.b\"", 1, Field::Name),
+    ("\"8080\"", "\"8085\"", 1, Field::Cpu),
+    ("\"8080\"", "\"Z80\"", 1, Field::Cpu),
+    ("quota = 16", "quota = 15", 1, Field::Quota),
+    ("quota = 16", "quota = 257", 1, Field::Quota),
+    ("quota = 16", "quota = -16", 1, Field::Quota),
+    ("steps = 50", "steps = -1", 1, Field::Steps),
+    ("steps = 50", "steps = 1000000000001", 1, Field::Steps),
+    ("[\"a.img\"]", "[]", 1, Field::Drives),
+    (
+        "[\"a.img\"]",
+        "[\"a\", \"b\", \"c\", \"d\", \"e\"]",
+        1,
+        Field::Drives,
+    ),
+    ("keys = ", "out = []\nkeys = ", 1, Field::Out),
+    ("keys = ", "out = [\"a\", \"b\"]\nkeys = ", 1, Field::Out),
+    ("quantum = 1", "quantum = -1", 0, Field::Quantum),
+];
+
+#[test]
+fn refuses_values(rt: HostRuntime) {
+    for (old, new, session, field) in OUT_OF_RANGE {
+        let text = replaced(&rt, GOOD, old, new);
+        let wanted = ConfigError::Range(Place { session, field });
+        same_at(&rt, new, refusal(&rt, text.as_str()), wanted);
     }
     let text = "frames = 64\nquantum = 1\nsystem = \"p.img\"\nsession = []\n";
     same(

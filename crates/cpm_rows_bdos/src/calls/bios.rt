@@ -20,14 +20,14 @@ fn call(rt: &impl Abort, trial: &mut Trial, number: u8) -> u8 {
     after.pc = before.pc;
     after.sp = before.sp;
     same(rt, after, before);
-    same(rt, trial.session.mode, Mode::Program);
+    trial.is_in(rt, Mode::Program);
     a
 }
 
 #[test]
 fn console_and_list_device(rt: HostRuntime) -> Result<(), Fail> {
     let mut trial = Trial::new(rt.alloc())?;
-    trial.session.console.set_list_echo(true);
+    trial.echo_to_list();
     same(&rt, call(&rt, &mut trial, 2), 0x00);
     trial.press(&rt, &[b'k', 0x13]);
     same(&rt, call(&rt, &mut trial, 2), 0xFF);
@@ -55,7 +55,7 @@ fn console_input_waits(rt: HostRuntime) -> Result<(), Fail> {
     let before = trial.session.regs;
     same(&rt, trial.bios(&rt, 3), Went::Waits);
     same(&rt, trial.session.regs, before);
-    same(&rt, trial.session.mode, Mode::Program);
+    trial.is_in(&rt, Mode::Program);
     Ok(())
 }
 
@@ -63,7 +63,7 @@ fn console_input_waits(rt: HostRuntime) -> Result<(), Fail> {
 fn boots(rt: HostRuntime) -> Result<(), Fail> {
     let mut trial = Trial::new(rt.alloc())?;
     trial.store(0x0000, &[1, 2, 3, 4, 5, 6, 7, 8]);
-    trial.session.console.set_list_echo(true);
+    trial.echo_to_list();
     trial.come(0xFB01);
     same(&rt, trial.bios(&rt, 1), Went::Reboot);
     trial.is_rebooted(&rt);
@@ -77,11 +77,11 @@ fn boots(rt: HostRuntime) -> Result<(), Fail> {
         (6, 0x06),
         (7, 0xEC),
     ] {
-        same(&rt, trial.memory.get(address), byte);
+        trial.has_byte(&rt, address, byte);
     }
     trial.come(0xFB00);
     same(&rt, trial.bios(&rt, 0), Went::Reboot);
-    same(&rt, trial.memory.get(3), 0);
-    same(&rt, trial.memory.get(4), 0);
+    trial.has_byte(&rt, 3, 0);
+    trial.has_byte(&rt, 4, 0);
     Ok(())
 }

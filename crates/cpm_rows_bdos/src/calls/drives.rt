@@ -9,23 +9,23 @@ use std::test::Fail;
 #[test]
 fn drives_are_logged_in_as_they_are_used(rt: HostRuntime) -> Result<(), Fail> {
     let mut trial = Trial::on(rt.alloc(), text_disk(&rt, rt.alloc()))?;
-    same(&rt, trial.result(&rt, 24, 0), 0x0000);
-    same(&rt, trial.result(&rt, 13, 0), 0x0000);
-    same(&rt, trial.result(&rt, 24, 0), 0x0001);
-    same(&rt, trial.result(&rt, 29, 0), 0x8000);
-    same(&rt, trial.result(&rt, 31, 0), 0xFC20);
-    same(&rt, trial.result(&rt, 14, 0x000F), 0x0000);
-    same(&rt, trial.result(&rt, 25, 0), 0x000F);
-    same(&rt, trial.result(&rt, 24, 0), 0x8001);
+    trial.gives(&rt, 24, 0, 0x0000);
+    trial.gives(&rt, 13, 0, 0x0000);
+    trial.gives(&rt, 24, 0, 0x0001);
+    trial.gives(&rt, 29, 0, 0x8000);
+    trial.gives(&rt, 31, 0, 0xFC20);
+    trial.gives(&rt, 14, 0x000F, 0x0000);
+    trial.gives(&rt, 25, 0, 0x000F);
+    trial.gives(&rt, 24, 0, 0x8001);
     // drives lose their login by a mask, and all of them by a reset
-    same(&rt, trial.result(&rt, 37, 0x0001), 0x0000);
-    same(&rt, trial.result(&rt, 24, 0), 0x8000);
-    same(&rt, trial.result(&rt, 26, 0x9000), 0x0000);
+    trial.gives(&rt, 37, 0x0001, 0x0000);
+    trial.gives(&rt, 24, 0, 0x8000);
+    trial.gives(&rt, 26, 0x9000, 0x0000);
     same(&rt, trial.session.buffer, 0x9000);
-    same(&rt, trial.result(&rt, 13, 0), 0x0000);
+    trial.gives(&rt, 13, 0, 0x0000);
     same(&rt, trial.session.buffer, 0x0080);
-    same(&rt, trial.result(&rt, 25, 0), 0x0000);
-    same(&rt, trial.result(&rt, 24, 0), 0x0001);
+    trial.gives(&rt, 25, 0, 0x0000);
+    trial.gives(&rt, 24, 0, 0x0001);
     Ok(())
 }
 
@@ -33,14 +33,14 @@ fn drives_are_logged_in_as_they_are_used(rt: HostRuntime) -> Result<(), Fail> {
 fn the_allocation_vector_lies_in_memory(rt: HostRuntime) -> Result<(), Fail> {
     let mut trial = Trial::on(rt.alloc(), text_disk(&rt, rt.alloc()))?;
     trial.store(0xFE00, &[0x55; 64]);
-    same(&rt, trial.result(&rt, 27, 0), 0xFE00);
+    trial.gives(&rt, 27, 0, 0xFE00);
     let mut vector = [0; 32];
     vector[0] = 0xE0;
     vector[31] = 0x55;
     same(&rt, trial.bytes::<32>(0xFE00), vector);
     // of the blank system drive only the directory's blocks are reserved
-    same(&rt, trial.result(&rt, 14, 0x000F), 0x0000);
-    same(&rt, trial.result(&rt, 27, 0), 0xFF00);
+    trial.gives(&rt, 14, 0x000F, 0x0000);
+    trial.gives(&rt, 27, 0, 0xFF00);
     same(&rt, trial.bytes::<2>(0xFF00), [0xC0, 0x00]);
     Ok(())
 }
@@ -50,7 +50,7 @@ fn a_drive_that_is_not_there(rt: HostRuntime) -> Result<(), Fail> {
     let mut trial = Trial::new(rt.alloc())?;
     trial.fails(&rt, 14, 0x0001, b"\r\nBdos Err On B: Select");
     trial.fails(&rt, 14, 0x0010, b"\r\nBdos Err On A: Select");
-    same(&rt, trial.result(&rt, 25, 0), 0x0000);
+    trial.gives(&rt, 25, 0, 0x0000);
     Ok(())
 }
 
@@ -60,7 +60,7 @@ fn a_file_control_block_names_its_drive(rt: HostRuntime) -> Result<(), Fail> {
     name_file(&mut trial, FCB, 0, b"T       TXT");
     for (drive, code) in [(0, 0x00), (1, 0x00), (16, 0xFF)] {
         trial.store(FCB, &[drive]);
-        same(&rt, trial.result(&rt, 15, FCB), code);
+        trial.gives(&rt, 15, FCB, code);
     }
     let mut message = *b"\r\nBdos Err On ?: Select";
     for drive in (2..=15).chain(17..=255) {
@@ -75,8 +75,8 @@ fn a_file_control_block_names_its_drive(rt: HostRuntime) -> Result<(), Fail> {
 fn the_user_is_set_modulo_32(rt: HostRuntime) -> Result<(), Fail> {
     let mut trial = Trial::new(rt.alloc())?;
     for (parameter, user) in [(5, 5), (32, 0), (0xFE, 30)] {
-        same(&rt, trial.result(&rt, 32, parameter), 0x0000);
-        same(&rt, trial.result(&rt, 32, 0x00FF), user);
+        trial.gives(&rt, 32, parameter, 0x0000);
+        trial.gives(&rt, 32, 0x00FF, user);
     }
     Ok(())
 }
@@ -85,7 +85,7 @@ fn the_user_is_set_modulo_32(rt: HostRuntime) -> Result<(), Fail> {
 fn numbers_without_a_function(rt: HostRuntime) -> Result<(), Fail> {
     let mut trial = Trial::new(rt.alloc())?;
     for function in [38, 39, 41, 128, 255] {
-        same(&rt, trial.result(&rt, function, FCB), 0x0000);
+        trial.gives(&rt, function, FCB, 0x0000);
     }
     Ok(())
 }

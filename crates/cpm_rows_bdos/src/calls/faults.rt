@@ -11,20 +11,20 @@ use std::test::Fail;
 fn fail(rt: &impl Abort, trial: &mut Trial, fault: Fault, drive: u8) {
     assert!(rt; trial.session.console.held() <= 4096);
     same(rt, trial.session.fault(fault, drive), Went::GoesOn);
-    same(rt, trial.session.mode, Mode::Fault);
+    trial.is_in(rt, Mode::Fault);
 }
 
 #[test]
 fn a_fault_waits_for_a_key_and_boots(rt: HostRuntime) -> Result<(), Fail> {
     let mut trial = Trial::new(rt.alloc())?;
     trial.call(22, 0x005C);
-    trial.session.console.set_list_echo(true);
+    trial.echo_to_list();
     fail(&rt, &mut trial, Fault::ReadOnly, 15);
     trial.shows(&rt, b"\r\nBdos Err On P: R/O");
     trial.lists(&rt, b"");
-    same(&rt, trial.step(&rt), Went::Waits);
+    trial.goes(&rt, Went::Waits);
     trial.press(&rt, b" y");
-    same(&rt, trial.step(&rt), Went::Reboot);
+    trial.goes(&rt, Went::Reboot);
     trial.is_rebooted(&rt);
     same(&rt, trial.session.console.first_key(), Some(b'y'));
     trial.shows(&rt, b"");

@@ -10,15 +10,15 @@ use std::test::Fail;
 fn a_key_is_echoed(rt: HostRuntime) -> Result<(), Fail> {
     let mut trial = Trial::new(rt.alloc())?;
     trial.call(1, 0);
-    same(&rt, trial.step(&rt), Went::Waits);
-    same(&rt, trial.session.mode, Mode::Program);
-    same(&rt, trial.session.regs.pc, 0xEC06);
+    trial.goes(&rt, Went::Waits);
+    trial.is_in(&rt, Mode::Program);
+    trial.is_at(&rt, 0xEC06);
     trial.press(&rt, &[b'x', 0x09, 0x08, 0x0A, 0x0D, 0x7F, 0xE4]);
-    same(&rt, trial.step(&rt), Went::Returned);
-    same(&rt, trial.returned(&rt), 0x78);
+    trial.goes(&rt, Went::Returned);
+    trial.has_returned(&rt, 0x78);
     trial.shows(&rt, b"x");
     for key in [0x09, 0x08, 0x0A, 0x0D, 0x7F, 0xE4] {
-        same(&rt, trial.result(&rt, 1, 0), key);
+        trial.gives(&rt, 1, 0, key);
     }
     trial.shows(
         &rt,
@@ -35,13 +35,13 @@ fn a_control_is_not_echoed(rt: HostRuntime) -> Result<(), Fail> {
     let controls = [0x00, 0x03, 0x07, 0x0B, 0x0C, 0x0E, 0x10, 0x13, 0x1F];
     for control in controls {
         trial.press(&rt, &[control]);
-        same(&rt, trial.result(&rt, 1, 0), u16::from(control));
+        trial.gives(&rt, 1, 0, u16::from(control));
     }
     trial.shows(&rt, b"");
     assert!(rt; !trial.session.console.list_echo());
-    trial.session.console.set_list_echo(true);
+    trial.echo_to_list();
     trial.press(&rt, b"y");
-    same(&rt, trial.result(&rt, 1, 0), 0x79);
+    trial.gives(&rt, 1, 0, 0x79);
     trial.lists(&rt, b"y");
     Ok(())
 }
@@ -49,11 +49,11 @@ fn a_control_is_not_echoed(rt: HostRuntime) -> Result<(), Fail> {
 #[test]
 fn asks_before_it_reads(rt: HostRuntime) -> Result<(), Fail> {
     let mut trial = Trial::new(rt.alloc())?;
-    same(&rt, trial.result(&rt, 11, 0), 0x00);
+    trial.gives(&rt, 11, 0, 0x00);
     trial.press(&rt, b"x");
-    same(&rt, trial.result(&rt, 11, 0), 0xFF);
-    same(&rt, trial.result(&rt, 1, 0), 0x78);
-    same(&rt, trial.result(&rt, 11, 0), 0x00);
+    trial.gives(&rt, 11, 0, 0xFF);
+    trial.gives(&rt, 1, 0, 0x78);
+    trial.gives(&rt, 11, 0, 0x00);
     trial.shows(&rt, b"x");
     Ok(())
 }
@@ -61,14 +61,14 @@ fn asks_before_it_reads(rt: HostRuntime) -> Result<(), Fail> {
 #[test]
 fn console_without_echo(rt: HostRuntime) -> Result<(), Fail> {
     let mut trial = Trial::new(rt.alloc())?;
-    same(&rt, trial.result(&rt, 6, 0x00FF), 0);
-    same(&rt, trial.result(&rt, 6, 0x00FE), 0);
+    trial.gives(&rt, 6, 0x00FF, 0);
+    trial.gives(&rt, 6, 0x00FE, 0);
     trial.press(&rt, &[b'k', 0x13]);
-    same(&rt, trial.result(&rt, 6, 0x00FE), 0xFF);
-    same(&rt, trial.result(&rt, 6, 0x00FF), 0x6B);
+    trial.gives(&rt, 6, 0x00FE, 0xFF);
+    trial.gives(&rt, 6, 0x00FF, 0x6B);
     // a tab as it is, and no look for ^S
-    same(&rt, trial.result(&rt, 6, 0x0009), 0);
-    same(&rt, trial.result(&rt, 6, 0x00FD), 0);
+    trial.gives(&rt, 6, 0x0009, 0);
+    trial.gives(&rt, 6, 0x00FD, 0);
     trial.shows(&rt, &[0x09, 0xFD]);
     same(&rt, trial.session.console.pending(), 1);
     Ok(())
@@ -81,14 +81,14 @@ fn keys_beyond_the_last_are_never_seen(rt: HostRuntime) -> Result<(), Fail> {
         assert!(rt; trial.session.console.give(b'a'));
     }
     assert!(rt; !trial.session.console.give(b'b'));
-    same(&rt, trial.result(&rt, 6, 0x00FF), 0x61);
+    trial.gives(&rt, 6, 0x00FF, 0x61);
     assert!(rt; trial.session.console.give(b'c'));
     assert!(rt; !trial.session.console.give(b'd'));
     for _ in 0..4095 {
-        same(&rt, trial.result(&rt, 6, 0x00FF), 0x61);
+        trial.gives(&rt, 6, 0x00FF, 0x61);
     }
-    same(&rt, trial.result(&rt, 6, 0x00FF), 0x63);
-    same(&rt, trial.result(&rt, 6, 0x00FF), 0);
+    trial.gives(&rt, 6, 0x00FF, 0x63);
+    trial.gives(&rt, 6, 0x00FF, 0);
     Ok(())
 }
 
@@ -97,24 +97,24 @@ fn the_io_byte_is_stored_where_it_changes(rt: HostRuntime) -> Result<(), Fail> {
     let mut trial = Trial::new(rt.alloc())?;
     trial.call(8, 0x0000);
     same(&rt, trial.memory.touched(), 1);
-    same(&rt, trial.step(&rt), Went::Returned);
+    trial.goes(&rt, Went::Returned);
     same(&rt, trial.memory.touched(), 1);
-    same(&rt, trial.result(&rt, 8, 0x1295), 0);
+    trial.gives(&rt, 8, 0x1295, 0);
     same(&rt, trial.memory.touched(), 2);
-    same(&rt, trial.memory.get(0x0003), 0x95);
-    same(&rt, trial.result(&rt, 7, 0), 0x0095);
+    trial.has_byte(&rt, 0x0003, 0x95);
+    trial.gives(&rt, 7, 0, 0x0095);
     Ok(())
 }
 
 #[test]
 fn small_functions(rt: HostRuntime) -> Result<(), Fail> {
     let mut trial = Trial::new(rt.alloc())?;
-    same(&rt, trial.result(&rt, 3, 0), 0x001A);
-    same(&rt, trial.result(&rt, 4, 0x0041), 0);
-    same(&rt, trial.result(&rt, 12, 0), 0x0022);
+    trial.gives(&rt, 3, 0, 0x001A);
+    trial.gives(&rt, 4, 0x0041, 0);
+    trial.gives(&rt, 12, 0, 0x0022);
     same(&rt, trial.session.regs.a, 0x22);
-    same(&rt, trial.result(&rt, 38, 0), 0);
-    same(&rt, trial.result(&rt, 255, 0), 0);
+    trial.gives(&rt, 38, 0, 0);
+    trial.gives(&rt, 255, 0, 0);
     trial.shows(&rt, b"");
     trial.lists(&rt, b"");
     Ok(())

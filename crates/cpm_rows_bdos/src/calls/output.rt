@@ -9,8 +9,8 @@ use std::test::Fail;
 #[test]
 fn shows_a_byte(rt: HostRuntime) -> Result<(), Fail> {
     let mut trial = Trial::new(rt.alloc())?;
-    same(&rt, trial.result(&rt, 2, 0x5541), 0);
-    same(&rt, trial.result(&rt, 2, 0x0009), 0);
+    trial.gives(&rt, 2, 0x5541, 0);
+    trial.gives(&rt, 2, 0x0009, 0);
     trial.shows(&rt, b"A       ");
     trial.lists(&rt, b"");
     same(&rt, trial.session.regs.c, 2);
@@ -23,15 +23,15 @@ fn a_byte_waits_for_the_end_of_a_hold(rt: HostRuntime) -> Result<(), Fail> {
     let mut trial = Trial::new(rt.alloc())?;
     trial.press(&rt, &[0x13, 0x20]);
     trial.call(2, 0x0041);
-    same(&rt, trial.step(&rt), Went::GoesOn);
-    same(&rt, trial.session.mode, Mode::Hold(Held::Call));
-    same(&rt, trial.session.regs.pc, 0xEC06);
+    trial.goes(&rt, Went::GoesOn);
+    trial.is_in(&rt, Mode::Hold(Held::Call));
+    trial.is_at(&rt, 0xEC06);
     trial.shows(&rt, b"");
-    same(&rt, trial.step(&rt), Went::GoesOn);
-    same(&rt, trial.session.mode, Mode::Program);
+    trial.goes(&rt, Went::GoesOn);
+    trial.is_in(&rt, Mode::Program);
     trial.shows(&rt, b"");
-    same(&rt, trial.step(&rt), Went::Returned);
-    same(&rt, trial.returned(&rt), 0);
+    trial.goes(&rt, Went::Returned);
+    trial.has_returned(&rt, 0);
     trial.shows(&rt, b"A");
     Ok(())
 }
@@ -40,16 +40,16 @@ fn a_byte_waits_for_the_end_of_a_hold(rt: HostRuntime) -> Result<(), Fail> {
 fn break_ends_a_hold(rt: HostRuntime) -> Result<(), Fail> {
     let mut trial = Trial::new(rt.alloc())?;
     trial.press(&rt, &[0x13, 0x03]);
-    trial.session.console.set_list_echo(true);
+    trial.echo_to_list();
     trial.store(0x0000, &[0, 0, 0]);
     trial.call(2, 0x0041);
-    same(&rt, trial.step(&rt), Went::GoesOn);
-    same(&rt, trial.step(&rt), Went::Reboot);
+    trial.goes(&rt, Went::GoesOn);
+    trial.goes(&rt, Went::Reboot);
     trial.is_rebooted(&rt);
     trial.shows(&rt, b"");
     trial.lists(&rt, b"");
-    same(&rt, trial.memory.get(0x0000), 0xC3);
-    same(&rt, trial.memory.get(0x0002), 0xFA);
+    trial.has_byte(&rt, 0x0000, 0xC3);
+    trial.has_byte(&rt, 0x0002, 0xFA);
     Ok(())
 }
 
@@ -58,13 +58,13 @@ fn a_hold_looks_for_stop_again(rt: HostRuntime) -> Result<(), Fail> {
     let mut trial = Trial::new(rt.alloc())?;
     trial.press(&rt, &[0x13, 0x20, 0x13, 0x13]);
     trial.call(2, 0x0041);
-    same(&rt, trial.step(&rt), Went::GoesOn);
-    same(&rt, trial.step(&rt), Went::GoesOn);
-    same(&rt, trial.step(&rt), Went::GoesOn);
-    same(&rt, trial.session.mode, Mode::Hold(Held::Call));
+    trial.goes(&rt, Went::GoesOn);
+    trial.goes(&rt, Went::GoesOn);
+    trial.goes(&rt, Went::GoesOn);
+    trial.is_in(&rt, Mode::Hold(Held::Call));
     // a second ^S is a key as any other
-    same(&rt, trial.step(&rt), Went::GoesOn);
-    same(&rt, trial.step(&rt), Went::Returned);
+    trial.goes(&rt, Went::GoesOn);
+    trial.goes(&rt, Went::Returned);
     trial.shows(&rt, b"A");
     Ok(())
 }
@@ -74,25 +74,21 @@ fn a_text_is_held_in_the_middle(rt: HostRuntime) -> Result<(), Fail> {
     let mut trial = Trial::new(rt.alloc())?;
     trial.store(0x8000, b"HI$");
     trial.call(9, 0x8000);
-    same(&rt, trial.step(&rt), Went::GoesOn);
+    trial.goes(&rt, Went::GoesOn);
     trial.press(&rt, &[0x13]);
-    same(&rt, trial.step(&rt), Went::GoesOn);
-    same(
-        &rt,
-        trial.session.mode,
-        Mode::Hold(Held::Text { next: 0x8001 }),
-    );
-    same(&rt, trial.step(&rt), Went::Waits);
+    trial.goes(&rt, Went::GoesOn);
+    trial.is_in(&rt, Mode::Hold(Held::Text { next: 0x8001 }));
+    trial.goes(&rt, Went::Waits);
     trial.shows(&rt, b"H");
     trial.press(&rt, b"q");
-    same(&rt, trial.step(&rt), Went::GoesOn);
-    same(&rt, trial.session.mode, Mode::Text { next: 0x8001 });
-    same(&rt, trial.step(&rt), Went::GoesOn);
+    trial.goes(&rt, Went::GoesOn);
+    trial.is_in(&rt, Mode::Text { next: 0x8001 });
+    trial.goes(&rt, Went::GoesOn);
     trial.shows(&rt, b"I");
     // no look at the end of the text
     trial.press(&rt, &[0x13]);
-    same(&rt, trial.step(&rt), Went::Returned);
-    same(&rt, trial.returned(&rt), 0);
+    trial.goes(&rt, Went::Returned);
+    trial.has_returned(&rt, 0);
     same(&rt, trial.session.console.first_key(), Some(0x13));
     trial.shows(&rt, b"");
     Ok(())
@@ -104,14 +100,14 @@ fn a_text_is_held_before_it_begins(rt: HostRuntime) -> Result<(), Fail> {
     trial.store(0x8000, b"A\tB$");
     trial.call(9, 0x8000);
     trial.press(&rt, &[0x13, 0x20]);
-    same(&rt, trial.step(&rt), Went::GoesOn);
-    same(&rt, trial.session.mode, Mode::Hold(Held::Call));
-    same(&rt, trial.step(&rt), Went::GoesOn);
-    same(&rt, trial.session.mode, Mode::Program);
+    trial.goes(&rt, Went::GoesOn);
+    trial.is_in(&rt, Mode::Hold(Held::Call));
+    trial.goes(&rt, Went::GoesOn);
+    trial.is_in(&rt, Mode::Program);
     for _ in 0..3 {
-        same(&rt, trial.step(&rt), Went::GoesOn);
+        trial.goes(&rt, Went::GoesOn);
     }
-    same(&rt, trial.step(&rt), Went::Returned);
+    trial.goes(&rt, Went::Returned);
     trial.shows(&rt, b"A       B");
     Ok(())
 }
@@ -119,27 +115,27 @@ fn a_text_is_held_before_it_begins(rt: HostRuntime) -> Result<(), Fail> {
 #[test]
 fn echoes_to_the_list_device(rt: HostRuntime) -> Result<(), Fail> {
     let mut trial = Trial::new(rt.alloc())?;
-    same(&rt, trial.result(&rt, 5, 0x0009), 0);
+    trial.gives(&rt, 5, 0x0009, 0);
     trial.lists(&rt, b"\t");
     trial.shows(&rt, b"");
-    trial.session.console.set_list_echo(true);
-    same(&rt, trial.result(&rt, 2, 0x0041), 0);
-    same(&rt, trial.result(&rt, 2, 0x0009), 0);
+    trial.echo_to_list();
+    trial.gives(&rt, 2, 0x0041, 0);
+    trial.gives(&rt, 2, 0x0009, 0);
     trial.shows(&rt, b"A       ");
     trial.lists(&rt, b"A       ");
     // functions 5 and 6 go to one device alone
-    same(&rt, trial.result(&rt, 5, 0x0042), 0);
-    same(&rt, trial.result(&rt, 6, 0x0043), 0);
+    trial.gives(&rt, 5, 0x0042, 0);
+    trial.gives(&rt, 6, 0x0043, 0);
     trial.shows(&rt, b"C");
     trial.lists(&rt, b"B");
     trial.store(0x8000, b"T$");
     trial.call(9, 0x8000);
-    same(&rt, trial.step(&rt), Went::GoesOn);
-    same(&rt, trial.step(&rt), Went::Returned);
+    trial.goes(&rt, Went::GoesOn);
+    trial.goes(&rt, Went::Returned);
     trial.shows(&rt, b"T");
     trial.lists(&rt, b"T");
     trial.call(0, 0);
-    same(&rt, trial.step(&rt), Went::Reboot);
+    trial.goes(&rt, Went::Reboot);
     trial.is_rebooted(&rt);
     Ok(())
 }

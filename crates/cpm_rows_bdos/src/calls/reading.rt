@@ -12,7 +12,7 @@ use std::test::Fail;
 fn opened(rt: &impl Abort, alloc: Global) -> Result<Trial, Fail> {
     let mut trial = Trial::on(alloc, text_disk(rt, alloc))?;
     name_file(&mut trial, FCB, 0, b"T       TXT");
-    same(rt, trial.result(rt, 15, FCB), 0x00);
+    trial.gives(rt, 15, FCB, 0x00);
     Ok(trial)
 }
 
@@ -21,14 +21,14 @@ fn reads_a_file_to_its_end(rt: HostRuntime) -> Result<(), Fail> {
     let mut trial = opened(&rt, rt.alloc())?;
     same(&rt, trial.bytes::<5>(FCB + 12), [0, 0, 0, 2, 2]);
     for (code, byte) in [(0x00, 0x41), (0x00, 0x42), (0x01, 0x42)] {
-        same(&rt, trial.result(&rt, 20, FCB), code);
+        trial.gives(&rt, 20, FCB, code);
         same(&rt, trial.bytes::<128>(0x0080), [byte; 128]);
     }
     // the record that the file control block stands at, and the size of the file
-    same(&rt, trial.result(&rt, 36, FCB), 0x00);
+    trial.gives(&rt, 36, FCB, 0x00);
     same(&rt, trial.bytes::<3>(FCB + 33), [2, 0, 0]);
     seek(&mut trial, [9, 9, 9]);
-    same(&rt, trial.result(&rt, 35, FCB), 0x00);
+    trial.gives(&rt, 35, FCB, 0x00);
     same(&rt, trial.bytes::<3>(FCB + 33), [2, 0, 0]);
     Ok(())
 }
@@ -43,7 +43,7 @@ fn reads_records_by_number(rt: HostRuntime) -> Result<(), Fail> {
         ([0, 0, 1], 0x06),
     ] {
         seek(&mut trial, number);
-        same(&rt, trial.result(&rt, 33, FCB), code);
+        trial.gives(&rt, 33, FCB, code);
         same(&rt, trial.bytes::<128>(0x0080), [0x42; 128]);
     }
     Ok(())
@@ -53,25 +53,25 @@ fn reads_records_by_number(rt: HostRuntime) -> Result<(), Fail> {
 fn searches_the_directory(rt: HostRuntime) -> Result<(), Fail> {
     let mut trial = Trial::on(rt.alloc(), text_disk(&rt, rt.alloc()))?;
     // without a search there is no next entry
-    same(&rt, trial.result(&rt, 18, 0), 0xFF);
+    trial.gives(&rt, 18, 0, 0xFF);
     name_file(&mut trial, FCB, 0, b"???????????");
-    same(&rt, trial.result(&rt, 17, FCB), 0x00);
+    trial.gives(&rt, 17, FCB, 0x00);
     same(&rt, trial.bytes::<12>(0x0080), *b"\x00T       TXT");
     same(&rt, trial.bytes::<96>(0x00A0), [0xE5; 96]);
-    same(&rt, trial.result(&rt, 18, 0), 0xFF);
-    same(&rt, trial.result(&rt, 18, 0), 0xFF);
+    trial.gives(&rt, 18, 0, 0xFF);
+    trial.gives(&rt, 18, 0, 0xFF);
     // a `?` as the drive is every entry, free ones too
     name_file(&mut trial, FCB, b'?', b"NO     NAME");
-    same(&rt, trial.result(&rt, 17, FCB), 0x00);
+    trial.gives(&rt, 17, FCB, 0x00);
     for index in 1..64 {
-        same(&rt, trial.result(&rt, 18, 0), index % 4);
+        trial.gives(&rt, 18, 0, index % 4);
     }
-    same(&rt, trial.result(&rt, 18, 0), 0xFF);
+    trial.gives(&rt, 18, 0, 0xFF);
     // a warm boot ends a search
-    same(&rt, trial.result(&rt, 17, FCB), 0x00);
+    trial.gives(&rt, 17, FCB, 0x00);
     trial.call(0, 0);
-    same(&rt, trial.step(&rt), Went::Reboot);
-    same(&rt, trial.result(&rt, 18, 0), 0xFF);
+    trial.goes(&rt, Went::Reboot);
+    trial.gives(&rt, 18, 0, 0xFF);
     Ok(())
 }
 
@@ -80,12 +80,12 @@ fn a_search_goes_by_user_and_extent(rt: HostRuntime) -> Result<(), Fail> {
     let mut trial = Trial::on(rt.alloc(), text_disk(&rt, rt.alloc()))?;
     name_file(&mut trial, FCB, 1, b"T       T?T");
     trial.store(FCB + 12, &[1]);
-    same(&rt, trial.result(&rt, 17, FCB), 0xFF);
+    trial.gives(&rt, 17, FCB, 0xFF);
     trial.store(FCB + 12, b"?");
-    same(&rt, trial.result(&rt, 17, FCB), 0x00);
-    same(&rt, trial.result(&rt, 32, 0x0003), 0x00);
-    same(&rt, trial.result(&rt, 17, FCB), 0xFF);
-    same(&rt, trial.result(&rt, 15, FCB), 0xFF);
+    trial.gives(&rt, 17, FCB, 0x00);
+    trial.gives(&rt, 32, 0x0003, 0x00);
+    trial.gives(&rt, 17, FCB, 0xFF);
+    trial.gives(&rt, 15, FCB, 0xFF);
     Ok(())
 }
 
@@ -102,7 +102,7 @@ fn a_record_number_past_the_extent_asks_for_the_next(rt: HostRuntime) -> Result<
     let mut trial = opened(&rt, rt.alloc())?;
     for current_record in [128, 129, 200, 255] {
         trial.store(FCB + 32, &[current_record]);
-        same(&rt, trial.result(&rt, 20, FCB), 0x01);
+        trial.gives(&rt, 20, FCB, 0x01);
         same(&rt, trial.bytes::<1>(FCB + 32), [current_record]);
     }
     Ok(())

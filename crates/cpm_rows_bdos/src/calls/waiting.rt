@@ -40,7 +40,7 @@ fn waits_where_a_key_is_needed(rt: HostRuntime) -> Result<(), Fail> {
     trial.store(0x8000, &[2]);
     trial.press(&rt, b"A");
     let _went = trial.step(&rt);
-    same(&rt, trial.session.mode, Mode::Line);
+    trial.is_in(&rt, Mode::Line);
     waits_for_a_key(&rt, &mut trial);
     trial.session.mode = Mode::Command(CommandPart::Line);
     waits_for_a_key(&rt, &mut trial);

@@ -11,7 +11,7 @@ use std::test::Fail;
 fn made(rt: &impl Abort, alloc: Global) -> Result<Trial, Fail> {
     let mut trial = Trial::new(alloc)?;
     name_file(&mut trial, FCB, 0, b"T       DAT");
-    same(rt, trial.result(rt, 22, FCB), 0x00);
+    trial.gives(rt, 22, FCB, 0x00);
     Ok(trial)
 }
 
@@ -19,9 +19,9 @@ fn made(rt: &impl Abort, alloc: Global) -> Result<Trial, Fail> {
 fn with_129_records(rt: &impl Abort, alloc: Global) -> Result<Trial, Fail> {
     let mut trial = made(rt, alloc)?;
     for _ in 0..129 {
-        same(rt, trial.result(rt, 21, FCB), 0x00);
+        trial.gives(rt, 21, FCB, 0x00);
     }
-    same(rt, trial.result(rt, 16, FCB), 0x01);
+    trial.gives(rt, 16, FCB, 0x01);
     Ok(trial)
 }
 
@@ -55,9 +55,9 @@ fn a_file_grows_into_a_second_extent(rt: HostRuntime) -> Result<(), Fail> {
 fn one_file_fills_the_disk(rt: HostRuntime) -> Result<(), Fail> {
     let mut trial = made(&rt, rt.alloc())?;
     for _ in 0..1928 {
-        same(&rt, trial.result(&rt, 21, FCB), 0x00);
+        trial.gives(&rt, 21, FCB, 0x00);
     }
-    same(&rt, trial.result(&rt, 21, FCB), 0x02);
+    trial.gives(&rt, 21, FCB, 0x02);
     Ok(())
 }
 
@@ -66,9 +66,9 @@ fn a_directory_has_64_entries(rt: HostRuntime) -> Result<(), Fail> {
     let mut trial = Trial::new(rt.alloc())?;
     for index in 0..64 {
         name_file(&mut trial, FCB, 0, b"T       DAT");
-        same(&rt, trial.result(&rt, 22, FCB), index % 4);
+        trial.gives(&rt, 22, FCB, index % 4);
     }
-    same(&rt, trial.result(&rt, 22, FCB), 0xFF);
+    trial.gives(&rt, 22, FCB, 0xFF);
     Ok(())
 }
 
@@ -79,7 +79,7 @@ fn a_record_is_written_by_number(rt: HostRuntime) -> Result<(), Fail> {
         let mut trial = made(&rt, rt.alloc())?;
         trial.store(0x0080, &[0x41; 128]);
         seek(&mut trial, [3, 0, 0]);
-        same(&rt, trial.result(&rt, function, FCB), 0x00);
+        trial.gives(&rt, function, FCB, 0x00);
         for record in 16..24 {
             let byte = if record == 19 { 0x41 } else { rest };
             same(&rt, trial.record(&rt, record), [byte; 128]);
@@ -93,10 +93,10 @@ fn a_record_is_written_by_number(rt: HostRuntime) -> Result<(), Fail> {
 #[test]
 fn erased_blocks_are_free(rt: HostRuntime) -> Result<(), Fail> {
     let mut trial = with_129_records(&rt, rt.alloc())?;
-    same(&rt, trial.result(&rt, 19, FCB), 0x00);
+    trial.gives(&rt, 19, FCB, 0x00);
     name_file(&mut trial, FCB, 0, b"U       DAT");
-    same(&rt, trial.result(&rt, 22, FCB), 0x00);
-    same(&rt, trial.result(&rt, 21, FCB), 0x00);
+    trial.gives(&rt, 22, FCB, 0x00);
+    trial.gives(&rt, 21, FCB, 0x00);
     same(&rt, trial.bytes::<2>(FCB + 15), [1, 2]);
     same(&rt, start_of_entry(&rt, &trial), *b"\x00U       DAT");
     Ok(())
@@ -106,10 +106,10 @@ fn erased_blocks_are_free(rt: HostRuntime) -> Result<(), Fail> {
 fn a_close_merges_block_numbers(rt: HostRuntime) -> Result<(), Fail> {
     let mut trial = with_129_records(&rt, rt.alloc())?;
     trial.store(FCB + 16, &[0]);
-    same(&rt, trial.result(&rt, 16, FCB), 0x01);
+    trial.gives(&rt, 16, FCB, 0x01);
     same(&rt, trial.bytes::<1>(FCB + 16), [0x12]);
     trial.store(FCB + 16, &[5]);
-    same(&rt, trial.result(&rt, 16, FCB), 0xFF);
+    trial.gives(&rt, 16, FCB, 0xFF);
     has_two_extents(&rt, &trial);
     Ok(())
 }
@@ -118,18 +118,18 @@ fn a_close_merges_block_numbers(rt: HostRuntime) -> Result<(), Fail> {
 fn files_are_renamed_and_get_attributes(rt: HostRuntime) -> Result<(), Fail> {
     let mut trial = made(&rt, rt.alloc())?;
     trial.store(FCB + 16, b"\x00NEW     TXT");
-    same(&rt, trial.result(&rt, 23, FCB), 0x00);
+    trial.gives(&rt, 23, FCB, 0x00);
     same(&rt, start_of_entry(&rt, &trial), *b"\x00NEW     TXT");
     // the high bit of the first character of the type
     name_file(&mut trial, FCB, 0, b"NEW     \xD4XT");
-    same(&rt, trial.result(&rt, 30, FCB), 0x00);
+    trial.gives(&rt, 30, FCB, 0x00);
     same(&rt, start_of_entry(&rt, &trial), *b"\x00NEW     \xD4XT");
     name_file(&mut trial, FCB, 0, b"NEW     TXT");
     trial.fails(&rt, 19, FCB, b"\r\nBdos Err On A: File R/O");
     name_file(&mut trial, FCB, 0, b"T       DAT");
-    same(&rt, trial.result(&rt, 23, FCB), 0xFF);
-    same(&rt, trial.result(&rt, 30, FCB), 0xFF);
-    same(&rt, trial.result(&rt, 19, FCB), 0xFF);
+    trial.gives(&rt, 23, FCB, 0xFF);
+    trial.gives(&rt, 30, FCB, 0xFF);
+    trial.gives(&rt, 19, FCB, 0xFF);
     Ok(())
 }
 
@@ -137,11 +137,11 @@ fn files_are_renamed_and_get_attributes(rt: HostRuntime) -> Result<(), Fail> {
 fn protected_drives_are_not_written(rt: HostRuntime) -> Result<(), Fail> {
     let mut trial = Trial::new(rt.alloc())?;
     name_file(&mut trial, FCB, 0, b"T       DAT");
-    same(&rt, trial.result(&rt, 28, 0), 0x00);
-    same(&rt, trial.result(&rt, 29, 0), 0x8001);
+    trial.gives(&rt, 28, 0, 0x00);
+    trial.gives(&rt, 29, 0, 0x8001);
     trial.fails(&rt, 22, FCB, b"\r\nBdos Err On A: R/O");
     // a warm boot ends the protection, but not that of the system drive
-    same(&rt, trial.result(&rt, 22, FCB), 0x00);
+    trial.gives(&rt, 22, FCB, 0x00);
     trial.store(FCB, &[16]);
     for function in [19, 21, 22, 23, 30, 34, 40] {
         trial.fails(&rt, function, FCB, b"\r\nBdos Err On P: R/O");

@@ -85,16 +85,16 @@ fn stop_holds_what_would_be_shown(rt: HostRuntime) -> Result<(), Fail> {
     trial.prompts(&rt);
     trial.session(&rt, b"DIR\r\x13", 5, b"DIR\r");
     let first = Held::Command(CommandPart::Begin);
-    same(&rt, trial.session.mode, Mode::Hold(first));
+    trial.is_in(&rt, Mode::Hold(first));
     // it is looked for again where the part begins anew
     trial.session(&rt, b"X\x13", 2, b"");
-    same(&rt, trial.session.mode, Mode::Hold(first));
+    trial.is_in(&rt, Mode::Hold(first));
     trial.press(&rt, b"X");
     same(&rt, trial.command_step(&rt), Went::GoesOn);
     same(&rt, trial.command_step(&rt), Went::GoesOn);
     trial.session(&rt, b"\x13", 1, b"\r\nA: ONE      COM");
     let second = Held::Command(CommandPart::Directory { next: 1, column: 1 });
-    same(&rt, trial.session.mode, Mode::Hold(second));
+    trial.is_in(&rt, Mode::Hold(second));
     trial.press(&rt, b"Y");
     same(&rt, trial.command_step(&rt), Went::GoesOn);
     same(&rt, trial.command_step(&rt), Went::GoesOn);

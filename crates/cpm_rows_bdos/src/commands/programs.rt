@@ -98,7 +98,7 @@ fn words_that_are_no_program(rt: HostRuntime) -> Result<(), Fail> {
 fn records_that_fit_and_one_too_many(rt: HostRuntime) -> Result<(), Fail> {
     let mut trial = Trial::on(rt.alloc(), big(&rt, rt.alloc(), 454))?;
     trial.session(&rt, b"BIG\r", 1 + 4 + 1 + 454 + 1, b"\r\nA>BIG\r");
-    same(&rt, trial.session.regs.pc, 0x0100);
+    trial.is_at(&rt, 0x0100);
     same(&rt, trial.bytes(0xE3FF), [0xC9, 0x00]);
     let mut trial = Trial::on(rt.alloc(), big(&rt, rt.alloc(), 455))?;
     trial.session(
@@ -142,7 +142,7 @@ fn entries_that_lie(rt: HostRuntime) -> Result<(), Fail> {
     same(&rt, trial.bytes(0x0100), [0xC9, 0x00]);
     trial.session.regs.pc = 0xE406;
     trial.session(&rt, b"EMPTY\r", 1 + 6 + 2, b"\r\nA>EMPTY\r");
-    same(&rt, trial.session.regs.pc, 0x0100);
+    trial.is_at(&rt, 0x0100);
     Ok(())
 }
 
@@ -153,16 +153,12 @@ fn the_loader_by_itself(rt: HostRuntime) -> Result<(), Fail> {
     for _ in 0..4 {
         same(&rt, trial.command_step(&rt), Went::GoesOn);
     }
-    same(
-        &rt,
-        trial.session.mode,
-        Mode::Command(CommandPart::Load { next: 0x0100 }),
-    );
+    trial.is_in(&rt, Mode::Command(CommandPart::Load { next: 0x0100 }));
     for went in [Went::GoesOn, Went::Returned, Went::GoesOn] {
         assert!(rt; trial.session.console.has_room() && cpm_memory::has_room(&trial.memory));
         let did = load_step(&mut trial.session, &mut trial.memory, &trial.system);
         same(&rt, did, went);
     }
-    same(&rt, trial.session.regs.pc, 0x0100);
+    trial.is_at(&rt, 0x0100);
     Ok(())
 }

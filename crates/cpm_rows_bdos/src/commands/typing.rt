@@ -91,7 +91,7 @@ fn stop_holds_what_would_be_shown(rt: HostRuntime) -> Result<(), Fail> {
     let _open = trial.command_step(&rt);
     trial.session(&rt, b"\x13", 1, b"\r\n");
     let held = Held::Command(CommandPart::Show);
-    same(&rt, trial.session.mode, Mode::Hold(held));
+    trial.is_in(&rt, Mode::Hold(held));
     trial.session(&rt, b" ", 3, b"HI      X\r\n\r\nA>");
     // a record that begins with the end shows nothing, and so does the end of a file
     trial.press(&rt, b"TYPE NOTHING.TXT\r");

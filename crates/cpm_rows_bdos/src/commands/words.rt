@@ -123,7 +123,7 @@ fn programs_find_two_names(rt: HostRuntime) -> Result<(), Fail> {
         trial.press(&rt, b"W");
         trial.press(&rt, names.tail);
         trial.types(&rt, b"\r");
-        same(&rt, trial.session.regs.pc, 0x0100);
+        trial.is_at(&rt, 0x0100);
         same(&rt, trial.bytes(0x005C), names.first);
         same(&rt, trial.bytes(0x006C), names.second);
     }

@@ -1,6 +1,6 @@
 //! Sessions whose memories lie in one store of frames.
 
-use super::{host_of, open, open_with};
+use super::{calls, host_of, open, open_with};
 use crate::same::same;
 use cpm_sessions::{Host, Refusal, SlotId};
 use cpm_slots::{End, Granted, Why};
@@ -37,7 +37,7 @@ fn sessions_come_to_their_quotas_in_turn(rt: HostRuntime) -> Result<(), Fail> {
     ];
     for _ in 0..26 {
         for id in slots {
-            same(&rt, host.grant(id, 1)?.executed, 1);
+            same(&rt, calls::grant(&mut host, id, 1)?.executed, 1);
         }
     }
     for id in slots {
@@ -45,13 +45,13 @@ fn sessions_come_to_their_quotas_in_turn(rt: HostRuntime) -> Result<(), Fail> {
             executed: 0,
             why: Why::Stopped,
         };
-        same(&rt, host.grant(id, 1)?, stopped);
-        let look = host.look(id)?;
+        same(&rt, calls::grant(&mut host, id, 1)?, stopped);
+        let look = calls::look(&mut host, id)?;
         same(&rt, (look.ended, look.pages), (End::Quota, 9));
         same(&rt, (look.regs.h, look.regs.l), (0x26, 0x00));
         // A session that ended takes keys.
-        same(&rt, host.key(id, 0x41), Ok(()));
-        same(&rt, host.look(id)?.keys, 1);
+        same(&rt, calls::key(&mut host, id, 0x41), Ok(()));
+        same(&rt, calls::look(&mut host, id)?.keys, 1);
     }
     same(&rt, host.store().used(), 18);
     Ok(())
@@ -65,10 +65,10 @@ fn a_store_is_not_seen_by_another_slot(rt: HostRuntime) -> Result<(), Fail> {
     let mut host = host_of(&rt, rt.alloc(), 32)?;
     let first = open_with(&rt, &mut host, rt.alloc(), 16, STORES)?;
     let second = open(&mut host, rt.alloc(), 16)?;
-    host.grant(first, 1000)?;
-    same(&rt, host.look(first)?.ended, End::Halted);
-    same(&rt, host.peek(first, 0x0003), Ok(0x55));
-    same(&rt, host.peek(second, 0x0003), Ok(0x00));
+    calls::grant(&mut host, first, 1000)?;
+    same(&rt, calls::look(&mut host, first)?.ended, End::Halted);
+    same(&rt, calls::peek(&host, first, 0x0003), Ok(0x55));
+    same(&rt, calls::peek(&host, second, 0x0003), Ok(0x00));
     assert!(rt; place_of(&host, first, 0x00)? < 32);
     same(&rt, place_of(&host, second, 0x00)?, 33);
     Ok(())
