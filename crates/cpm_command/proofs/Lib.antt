@@ -4,3 +4,4 @@ pub mod WalkRows
 pub mod WholeCom
 pub mod HelpLemmas
 pub mod RefusalLemmas
+pub mod ShownLemmas

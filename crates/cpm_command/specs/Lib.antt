@@ -1,3 +1,4 @@
 pub mod CommandLine
 pub mod HelpWords
 pub mod Refusals
+pub mod Shown

@@ -1,7 +1,8 @@
 //! What was wrong with the words of a command line.
-ghost use Rattle.std.specs.Prelude.{◌≡◌};
+ghost use Rattle.std.specs.Prelude.{◌≡◌, ◌+◌, ◌<◌, ◌≤◌, ◌++◌, false, IsTrue, chars, codes, encode_utf8, length};
 ghost use Rattle.clap.specs.Words.{kind_of};
 ghost use Rattle.cpm_command.specs.Refusals.{IsOfKind};
+ghost use Rattle.cpm_command.specs.Shown.{characters_of, has_room, shown_character, shown_of};
 
 use arrayvec::ArrayString;
 use clap::Error;
@@ -54,7 +55,9 @@ pub enum UsageError {
 }
 
 /// A text as it is shown in a message of one line.
-pub fn shown(text: &str) -> Word {
+pub fn shown(text: &str) -> Word
+    ensures { result.bytes ≡ shown_of (chars text.now) }
+{
     let mut word = Word::new();
     for c in text.chars() {
         if !add_shown(&mut word, c) {
@@ -65,9 +68,12 @@ pub fn shown(text: &str) -> Word {
 }
 
 /// A line of a file as it is shown in a message of one line, without the blanks at its ends.
-pub fn shown_line(line: &[u8]) -> Word {
+pub fn shown_line(line: &[u8]) -> Word
+    ensures { result.bytes ≡ shown_of (characters_of line.now) }
+{
     let mut word = Word::new();
-    for byte in line.trim_ascii() {
+    let trimmed = line.trim_ascii();
+    for byte in trimmed {
         let c = if *byte == b'\t' {
             ' '
         } else {
@@ -81,7 +87,13 @@ pub fn shown_line(line: &[u8]) -> Word {
 }
 
 /// Adds a character where there is room for more, else dots: it says which.
-fn add_shown(word: &mut Word, c: char) -> bool {
+fn add_shown(word: &mut Word, c: char) -> bool
+    ensures room { result ≡ has_room word.old.bytes }
+    ensures shown { IsTrue result → word.new.bytes ≡ word.old.bytes ++ encode_utf8 (shown_character c) }
+    ensures short { IsTrue result → length word.new.bytes ≤ 196 }
+    ensures dots { result ≡ false → length word.old.bytes + 3 ≤ 200 → word.new.bytes ≡ word.old.bytes ++ codes "..." }
+    ensures full { 200 < length word.old.bytes + 3 → word.new ≡ word.old }
+{
     let c = if c.is_control() { '?' } else { c };
     if word.remaining_capacity() < 8 || word.try_push(c).is_err() {
         // There is room for the dots, since fewer than five bytes went in since the last look.

@@ -105,59 +105,91 @@ fn boot_frames_stay(rt: HostRuntime) -> Result<(), Fail> {
     Ok(())
 }
 
-/// 64 tables of 256 pages: table k writes its pages 0 to k, 2,080 in all; the tables of even number, which have 1,024 of them, are released and taken again; at last every page of every table is written, and no frame is at two of them.
-#[test]
-fn reserves_writes_and_releases_at_full_size(rt: HostRuntime) -> Result<(), Fail> {
-    let mut store = FrameStore::new(rt.alloc(), 16_384)?;
+/// Takes 64 tables of 256 pages.
+fn reserve_all(
+    rt: &(impl Abort + AllocGlobal),
+    store: &mut FrameStore,
+) -> Result<Vec<TableId>, Fail> {
     let mut tables = Vec::new(rt.alloc());
     for _table in 0..64u8 {
-        tables.push(reserve(&rt, &mut store, 256)?)?;
+        tables.push(reserve(rt, store, 256)?)?;
     }
-    same(&rt, store.taken(), 64);
-    same(&rt, store.used(), 0);
+    Ok(tables)
+}
+
+/// Table k stores k + 1 in each of its pages 0 to k.
+fn write_rising(rt: &impl Abort, store: &mut FrameStore, tables: &[TableId]) {
     for (k, table) in tables.iter().enumerate() {
         for page in 0..=(k % 64) as u8 {
-            store_byte(
-                &rt,
-                &mut store,
-                *table,
-                u16::from(page) * 256,
-                (k % 64) as u8 + 1,
-            );
+            let address = u16::from(page) * 256;
+            store_byte(rt, store, *table, address, (k % 64) as u8 + 1);
         }
     }
-    same(&rt, store.used(), 2_080);
+}
+
+/// Releases the tables of even number.
+fn release_even(rt: &impl Abort, store: &mut FrameStore, tables: &[TableId]) {
     for table in tables.iter().step_by(2) {
         assert!(rt; store.is_taken(*table));
         store.release(*table);
     }
-    same(&rt, store.taken(), 32);
-    same(&rt, store.used(), 1_056);
+}
+
+/// Takes the tables of even number again, which are as new.
+fn take_even(rt: &impl Abort, store: &mut FrameStore, tables: &mut [TableId]) -> Result<(), Fail> {
     for table in tables.iter_mut().step_by(2) {
-        *table = reserve(&rt, &mut store, 256)?;
-        same(&rt, pages_of(&rt, &mut store, *table), (0, 256));
-        same(&rt, byte_of(&rt, &mut store, *table, 0), 0xC3);
+        *table = reserve(rt, store, 256)?;
+        same(rt, pages_of(rt, store, *table), (0, 256));
+        same(rt, byte_of(rt, store, *table, 0), 0xC3);
     }
+    Ok(())
+}
+
+/// The tables of odd number have what was written.
+fn odd_have_their_bytes(rt: &impl Abort, store: &mut FrameStore, tables: &[TableId]) {
     for (k, table) in tables.iter().enumerate().skip(1).step_by(2) {
         let count = (k % 64) as u16 + 1;
-        same(&rt, pages_of(&rt, &mut store, *table), (count, 256 - count));
-        same(
-            &rt,
-            byte_of(&rt, &mut store, *table, 256 * (count - 1)),
-            count as u8,
-        );
-        same(&rt, byte_of(&rt, &mut store, *table, 256 * count), 0);
+        same(rt, pages_of(rt, store, *table), (count, 256 - count));
+        let last = byte_of(rt, store, *table, 256 * (count - 1));
+        same(rt, last, count as u8);
+        same(rt, byte_of(rt, store, *table, 256 * count), 0);
     }
+}
+
+/// Writes every page of every table: no frame is at two of them.
+fn write_all(
+    rt: &(impl Abort + AllocGlobal),
+    store: &mut FrameStore,
+    tables: &[TableId],
+) -> Result<(), Fail> {
     let mut is_named = vec![in rt.alloc(); false; 16_384]?;
-    for table in tables.iter() {
+    for table in tables {
         for page in 0..=255u8 {
-            store_byte(&rt, &mut store, *table, u16::from(page) * 256 + 1, 0x76);
-            let place = place_of(&rt, &store, *table, page) as usize;
+            store_byte(rt, store, *table, u16::from(page) * 256 + 1, 0x76);
+            let place = place_of(rt, store, *table, page) as usize;
             assert!(rt; place < is_named.len());
             assert!(rt; !is_named[place]);
             is_named[place] = true;
         }
     }
+    Ok(())
+}
+
+/// 64 tables of 256 pages: table k writes its pages 0 to k, 2,080 in all; the tables of even number, which have 1,024 of them, are released and taken again; at last every page of every table is written, and no frame is at two of them.
+#[test]
+fn reserves_writes_and_releases_at_full_size(rt: HostRuntime) -> Result<(), Fail> {
+    let mut store = FrameStore::new(rt.alloc(), 16_384)?;
+    let mut tables = reserve_all(&rt, &mut store)?;
+    same(&rt, store.taken(), 64);
+    same(&rt, store.used(), 0);
+    write_rising(&rt, &mut store, tables.as_slice());
+    same(&rt, store.used(), 2_080);
+    release_even(&rt, &mut store, tables.as_slice());
+    same(&rt, store.taken(), 32);
+    same(&rt, store.used(), 1_056);
+    take_even(&rt, &mut store, tables.as_mut_slice())?;
+    odd_have_their_bytes(&rt, &mut store, tables.as_slice());
+    write_all(&rt, &mut store, tables.as_slice())?;
     same(&rt, store.used(), 16_384);
     Ok(())
 }

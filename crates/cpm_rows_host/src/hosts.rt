@@ -2,6 +2,7 @@
 
 mod calls;
 mod frames;
+mod long_grants;
 mod stops;
 
 use crate::same::same;
@@ -108,6 +109,35 @@ fn refused(rt: &impl Abort, host: &mut Host, alloc: Global, opening: Opening, wa
     }
 }
 
+/// A grant does all its steps.
+fn executes(rt: &impl Abort, host: &mut Host, id: SlotId, steps: u64) -> Result<(), Fail> {
+    same(rt, calls::grant(host, id, steps)?.executed, steps);
+    Ok(())
+}
+
+/// Two slots are in the same state, and have the same console bytes.
+fn are_alike(rt: &impl Abort, host: &mut Host, one: SlotId, other: SlotId) -> Result<(), Fail> {
+    let look = calls::look(host, one)?;
+    same(rt, calls::look(host, other)?, look);
+    let mut wanted = [0; 64];
+    let mut found = [0; 64];
+    let taken = calls::take(host, one, &mut wanted)?;
+    same(rt, calls::take(host, other, &mut found)?, taken);
+    same(rt, found, wanted);
+    Ok(())
+}
+
+/// A key is taken or refused so.
+fn answers_key(rt: &impl Abort, host: &mut Host, id: SlotId, key: u8, wanted: Result<(), Refusal>) {
+    same(rt, calls::key(host, id, key), wanted);
+}
+
+/// So many keys of a slot are not read yet.
+fn has_keys(rt: &impl Abort, host: &mut Host, id: SlotId, wanted: usize) -> Result<(), Fail> {
+    same(rt, calls::look(host, id)?.keys, wanted);
+    Ok(())
+}
+
 #[test]
 fn frames_bound_the_quotas(rt: HostRuntime) -> Result<(), Fail> {
     let mut host = host_of(&rt, rt.alloc(), 512)?;
@@ -204,30 +234,45 @@ fn keys_are_bounded(rt: HostRuntime) -> Result<(), Fail> {
     let full = open(&mut host, rt.alloc(), 16)?;
     let other = open(&mut host, rt.alloc(), 16)?;
     for _ in 0..4096 {
-        same(&rt, calls::key(&mut host, full, 0x20), Ok(()));
+        answers_key(&rt, &mut host, full, 0x20, Ok(()));
     }
-    same(
-        &rt,
-        calls::key(&mut host, full, 0x21),
-        Err(Refusal::KeysFull),
-    );
-    same(&rt, calls::look(&mut host, full)?.keys, 4096);
+    answers_key(&rt, &mut host, full, 0x21, Err(Refusal::KeysFull));
+    has_keys(&rt, &mut host, full, 4096)?;
     // The prompt, and the first key.
-    same(&rt, calls::grant(&mut host, full, 2)?.executed, 2);
-    same(&rt, calls::key(&mut host, full, 0x22), Ok(()));
-    same(
-        &rt,
-        calls::key(&mut host, full, 0x21),
-        Err(Refusal::KeysFull),
-    );
+    executes(&rt, &mut host, full, 2)?;
+    answers_key(&rt, &mut host, full, 0x22, Ok(()));
+    answers_key(&rt, &mut host, full, 0x21, Err(Refusal::KeysFull));
     assert!(rt; echoes_no_refused_key(&mut host, full)?);
-    same(&rt, calls::key(&mut host, other, 0x21), Ok(()));
-    same(&rt, calls::look(&mut host, other)?.keys, 1);
-    Ok(())
+    answers_key(&rt, &mut host, other, 0x21, Ok(()));
+    has_keys(&rt, &mut host, other, 1)
 }
 
 fn ask(slot: SlotId, request: Request) -> Event {
     Event { slot, request }
+}
+
+/// What the events below are answered.
+fn are_the_replies(rt: &impl Abort, replies: &[Reply; 10]) {
+    let three = Granted {
+        executed: 3,
+        why: Why::All,
+    };
+    let none = Granted {
+        executed: 0,
+        why: Why::All,
+    };
+    assert!(rt; matches!(&replies[0], Reply::Granted(granted) if *granted == three));
+    assert!(rt; matches!(&replies[1], Reply::Peeked(0xC3)));
+    assert!(rt; matches!(&replies[2], Reply::Done));
+    assert!(rt;
+        matches!(&replies[3], Reply::Looked(look) if look.count == 0 && look.ended == End::Running)
+    );
+    assert!(rt; matches!(&replies[4], Reply::Done));
+    assert!(rt; matches!(&replies[5], Reply::Refused(Refusal::NoSuchSlot)));
+    assert!(rt; matches!(&replies[6], Reply::Granted(granted) if *granted == none));
+    assert!(rt; matches!(&replies[7], Reply::Refused(Refusal::NoSuchSlot)));
+    assert!(rt; matches!(&replies[8], Reply::Looked(look) if look.count == 3));
+    assert!(rt; matches!(&replies[9], Reply::Peeked(7)));
 }
 
 #[test]
@@ -258,27 +303,8 @@ fn replies_stand_at_their_events(rt: HostRuntime) -> Result<(), Fail> {
         Reply::Done,
         Reply::Peeked(7),
     ];
-    calls::run(&mut host, &events, &mut replies);
-    let three = Granted {
-        executed: 3,
-        why: Why::All,
-    };
-    let none = Granted {
-        executed: 0,
-        why: Why::All,
-    };
-    assert!(rt; matches!(&replies[0], Reply::Granted(granted) if *granted == three));
-    assert!(rt; matches!(&replies[1], Reply::Peeked(0xC3)));
-    assert!(rt; matches!(&replies[2], Reply::Done));
-    assert!(rt;
-        matches!(&replies[3], Reply::Looked(look) if look.count == 0 && look.ended == End::Running)
-    );
-    assert!(rt; matches!(&replies[4], Reply::Done));
-    assert!(rt; matches!(&replies[5], Reply::Refused(Refusal::NoSuchSlot)));
-    assert!(rt; matches!(&replies[6], Reply::Granted(granted) if *granted == none));
-    assert!(rt; matches!(&replies[7], Reply::Refused(Refusal::NoSuchSlot)));
-    assert!(rt; matches!(&replies[8], Reply::Looked(look) if look.count == 3));
-    assert!(rt; matches!(&replies[9], Reply::Peeked(7)));
+    calls::run(&rt, &mut host, &events, &mut replies);
+    are_the_replies(&rt, &replies);
     Ok(())
 }
 
@@ -287,21 +313,13 @@ fn grants_are_cut_alike(rt: HostRuntime) -> Result<(), Fail> {
     let mut host = host_of(&rt, rt.alloc(), 64)?;
     let whole = open(&mut host, rt.alloc(), 16)?;
     let cut = open(&mut host, rt.alloc(), 16)?;
-    same(&rt, calls::grant(&mut host, whole, 50)?.executed, 50);
+    executes(&rt, &mut host, whole, 50)?;
     for _ in 0..50 {
-        same(&rt, calls::grant(&mut host, cut, 1)?.executed, 1);
+        executes(&rt, &mut host, cut, 1)?;
     }
-    same(
-        &rt,
-        calls::look(&mut host, whole)?,
-        calls::look(&mut host, cut)?,
-    );
-    let mut one = [0; 8192];
-    let mut other = [0; 8192];
-    let taken = calls::take(&mut host, whole, &mut one)?;
-    same(&rt, calls::take(&mut host, cut, &mut other)?, taken);
-    same(&rt, one, other);
-    same(&rt, calls::take_list(&mut host, cut, &mut other)?, 0);
+    are_alike(&rt, &mut host, whole, cut)?;
+    let mut out = [0; 64];
+    same(&rt, calls::take_list(&mut host, cut, &mut out)?, 0);
     Ok(())
 }
 

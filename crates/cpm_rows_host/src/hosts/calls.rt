@@ -4,6 +4,7 @@
 use cpm_sessions::{Event, Host, Refusal, Reply, SlotId};
 use cpm_slots::{Closed, Granted, Look, OpenError, Opening};
 use std::alloc::Global;
+use std::process::Abort;
 
 pub fn open_slot(
     host: &mut Host,
@@ -45,6 +46,7 @@ pub fn close(host: &mut Host, id: SlotId) -> Result<Closed, Refusal> {
     host.close(id)
 }
 
-pub fn run(host: &mut Host, events: &[Event], replies: &mut [Reply]) {
+pub fn run(rt: &impl Abort, host: &mut Host, events: &[Event], replies: &mut [Reply]) {
+    assert!(rt; events.len() <= replies.len());
     host.run(events, replies);
 }

@@ -1,9 +1,10 @@
 //! Sessions whose memories lie in one store of frames.
 
-use super::{calls, host_of, open, open_with};
+use super::{answers_key, calls, executes, has_keys, host_of, open, open_with};
 use crate::same::same;
 use cpm_sessions::{Host, Refusal, SlotId};
 use cpm_slots::{End, Granted, Why};
+use std::process::Abort;
 use std::test::Fail;
 
 /// The frame that a page of a slot's memory is made of.
@@ -28,31 +29,31 @@ fn slots_share_the_boot_frames(rt: HostRuntime) -> Result<(), Fail> {
 /// Stores a byte in page after page.
 const PAGES: &[u8] = &[0x21, 0x00, 0x20, 0x77, 0x24, 0xC3, 0x03, 0x01];
 
+/// A session ended at its quota: nothing is done any more, but it takes keys.
+fn ended_at_its_quota(rt: &impl Abort, host: &mut Host, id: SlotId) -> Result<(), Fail> {
+    let stopped = Granted {
+        executed: 0,
+        why: Why::Stopped,
+    };
+    same(rt, calls::grant(host, id, 1)?, stopped);
+    let look = calls::look(host, id)?;
+    same(rt, (look.ended, look.pages), (End::Quota, 9));
+    same(rt, (look.regs.h, look.regs.l), (0x26, 0x00));
+    answers_key(rt, host, id, 0x41, Ok(()));
+    has_keys(rt, host, id, 1)
+}
+
 #[test]
 fn sessions_come_to_their_quotas_in_turn(rt: HostRuntime) -> Result<(), Fail> {
     let mut host = host_of(&rt, rt.alloc(), 32)?;
-    let slots = [
-        open_with(&rt, &mut host, rt.alloc(), 16, PAGES)?,
-        open_with(&rt, &mut host, rt.alloc(), 16, PAGES)?,
-    ];
+    let first = open_with(&rt, &mut host, rt.alloc(), 16, PAGES)?;
+    let second = open_with(&rt, &mut host, rt.alloc(), 16, PAGES)?;
     for _ in 0..26 {
-        for id in slots {
-            same(&rt, calls::grant(&mut host, id, 1)?.executed, 1);
-        }
+        executes(&rt, &mut host, first, 1)?;
+        executes(&rt, &mut host, second, 1)?;
     }
-    for id in slots {
-        let stopped = Granted {
-            executed: 0,
-            why: Why::Stopped,
-        };
-        same(&rt, calls::grant(&mut host, id, 1)?, stopped);
-        let look = calls::look(&mut host, id)?;
-        same(&rt, (look.ended, look.pages), (End::Quota, 9));
-        same(&rt, (look.regs.h, look.regs.l), (0x26, 0x00));
-        // A session that ended takes keys.
-        same(&rt, calls::key(&mut host, id, 0x41), Ok(()));
-        same(&rt, calls::look(&mut host, id)?.keys, 1);
-    }
+    ended_at_its_quota(&rt, &mut host, first)?;
+    ended_at_its_quota(&rt, &mut host, second)?;
     same(&rt, host.store().used(), 18);
     Ok(())
 }

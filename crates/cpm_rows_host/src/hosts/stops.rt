@@ -2,8 +2,9 @@
 
 use super::{ask, calls, host_of, open_with, press};
 use crate::same::same;
-use cpm_sessions::{Reply, Request};
+use cpm_sessions::{Host, Reply, Request, SlotId};
 use cpm_slots::{Granted, Why};
+use std::process::Abort;
 use std::test::Fail;
 
 /// Prints `A` and returns.
@@ -22,44 +23,65 @@ fn stopped(executed: u64) -> Granted {
     }
 }
 
+/// A grant of 100 steps stops before an address, behind so many.
+fn stops_at(
+    rt: &impl Abort,
+    host: &mut Host,
+    id: SlotId,
+    pc: u16,
+    executed: u64,
+) -> Result<(), Fail> {
+    same(
+        rt,
+        calls::grant_until(host, id, 100, pc)?,
+        stopped(executed),
+    );
+    Ok(())
+}
+
+/// The program is about to call the BDOS.
+fn is_at_its_call(rt: &impl Abort, host: &mut Host, id: SlotId) -> Result<(), Fail> {
+    let look = calls::look(host, id)?;
+    same(rt, (look.regs.a, look.regs.b, look.regs.c), (0, 0, 2));
+    same(rt, (look.regs.d, look.regs.e), (0, 0x41));
+    same(rt, (look.regs.sp, look.regs.pc), (0xEBFC, BDOS));
+    same(rt, look.count, 10);
+    Ok(())
+}
+
+/// The console shows these bytes.
+fn shows(rt: &impl Abort, host: &mut Host, id: SlotId, wanted: &[u8]) -> Result<(), Fail> {
+    let mut out = [0; 16];
+    let count = calls::take(host, id, &mut out)?;
+    assert!(rt; count <= 16);
+    same(rt, &out[..count], wanted);
+    Ok(())
+}
+
+/// The same grant as an event, from a prompt that a key ends: the prompt, a key and the blank line.
+fn stops_as_an_event(rt: &impl Abort, host: &mut Host, id: SlotId) -> Result<(), Fail> {
+    press(rt, host, id, b"\r");
+    let mut replies = [Reply::Done];
+    let steps = 100;
+    let asked = ask(id, Request::GrantUntil { steps, pc: PROMPT });
+    calls::run(rt, host, &[asked], &mut replies);
+    assert!(rt; matches!(&replies[0], Reply::Granted(granted) if *granted == stopped(3)));
+    let look = calls::look(host, id)?;
+    same(rt, look.regs.pc, PROMPT);
+    same(rt, look.count, 15);
+    Ok(())
+}
+
 #[test]
 fn stops_before_an_address_and_counts_nothing_for_it(rt: HostRuntime) -> Result<(), Fail> {
     let mut host = host_of(&rt, rt.alloc(), 512)?;
     let id = open_with(&rt, &mut host, rt.alloc(), 256, LETTER)?;
     // The prompt, two keys, the file's opening, its record, its end, and two instructions.
     same(&rt, calls::grant(&mut host, id, 8)?.why, Why::All);
-    same(
-        &rt,
-        calls::grant_until(&mut host, id, 100, BDOS)?,
-        stopped(2),
-    );
-    let look = calls::look(&mut host, id)?;
-    same(&rt, (look.regs.a, look.regs.b, look.regs.c), (0, 0, 2));
-    same(&rt, (look.regs.d, look.regs.e), (0, 0x41));
-    same(&rt, (look.regs.sp, look.regs.pc), (0xEBFC, BDOS));
-    same(&rt, look.count, 10);
+    stops_at(&rt, &mut host, id, BDOS, 2)?;
+    is_at_its_call(&rt, &mut host, id)?;
     // The call, and the return to the command processor.
-    same(
-        &rt,
-        calls::grant_until(&mut host, id, 100, PROMPT)?,
-        stopped(2),
-    );
-    let mut out = [0; 16];
-    let count = calls::take(&mut host, id, &mut out)?;
-    assert!(rt; count <= 16);
-    same(&rt, &out[..count], b"\r\nA>W\rA".as_slice());
-    // The prompt, a key and the blank line.
-    press(&rt, &mut host, id, b"\r");
-    let mut replies = [Reply::Done];
-    let steps = 100;
-    calls::run(
-        &mut host,
-        &[ask(id, Request::GrantUntil { steps, pc: PROMPT })],
-        &mut replies,
-    );
-    assert!(rt; matches!(&replies[0], Reply::Granted(granted) if *granted == stopped(3)));
-    let look = calls::look(&mut host, id)?;
-    same(&rt, look.regs.pc, PROMPT);
-    same(&rt, look.count, 15);
-    Ok(())
+    stops_at(&rt, &mut host, id, PROMPT, 2)?;
+    shows(&rt, &mut host, id, b"\r\nA>W\rA")?;
+    stops_as_an_event(&rt, &mut host, id)
 }
