@@ -1,8 +1,10 @@
-//! Worked rows: which openings a host takes, what its slots reply, and what a refused allocation leaves.
+//! Worked rows of hosts. A test makes its host and does the rest with a reference to it: where the host can be dropped at each call,
+//! proving the test takes ten times as long.
 
 mod calls;
 mod frames;
 mod long_grants;
+mod openings;
 mod stops;
 
 use crate::same::same;
@@ -138,78 +140,43 @@ fn has_keys(rt: &impl Abort, host: &mut Host, id: SlotId, wanted: usize) -> Resu
     Ok(())
 }
 
-#[test]
-fn frames_bound_the_quotas(rt: HostRuntime) -> Result<(), Fail> {
-    let mut host = host_of(&rt, rt.alloc(), 512)?;
-    for number in 0..32 {
-        same(&rt, open(&mut host, rt.alloc(), 16)?, SlotId(number));
+fn closed_numbers_are_refused_on(
+    rt: &(impl Abort + AllocGlobal),
+    host: &mut Host,
+) -> Result<(), Fail> {
+    let first = open(host, rt.alloc(), 16)?;
+    match calls::close(host, first) {
+        Ok(closed) => {
+            same(rt, closed.look.count, 0);
+            assert!(rt; closed.drives[0].is_some());
+            assert!(rt; closed.drives[1].is_none());
+        }
+        Err(refusal) => return Err(Fail::from(refusal)),
     }
-    let opening = opening_of(rt.alloc(), 16, 1)?;
-    refused(&rt, &mut host, rt.alloc(), opening, OpenError::NoFrames);
-    assert!(rt; calls::close(&mut host, SlotId(3)).is_ok());
-    same(&rt, open(&mut host, rt.alloc(), 16)?, SlotId(32));
-    let opening = opening_of(rt.alloc(), 16, 1)?;
-    refused(&rt, &mut host, rt.alloc(), opening, OpenError::NoFrames);
-    Ok(())
-}
-
-#[test]
-fn opens_64_slots(rt: HostRuntime) -> Result<(), Fail> {
-    let mut host = host_of(&rt, rt.alloc(), 1024)?;
-    for number in 0..64 {
-        same(&rt, open(&mut host, rt.alloc(), 16)?, SlotId(number));
-    }
-    for (quota, count, wanted) in [
-        (16, 1, OpenError::NoSlot),
-        (15, 1, OpenError::BadQuota),
-        (257, 0, OpenError::BadQuota),
-        (16, 0, OpenError::BadDrives),
-        (16, 5, OpenError::BadDrives),
-    ] {
-        let opening = opening_of(rt.alloc(), quota, count)?;
-        refused(&rt, &mut host, rt.alloc(), opening, wanted);
-    }
+    let second = open(host, rt.alloc(), 16)?;
+    same(rt, first, SlotId(0));
+    same(rt, second, SlotId(1));
+    same(rt, calls::key(host, first, 0x41), Err(Refusal::NoSuchSlot));
+    same(rt, calls::look(host, first), Err(Refusal::NoSuchSlot));
+    same(rt, calls::peek(host, first, 0), Err(Refusal::NoSuchSlot));
+    same(rt, calls::grant(host, first, 1), Err(Refusal::NoSuchSlot));
+    same(
+        rt,
+        calls::grant_until(host, first, 1, 0),
+        Err(Refusal::NoSuchSlot),
+    );
+    same(rt, host.table(first), Err(Refusal::NoSuchSlot));
+    assert!(rt; calls::close(host, first).is_err());
+    let look = calls::look(host, second)?;
+    same(rt, look.keys, 0);
+    same(rt, look.count, 0);
     Ok(())
 }
 
 #[test]
 fn closed_numbers_are_refused(rt: HostRuntime) -> Result<(), Fail> {
     let mut host = host_of(&rt, rt.alloc(), 16)?;
-    let first = open(&mut host, rt.alloc(), 16)?;
-    match calls::close(&mut host, first) {
-        Ok(closed) => {
-            same(&rt, closed.look.count, 0);
-            assert!(rt; closed.drives[0].is_some());
-            assert!(rt; closed.drives[1].is_none());
-        }
-        Err(refusal) => return Err(Fail::from(refusal)),
-    }
-    let second = open(&mut host, rt.alloc(), 16)?;
-    same(&rt, first, SlotId(0));
-    same(&rt, second, SlotId(1));
-    same(
-        &rt,
-        calls::key(&mut host, first, 0x41),
-        Err(Refusal::NoSuchSlot),
-    );
-    same(&rt, calls::look(&mut host, first), Err(Refusal::NoSuchSlot));
-    same(&rt, calls::peek(&host, first, 0), Err(Refusal::NoSuchSlot));
-    same(
-        &rt,
-        calls::grant(&mut host, first, 1),
-        Err(Refusal::NoSuchSlot),
-    );
-    same(
-        &rt,
-        calls::grant_until(&mut host, first, 1, 0),
-        Err(Refusal::NoSuchSlot),
-    );
-    same(&rt, host.table(first), Err(Refusal::NoSuchSlot));
-    assert!(rt; calls::close(&mut host, first).is_err());
-    let look = calls::look(&mut host, second)?;
-    same(&rt, look.keys, 0);
-    same(&rt, look.count, 0);
-    Ok(())
+    closed_numbers_are_refused_on(&rt, &mut host)
 }
 
 /// Runs until all keys are read: the bytes 21h that were refused are not among what is shown, and 22h is its last key.
@@ -228,23 +195,27 @@ fn echoes_no_refused_key(host: &mut Host, id: SlotId) -> Result<bool, Refusal> {
     Ok(false)
 }
 
+fn keys_are_bounded_on(rt: &(impl Abort + AllocGlobal), host: &mut Host) -> Result<(), Fail> {
+    let full = open(host, rt.alloc(), 16)?;
+    let other = open(host, rt.alloc(), 16)?;
+    for _ in 0..4096 {
+        answers_key(rt, host, full, 0x20, Ok(()));
+    }
+    answers_key(rt, host, full, 0x21, Err(Refusal::KeysFull));
+    has_keys(rt, host, full, 4096)?;
+    // The prompt, and the first key.
+    executes(rt, host, full, 2)?;
+    answers_key(rt, host, full, 0x22, Ok(()));
+    answers_key(rt, host, full, 0x21, Err(Refusal::KeysFull));
+    assert!(rt; echoes_no_refused_key(host, full)?);
+    answers_key(rt, host, other, 0x21, Ok(()));
+    has_keys(rt, host, other, 1)
+}
+
 #[test]
 fn keys_are_bounded(rt: HostRuntime) -> Result<(), Fail> {
     let mut host = host_of(&rt, rt.alloc(), 32)?;
-    let full = open(&mut host, rt.alloc(), 16)?;
-    let other = open(&mut host, rt.alloc(), 16)?;
-    for _ in 0..4096 {
-        answers_key(&rt, &mut host, full, 0x20, Ok(()));
-    }
-    answers_key(&rt, &mut host, full, 0x21, Err(Refusal::KeysFull));
-    has_keys(&rt, &mut host, full, 4096)?;
-    // The prompt, and the first key.
-    executes(&rt, &mut host, full, 2)?;
-    answers_key(&rt, &mut host, full, 0x22, Ok(()));
-    answers_key(&rt, &mut host, full, 0x21, Err(Refusal::KeysFull));
-    assert!(rt; echoes_no_refused_key(&mut host, full)?);
-    answers_key(&rt, &mut host, other, 0x21, Ok(()));
-    has_keys(&rt, &mut host, other, 1)
+    keys_are_bounded_on(&rt, &mut host)
 }
 
 fn ask(slot: SlotId, request: Request) -> Event {
@@ -275,11 +246,12 @@ fn are_the_replies(rt: &impl Abort, replies: &[Reply; 10]) {
     assert!(rt; matches!(&replies[9], Reply::Peeked(7)));
 }
 
-#[test]
-fn replies_stand_at_their_events(rt: HostRuntime) -> Result<(), Fail> {
-    let mut host = host_of(&rt, rt.alloc(), 64)?;
-    let first = open(&mut host, rt.alloc(), 16)?;
-    let second = open(&mut host, rt.alloc(), 16)?;
+fn replies_stand_at_their_events_on(
+    rt: &(impl Abort + AllocGlobal),
+    host: &mut Host,
+) -> Result<(), Fail> {
+    let first = open(host, rt.alloc(), 16)?;
+    let second = open(host, rt.alloc(), 16)?;
     let events = [
         ask(second, Request::Grant(3)),
         ask(first, Request::Peek(0x0005)),
@@ -303,93 +275,32 @@ fn replies_stand_at_their_events(rt: HostRuntime) -> Result<(), Fail> {
         Reply::Done,
         Reply::Peeked(7),
     ];
-    calls::run(&rt, &mut host, &events, &mut replies);
-    are_the_replies(&rt, &replies);
+    calls::run(rt, host, &events, &mut replies);
+    are_the_replies(rt, &replies);
+    Ok(())
+}
+
+#[test]
+fn replies_stand_at_their_events(rt: HostRuntime) -> Result<(), Fail> {
+    let mut host = host_of(&rt, rt.alloc(), 64)?;
+    replies_stand_at_their_events_on(&rt, &mut host)
+}
+
+fn grants_are_cut_alike_on(rt: &(impl Abort + AllocGlobal), host: &mut Host) -> Result<(), Fail> {
+    let whole = open(host, rt.alloc(), 16)?;
+    let cut = open(host, rt.alloc(), 16)?;
+    executes(rt, host, whole, 50)?;
+    for _ in 0..50 {
+        executes(rt, host, cut, 1)?;
+    }
+    are_alike(rt, host, whole, cut)?;
+    let mut out = [0; 64];
+    same(rt, calls::take_list(host, cut, &mut out)?, 0);
     Ok(())
 }
 
 #[test]
 fn grants_are_cut_alike(rt: HostRuntime) -> Result<(), Fail> {
     let mut host = host_of(&rt, rt.alloc(), 64)?;
-    let whole = open(&mut host, rt.alloc(), 16)?;
-    let cut = open(&mut host, rt.alloc(), 16)?;
-    executes(&rt, &mut host, whole, 50)?;
-    for _ in 0..50 {
-        executes(&rt, &mut host, cut, 1)?;
-    }
-    are_alike(&rt, &mut host, whole, cut)?;
-    let mut out = [0; 64];
-    same(&rt, calls::take_list(&mut host, cut, &mut out)?, 0);
-    Ok(())
-}
-
-/// Passes with any one allocation refused: the opening comes back, and can be tried again.
-#[test]
-fn want_of_memory_hands_the_opening_back(rt: HostRuntime) -> Result<(), Fail> {
-    let mut host = host_of(&rt, rt.alloc(), 16)?;
-    let opening = opening_of(rt.alloc(), 16, 2)?;
-    match calls::open_slot(&mut host, rt.alloc(), opening) {
-        Ok(id) => same(&rt, id, SlotId(0)),
-        Err((back, error)) => {
-            same(&rt, error, OpenError::OutOfMemory);
-            same(&rt, back.quota, 16);
-            same(&rt, back.drives.len(), 2);
-            match calls::open_slot(&mut host, rt.alloc(), back) {
-                Ok(id) => same(&rt, id, SlotId(0)),
-                Err((_, again)) => return Err(Fail::from(again)),
-            }
-        }
-    }
-    same(&rt, calls::look(&mut host, SlotId(0))?.count, 0);
-    Ok(())
-}
-
-#[test]
-fn openings_are_refused_in_order(rt: HostRuntime) -> Result<(), Fail> {
-    let mut host = host_of(&rt, rt.alloc(), 40)?;
-    same(&rt, open(&mut host, rt.alloc(), 16)?, SlotId(0));
-    for (quota, count, wanted) in [
-        (257, 5, OpenError::BadQuota),
-        (256, 5, OpenError::BadDrives),
-        (256, 4, OpenError::NoFrames),
-        (25, 1, OpenError::NoFrames),
-    ] {
-        let opening = opening_of(rt.alloc(), quota, count)?;
-        refused(&rt, &mut host, rt.alloc(), opening, wanted);
-        same(&rt, calls::look(&mut host, SlotId(0))?.count, 0);
-    }
-    same(&rt, open(&mut host, rt.alloc(), 24)?, SlotId(1));
-    assert!(rt; calls::close(&mut host, SlotId(0)).is_ok());
-    same(&rt, open(&mut host, rt.alloc(), 16)?, SlotId(2));
-    Ok(())
-}
-
-#[test]
-fn full_hosts_number_on(rt: HostRuntime) -> Result<(), Fail> {
-    let mut host = host_of(&rt, rt.alloc(), 16_384)?;
-    for _ in 0..64 {
-        open(&mut host, rt.alloc(), 256)?;
-    }
-    let opening = opening_of(rt.alloc(), 256, 1)?;
-    refused(&rt, &mut host, rt.alloc(), opening, OpenError::NoSlot);
-    assert!(rt; calls::close(&mut host, SlotId(63)).is_ok());
-    same(&rt, open(&mut host, rt.alloc(), 256)?, SlotId(64));
-    Ok(())
-}
-
-/// Passes with any one allocation refused: the drive comes back, and can be used again.
-#[test]
-fn want_of_memory_hands_the_drive_back(rt: HostRuntime) -> Result<(), Fail> {
-    let mut host = match Host::new(rt.alloc(), blank(rt.alloc())?, 32) {
-        Ok(host) => host,
-        Err((system, error)) => {
-            same(&rt, error, OpenError::OutOfMemory);
-            match Host::new(rt.alloc(), system, 32) {
-                Ok(host) => host,
-                Err((_, again)) => return Err(Fail::from(again)),
-            }
-        }
-    };
-    same(&rt, open(&mut host, rt.alloc(), 32)?, SlotId(0));
-    Ok(())
+    grants_are_cut_alike_on(&rt, &mut host)
 }

@@ -1,5 +1,6 @@
 //! A host's calls without their contracts, which tests do not need: a test in which such a contract is carried from statement to
 //! statement takes a minute or two to prove.
+ghost use Rattle.std.specs.Prelude.{◌≤◌, IfOk, length};
 
 use cpm_sessions::{Event, Host, Refusal, Reply, SlotId};
 use cpm_slots::{Closed, Granted, Look, OpenError, Opening};
@@ -30,7 +31,9 @@ pub fn look(host: &mut Host, id: SlotId) -> Result<Look, Refusal> {
     host.look(id)
 }
 
-pub fn take(host: &mut Host, id: SlotId, out: &mut [u8]) -> Result<usize, Refusal> {
+pub fn take(host: &mut Host, id: SlotId, out: &mut [u8]) -> Result<usize, Refusal>
+    ensures { IfOk result (λ count. count ≤ length out.old) }
+{
     host.take(id, out)
 }
 

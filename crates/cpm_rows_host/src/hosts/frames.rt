@@ -13,17 +13,24 @@ fn place_of(host: &Host, id: SlotId, page: u8) -> Result<u16, Refusal> {
     Ok(host.store().place(table, page))
 }
 
+fn slots_share_the_boot_frames_on(
+    rt: &(impl Abort + AllocGlobal),
+    host: &mut Host,
+) -> Result<(), Fail> {
+    for number in 0..30 {
+        same(rt, open(host, rt.alloc(), 16)?, SlotId(number));
+    }
+    for number in 0..30 {
+        same(rt, place_of(host, SlotId(number), 0x20)?, 512);
+    }
+    same(rt, host.store().used(), 0);
+    Ok(())
+}
+
 #[test]
 fn slots_share_the_boot_frames(rt: HostRuntime) -> Result<(), Fail> {
     let mut host = host_of(&rt, rt.alloc(), 512)?;
-    for number in 0..30 {
-        same(&rt, open(&mut host, rt.alloc(), 16)?, SlotId(number));
-    }
-    for number in 0..30 {
-        same(&rt, place_of(&host, SlotId(number), 0x20)?, 512);
-    }
-    same(&rt, host.store().used(), 0);
-    Ok(())
+    slots_share_the_boot_frames_on(&rt, &mut host)
 }
 
 /// Stores a byte in page after page.
@@ -43,34 +50,48 @@ fn ended_at_its_quota(rt: &impl Abort, host: &mut Host, id: SlotId) -> Result<()
     has_keys(rt, host, id, 1)
 }
 
+fn sessions_come_to_their_quotas_in_turn_on(
+    rt: &(impl Abort + AllocGlobal),
+    host: &mut Host,
+) -> Result<(), Fail> {
+    let first = open_with(rt, host, rt.alloc(), 16, PAGES)?;
+    let second = open_with(rt, host, rt.alloc(), 16, PAGES)?;
+    for _ in 0..26 {
+        executes(rt, host, first, 1)?;
+        executes(rt, host, second, 1)?;
+    }
+    ended_at_its_quota(rt, host, first)?;
+    ended_at_its_quota(rt, host, second)?;
+    same(rt, host.store().used(), 18);
+    Ok(())
+}
+
 #[test]
 fn sessions_come_to_their_quotas_in_turn(rt: HostRuntime) -> Result<(), Fail> {
     let mut host = host_of(&rt, rt.alloc(), 32)?;
-    let first = open_with(&rt, &mut host, rt.alloc(), 16, PAGES)?;
-    let second = open_with(&rt, &mut host, rt.alloc(), 16, PAGES)?;
-    for _ in 0..26 {
-        executes(&rt, &mut host, first, 1)?;
-        executes(&rt, &mut host, second, 1)?;
-    }
-    ended_at_its_quota(&rt, &mut host, first)?;
-    ended_at_its_quota(&rt, &mut host, second)?;
-    same(&rt, host.store().used(), 18);
-    Ok(())
+    sessions_come_to_their_quotas_in_turn_on(&rt, &mut host)
 }
 
 /// Stores 55h at 0003h.
 const STORES: &[u8] = &[0x3E, 0x55, 0x32, 0x03, 0x00, 0x76];
 
+fn a_store_is_not_seen_by_another_slot_on(
+    rt: &(impl Abort + AllocGlobal),
+    host: &mut Host,
+) -> Result<(), Fail> {
+    let first = open_with(rt, host, rt.alloc(), 16, STORES)?;
+    let second = open(host, rt.alloc(), 16)?;
+    calls::grant(host, first, 1000)?;
+    same(rt, calls::look(host, first)?.ended, End::Halted);
+    same(rt, calls::peek(host, first, 0x0003), Ok(0x55));
+    same(rt, calls::peek(host, second, 0x0003), Ok(0x00));
+    assert!(rt; place_of(host, first, 0x00)? < 32);
+    same(rt, place_of(host, second, 0x00)?, 33);
+    Ok(())
+}
+
 #[test]
 fn a_store_is_not_seen_by_another_slot(rt: HostRuntime) -> Result<(), Fail> {
     let mut host = host_of(&rt, rt.alloc(), 32)?;
-    let first = open_with(&rt, &mut host, rt.alloc(), 16, STORES)?;
-    let second = open(&mut host, rt.alloc(), 16)?;
-    calls::grant(&mut host, first, 1000)?;
-    same(&rt, calls::look(&mut host, first)?.ended, End::Halted);
-    same(&rt, calls::peek(&host, first, 0x0003), Ok(0x55));
-    same(&rt, calls::peek(&host, second, 0x0003), Ok(0x00));
-    assert!(rt; place_of(&host, first, 0x00)? < 32);
-    same(&rt, place_of(&host, second, 0x00)?, 33);
-    Ok(())
+    a_store_is_not_seen_by_another_slot_on(&rt, &mut host)
 }

@@ -35,32 +35,39 @@ fn bytes_of(host: &Host, id: SlotId) -> Result<[u8; 3], Fail> {
     ])
 }
 
-/// A slot is behind so many steps of its program, at the beginning of a turn.
-fn counted_to(rt: &impl Abort, host: &mut Host, id: SlotId, steps: u64) -> Result<(), Fail> {
+/// A slot has done so many steps, and is at the beginning of a turn of its program.
+fn counted_to(rt: &impl Abort, host: &mut Host, id: SlotId, count: u64) -> Result<(), Fail> {
     let look = calls::look(host, id)?;
     same(rt, look.regs.pc, 0x0103);
     same(rt, (look.regs.h, look.regs.l), (0x20, 0xDC));
-    same(rt, look.count, LOADING + steps);
+    same(rt, look.count, count);
+    Ok(())
+}
+
+fn long_grants_are_short_ones_on(
+    rt: &(impl Abort + AllocGlobal),
+    host: &mut Host,
+) -> Result<(), Fail> {
+    let long = loaded(rt, host, COUNTS)?;
+    let short = loaded(rt, host, COUNTS)?;
+    let other = loaded(rt, host, COUNTS_DOWN)?;
+    // 1,500 turns: five through the whole page, and 220 more
+    executes(rt, host, long, 2_251)?;
+    executes(rt, host, other, 4_501)?;
+    executes(rt, host, long, 2_250)?;
+    for _ in 0..4_501 {
+        executes(rt, host, short, 1)?;
+    }
+    counted_to(rt, host, long, LOADING + 4_501)?;
+    are_alike(rt, host, long, short)?;
+    same(rt, bytes_of(host, long)?, [6, 6, 5]);
+    same(rt, bytes_of(host, short)?, [6, 6, 5]);
+    same(rt, bytes_of(host, other)?, [0xFA, 0xFA, 0xFB]);
     Ok(())
 }
 
 #[test]
 fn long_grants_are_short_ones(rt: HostRuntime) -> Result<(), Fail> {
     let mut host = host_of(&rt, rt.alloc(), 768)?;
-    let long = loaded(&rt, &mut host, COUNTS)?;
-    let short = loaded(&rt, &mut host, COUNTS)?;
-    let other = loaded(&rt, &mut host, COUNTS_DOWN)?;
-    // 1,500 turns: five through the whole page, and 220 more
-    executes(&rt, &mut host, long, 2_251)?;
-    executes(&rt, &mut host, other, 4_501)?;
-    executes(&rt, &mut host, long, 2_250)?;
-    for _ in 0..4_501 {
-        executes(&rt, &mut host, short, 1)?;
-    }
-    counted_to(&rt, &mut host, long, 4_501)?;
-    are_alike(&rt, &mut host, long, short)?;
-    same(&rt, bytes_of(&host, long)?, [6, 6, 5]);
-    same(&rt, bytes_of(&host, short)?, [6, 6, 5]);
-    same(&rt, bytes_of(&host, other)?, [0xFA, 0xFA, 0xFB]);
-    Ok(())
+    long_grants_are_short_ones_on(&rt, &mut host)
 }

@@ -72,16 +72,23 @@ fn stops_as_an_event(rt: &impl Abort, host: &mut Host, id: SlotId) -> Result<(),
     Ok(())
 }
 
+fn stops_before_an_address_and_counts_nothing_for_it_on(
+    rt: &(impl Abort + AllocGlobal),
+    host: &mut Host,
+) -> Result<(), Fail> {
+    let id = open_with(rt, host, rt.alloc(), 256, LETTER)?;
+    // The prompt, two keys, the file's opening, its record, its end, and two instructions.
+    same(rt, calls::grant(host, id, 8)?.why, Why::All);
+    stops_at(rt, host, id, BDOS, 2)?;
+    is_at_its_call(rt, host, id)?;
+    // The call, and the return to the command processor.
+    stops_at(rt, host, id, PROMPT, 2)?;
+    shows(rt, host, id, b"\r\nA>W\rA")?;
+    stops_as_an_event(rt, host, id)
+}
+
 #[test]
 fn stops_before_an_address_and_counts_nothing_for_it(rt: HostRuntime) -> Result<(), Fail> {
     let mut host = host_of(&rt, rt.alloc(), 512)?;
-    let id = open_with(&rt, &mut host, rt.alloc(), 256, LETTER)?;
-    // The prompt, two keys, the file's opening, its record, its end, and two instructions.
-    same(&rt, calls::grant(&mut host, id, 8)?.why, Why::All);
-    stops_at(&rt, &mut host, id, BDOS, 2)?;
-    is_at_its_call(&rt, &mut host, id)?;
-    // The call, and the return to the command processor.
-    stops_at(&rt, &mut host, id, PROMPT, 2)?;
-    shows(&rt, &mut host, id, b"\r\nA>W\rA")?;
-    stops_as_an_event(&rt, &mut host, id)
+    stops_before_an_address_and_counts_nothing_for_it_on(&rt, &mut host)
 }
