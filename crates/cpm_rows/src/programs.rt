@@ -1,4 +1,4 @@
-use crate::run::{blank, machine_of, run};
+use crate::run::{Left, blank, halts, machine_of, run};
 use crate::same::same;
 use cpm_flags::Cpu;
 use cpm_slots::{End, Why};
@@ -124,14 +124,6 @@ fn calls_whatever_bytes_lie_there(rt: HostRuntime) -> Result<(), Fail> {
     Ok(())
 }
 
-/// A program that halts, its steps, and the bytes that it leaves.
-#[derive(Drop)]
-struct Left {
-    program: &'static [u8],
-    executed: u64,
-    bytes: &'static [(u16, u8)],
-}
-
 const HALTING: [Left; 6] = [
     // the flags after SUB A
     Left {
@@ -174,12 +166,7 @@ const HALTING: [Left; 6] = [
 #[test]
 fn halts_with_flags(rt: HostRuntime) -> Result<(), Fail> {
     for row in &HALTING {
-        let ran = run(rt.alloc(), Cpu::I8080, row.program)?;
-        same(&rt, ran.granted.executed, row.executed);
-        same(&rt, ran.machine.look().ended, End::Halted);
-        for (address, byte) in row.bytes {
-            same(&rt, ran.machine.peek(*address), *byte);
-        }
+        halts(&rt, rt.alloc(), Cpu::I8080, row)?;
     }
     let sum = run(rt.alloc(), Cpu::I8080, HALTING[5].program)?;
     let regs = sum.machine.look().regs;

@@ -1,16 +1,10 @@
-use crate::run::{machine_of, run};
+use crate::run::{Left, halts, machine_of, run};
 use crate::same::same;
 use cpm_flags::Cpu;
-use cpm_slots::{End, Why};
+use cpm_geom::Image;
+use cpm_slots::{End, Look, Machine, Why};
+use std::process::Abort;
 use std::test::Fail;
-
-/// A program that halts, its steps, and the bytes that it leaves.
-#[derive(Drop)]
-struct Left {
-    program: &'static [u8],
-    executed: u64,
-    bytes: &'static [(u16, u8)],
-}
 
 const HALTING: [Left; 8] = [
     // the flags after SUB A
@@ -66,12 +60,7 @@ const HALTING: [Left; 8] = [
 #[test]
 fn halts_with_flags(rt: HostRuntime) -> Result<(), Fail> {
     for row in &HALTING {
-        let ran = run(rt.alloc(), Cpu::Z80, row.program)?;
-        same(&rt, ran.granted.executed, row.executed);
-        same(&rt, ran.machine.look().ended, End::Halted);
-        for (address, byte) in row.bytes {
-            same(&rt, ran.machine.peek(*address), *byte);
-        }
+        halts(&rt, rt.alloc(), Cpu::Z80, row)?;
     }
     let counted = run(rt.alloc(), Cpu::Z80, HALTING[6].program)?;
     same(&rt, counted.machine.look().regs.b, 0);
@@ -83,23 +72,33 @@ const MOVE_ALL: [u8; 12] = [
     0x21, 0x00, 0x00, 0x11, 0x00, 0x00, 0x01, 0x00, 0x00, 0xED, 0xB0, 0x76,
 ];
 
+/// The move ended behind all of memory.
+fn moved_all(rt: &impl Abort, look: Look) {
+    same(rt, look.ended, End::Halted);
+    same(rt, look.pages, 256);
+    same(rt, (look.regs.b, look.regs.c), (0, 0));
+    let flags = look.regs.flags;
+    assert!(rt; !flags.zero && !flags.parity && !flags.carry);
+}
+
+/// Grants of one step each, of which the last does nothing.
+fn single_steps(rt: &impl Abort, machine: &mut Machine, system: &Image, steps: u64) {
+    for _ in 0..steps {
+        same(rt, machine.grant(system, 1).executed, 1);
+    }
+    same(rt, machine.grant(system, 1).executed, 0);
+}
+
 #[test]
 fn each_repetition_is_a_step(rt: HostRuntime) -> Result<(), Fail> {
     let whole = run(rt.alloc(), Cpu::Z80, &MOVE_ALL)?;
     same(&rt, whole.granted.executed, 65_540);
     same(&rt, whole.granted.why, Why::Stopped);
     let look = whole.machine.look();
-    same(&rt, look.ended, End::Halted);
-    same(&rt, look.pages, 256);
-    same(&rt, look.regs.b, 0);
-    same(&rt, look.regs.c, 0);
-    assert!(rt; !look.regs.flags.zero && !look.regs.flags.parity && !look.regs.flags.carry);
+    moved_all(&rt, look);
     let mut cut = machine_of(rt.alloc(), Cpu::Z80, &MOVE_ALL)?;
     let opening = cut.peek(0x0005);
-    for _ in 0..65_540 {
-        same(&rt, cut.grant(&whole.system, 1).executed, 1);
-    }
-    same(&rt, cut.grant(&whole.system, 1).executed, 0);
+    single_steps(&rt, &mut cut, &whole.system, 65_540);
     same(&rt, cut.look(), look);
     same(&rt, cut.peek(0x0005), opening);
     same(&rt, cut.peek(0x0100), 0x21);

@@ -1,9 +1,11 @@
 //! A program run by one grant, and what it showed.
 
+use crate::same::same;
 use cpm_flags::Cpu;
 use cpm_geom::{Format, Image};
-use cpm_slots::{Granted, Machine, Opening};
+use cpm_slots::{End, Granted, Machine, Opening};
 use std::alloc::Global;
+use std::process::Abort;
 use std::test::Fail;
 
 /// A machine with a program, after one grant.
@@ -47,4 +49,23 @@ pub fn run(alloc: Global, cpu: Cpu, program: &[u8]) -> Result<Ran, Fail> {
         granted,
         system,
     })
+}
+
+/// A program that halts, its steps, and the bytes that it leaves.
+#[derive(Drop)]
+pub struct Left {
+    pub program: &'static [u8],
+    pub executed: u64,
+    pub bytes: &'static [(u16, u8)],
+}
+
+/// Fails unless the program halts so.
+pub fn halts(rt: &impl Abort, alloc: Global, cpu: Cpu, row: &Left) -> Result<(), Fail> {
+    let ran = run(alloc, cpu, row.program)?;
+    same(rt, ran.granted.executed, row.executed);
+    same(rt, ran.machine.look().ended, End::Halted);
+    for (address, byte) in row.bytes {
+        same(rt, ran.machine.peek(*address), *byte);
+    }
+    Ok(())
 }

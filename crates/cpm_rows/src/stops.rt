@@ -3,7 +3,9 @@
 use crate::run::{blank, machine_of};
 use crate::same::same;
 use cpm_flags::Cpu;
-use cpm_slots::{End, Granted, Why};
+use cpm_geom::Image;
+use cpm_slots::{End, Granted, Machine, Why};
+use std::process::Abort;
 use std::test::Fail;
 
 /// Prints `A` and returns.
@@ -18,45 +20,39 @@ const CIRCLE: &[u8] = &[0xC3, 0x00, 0x01];
 /// Where the BDOS is called.
 const BDOS: u16 = 0xEC06;
 
+/// The grant executed so many steps, and ended for this reason.
+fn is_granted(rt: &impl Abort, granted: Granted, executed: u64, why: Why) {
+    same(rt, granted.executed, executed);
+    same(rt, granted.why, why);
+}
+
+/// A grant of so many steps up to an address executes these, and ends for this reason.
+fn stops(
+    rt: &impl Abort,
+    machine: &mut Machine,
+    system: &Image,
+    (steps, pc): (u64, u16),
+    executed: u64,
+    why: Why,
+) {
+    is_granted(rt, machine.grant_until(system, steps, pc), executed, why);
+}
+
 #[test]
 fn stops_before_a_call_and_counts_nothing_for_it(rt: HostRuntime) -> Result<(), Fail> {
     let system = blank(rt.alloc())?;
     let mut machine = machine_of(rt.alloc(), Cpu::I8080, LETTER)?;
     same(&rt, machine.grant(&system, 2).why, Why::All);
-    let granted = machine.grant_until(&system, 100, BDOS);
-    same(
-        &rt,
-        granted,
-        Granted {
-            executed: 2,
-            why: Why::Break,
-        },
-    );
+    stops(&rt, &mut machine, &system, (100, BDOS), 2, Why::Break);
     let look = machine.look();
     same(&rt, look.regs.pc, BDOS);
     same(&rt, look.regs.sp, 0xEBFC);
     same(&rt, look.count, 4);
     same(&rt, look.console, 0);
     // From there it goes on, since the first step may begin at the address.
-    let granted = machine.grant_until(&system, 100, BDOS);
-    same(
-        &rt,
-        granted,
-        Granted {
-            executed: 3,
-            why: Why::Stopped,
-        },
-    );
+    stops(&rt, &mut machine, &system, (100, BDOS), 3, Why::Stopped);
     same(&rt, machine.look().ended, End::Exited);
-    let granted = machine.grant_until(&system, 100, BDOS);
-    same(
-        &rt,
-        granted,
-        Granted {
-            executed: 0,
-            why: Why::Stopped,
-        },
-    );
+    stops(&rt, &mut machine, &system, (100, BDOS), 0, Why::Stopped);
     Ok(())
 }
 
@@ -64,36 +60,12 @@ fn stops_before_a_call_and_counts_nothing_for_it(rt: HostRuntime) -> Result<(), 
 fn names_the_first_reason_that_fits(rt: HostRuntime) -> Result<(), Fail> {
     let system = blank(rt.alloc())?;
     let mut machine = machine_of(rt.alloc(), Cpu::I8080, LETTER)?;
-    let granted = machine.grant_until(&system, 0, 0x0100);
-    same(
-        &rt,
-        granted,
-        Granted {
-            executed: 0,
-            why: Why::All,
-        },
-    );
+    stops(&rt, &mut machine, &system, (0, 0x0100), 0, Why::All);
     // The fourth step would begin there: all four were not asked for, then they are.
-    let granted = machine.grant_until(&system, 4, BDOS);
-    same(
-        &rt,
-        granted,
-        Granted {
-            executed: 4,
-            why: Why::All,
-        },
-    );
+    stops(&rt, &mut machine, &system, (4, BDOS), 4, Why::All);
     let mut machine = machine_of(rt.alloc(), Cpu::I8080, CIRCLE)?;
     for _ in 0..3 {
-        let granted = machine.grant_until(&system, 5, 0x0100);
-        same(
-            &rt,
-            granted,
-            Granted {
-                executed: 1,
-                why: Why::Break,
-            },
-        );
+        stops(&rt, &mut machine, &system, (5, 0x0100), 1, Why::Break);
     }
     same(&rt, machine.look().count, 3);
     Ok(())
@@ -104,34 +76,11 @@ fn stops_before_each_step_of_a_call_that_waits(rt: HostRuntime) -> Result<(), Fa
     let system = blank(rt.alloc())?;
     let mut machine = machine_of(rt.alloc(), Cpu::I8080, READS)?;
     let granted = machine.grant(&system, 100);
-    same(
-        &rt,
-        granted,
-        Granted {
-            executed: 100,
-            why: Why::All,
-        },
-    );
+    is_granted(&rt, granted, 100, Why::All);
     assert!(rt; machine.look().waiting);
-    let granted = machine.grant_until(&system, 10, BDOS);
-    same(
-        &rt,
-        granted,
-        Granted {
-            executed: 1,
-            why: Why::Break,
-        },
-    );
+    stops(&rt, &mut machine, &system, (10, BDOS), 1, Why::Break);
     same(&rt, machine.key(b'k'), Ok(()));
-    let granted = machine.grant_until(&system, 10, 0x0105);
-    same(
-        &rt,
-        granted,
-        Granted {
-            executed: 1,
-            why: Why::Break,
-        },
-    );
+    stops(&rt, &mut machine, &system, (10, 0x0105), 1, Why::Break);
     same(&rt, machine.look().regs.a, b'k');
     same(&rt, machine.look().keys, 0);
     Ok(())

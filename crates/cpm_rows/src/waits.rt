@@ -4,6 +4,7 @@ use crate::run::{blank, machine_of, opening_of};
 use crate::same::same;
 use cpm_flags::Cpu;
 use cpm_slots::{End, Granted, Machine, Why};
+use std::alloc::Global;
 use std::process::Abort;
 use std::test::Fail;
 
@@ -65,25 +66,29 @@ fn takes_a_key_after_many_waits(rt: HostRuntime) -> Result<(), Fail> {
     Ok(())
 }
 
+/// A machine with so many pages waits for a line.
+fn waits_with(rt: &impl Abort, alloc: Global, quota: u16) -> Result<(), Fail> {
+    let system = blank(alloc)?;
+    let opening = opening_of(alloc, Cpu::Z80, quota, 1)?;
+    let Ok(mut machine) = Machine::new(alloc, opening) else {
+        panic!(rt; "a machine with {quota} pages is refused");
+    };
+    granted(rt, machine.grant(&system, 1000), 1000, Why::All);
+    // PC is that of the command processor, which is no step of a program.
+    let pc = machine.look().regs.pc;
+    granted(rt, machine.grant_until(&system, MANY, pc), MANY, Why::All);
+    let look = machine.look();
+    assert!(rt; look.waiting);
+    same(rt, look.ended, End::Running);
+    same(rt, look.count, MANY + 1000);
+    let mut out = [0; 64];
+    let count = machine.take(&mut out);
+    same(rt, &out[..count], b"\r\nA>".as_slice());
+    Ok(())
+}
+
 #[test]
 fn waits_for_a_line(rt: HostRuntime) -> Result<(), Fail> {
-    let system = blank(rt.alloc())?;
-    for quota in [16, 256] {
-        let opening = opening_of(rt.alloc(), Cpu::Z80, quota, 1)?;
-        let Ok(mut machine) = Machine::new(rt.alloc(), opening) else {
-            panic!(rt; "a machine with {quota} pages is refused");
-        };
-        granted(&rt, machine.grant(&system, 1000), 1000, Why::All);
-        // PC is that of the command processor, which is no step of a program.
-        let pc = machine.look().regs.pc;
-        granted(&rt, machine.grant_until(&system, MANY, pc), MANY, Why::All);
-        let look = machine.look();
-        assert!(rt; look.waiting);
-        same(&rt, look.ended, End::Running);
-        same(&rt, look.count, MANY + 1000);
-        let mut out = [0; 64];
-        let count = machine.take(&mut out);
-        same(&rt, &out[..count], b"\r\nA>".as_slice());
-    }
-    Ok(())
+    waits_with(&rt, rt.alloc(), 16)?;
+    waits_with(&rt, rt.alloc(), 256)
 }
