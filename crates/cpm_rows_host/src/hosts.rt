@@ -1,7 +1,6 @@
 //! Worked rows of hosts. A test makes its host and does the rest with a reference to it: where the host can be dropped at each call,
 //! proving the test takes ten times as long.
 
-mod calls;
 mod frames;
 mod long_grants;
 mod openings;
@@ -62,7 +61,7 @@ fn host_of(rt: &impl Abort, alloc: Global, frames: u16) -> Result<Host, Fail> {
 
 /// Opens a slot with one blank drive.
 fn open(host: &mut Host, alloc: Global, quota: u16) -> Result<SlotId, Fail> {
-    match calls::open_slot(host, alloc, opening_of(alloc, quota, 1)?) {
+    match host.open(alloc, opening_of(alloc, quota, 1)?) {
         Ok(id) => Ok(id),
         Err((_, error)) => Err(Fail::from(error)),
     }
@@ -81,7 +80,7 @@ fn open_with(
         quota,
         drives: vec![in alloc; disk_of(rt, alloc, program)?]?,
     };
-    match calls::open_slot(host, alloc, opening) {
+    match host.open(alloc, opening) {
         Ok(id) => {
             press(rt, host, id, b"W\r");
             Ok(id)
@@ -93,7 +92,7 @@ fn open_with(
 /// Presses keys, all of which must be accepted.
 fn press(rt: &impl Abort, host: &mut Host, id: SlotId, keys: &[u8]) {
     for key in keys {
-        same(rt, calls::key(host, id, *key), Ok(()));
+        same(rt, host.key(id, *key), Ok(()));
     }
 }
 
@@ -101,7 +100,7 @@ fn press(rt: &impl Abort, host: &mut Host, id: SlotId, keys: &[u8]) {
 fn refused(rt: &impl Abort, host: &mut Host, alloc: Global, opening: Opening, wanted: OpenError) {
     let quota = opening.quota;
     let count = opening.drives.len();
-    match calls::open_slot(host, alloc, opening) {
+    match host.open(alloc, opening) {
         Ok(_) => panic!(rt; "{quota} pages and {count} drives are taken"),
         Err((back, error)) => {
             same(rt, error, wanted);
@@ -113,30 +112,30 @@ fn refused(rt: &impl Abort, host: &mut Host, alloc: Global, opening: Opening, wa
 
 /// A grant does all its steps.
 fn executes(rt: &impl Abort, host: &mut Host, id: SlotId, steps: u64) -> Result<(), Fail> {
-    same(rt, calls::grant(host, id, steps)?.executed, steps);
+    same(rt, host.grant(id, steps)?.executed, steps);
     Ok(())
 }
 
 /// Two slots are in the same state, and have the same console bytes.
 fn are_alike(rt: &impl Abort, host: &mut Host, one: SlotId, other: SlotId) -> Result<(), Fail> {
-    let look = calls::look(host, one)?;
-    same(rt, calls::look(host, other)?, look);
+    let look = host.look(one)?;
+    same(rt, host.look(other)?, look);
     let mut wanted = [0; 64];
     let mut found = [0; 64];
-    let taken = calls::take(host, one, &mut wanted)?;
-    same(rt, calls::take(host, other, &mut found)?, taken);
+    let taken = host.take(one, &mut wanted)?;
+    same(rt, host.take(other, &mut found)?, taken);
     same(rt, found, wanted);
     Ok(())
 }
 
 /// A key is taken or refused so.
 fn answers_key(rt: &impl Abort, host: &mut Host, id: SlotId, key: u8, wanted: Result<(), Refusal>) {
-    same(rt, calls::key(host, id, key), wanted);
+    same(rt, host.key(id, key), wanted);
 }
 
 /// So many keys of a slot are not read yet.
 fn has_keys(rt: &impl Abort, host: &mut Host, id: SlotId, wanted: usize) -> Result<(), Fail> {
-    same(rt, calls::look(host, id)?.keys, wanted);
+    same(rt, host.look(id)?.keys, wanted);
     Ok(())
 }
 
@@ -145,7 +144,7 @@ fn closed_numbers_are_refused_on(
     host: &mut Host,
 ) -> Result<(), Fail> {
     let first = open(host, rt.alloc(), 16)?;
-    match calls::close(host, first) {
+    match host.close(first) {
         Ok(closed) => {
             same(rt, closed.look.count, 0);
             assert!(rt; closed.drives[0].is_some());
@@ -156,18 +155,14 @@ fn closed_numbers_are_refused_on(
     let second = open(host, rt.alloc(), 16)?;
     same(rt, first, SlotId(0));
     same(rt, second, SlotId(1));
-    same(rt, calls::key(host, first, 0x41), Err(Refusal::NoSuchSlot));
-    same(rt, calls::look(host, first), Err(Refusal::NoSuchSlot));
-    same(rt, calls::peek(host, first, 0), Err(Refusal::NoSuchSlot));
-    same(rt, calls::grant(host, first, 1), Err(Refusal::NoSuchSlot));
-    same(
-        rt,
-        calls::grant_until(host, first, 1, 0),
-        Err(Refusal::NoSuchSlot),
-    );
+    same(rt, host.key(first, 0x41), Err(Refusal::NoSuchSlot));
+    same(rt, host.look(first), Err(Refusal::NoSuchSlot));
+    same(rt, host.peek(first, 0), Err(Refusal::NoSuchSlot));
+    same(rt, host.grant(first, 1), Err(Refusal::NoSuchSlot));
+    same(rt, host.grant_until(first, 1, 0), Err(Refusal::NoSuchSlot));
     same(rt, host.table(first), Err(Refusal::NoSuchSlot));
-    assert!(rt; calls::close(host, first).is_err());
-    let look = calls::look(host, second)?;
+    assert!(rt; host.close(first).is_err());
+    let look = host.look(second)?;
     same(rt, look.keys, 0);
     same(rt, look.count, 0);
     Ok(())
@@ -183,12 +178,12 @@ fn closed_numbers_are_refused(rt: HostRuntime) -> Result<(), Fail> {
 fn echoes_no_refused_key(host: &mut Host, id: SlotId) -> Result<bool, Refusal> {
     let mut out = [0; 8192];
     for _ in 0..8 {
-        calls::grant(host, id, 1000)?;
-        let count = calls::take(host, id, &mut out)?;
+        host.grant(id, 1000)?;
+        let count = host.take(id, &mut out)?;
         if out[..count].contains(&0x21) {
             return Ok(false);
         }
-        if calls::look(host, id)?.waiting {
+        if host.look(id)?.waiting {
             return Ok(out[..count].ends_with(b"\""));
         }
     }
@@ -275,7 +270,7 @@ fn replies_stand_at_their_events_on(
         Reply::Done,
         Reply::Peeked(7),
     ];
-    calls::run(rt, host, &events, &mut replies);
+    host.run(&events, &mut replies);
     are_the_replies(rt, &replies);
     Ok(())
 }
@@ -295,7 +290,7 @@ fn grants_are_cut_alike_on(rt: &(impl Abort + AllocGlobal), host: &mut Host) -> 
     }
     are_alike(rt, host, whole, cut)?;
     let mut out = [0; 64];
-    same(rt, calls::take_list(host, cut, &mut out)?, 0);
+    same(rt, host.take_list(cut, &mut out)?, 0);
     Ok(())
 }
 

@@ -1,6 +1,6 @@
 //! Sessions whose memories lie in one store of frames.
 
-use super::{answers_key, calls, executes, has_keys, host_of, open, open_with};
+use super::{answers_key, executes, has_keys, host_of, open, open_with};
 use crate::same::same;
 use cpm_sessions::{Host, Refusal, SlotId};
 use cpm_slots::{End, Granted, Why};
@@ -42,8 +42,8 @@ fn ended_at_its_quota(rt: &impl Abort, host: &mut Host, id: SlotId) -> Result<()
         executed: 0,
         why: Why::Stopped,
     };
-    same(rt, calls::grant(host, id, 1)?, stopped);
-    let look = calls::look(host, id)?;
+    same(rt, host.grant(id, 1)?, stopped);
+    let look = host.look(id)?;
     same(rt, (look.ended, look.pages), (End::Quota, 9));
     same(rt, (look.regs.h, look.regs.l), (0x26, 0x00));
     answers_key(rt, host, id, 0x41, Ok(()));
@@ -81,10 +81,10 @@ fn a_store_is_not_seen_by_another_slot_on(
 ) -> Result<(), Fail> {
     let first = open_with(rt, host, rt.alloc(), 16, STORES)?;
     let second = open(host, rt.alloc(), 16)?;
-    calls::grant(host, first, 1000)?;
-    same(rt, calls::look(host, first)?.ended, End::Halted);
-    same(rt, calls::peek(host, first, 0x0003), Ok(0x55));
-    same(rt, calls::peek(host, second, 0x0003), Ok(0x00));
+    host.grant(first, 1000)?;
+    same(rt, host.look(first)?.ended, End::Halted);
+    same(rt, host.peek(first, 0x0003), Ok(0x55));
+    same(rt, host.peek(second, 0x0003), Ok(0x00));
     assert!(rt; place_of(host, first, 0x00)? < 32);
     same(rt, place_of(host, second, 0x00)?, 33);
     Ok(())

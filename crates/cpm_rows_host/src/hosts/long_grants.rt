@@ -1,6 +1,6 @@
 //! Grants that are long enough for a mirror, beside the same steps one by one.
 
-use super::{are_alike, calls, executes, host_of, open_with};
+use super::{are_alike, executes, host_of, open_with};
 use crate::same::same;
 use cpm_sessions::{Host, SlotId};
 use std::process::Abort;
@@ -29,15 +29,15 @@ fn loaded(
 /// Bytes of a slot at both ends of what was counted six times, and behind it.
 fn bytes_of(host: &Host, id: SlotId) -> Result<[u8; 3], Fail> {
     Ok([
-        calls::peek(host, id, 0x2000)?,
-        calls::peek(host, id, 0x20DB)?,
-        calls::peek(host, id, 0x20DC)?,
+        host.peek(id, 0x2000)?,
+        host.peek(id, 0x20DB)?,
+        host.peek(id, 0x20DC)?,
     ])
 }
 
 /// A slot has done so many steps, and is at the beginning of a turn of its program.
 fn counted_to(rt: &impl Abort, host: &mut Host, id: SlotId, count: u64) -> Result<(), Fail> {
-    let look = calls::look(host, id)?;
+    let look = host.look(id)?;
     same(rt, look.regs.pc, 0x0103);
     same(rt, (look.regs.h, look.regs.l), (0x20, 0xDC));
     same(rt, look.count, count);

@@ -1,6 +1,6 @@
 //! Which openings a host takes, and what want of memory leaves.
 
-use super::{blank, calls, host_of, open, opening_of, refused};
+use super::{blank, host_of, open, opening_of, refused};
 use crate::same::same;
 use cpm_sessions::{Host, SlotId};
 use cpm_slots::OpenError;
@@ -16,7 +16,7 @@ fn frames_bound_the_quotas_on(
     }
     let opening = opening_of(rt.alloc(), 16, 1)?;
     refused(rt, host, rt.alloc(), opening, OpenError::NoFrames);
-    assert!(rt; calls::close(host, SlotId(3)).is_ok());
+    assert!(rt; host.close(SlotId(3)).is_ok());
     same(rt, open(host, rt.alloc(), 16)?, SlotId(32));
     let opening = opening_of(rt.alloc(), 16, 1)?;
     refused(rt, host, rt.alloc(), opening, OpenError::NoFrames);
@@ -65,10 +65,10 @@ fn openings_are_refused_in_order_on(
     ] {
         let opening = opening_of(rt.alloc(), quota, count)?;
         refused(rt, host, rt.alloc(), opening, wanted);
-        same(rt, calls::look(host, SlotId(0))?.count, 0);
+        same(rt, host.look(SlotId(0))?.count, 0);
     }
     same(rt, open(host, rt.alloc(), 24)?, SlotId(1));
-    assert!(rt; calls::close(host, SlotId(0)).is_ok());
+    assert!(rt; host.close(SlotId(0)).is_ok());
     same(rt, open(host, rt.alloc(), 16)?, SlotId(2));
     Ok(())
 }
@@ -85,7 +85,7 @@ fn full_hosts_number_on_on(rt: &(impl Abort + AllocGlobal), host: &mut Host) -> 
     }
     let opening = opening_of(rt.alloc(), 256, 1)?;
     refused(rt, host, rt.alloc(), opening, OpenError::NoSlot);
-    assert!(rt; calls::close(host, SlotId(63)).is_ok());
+    assert!(rt; host.close(SlotId(63)).is_ok());
     same(rt, open(host, rt.alloc(), 256)?, SlotId(64));
     Ok(())
 }
@@ -102,19 +102,19 @@ fn want_of_memory_hands_the_opening_back_on(
     host: &mut Host,
 ) -> Result<(), Fail> {
     let opening = opening_of(rt.alloc(), 16, 2)?;
-    match calls::open_slot(host, rt.alloc(), opening) {
+    match host.open(rt.alloc(), opening) {
         Ok(id) => same(rt, id, SlotId(0)),
         Err((back, error)) => {
             same(rt, error, OpenError::OutOfMemory);
             same(rt, back.quota, 16);
             same(rt, back.drives.len(), 2);
-            match calls::open_slot(host, rt.alloc(), back) {
+            match host.open(rt.alloc(), back) {
                 Ok(id) => same(rt, id, SlotId(0)),
                 Err((_, again)) => return Err(Fail::from(again)),
             }
         }
     }
-    same(rt, calls::look(host, SlotId(0))?.count, 0);
+    same(rt, host.look(SlotId(0))?.count, 0);
     Ok(())
 }
 

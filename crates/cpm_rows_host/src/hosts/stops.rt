@@ -1,6 +1,6 @@
 //! Grants that stop before a program comes to an address.
 
-use super::{ask, calls, host_of, open_with, press};
+use super::{ask, host_of, open_with, press};
 use crate::same::same;
 use cpm_sessions::{Host, Reply, Request, SlotId};
 use cpm_slots::{Granted, Why};
@@ -31,17 +31,13 @@ fn stops_at(
     pc: u16,
     executed: u64,
 ) -> Result<(), Fail> {
-    same(
-        rt,
-        calls::grant_until(host, id, 100, pc)?,
-        stopped(executed),
-    );
+    same(rt, host.grant_until(id, 100, pc)?, stopped(executed));
     Ok(())
 }
 
 /// The program is about to call the BDOS.
 fn is_at_its_call(rt: &impl Abort, host: &mut Host, id: SlotId) -> Result<(), Fail> {
-    let look = calls::look(host, id)?;
+    let look = host.look(id)?;
     same(rt, (look.regs.a, look.regs.b, look.regs.c), (0, 0, 2));
     same(rt, (look.regs.d, look.regs.e), (0, 0x41));
     same(rt, (look.regs.sp, look.regs.pc), (0xEBFC, BDOS));
@@ -52,7 +48,7 @@ fn is_at_its_call(rt: &impl Abort, host: &mut Host, id: SlotId) -> Result<(), Fa
 /// The console shows these bytes.
 fn shows(rt: &impl Abort, host: &mut Host, id: SlotId, wanted: &[u8]) -> Result<(), Fail> {
     let mut out = [0; 16];
-    let count = calls::take(host, id, &mut out)?;
+    let count = host.take(id, &mut out)?;
     assert!(rt; count <= 16);
     same(rt, &out[..count], wanted);
     Ok(())
@@ -64,9 +60,9 @@ fn stops_as_an_event(rt: &impl Abort, host: &mut Host, id: SlotId) -> Result<(),
     let mut replies = [Reply::Done];
     let steps = 100;
     let asked = ask(id, Request::GrantUntil { steps, pc: PROMPT });
-    calls::run(rt, host, &[asked], &mut replies);
+    host.run(&[asked], &mut replies);
     assert!(rt; matches!(&replies[0], Reply::Granted(granted) if *granted == stopped(3)));
-    let look = calls::look(host, id)?;
+    let look = host.look(id)?;
     same(rt, look.regs.pc, PROMPT);
     same(rt, look.count, 15);
     Ok(())
@@ -78,7 +74,7 @@ fn stops_before_an_address_and_counts_nothing_for_it_on(
 ) -> Result<(), Fail> {
     let id = open_with(rt, host, rt.alloc(), 256, LETTER)?;
     // The prompt, two keys, the file's opening, its record, its end, and two instructions.
-    same(rt, calls::grant(host, id, 8)?.why, Why::All);
+    same(rt, host.grant(id, 8)?.why, Why::All);
     stops_at(rt, host, id, BDOS, 2)?;
     is_at_its_call(rt, host, id)?;
     // The call, and the return to the command processor.
