@@ -3,7 +3,6 @@
 use crate::same::same;
 use crate::trial::{BACK, Trial};
 use cpm_bdos::{Mode, Went};
-use cpm_memory::Memory;
 use std::process::Abort;
 use std::test::Fail;
 

@@ -3,7 +3,6 @@
 use crate::same::same;
 use crate::trial::Trial;
 use cpm_bdos::{Mode, Went};
-use cpm_memory::Memory;
 use std::test::Fail;
 
 #[test]

@@ -1,6 +1,5 @@
 //! TYPE.
 
-use crate::same::same;
 use crate::trial::{Trial, disk_of};
 use cpm_bdos::{CommandPart, Held, Mode};
 use std::alloc::Global;
