@@ -3,7 +3,7 @@
 use crate::same::same;
 use cpm_flags::Cpu;
 use cpm_geom::{Format, Image};
-use cpm_slots::{End, Granted, Machine, Opening};
+use cpm_slots::{End, Granted, Machine, Opening, Why};
 use std::alloc::Global;
 use std::process::Abort;
 use std::test::Fail;
@@ -49,6 +49,12 @@ pub fn run(alloc: Global, cpu: Cpu, program: &[u8]) -> Result<Ran, Fail> {
         granted,
         system,
     })
+}
+
+/// The grant executed so many steps, and ended for this reason.
+pub fn granted(rt: &impl Abort, granted: Granted, executed: u64, why: Why) {
+    same(rt, granted.executed, executed);
+    same(rt, granted.why, why);
 }
 
 /// A program that halts, its steps, and the bytes that it leaves.

@@ -1,10 +1,10 @@
 //! Grants that stop before the program comes to an address.
 
-use crate::run::{blank, machine_of};
+use crate::run::{blank, granted, machine_of};
 use crate::same::same;
 use cpm_flags::Cpu;
 use cpm_geom::Image;
-use cpm_slots::{End, Granted, Machine, Why};
+use cpm_slots::{End, Machine, Why};
 use std::process::Abort;
 use std::test::Fail;
 
@@ -20,12 +20,6 @@ const CIRCLE: &[u8] = &[0xC3, 0x00, 0x01];
 /// Where the BDOS is called.
 const BDOS: u16 = 0xEC06;
 
-/// The grant executed so many steps, and ended for this reason.
-fn is_granted(rt: &impl Abort, granted: Granted, executed: u64, why: Why) {
-    same(rt, granted.executed, executed);
-    same(rt, granted.why, why);
-}
-
 /// A grant of so many steps up to an address executes these, and ends for this reason.
 fn stops(
     rt: &impl Abort,
@@ -35,7 +29,7 @@ fn stops(
     executed: u64,
     why: Why,
 ) {
-    is_granted(rt, machine.grant_until(system, steps, pc), executed, why);
+    granted(rt, machine.grant_until(system, steps, pc), executed, why);
 }
 
 #[test]
@@ -75,8 +69,7 @@ fn names_the_first_reason_that_fits(rt: HostRuntime) -> Result<(), Fail> {
 fn stops_before_each_step_of_a_call_that_waits(rt: HostRuntime) -> Result<(), Fail> {
     let system = blank(rt.alloc())?;
     let mut machine = machine_of(rt.alloc(), Cpu::I8080, READS)?;
-    let granted = machine.grant(&system, 100);
-    is_granted(&rt, granted, 100, Why::All);
+    granted(&rt, machine.grant(&system, 100), 100, Why::All);
     assert!(rt; machine.look().waiting);
     stops(&rt, &mut machine, &system, (10, BDOS), 1, Why::Break);
     same(&rt, machine.key(b'k'), Ok(()));

@@ -1,9 +1,9 @@
 //! Machines that wait for a key: each step counts, however many there are.
 
-use crate::run::{blank, machine_of, opening_of};
+use crate::run::{blank, granted, machine_of, opening_of};
 use crate::same::same;
 use cpm_flags::Cpu;
-use cpm_slots::{End, Granted, Machine, Why};
+use cpm_slots::{End, Machine, Why};
 use std::alloc::Global;
 use std::process::Abort;
 use std::test::Fail;
@@ -16,12 +16,6 @@ const BDOS: u16 = 0xEC06;
 
 /// More steps than could be made one by one.
 const MANY: u64 = 0x8000_0000_0000_0000;
-
-/// The grant executed so many steps, and ended for this reason.
-fn granted(rt: &impl Abort, granted: Granted, executed: u64, why: Why) {
-    same(rt, granted.executed, executed);
-    same(rt, granted.why, why);
-}
 
 #[test]
 fn waits_up_to_the_last_count(rt: HostRuntime) -> Result<(), Fail> {
