@@ -33,7 +33,6 @@ impl Session {
         requires printer { length self.old.console.printer ≤ 4096 }
         requires room { HasRoom (M.contents memory.old) }
         ensures step { did self.new (M.contents memory.new) result ≡ bdos system.now self.old (M.contents memory.old) }
-        ensures surroundings { M.surroundings memory.new ≡ M.surroundings memory.old }
         ensures leads { M.Leads memory.old memory.new }
         ensures bounds { IsBounded self.old (M.contents memory.old) (did self.new (M.contents memory.new) result) }
 
@@ -50,7 +49,6 @@ impl Session {
         requires printer { length self.old.console.printer ≤ 4096 }
         requires room { HasRoom (M.contents memory.old) }
         ensures step { did self.new (M.contents memory.new) result ≡ bdos system.now self.old (M.contents memory.old) }
-        ensures surroundings { M.surroundings memory.new ≡ M.surroundings memory.old }
         ensures leads { M.Leads memory.old memory.new }
     {
         match self.mode {
@@ -69,7 +67,6 @@ impl Session {
         requires printer { length self.old.console.printer ≤ 4096 }
         requires room { HasRoom (M.contents memory.old) }
         ensures step { did self.new (M.contents memory.new) result ≡ called (function_of self.old.regs.c) system.now self.old (M.contents memory.old) }
-        ensures surroundings { M.surroundings memory.new ≡ M.surroundings memory.old }
         ensures leads { M.Leads memory.old memory.new }
     {
         match Function::of(self.regs.c) {
@@ -108,7 +105,6 @@ impl Session {
     fn set_io_byte<M: Memory>(&mut self, memory: &mut M) -> Went
         requires { HasRoom (M.contents memory.old) }
         ensures step { did self.new (M.contents memory.new) result ≡ answered self.old (after_run (M.contents memory.old) 3 (self.old.regs.e ∷ [])) 0 }
-        ensures surroundings { M.surroundings memory.new ≡ M.surroundings memory.old }
         ensures leads { M.Leads memory.old memory.new }
     {
         change_run(memory, IO_BYTE, &[self.regs.e]);

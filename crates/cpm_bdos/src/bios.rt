@@ -27,7 +27,6 @@ impl Session {
         requires printer { length self.old.console.printer ≤ 4096 }
         requires room { HasRoom (M.contents memory.old) }
         ensures step { did self.new (M.contents memory.new) result ≡ bios number system.now self.old (M.contents memory.old) }
-        ensures surroundings { M.surroundings memory.new ≡ M.surroundings memory.old }
         ensures leads { M.Leads memory.old memory.new }
         ensures bounds { IsBounded self.old (M.contents memory.old) (did self.new (M.contents memory.new) result) }
 
@@ -44,7 +43,6 @@ impl Session {
         requires printer { length self.old.console.printer ≤ 4096 }
         requires room { HasRoom (M.contents memory.old) }
         ensures step { did self.new (M.contents memory.new) result ≡ bios number system.now self.old (M.contents memory.old) }
-        ensures surroundings { M.surroundings memory.new ≡ M.surroundings memory.old }
         ensures leads { M.Leads memory.old memory.new }
     {
         match BiosCall::of(number) {
@@ -75,7 +73,6 @@ impl Session {
     fn boot<M: Memory>(&mut self, memory: &mut M) -> Went
         requires { HasRoom (M.contents memory.old) }
         ensures step { did self.new (M.contents memory.new) result ≡ booted self.old (M.contents memory.old) }
-        ensures surroundings { M.surroundings memory.new ≡ M.surroundings memory.old }
         ensures leads { M.Leads memory.old memory.new }
     {
         change_run(memory, 0x0003, &[0, 0]);

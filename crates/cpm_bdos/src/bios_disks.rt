@@ -76,7 +76,6 @@ impl Session {
     pub(crate) fn read_sector<M: Memory>(&mut self, memory: &mut M, system: &Image) -> Went
         requires { HasRoom (M.contents memory.old) }
         ensures step { did self.new (M.contents memory.new) result ≡ read_sector system.now self.old (M.contents memory.old) }
-        ensures surroundings { M.surroundings memory.new ≡ M.surroundings memory.old }
         ensures leads { M.Leads memory.old memory.new }
     {
         let place = self.place;

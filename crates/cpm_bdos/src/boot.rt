@@ -32,7 +32,6 @@ impl Session {
     pub fn reboot<M: Memory>(&mut self, memory: &mut M) -> Went
         requires { HasRoomFor 2 (M.contents memory.old) }
         ensures step { did self.new (M.contents memory.new) result ≡ rebooted self.old (M.contents memory.old) }
-        ensures surroundings { M.surroundings memory.new ≡ M.surroundings memory.old }
         ensures leads { M.Leads memory.old memory.new }
     {
         change_run(memory, 0x0000, &[0xC3, 0x03, 0xFA]);

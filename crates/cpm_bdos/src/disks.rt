@@ -59,7 +59,6 @@ impl Session {
         requires screen { length self.old.console.screen ≤ 4096 }
         requires room { HasRoom (M.contents memory.old) }
         ensures step { did self.new (M.contents memory.new) result ≡ file_function function system.now self.old (M.contents memory.old) }
-        ensures surroundings { M.surroundings memory.new ≡ M.surroundings memory.old }
         ensures leads { M.Leads memory.old memory.new }
     {
         let at = pair_de(&self.regs);
@@ -122,7 +121,6 @@ impl Session {
     pub(crate) fn give_allocation<M: Memory>(&mut self, memory: &mut M, system: &Image) -> Went
         requires { HasRoom (M.contents memory.old) }
         ensures step { did self.new (M.contents memory.new) result ≡ give_allocation system.now self.old (M.contents memory.old) }
-        ensures surroundings { M.surroundings memory.new ≡ M.surroundings memory.old }
         ensures leads { M.Leads memory.old memory.new }
     {
         let drive = self.disks.current;

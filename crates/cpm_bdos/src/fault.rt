@@ -46,7 +46,6 @@ impl Session {
     pub(crate) fn after_fault<M: Memory>(&mut self, memory: &mut M) -> Went
         requires { HasRoom (M.contents memory.old) }
         ensures step { did self.new (M.contents memory.new) result ≡ after_fault (first_key self.old) self.old (M.contents memory.old) }
-        ensures surroundings { M.surroundings memory.new ≡ M.surroundings memory.old }
         ensures leads { M.Leads memory.old memory.new }
     {
         match self.console.next_key() {

@@ -18,7 +18,6 @@ impl Session {
         requires printer { length self.old.console.printer ≤ 4096 }
         requires room { HasRoom (M.contents memory.old) }
         ensures step { did self.new (M.contents memory.new) result ≡ read_line self.old (M.contents memory.old) }
-        ensures surroundings { M.surroundings memory.new ≡ M.surroundings memory.old }
         ensures leads { M.Leads memory.old memory.new }
     {
         let limit = memory.get(pair_de(&self.regs));
@@ -36,7 +35,6 @@ impl Session {
         requires printer { length self.old.console.printer ≤ 4096 }
         requires room { HasRoom (M.contents memory.old) }
         ensures step { did self.new (M.contents memory.new) result ≡ edit_line self.old.line self.old (M.contents memory.old) }
-        ensures surroundings { M.surroundings memory.new ≡ M.surroundings memory.old }
         ensures leads { M.Leads memory.old memory.new }
     {
         if !is_open(&self.line) {
@@ -56,7 +54,6 @@ impl Session {
         requires room { HasRoom (M.contents memory.old) }
         requires open { length self.old.line.characters < self.old.line.limit }
         ensures step { did self.new (M.contents memory.new) result ≡ edited_with self.old (M.contents memory.old) (key_into_line self.old.console self.old.line key) }
-        ensures surroundings { M.surroundings memory.new ≡ M.surroundings memory.old }
         ensures leads { M.Leads memory.old memory.new }
     {
         match self.line.key_into_line(&mut self.console, key) {
@@ -73,7 +70,6 @@ impl Session {
     fn end_line<M: Memory>(&mut self, memory: &mut M) -> Went
         requires { HasRoom (M.contents memory.old) }
         ensures step { did self.new (M.contents memory.new) result ≡ line_ended self.old (M.contents memory.old) }
-        ensures surroundings { M.surroundings memory.new ≡ M.surroundings memory.old }
         ensures leads { M.Leads memory.old memory.new }
     {
         let at = pair_de(&self.regs).wrapping_add(1);

@@ -80,7 +80,6 @@ impl Session {
     pub(crate) fn release<M: Memory>(&mut self, memory: &mut M, held: Held) -> Went
         requires { HasRoom (M.contents memory.old) }
         ensures step { did self.new (M.contents memory.new) result ≡ release held (first_key self.old) self.old (M.contents memory.old) }
-        ensures surroundings { M.surroundings memory.new ≡ M.surroundings memory.old }
         ensures leads { M.Leads memory.old memory.new }
     {
         let Some(key) = self.console.next_key() else {

@@ -21,7 +21,6 @@ pub(crate) fn store_record<M: Memory>(memory: &mut M, address: u16, record: &[u8
     requires { HasRoomFor 2 (M.contents memory.old) }
     ensures contents { M.contents memory.new ≡ record_stored (M.contents memory.old) address «record».now }
     ensures room { (n : ℕ) → HasRoomFor (n + 2) (M.contents memory.old) → HasRoomFor n (M.contents memory.new) }
-    ensures surroundings { M.surroundings memory.new ≡ M.surroundings memory.old }
     ensures leads { M.Leads memory.old memory.new }
 {
     change_run(memory, address, record);
@@ -40,7 +39,6 @@ pub(crate) fn get_fcb<M: Memory>(memory: &M, address: u16) -> [u8; 36]
 pub(crate) fn store_fcb<M: Memory>(memory: &mut M, address: u16, old: &[u8; 36], new: &[u8; 36])
     requires { HasRoomFor 2 (M.contents memory.old) }
     ensures contents { M.contents memory.new ≡ fcb_stored (M.contents memory.old) address old.now new.now }
-    ensures surroundings { M.surroundings memory.new ≡ M.surroundings memory.old }
     ensures leads { M.Leads memory.old memory.new }
 {
     let mut bytes = get_fcb(memory, address);

@@ -86,7 +86,6 @@ fn fill_buffer<M: Memory>(memory: &mut M, tail: &[u8])
     requires room { HasRoomFor 5 (M.contents memory.old) }
     ensures contents { M.contents memory.new ≡ after_run (after_run (M.contents memory.old) 128 (length tail.now ∷ [])) 129 (tail.now ++ (0 ∷ [])) }
     ensures room { (n : ℕ) → HasRoomFor (n + 5) (M.contents memory.old) → HasRoomFor n (M.contents memory.new) }
-    ensures surroundings { M.surroundings memory.new ≡ M.surroundings memory.old }
     ensures leads { M.Leads memory.old memory.new }
 {
     change_run(memory, BUFFER, &[tail.len() as u8]);
@@ -100,7 +99,6 @@ fn put_tail<M: Memory>(memory: &mut M, tail: &[u8])
     requires short { length tail.now ≤ 255 }
     requires room { HasRoom (M.contents memory.old) }
     ensures contents { M.contents memory.new ≡ memory_started tail.now (M.contents memory.old) }
-    ensures surroundings { M.surroundings memory.new ≡ M.surroundings memory.old }
     ensures leads { M.Leads memory.old memory.new }
 {
     change_run(memory, DEFAULT_FILES, &default_files(tail));
@@ -112,7 +110,6 @@ fn put_tail<M: Memory>(memory: &mut M, tail: &[u8])
 fn start<M: Memory>(session: &mut Session, memory: &mut M) -> Went
     requires room { HasRoom (M.contents memory.old) }
     ensures step { did session.new (M.contents memory.new) result ≡ started session.old (M.contents memory.old) }
-    ensures surroundings { M.surroundings memory.new ≡ M.surroundings memory.old }
     ensures leads { M.Leads memory.old memory.new }
 {
     let line = line_of(session);
@@ -130,7 +127,6 @@ fn load_at<M: Memory>(session: &mut Session, memory: &mut M, next: u16, record: 
     requires printer { length session.old.console.printer ≤ 4096 }
     requires room { HasRoom (M.contents memory.old) }
     ensures step { did session.new (M.contents memory.new) result ≡ loaded next «record».now session.old (M.contents memory.old) }
-    ensures surroundings { M.surroundings memory.new ≡ M.surroundings memory.old }
     ensures leads { M.Leads memory.old memory.new }
 {
     if next > LAST_RECORD {
@@ -154,7 +150,6 @@ pub(crate) fn load_record<M: Memory>(
     requires printer { length session.old.console.printer ≤ 4096 }
     requires room { HasRoom (M.contents memory.old) }
     ensures step { did session.new (M.contents memory.new) result ≡ load_record system.now next session.old (M.contents memory.old) }
-    ensures surroundings { M.surroundings memory.new ≡ M.surroundings memory.old }
     ensures leads { M.Leads memory.old memory.new }
 {
     let mut record = NO_RECORD;
@@ -179,7 +174,6 @@ pub fn load_step<M: Memory>(session: &mut Session, memory: &mut M, system: &Imag
     requires printer { length session.old.console.printer ≤ 4096 }
     requires room { HasRoom (M.contents memory.old) }
     ensures step { did session.new (M.contents memory.new) result ≡ load system.now session.old (M.contents memory.old) }
-    ensures surroundings { M.surroundings memory.new ≡ M.surroundings memory.old }
     ensures leads { M.Leads memory.old memory.new }
     ensures bounds { IsBounded session.old (M.contents memory.old) (did session.new (M.contents memory.new) result) }
 
@@ -196,7 +190,6 @@ fn do_load<M: Memory>(session: &mut Session, memory: &mut M, system: &Image) -> 
     requires printer { length session.old.console.printer ≤ 4096 }
     requires room { HasRoom (M.contents memory.old) }
     ensures step { did session.new (M.contents memory.new) result ≡ load system.now session.old (M.contents memory.old) }
-    ensures surroundings { M.surroundings memory.new ≡ M.surroundings memory.old }
     ensures leads { M.Leads memory.old memory.new }
 {
     match session.mode {

@@ -52,7 +52,6 @@ pub(crate) fn edit_line<M: Memory>(session: &mut Session, memory: &mut M, next: 
     requires printer { length session.old.console.printer ≤ 4096 }
     requires room { HasRoom (M.contents memory.old) }
     ensures step { did session.new (M.contents memory.new) result ≡ edit_line next session.old (M.contents memory.old) }
-    ensures surroundings { M.surroundings memory.new ≡ M.surroundings memory.old }
     ensures leads { M.Leads memory.old memory.new }
 {
     if !is_open(&session.line) {
@@ -73,7 +72,6 @@ fn edit_with<M: Memory>(session: &mut Session, memory: &mut M, next: CommandPart
     requires room { HasRoom (M.contents memory.old) }
     requires open { length session.old.line.characters < session.old.line.limit }
     ensures step { did session.new (M.contents memory.new) result ≡ edited_with next session.old (M.contents memory.old) (key_into_line session.old.console session.old.line key) }
-    ensures surroundings { M.surroundings memory.new ≡ M.surroundings memory.old }
     ensures leads { M.Leads memory.old memory.new }
 {
     match session.line.key_into_line(&mut session.console, key) {
@@ -92,7 +90,6 @@ pub(crate) fn select_drive<M: Memory>(session: &mut Session, memory: &mut M, dri
     requires room { HasRoom (M.contents memory.old) }
     requires drive { drive < 16 }
     ensures step { did session.new (M.contents memory.new) result ≡ drive_selected drive session.old (M.contents memory.old) }
-    ensures surroundings { M.surroundings memory.new ≡ M.surroundings memory.old }
     ensures leads { M.Leads memory.old memory.new }
 {
     if !session.disks.is_there(drive) {
@@ -109,7 +106,6 @@ pub(crate) fn select_user<M: Memory>(session: &mut Session, memory: &mut M, user
     requires room { HasRoom (M.contents memory.old) }
     requires user { user < 16 }
     ensures step { did session.new (M.contents memory.new) result ≡ user_selected user session.old (M.contents memory.old) }
-    ensures surroundings { M.surroundings memory.new ≡ M.surroundings memory.old }
     ensures leads { M.Leads memory.old memory.new }
 {
     let byte = with_user(memory.get(USER_AND_DRIVE), user);

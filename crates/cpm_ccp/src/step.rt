@@ -30,7 +30,6 @@ pub fn ccp_step<M: Memory>(session: &mut Session, memory: &mut M, system: &Image
     requires printer { length session.old.console.printer ≤ 4096 }
     requires room { HasRoom (M.contents memory.old) }
     ensures step { did session.new (M.contents memory.new) result ≡ ccp system.now session.old (M.contents memory.old) }
-    ensures surroundings { M.surroundings memory.new ≡ M.surroundings memory.old }
     ensures leads { M.Leads memory.old memory.new }
     ensures bounds { IsBounded session.old (M.contents memory.old) (did session.new (M.contents memory.new) result) }
 
@@ -47,7 +46,6 @@ fn do_step<M: Memory>(session: &mut Session, memory: &mut M, system: &Image) -> 
     requires printer { length session.old.console.printer ≤ 4096 }
     requires room { HasRoom (M.contents memory.old) }
     ensures step { did session.new (M.contents memory.new) result ≡ ccp system.now session.old (M.contents memory.old) }
-    ensures surroundings { M.surroundings memory.new ≡ M.surroundings memory.old }
     ensures leads { M.Leads memory.old memory.new }
 {
     match session.mode {
@@ -72,7 +70,6 @@ fn do_part<M: Memory>(
     requires printer { length session.old.console.printer ≤ 4096 }
     requires room { HasRoom (M.contents memory.old) }
     ensures step { did session.new (M.contents memory.new) result ≡ in_part part system.now session.old (M.contents memory.old) }
-    ensures surroundings { M.surroundings memory.new ≡ M.surroundings memory.old }
     ensures leads { M.Leads memory.old memory.new }
 {
     match part {
@@ -98,7 +95,6 @@ fn begin<M: Memory>(session: &mut Session, memory: &mut M, system: &Image) -> We
     requires printer { length session.old.console.printer ≤ 4096 }
     requires room { HasRoom (M.contents memory.old) }
     ensures step { did session.new (M.contents memory.new) result ≡ begun (command_of session.old.disks.current (line_of session.old)) system.now session.old (M.contents memory.old) }
-    ensures surroundings { M.surroundings memory.new ≡ M.surroundings memory.old }
     ensures leads { M.Leads memory.old memory.new }
 {
     let line = line_of(session);
@@ -131,7 +127,6 @@ fn begin_command<M: Memory>(
     requires room { HasRoom (M.contents memory.old) }
     requires operands { HasOperands command.now }
     ensures step { did session.new (M.contents memory.new) result ≡ begun_by command.now system.now session.old (M.contents memory.old) }
-    ensures surroundings { M.surroundings memory.new ≡ M.surroundings memory.old }
     ensures leads { M.Leads memory.old memory.new }
 {
     match command {

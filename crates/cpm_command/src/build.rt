@@ -66,12 +66,17 @@ fn with_argument<'a>(command: Command<'a>, argument: Arg<'a>) -> Result<Command<
     command.arg(argument)
 }
 
-/// The command with one more subcommand.
-fn with_command<'a>(command: Command<'a>, inner: Command<'a>) -> Result<Command<'a>, AllocError>
-    ensures { IfOk result (λ c. (a b : App) → IsCommandOf a command.entry
-        → IsCommandOf b inner.entry → IsCommandOf (with_subcommand a b.top) c) }
+/// The command with one more subcommand, where both could be made. It takes them as they were made:
+/// so its caller has no branch, and no command to drop there.
+fn with_command<'a>(
+    command: Result<Command<'a>, AllocError>,
+    inner: Result<Command<'a>, AllocError>,
+) -> Result<Command<'a>, AllocError>
+    ensures { (a b : App) → IfOk command.entry (IsCommandOf a) → IfOk inner.entry (IsCommandOf b)
+        → IfOk result (IsCommandOf (with_subcommand a b.top)) }
 {
-    command.subcommand(inner)
+    let inner = inner?;
+    command?.subcommand(inner)
 }
 
 /// `com FILE [--z80] [--steps N] [--keys SCRIPT]`
@@ -124,9 +129,9 @@ fn debug_command<'a>(alloc: Global) -> Result<Command<'a>, AllocError>
 pub(crate) fn host_command<'a>(alloc: Global) -> Result<Command<'a>, AllocError>
     ensures { IfOk result (IsCommandOf host_app) }
 {
-    let with_com = with_command(top_command(alloc), com_command(alloc)?)?;
-    let with_asm = with_command(with_com, asm_command(alloc)?)?;
-    let with_list = with_command(with_asm, list_command(alloc)?)?;
-    let with_run = with_command(with_list, run_command(alloc)?)?;
-    with_command(with_run, debug_command(alloc)?)
+    let with_com = with_command(Ok(top_command(alloc)), com_command(alloc));
+    let with_asm = with_command(with_com, asm_command(alloc));
+    let with_list = with_command(with_asm, list_command(alloc));
+    let with_run = with_command(with_list, run_command(alloc));
+    with_command(with_run, debug_command(alloc))
 }

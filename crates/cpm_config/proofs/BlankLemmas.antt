@@ -1,5 +1,5 @@
 -- A document with nothing in it.
-use Rattle.std.proofs.Common.{◌≡◌, ℕ, List, Some, refl, sym, ◌∙◌}
+use Rattle.std.proofs.Common.{◌≡◌, ℕ, List, Some, ap, refl, sym, ◌∙◌}
 use Rattle.std.specs.Prelude.{Ok, Err}
 use Rattle.toml.specs.Data.{Members, no_members}
 use Rattle.toml.specs.Errors.{IsBlank}
@@ -11,7 +11,7 @@ use Rattle.cpm_config.specs.declared.field.Field.TheVariants.{Frames}
 -- it lacks its first key
 pub no_config : (ms : Members) → ms ≡ no_members → config_in ms ≡ Err (Wanted (place top Frames))
 unfolding config_in
-no_config ms none = rw none refl
+no_config ms none = ap config_in none
 
 -- a blank text writes it
 pub no_document : (text : List ℕ) → IsBlank text → parse_document text ≡ Some no_members

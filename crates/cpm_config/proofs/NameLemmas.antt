@@ -1,5 +1,5 @@
 -- Names that stand before.
-use Rattle.std.proofs.Common.{◌≡◌, ◌<◌, ◌+◌, ℕ, Bool, List, [], ◌∷◌, Some, length, get_or, take, drop, map, refl, ap, ap₂, ◌∙◌, sym}
+use Rattle.std.proofs.Common.{◌≡◌, ◌<◌, ◌+◌, ℕ, Bool, List, [], ◌∷◌, ◌++◌, Some, append_assoc, length, get_or, take, drop, map, refl, ap, ap₂, ◌∙◌, sym}
 use Rattle.std.specs.Prelude.{◌||◌, if◌then◌else◌}
 use Rattle.std.specs.List.{list_any}
 use Rattle.std.specs.Str.{bytes_eq}
@@ -7,6 +7,7 @@ use Rattle.std.proofs.lemmas.List.{drop_more, map_more}
 use Rattle.cpm_config.specs.Entries.{Text}
 use Rattle.cpm_config.specs.Rules.{Placed, is_among, placed, repeated_after}
 use Rattle.cpm_config.specs.declared.field.Field.TheVariants.{Frames}
+use Rattle.cpm_config.specs.declared.draft.SessionDraft.{SessionDraft}
 use Rattle.cpm_config.specs.declared.names.Named.{Named}
 
 among-placed : (ns : List Named) (t : Text) → list_any (λ n. bytes_eq n.name.now t) ns ≡ is_among (map placed ns) t
@@ -29,3 +30,11 @@ repeated-step ns i found within is =
     ap (λ (rest : List Named). repeated_after (map placed (take i ns)) (map placed rest)) (drop_more ns i blank within)
     ∙ ap₂ (λ (b : Bool) (before : List Placed). if b then Some (at ns i).place else repeated_after before (map placed (drop (i + 1) ns)))
     (sym (is ∙ among-placed (take i ns) (at ns i).name.now)) (sym (map_more placed ns i blank within))
+
+-- the names of one session more, with those after it
+pub placed_step : (done new one rest : List Placed) → new ≡ done ++ one → new ++ rest ≡ done ++ (one ++ rest)
+placed_step done new one rest more = ap (λ (ps : List Placed). ps ++ rest) more ∙ append_assoc done one rest
+
+-- a session at a place, with those after it
+pub session_at : (ss : List SessionDraft) (i : ℕ) (s : SessionDraft) → i < length ss → s ≡ get_or ss i s → s ∷ drop (i + 1) ss ≡ drop i ss
+session_at ss i s within is = ap (λ (t : SessionDraft). t ∷ drop (i + 1) ss) is ∙ sym (drop_more ss i s within)

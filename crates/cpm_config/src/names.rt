@@ -10,7 +10,7 @@ use crate::field::{Field, Place};
 use std::alloc::{AllocError, Global};
 
 /// A name, and where it stands.
-#[derive(Debug, Drop)]
+#[derive(Drop)]
 pub(crate) struct Named<'a> {
     pub(crate) place: Place,
     pub(crate) name: &'a str,

@@ -1,5 +1,5 @@
 //! The values of a table, by their keys.
-ghost use Rattle.std.specs.Prelude.{◌≡◌, map, option_map, string_bytes};
+ghost use Rattle.std.specs.Prelude.{◌≡◌, [], map, option_map, string_bytes};
 ghost use Rattle.std.specs.BTreeMap.{keys};
 ghost use Rattle.std.specs.List.{list_all, list_any};
 ghost use Rattle.std.specs.Str.{bytes_eq};
@@ -55,17 +55,27 @@ pub(crate) fn optional_text_at<'a>(
     }
 }
 
-/// The texts of an array that holds nothing else.
-fn texts_of<'a>(alloc: Global, values: &'a [Value], place: Place) -> Result<Vec<&'a str>, Stop>
-    ensures { Reads texts_view result (or_wanted place (texts_of (items_view values.now))) }
+/// Adds the texts of an array that holds nothing else to none yet. The owner is the caller, so that
+/// no fault here has texts to drop.
+fn add_texts<'a>(values: &'a [Value], place: Place, texts: &mut Vec<&'a str>) -> Result<(), Stop>
+    requires { texts.old.items ≡ [] }
+    ensures { Reads (λ _. texts_view texts.new) result (or_wanted place (texts_of (items_view values.now))) }
 {
-    let mut texts = Vec::new(alloc);
     for value in values {
         let Some(text) = value.as_str() else {
             return Err(Stop::Fault(KeyFault::Wanted(place)));
         };
         texts.push(text)?;
     }
+    Ok(())
+}
+
+/// The texts of an array that holds nothing else.
+fn texts_of<'a>(alloc: Global, values: &'a [Value], place: Place) -> Result<Vec<&'a str>, Stop>
+    ensures { Reads texts_view result (or_wanted place (texts_of (items_view values.now))) }
+{
+    let mut texts = Vec::new(alloc);
+    add_texts(values, place, &mut texts)?;
     Ok(texts)
 }
 

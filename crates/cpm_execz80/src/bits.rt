@@ -126,7 +126,6 @@ pub fn perform_bits<M: Memory>(regs: &mut Regs, memory: &mut M, op: BitOp, place
     requires { HasRoom (M.contents memory.old) }
     ensures regs { regs.new ≡ (meaning_bits op place (M.contents memory.old) regs.old).regs }
     ensures memory { M.contents memory.new ≡ after_sets (M.contents memory.old) (meaning_bits op place (M.contents memory.old) regs.old).stores }
-    ensures surroundings { M.surroundings memory.new ≡ M.surroundings memory.old }
     ensures leads { M.Leads memory.old memory.new }
 {
     let outcome = apply(op, regs.flags, read_place(regs, memory, place));

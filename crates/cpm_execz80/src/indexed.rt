@@ -18,7 +18,6 @@ pub fn perform_indexed<M: Memory>(regs: &mut Regs, memory: &mut M, op: IndexedOp
     requires { HasRoom (M.contents memory.old) }
     ensures regs { regs.new ≡ (meaning_indexed op address (M.contents memory.old) regs.old).regs }
     ensures memory { M.contents memory.new ≡ after_sets (M.contents memory.old) (meaning_indexed op address (M.contents memory.old) regs.old).stores }
-    ensures surroundings { M.surroundings memory.new ≡ M.surroundings memory.old }
     ensures leads { M.Leads memory.old memory.new }
 {
     match op {

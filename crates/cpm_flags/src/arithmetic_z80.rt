@@ -1,26 +1,54 @@
 //! Sums and differences of words with the carry, and flags of single bytes, on the Zilog Z80.
-ghost use Rattle.std.specs.Prelude.{◌≡◌};
+ghost use Rattle.std.specs.Prelude.{◌≡◌, ◌+◌, ◌%◌, nat_le, ◌+ℤ◌, pos};
 ghost use Rattle.cpm_flags.specs.Arithmetic.{bit};
-ghost use Rattle.cpm_flags.specs.ArithmeticZ80.{add16_carry_of, difference16, sub16_overflows, sub16_borrow_of, byte_flags, shift_flags, interrupt_flags};
+ghost use Rattle.cpm_flags.specs.ArithmeticZ80.{signed16, overflows16, add16_carry_of, difference16, sub16_overflows, sub16_borrow_of, byte_flags, shift_flags, interrupt_flags};
 
 use crate::arithmetic::{Word, has_even_parity};
 use crate::regs::Flags;
+
+/// The word of a + b + carry.
+fn sum(a: u16, b: u16, carry: bool) -> u16
+    ensures { result ≡ (a + b + bit carry) % 65536 }
+{
+    a.wrapping_add(b).wrapping_add(u16::from(carry))
+}
+
+/// The carry out of bit 15 of a + b + carry.
+fn has_carry(a: u16, b: u16, carry: bool) -> bool
+    ensures { result ≡ nat_le 65536 (a + b + bit carry) }
+{
+    u32::from(a) + u32::from(b) + u32::from(carry) > 0xffff
+}
+
+/// The carry out of bit 11 of a + b + carry.
+fn has_half_carry(a: u16, b: u16, carry: bool) -> bool
+    ensures { result ≡ nat_le 4096 (a % 4096 + b % 4096 + bit carry) }
+{
+    (a & 0x0fff) + (b & 0x0fff) + u16::from(carry) > 0x0fff
+}
+
+/// Whether no signed word holds a + b + carry.
+fn sum_overflows(a: u16, b: u16, carry: bool) -> bool
+    ensures { result ≡ overflows16 (signed16 a +ℤ signed16 b +ℤ pos (bit carry)) }
+{
+    let value = sum(a, b, carry);
+    a & 0x8000 == b & 0x8000 && a & 0x8000 != value & 0x8000
+}
 
 /// a + b + carry, of words. Zilog Z80 CPU User Manual, "ADC HL, ss".
 pub fn add16_carry(flags: Flags, a: u16, b: u16, carry: bool) -> Word
     ensures { result ≡ add16_carry_of flags a b carry }
 {
-    let carry = u16::from(carry);
-    let value = a.wrapping_add(b).wrapping_add(carry);
+    let value = sum(a, b, carry);
     Word {
         value,
         flags: Flags {
             sign: value & 0x8000 != 0,
             zero: value == 0,
-            half_carry: (a & 0x0fff) + (b & 0x0fff) + carry > 0x0fff,
-            parity: a & 0x8000 == b & 0x8000 && a & 0x8000 != value & 0x8000,
+            half_carry: has_half_carry(a, b, carry),
+            parity: sum_overflows(a, b, carry),
             subtract: false,
-            carry: u32::from(a) + u32::from(b) + u32::from(carry) > 0xffff,
+            carry: has_carry(a, b, carry),
             ..flags
         },
     }

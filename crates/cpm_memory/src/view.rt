@@ -33,7 +33,7 @@ impl View<'_> {
     ghost use Rattle.std.specs.Prelude.{false, ◌/◌};
     ghost use Rattle.cpm_memory.specs.Contents.{CanSet, after_set, is_written, page_of};
     ghost use Rattle.cpm_memory.specs.Frames.{MovesAtMost};
-    ghost use Rattle.cpm_memory.specs.View.{contents_of, stamps_of, surroundings_of, store_of, table_of, ViewLeads};
+    ghost use Rattle.cpm_memory.specs.View.{contents_of, stamps_of, store_of, table_of, ViewLeads};
     ghost use Rattle.cpm_memory.specs.Stamps.{after_stamp};
 
     /// Stores the first byte of a page, which is copied into a frame of its own.
@@ -44,7 +44,6 @@ impl View<'_> {
         requires first { is_written (contents_of self.old) (page_of address) ≡ false }
         ensures contents { contents_of self.new ≡ after_set (contents_of self.old) address value }
         ensures stamps { stamps_of self.new ≡ after_stamp (stamps_of self.old) (page_of address) }
-        ensures surroundings { surroundings_of self.new ≡ surroundings_of self.old }
         ensures moves { MovesAtMost (store_of self.old) (store_of self.new) (table_of self.old) (page_of address) }
         ensures leads { ViewLeads self.old self.new }
     {
@@ -81,7 +80,6 @@ impl Memory for View<'_> {
         requires { CanSet (contents_of self.old) address }
         ensures contents { contents_of self.new ≡ after_set (contents_of self.old) address value }
         ensures stamps { stamps_of self.new ≡ after_stamp (stamps_of self.old) (page_of address) }
-        ensures surroundings { surroundings_of self.new ≡ surroundings_of self.old }
         ensures moves { MovesAtMost (store_of self.old) (store_of self.new) (table_of self.old) (page_of address) }
         ensures leads { ViewLeads self.old self.new }
     {

@@ -1,8 +1,8 @@
 //! Calls of a session, step by step. What they leave was worked out from the tables of the CP/M 2.2 Operating System Manual.
 
 mod addresses;
-mod bios;
-mod disk;
+pub mod bios;
+pub mod disk;
 mod drives;
 mod faults;
 mod input;

@@ -10,4 +10,6 @@ mod console;
 #[cfg(test)]
 mod same;
 #[cfg(test)]
+mod steps;
+#[cfg(test)]
 mod trial;

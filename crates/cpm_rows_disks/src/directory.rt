@@ -5,7 +5,7 @@ use cpm_directory::{
     DirectoryError, Entry, Extent, Fcb, LentImage, Pattern, Reserved, block_at, entry, find,
     first_free, login, parse_fcb, put_entry,
 };
-use cpm_geom::{Format, Image};
+use cpm_geom::{Dpb, Format, Image};
 use std::alloc::Global;
 use std::process::Abort;
 
@@ -161,9 +161,8 @@ fn a_block_is_given_back(rt: HostRuntime) {
     );
 }
 
-#[test]
-fn a_block_above_the_last_is_refused(rt: HostRuntime) {
-    let dpb = blank(&rt, rt.alloc()).format().dpb();
+/// The blocks of a file whose third one is above the last.
+fn check_blocks(rt: &impl Abort, dpb: &Dpb) {
     let mut fcb = parse_fcb(b"T.TXT").0;
     fcb.extent.blocks[1] = 242;
     fcb.extent.blocks[2] = 243;
@@ -174,9 +173,23 @@ fn a_block_above_the_last_is_refused(rt: HostRuntime) {
         (128, Ok(0)),
     ] {
         fcb.current_record = record;
-        same_at(&rt, record, block_at(&dpb, &fcb), want);
+        same_at(rt, record, block_at(dpb, &fcb), want);
     }
-    assert!(rt; Fcb::from_bytes(&dpb, &fcb.to_bytes(&dpb)) == fcb);
+    assert!(rt; Fcb::from_bytes(dpb, &fcb.to_bytes(dpb)) == fcb);
+}
+
+#[test]
+fn a_block_above_the_last_is_refused(rt: HostRuntime) {
+    let dpb = blank(&rt, rt.alloc()).format().dpb();
+    check_blocks(&rt, &dpb);
+}
+
+/// Fails unless a text begins with this drive and this name, and goes on so.
+fn check_name(rt: &impl Abort, text: &str, drive: u8, name: &str, rest: &str) {
+    let (fcb, behind) = parse_fcb(text.as_bytes());
+    same_at(rt, text, fcb.drive, drive);
+    same_at(rt, text, fcb.extent.name.as_slice(), name.as_bytes());
+    same_at(rt, text, behind, rest.as_bytes());
 }
 
 #[test]
@@ -190,9 +203,6 @@ fn names_are_parsed(rt: HostRuntime) {
         ("ABCDEFGHIJ.TYPE.Z", 0, "ABCDEFGHTYP", ".Z"),
         ("A,B", 0, "A,B        ", ""),
     ] {
-        let (fcb, behind) = parse_fcb(text.as_bytes());
-        same_at(&rt, text, fcb.drive, drive);
-        assert!(rt; fcb.extent.name.as_slice() == name.as_bytes(), "in {text}");
-        assert!(rt; behind == rest.as_bytes(), "in {text}");
+        check_name(&rt, text, drive, name, rest);
     }
 }

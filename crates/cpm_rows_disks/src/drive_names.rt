@@ -111,15 +111,21 @@ fn is_reserved(drive: &Drive, block: u16) -> bool {
     drive.marks.reserved.contains(block)
 }
 
-#[test]
-fn erased_files_free_their_blocks(rt: HostRuntime) {
-    let mut drive = drive(many_files(&rt, rt.alloc()));
+/// Erases the text files, which must give this.
+fn erases_texts(rt: &impl Abort, drive: &mut Drive, wanted: Result<Option<u8>, Fault>) {
     assert!(rt; !drive.marks.is_protected);
-    same(&rt, drive.erase_files(0, b"????????TXT"), Ok(Some(0)));
-    same(&rt, at(&rt, drive.image.image(), 0).user, 0xE5);
-    same(&rt, at(&rt, drive.image.image(), 1).user, 3);
-    same(&rt, at(&rt, drive.image.image(), 3).user, 0xE5);
-    same(&rt, at(&rt, drive.image.image(), 5).user, 0);
+    same(rt, drive.erase_files(0, b"????????TXT"), wanted);
+}
+
+/// The users of the entries, once the text files are erased.
+fn check_users(rt: &impl Abort, image: &Image) {
+    for (index, user) in [(0, 0xE5), (1, 3), (3, 0xE5), (5, 0)] {
+        same(rt, at(rt, image, index).user, user);
+    }
+}
+
+/// Which blocks are reserved then.
+fn check_reserved(rt: &impl Abort, drive: &Drive) {
     for (block, want) in [
         (0, true),
         (1, true),
@@ -128,10 +134,17 @@ fn erased_files_free_their_blocks(rt: HostRuntime) {
         (4, true),
         (5, true),
     ] {
-        same_at(&rt, block, is_reserved(&drive, block), want);
+        same_at(rt, block, is_reserved(drive, block), want);
     }
-    assert!(rt; !drive.marks.is_protected);
-    same(&rt, drive.erase_files(0, b"????????TXT"), Ok(None));
+}
+
+#[test]
+fn erased_files_free_their_blocks(rt: HostRuntime) {
+    let mut drive = drive(many_files(&rt, rt.alloc()));
+    erases_texts(&rt, &mut drive, Ok(Some(0)));
+    check_users(&rt, drive.image.image());
+    check_reserved(&rt, &drive);
+    erases_texts(&rt, &mut drive, Ok(None));
 }
 
 #[test]

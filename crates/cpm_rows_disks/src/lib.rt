@@ -22,4 +22,6 @@ mod session_drives;
 #[cfg(test)]
 mod session_writes;
 #[cfg(test)]
+mod steps;
+#[cfg(test)]
 mod written_by_cpmtools;

@@ -1,9 +1,14 @@
 //! Worked calls on files of a session's drives.
 
-use crate::images::{at, blank, fcb, put, text_image};
+use crate::images::{blank, put, text_image};
 use crate::same::same;
+use crate::steps::Step::{
+    Current, HasByte, HasRandomRecord, LoginVector, Names, Opens, ReadOnlyVector, Reads,
+    ReadsRandom, SearchesFirst, SearchesNext, SeekTo, Selects, SetsRandom, Sizes,
+};
+use crate::steps::{on_drive, on_text};
 use cpm_disks::{Disks, FileFunction};
-use cpm_files::{Entry, Extent, Fault, Fcb};
+use cpm_files::Fault;
 use cpm_geom::Image;
 use std::alloc::Global;
 use std::process::Abort;
@@ -17,77 +22,74 @@ pub fn session(rt: &impl Abort, alloc: Global, image: Image) -> Disks {
 
 #[test]
 fn text_file_is_read(rt: HostRuntime) {
-    let system = blank(&rt, rt.alloc());
-    let mut disks = session(&rt, rt.alloc(), text_image(&rt, rt.alloc()));
-    let mut file = fcb(0, b"T       TXT");
-    let mut buffer = [0; 128];
-    same(&rt, disks.open_file(&system, &mut file), Ok(0));
-    for want in [0, 0, 1] {
-        let code = disks.read_next(&system, &mut file, &mut buffer);
-        same(&rt, code, Ok(want));
-    }
-    same(&rt, buffer[0], 0x42);
-    same(&rt, buffer[127], 0x42);
-    same(&rt, disks.set_random_record(&system, &mut file), Ok(0));
-    same(&rt, file.random_record, [2, 0, 0]);
-    file.random_record = [9, 9, 9];
-    same(&rt, disks.compute_size(&system, &mut file), Ok(0));
-    same(&rt, file.random_record, [2, 0, 0]);
-}
-
-#[test]
-fn text_file_is_read_at_random(rt: HostRuntime) {
-    let system = blank(&rt, rt.alloc());
-    let mut disks = session(&rt, rt.alloc(), text_image(&rt, rt.alloc()));
-    let mut file = fcb(0, b"T       TXT");
-    let mut buffer = [0; 128];
-    same(&rt, disks.open_file(&system, &mut file), Ok(0));
-    for (random_record, want) in [
-        ([1, 0, 0], Ok(0)),
-        ([2, 0, 0], Ok(1)),
-        ([0, 1, 0], Ok(4)),
-        ([0, 0, 1], Ok(6)),
-    ] {
-        file.random_record = random_record;
-        same(
-            &rt,
-            disks.read_random(&system, &mut file, &mut buffer),
-            want,
-        );
-    }
-    same(&rt, buffer[64], 0x42);
-}
-
-#[test]
-fn text_file_is_found_once(rt: HostRuntime) {
-    let system = blank(&rt, rt.alloc());
-    let mut disks = session(&rt, rt.alloc(), text_image(&rt, rt.alloc()));
-    let any = fcb(0, b"???????????");
-    let mut buffer = [0; 128];
-    same(&rt, disks.search_next(&system, &mut buffer), 0xFF);
-    same(&rt, disks.search_first(&system, &any, &mut buffer), Ok(0));
-    same(&rt, buffer[1], b'T');
-    same(&rt, buffer[32], 0xE5);
-    same(&rt, disks.search_next(&system, &mut buffer), 0xFF);
-    same(&rt, disks.search_next(&system, &mut buffer), 0xFF);
-    let missing = fcb(0, b"U       TXT");
-    same(
+    on_text(
         &rt,
-        disks.search_first(&system, &missing, &mut buffer),
-        Ok(0xFF),
+        rt.alloc(),
+        &[
+            Names(0, b"T       TXT"),
+            Opens(Ok(0)),
+            Reads(Ok(0)),
+            Reads(Ok(0)),
+            Reads(Ok(1)),
+            HasByte(0, 0x42),
+            HasByte(127, 0x42),
+            SetsRandom(Ok(0)),
+            HasRandomRecord([2, 0, 0]),
+            SeekTo([9, 9, 9]),
+            Sizes(Ok(0)),
+            HasRandomRecord([2, 0, 0]),
+        ],
     );
 }
 
 #[test]
+fn text_file_is_read_at_random(rt: HostRuntime) {
+    let steps = [
+        Names(0, b"T       TXT"),
+        Opens(Ok(0)),
+        SeekTo([1, 0, 0]),
+        ReadsRandom(Ok(0)),
+        SeekTo([2, 0, 0]),
+        ReadsRandom(Ok(1)),
+        SeekTo([0, 1, 0]),
+        ReadsRandom(Ok(4)),
+        SeekTo([0, 0, 1]),
+        ReadsRandom(Ok(6)),
+        HasByte(64, 0x42),
+    ];
+    on_text(&rt, rt.alloc(), &steps);
+}
+
+#[test]
+fn text_file_is_found_once(rt: HostRuntime) {
+    let steps = [
+        Names(0, b"???????????"),
+        SearchesNext(0xFF),
+        SearchesFirst(Ok(0)),
+        HasByte(1, b'T'),
+        HasByte(32, 0xE5),
+        SearchesNext(0xFF),
+        SearchesNext(0xFF),
+        Names(0, b"U       TXT"),
+        SearchesFirst(Ok(0xFF)),
+    ];
+    on_text(&rt, rt.alloc(), &steps);
+}
+
+#[test]
 fn vectors_of_a_text_file(rt: HostRuntime) {
-    let system = blank(&rt, rt.alloc());
-    let mut disks = session(&rt, rt.alloc(), text_image(&rt, rt.alloc()));
-    same(&rt, disks.select(&system, 0), Ok(0));
-    same(&rt, disks.login_vector(), 0x0001);
-    same(&rt, disks.read_only_vector(), 0x8000);
-    same(&rt, disks.select(&system, 15), Ok(0));
-    same(&rt, disks.current, 0x0F);
-    same(&rt, disks.login_vector(), 0x8001);
+    on_text(
+        &rt,
+        rt.alloc(),
+        &[
+            Selects(0, Ok(0)),
+            LoginVector(0x0001),
+            ReadOnlyVector(0x8000),
+            Selects(15, Ok(0)),
+            Current(0x0F),
+            LoginVector(0x8001),
+        ],
+    );
 }
 
 #[test]
@@ -139,18 +141,33 @@ fn sectors_are_written(rt: HostRuntime) {
 
 #[test]
 fn block_above_the_last_is_a_fault(rt: HostRuntime) {
-    let system = blank(&rt, rt.alloc());
     let mut image = blank(&rt, rt.alloc());
     put(&rt, &mut image, 0, 0, b"T       TXT", (0, 1, 0xF3));
-    let mut disks = session(&rt, rt.alloc(), image);
-    let mut file = fcb(0, b"T       TXT");
-    let mut buffer = [0; 128];
-    same(&rt, disks.open_file(&system, &mut file), Ok(0));
-    same(
+    on_drive(
         &rt,
-        disks.read_next(&system, &mut file, &mut buffer),
-        Err(Fault::BadSector),
+        rt.alloc(),
+        image,
+        &[
+            Names(0, b"T       TXT"),
+            Opens(Ok(0)),
+            Reads(Err(Fault::BadSector)),
+        ],
     );
+}
+
+/// Calls functions on the bytes of a file control block, each of which must give its code.
+fn call_all(
+    rt: &impl Abort,
+    disks: &mut Disks,
+    system: &Image,
+    bytes: &mut [u8; 36],
+    calls: &[(FileFunction, u8)],
+) {
+    let mut buffer = [0; 128];
+    for (function, want) in calls {
+        let code = disks.call(system, *function, bytes, &mut buffer);
+        same(rt, code, Ok(*want));
+    }
 }
 
 #[test]
@@ -160,26 +177,21 @@ fn functions_work_on_bytes(rt: HostRuntime) {
     let mut bytes = [0; 36];
     bytes[1..12].copy_from_slice(b"T       TXT");
     bytes[17..28].copy_from_slice(b"U       NEW");
-    let mut buffer = [0; 128];
-    for (function, want) in [
+    let calls = [
         (FileFunction::RenameFile, 0),
         (FileFunction::OpenFile, 0xFF),
-    ] {
-        let code = disks.call(&system, function, &mut bytes, &mut buffer);
-        same(&rt, code, Ok(want));
-    }
+    ];
+    call_all(&rt, &mut disks, &system, &mut bytes, &calls);
     bytes[1..12].copy_from_slice(b"U       NEW");
-    for (function, want) in [
+    let calls = [
         (FileFunction::OpenFile, 0),
         (FileFunction::ReadSequential, 0),
         (FileFunction::FileSize, 0),
         (FileFunction::SearchFirst, 0),
         (FileFunction::SearchNext, 0xFF),
         (FileFunction::DeleteFile, 0),
-    ] {
-        let code = disks.call(&system, function, &mut bytes, &mut buffer);
-        same(&rt, code, Ok(want));
-    }
+    ];
+    call_all(&rt, &mut disks, &system, &mut bytes, &calls);
     same(&rt, bytes[15], 2);
     same(&rt, bytes[16], 2);
     same(&rt, bytes[32], 1);

@@ -1,10 +1,9 @@
 //! Worked writes into the directory of a session's drive, which what it finds follows at once.
 
-use crate::images::{blank, fcb, put, text_image};
+use crate::images::{blank, put, text_image};
 use crate::same::same;
-use crate::session::session;
-use cpm_disks::Disks;
-use cpm_geom::Image;
+use crate::steps::Step::{HasByte, Makes, Names, Opens, PutBlock, SearchesFirst, SearchesNext};
+use crate::steps::{Step, Trial, follow, session_on};
 use std::alloc::Global;
 use std::process::Abort;
 
@@ -21,43 +20,52 @@ fn four_files(rt: &impl Abort, alloc: Global) -> [u8; 128] {
 }
 
 /// The text file is found, and the four files behind it.
-fn check_found(rt: &impl Abort, disks: &mut Disks, system: &Image) {
-    let mut buffer = [0; 128];
-    let any = fcb(0, b"???????????");
-    same(rt, disks.search_first(system, &any, &mut buffer), Ok(0));
-    for want in [0, 1, 2, 3, 0xFF] {
-        same(rt, disks.search_next(system, &mut buffer), want);
-    }
-    same(rt, buffer[97], b'D');
-}
+const FOUND: [Step; 8] = [
+    Names(0, b"???????????"),
+    SearchesFirst(Ok(0)),
+    SearchesNext(0),
+    SearchesNext(1),
+    SearchesNext(2),
+    SearchesNext(3),
+    SearchesNext(0xFF),
+    HasByte(97, b'D'),
+];
 
 #[test]
 fn sector_of_the_directory_is_found_at_once(rt: HostRuntime) {
-    let system = blank(&rt, rt.alloc());
     let record = four_files(&rt, rt.alloc());
-    let mut disks = session(&rt, rt.alloc(), text_image(&rt, rt.alloc()));
-    let mut buffer = [0; 128];
-    let any = fcb(0, b"???????????");
-    same(&rt, disks.search_first(&system, &any, &mut buffer), Ok(0));
-    same(&rt, disks.search_next(&system, &mut buffer), 0xFF);
+    let image = text_image(&rt, rt.alloc());
+    let mut trial = session_on(&rt, rt.alloc(), image);
+    let steps = [
+        Names(0, b"???????????"),
+        SearchesFirst(Ok(0)),
+        SearchesNext(0xFF),
+    ];
+    follow(&rt, &mut trial, &steps);
     // record 8 is sector 23 of the directory's track
-    assert!(rt; disks.write_sector(0, 2, 23, &record));
-    check_found(&rt, &mut disks, &system);
-    assert!(rt; disks.write_sector(0, 2, 1, &[0xE5; 128]));
-    let mut file = fcb(0, b"T       TXT");
-    same(&rt, disks.open_file(&system, &mut file), Ok(0xFF));
-    same(&rt, disks.make_file(&system, &mut file), Ok(0));
+    assert!(rt; trial.disks.write_sector(0, 2, 23, &record));
+    follow(&rt, &mut trial, &FOUND);
+    assert!(rt; trial.disks.write_sector(0, 2, 1, &[0xE5; 128]));
+    let steps = [Names(0, b"T       TXT"), Opens(Ok(0xFF)), Makes(Ok(0))];
+    follow(&rt, &mut trial, &steps);
+}
+
+/// Writes this record with the file control block.
+fn write(rt: &impl Abort, trial: &mut Trial, record: &[u8; 128]) {
+    let wrote = trial
+        .disks
+        .write_next(&trial.system, &mut trial.file, record);
+    same(rt, wrote, Ok(0));
 }
 
 #[test]
 fn record_of_a_forged_block_is_found_at_once(rt: HostRuntime) {
-    let system = blank(&rt, rt.alloc());
     let record = four_files(&rt, rt.alloc());
-    let mut disks = session(&rt, rt.alloc(), text_image(&rt, rt.alloc()));
-    let mut file = fcb(0, b"T       TXT");
-    same(&rt, disks.open_file(&system, &mut file), Ok(0));
+    let image = text_image(&rt, rt.alloc());
+    let mut trial = session_on(&rt, rt.alloc(), image);
     // block 1 is the directory's second
-    file.extent.blocks[0] = 1;
-    same(&rt, disks.write_next(&system, &mut file, &record), Ok(0));
-    check_found(&rt, &mut disks, &system);
+    let steps = [Names(0, b"T       TXT"), Opens(Ok(0)), PutBlock(0, 1)];
+    follow(&rt, &mut trial, &steps);
+    write(&rt, &mut trial, &record);
+    follow(&rt, &mut trial, &FOUND);
 }

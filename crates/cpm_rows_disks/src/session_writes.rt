@@ -1,16 +1,21 @@
 //! Worked calls that write files.
 
-use crate::images::{at, blank, fcb, put, text_image};
+use crate::images::{at, blank, put, text_image};
 use crate::same::same;
-use crate::session::session;
-use cpm_disks::Disks;
-use cpm_files::{Fault, Fcb};
+use crate::steps::Step::{
+    Closes, Erases, Extent, HasBlock, HasCurrentRecord, HasRandomRecord, HasRecordCount, Makes,
+    Names, Opens, Protect, PutBlock, PutName, Renames, ResetDrives, SearchesFirst, SearchesNext,
+    SeekTo, Selects, SetsAttributes, Sizes, Writes, WritesCleared, WritesRandom,
+};
+use crate::steps::{Step, Trial, follow, on_text, session_on};
+use cpm_files::Fault;
 use cpm_geom::Image;
+use std::alloc::Global;
 use std::process::Abort;
 
 /// The drive A of a session.
-fn first_image(rt: &impl Abort, disks: Disks) -> Image {
-    match disks.into_images().into_iter().next() {
+fn first_image(rt: &impl Abort, trial: Trial) -> Image {
+    match trial.disks.into_images().into_iter().next() {
         Some(Some(image)) => image,
         _ => panic!(rt; "drive A is lost"),
     }
@@ -20,17 +25,6 @@ fn first_image(rt: &impl Abort, disks: Disks) -> Image {
 fn check_record(rt: &impl Abort, image: &Image, number: u16, byte: u8) {
     let record = image.record(number).expect(rt, "a record");
     assert!(rt; record.iter().all(|b| *b == byte), "record {number}");
-}
-
-/// A file of 129 records of 41h, closed.
-fn with_file(rt: &impl Abort, disks: &mut Disks, system: &Image) -> Fcb {
-    let mut file = fcb(0, b"T       DAT");
-    same(rt, disks.make_file(system, &mut file), Ok(0));
-    for _ in 0..129 {
-        same(rt, disks.write_next(system, &mut file, &[0x41; 128]), Ok(0));
-    }
-    same(rt, disks.close_file(system, &mut file), Ok(1));
-    file
 }
 
 /// The entries of that file.
@@ -49,90 +43,102 @@ fn check_entries(rt: &impl Abort, image: &Image) {
     same(rt, at(rt, image, 2).user, 0xE5);
 }
 
+/// The blank drive A of a session after these steps.
+fn written(rt: &impl Abort, alloc: Global, steps: &[Step]) -> Image {
+    let mut trial = session_on(rt, alloc, blank(rt, alloc));
+    follow(rt, &mut trial, steps);
+    first_image(rt, trial)
+}
+
+/// The drive A with the text file after these steps.
+fn changed(rt: &impl Abort, alloc: Global, steps: &[Step]) -> Image {
+    let mut trial = session_on(rt, alloc, text_image(rt, alloc));
+    follow(rt, &mut trial, steps);
+    first_image(rt, trial)
+}
+
+/// Writes 129 records of 41h.
+fn write_129(rt: &impl Abort, trial: &mut Trial) {
+    for _ in 0..129 {
+        follow(rt, trial, &[Writes(0x41, Ok(0))]);
+    }
+}
+
+/// The drive A of a session that has a file of 129 records of 41h, closed, after these steps.
+fn with_file(rt: &impl Abort, alloc: Global, steps: &[Step]) -> Image {
+    let mut trial = session_on(rt, alloc, blank(rt, alloc));
+    follow(rt, &mut trial, &[Names(0, b"T       DAT"), Makes(Ok(0))]);
+    write_129(rt, &mut trial);
+    follow(rt, &mut trial, &[Closes(Ok(1))]);
+    follow(rt, &mut trial, steps);
+    first_image(rt, trial)
+}
+
+/// Record 19 is of 41h, and the other ones of its block are of this byte.
+fn check_block(rt: &impl Abort, image: &Image, rest: u8) {
+    for number in 16..24 {
+        check_record(rt, image, number, if number == 19 { 0x41 } else { rest });
+    }
+}
+
 #[test]
 fn random_write_leaves_the_block_as_it_was(rt: HostRuntime) {
-    let system = blank(&rt, rt.alloc());
-    let mut disks = session(&rt, rt.alloc(), blank(&rt, rt.alloc()));
-    let mut file = fcb(0, b"T       DAT");
-    same(&rt, disks.make_file(&system, &mut file), Ok(0));
-    file.random_record = [3, 0, 0];
-    same(
-        &rt,
-        disks.write_random(&system, &mut file, &[0x41; 128]),
-        Ok(0),
-    );
-    same(&rt, file.current_record, 3);
-    same(&rt, file.extent.record_count, 4);
-    let image = first_image(&rt, disks);
-    for number in 16..24 {
-        check_record(&rt, &image, number, if number == 19 { 0x41 } else { 0xE5 });
-    }
+    let steps = [
+        Names(0, b"T       DAT"),
+        Makes(Ok(0)),
+        SeekTo([3, 0, 0]),
+        WritesRandom(0x41, Ok(0)),
+        HasCurrentRecord(3),
+        HasRecordCount(4),
+    ];
+    let image = written(&rt, rt.alloc(), &steps);
+    check_block(&rt, &image, 0xE5);
 }
 
 #[test]
 fn cleared_write_clears_the_block(rt: HostRuntime) {
-    let system = blank(&rt, rt.alloc());
-    let mut disks = session(&rt, rt.alloc(), blank(&rt, rt.alloc()));
-    let mut file = fcb(0, b"T       DAT");
-    same(&rt, disks.make_file(&system, &mut file), Ok(0));
-    file.random_record = [3, 0, 0];
-    same(
-        &rt,
-        disks.write_random_cleared(&system, &mut file, &[0x41; 128]),
-        Ok(0),
-    );
-    file.random_record = [0, 0, 1];
-    same(
-        &rt,
-        disks.write_random_cleared(&system, &mut file, &[0x41; 128]),
-        Ok(6),
-    );
-    same(
-        &rt,
-        disks.write_random(&system, &mut file, &[0x41; 128]),
-        Ok(6),
-    );
-    let image = first_image(&rt, disks);
-    for number in 16..24 {
-        check_record(&rt, &image, number, if number == 19 { 0x41 } else { 0 });
-    }
+    let steps = [
+        Names(0, b"T       DAT"),
+        Makes(Ok(0)),
+        SeekTo([3, 0, 0]),
+        WritesCleared(0x41, Ok(0)),
+        SeekTo([0, 0, 1]),
+        WritesCleared(0x41, Ok(6)),
+        WritesRandom(0x41, Ok(6)),
+    ];
+    let image = written(&rt, rt.alloc(), &steps);
+    check_block(&rt, &image, 0);
 }
 
 #[test]
 fn long_file_has_two_entries(rt: HostRuntime) {
-    let system = blank(&rt, rt.alloc());
-    let mut disks = session(&rt, rt.alloc(), blank(&rt, rt.alloc()));
-    with_file(&rt, &mut disks, &system);
-    let mut buffer = [0; 128];
-    let mut both = fcb(0, b"T       DAT");
-    same(&rt, disks.search_first(&system, &both, &mut buffer), Ok(0));
-    same(&rt, disks.search_next(&system, &mut buffer), 0xFF);
-    both.extent.ex = b'?';
-    same(&rt, disks.search_first(&system, &both, &mut buffer), Ok(0));
-    same(&rt, disks.search_next(&system, &mut buffer), 1);
-    same(&rt, disks.search_next(&system, &mut buffer), 0xFF);
-    same(&rt, disks.compute_size(&system, &mut both), Ok(0));
-    same(&rt, both.random_record, [129, 0, 0]);
-    check_entries(&rt, &first_image(&rt, disks));
+    let steps = [
+        Names(0, b"T       DAT"),
+        SearchesFirst(Ok(0)),
+        SearchesNext(0xFF),
+        Extent(b'?'),
+        SearchesFirst(Ok(0)),
+        SearchesNext(1),
+        SearchesNext(0xFF),
+        Sizes(Ok(0)),
+        HasRandomRecord([129, 0, 0]),
+    ];
+    let image = with_file(&rt, rt.alloc(), &steps);
+    check_entries(&rt, &image);
 }
 
 #[test]
 fn erased_blocks_are_written_again(rt: HostRuntime) {
-    let system = blank(&rt, rt.alloc());
-    let mut disks = session(&rt, rt.alloc(), blank(&rt, rt.alloc()));
-    with_file(&rt, &mut disks, &system);
-    let erased = fcb(0, b"T       DAT");
-    same(&rt, disks.erase_files(&system, &erased), Ok(0));
-    same(&rt, disks.erase_files(&system, &erased), Ok(0xFF));
-    let mut file = fcb(0, b"U       DAT");
-    same(&rt, disks.make_file(&system, &mut file), Ok(0));
-    same(
-        &rt,
-        disks.write_next(&system, &mut file, &[0x42; 128]),
-        Ok(0),
-    );
-    same(&rt, disks.close_file(&system, &mut file), Ok(0));
-    let image = first_image(&rt, disks);
+    let steps = [
+        Names(0, b"T       DAT"),
+        Erases(Ok(0)),
+        Erases(Ok(0xFF)),
+        Names(0, b"U       DAT"),
+        Makes(Ok(0)),
+        Writes(0x42, Ok(0)),
+        Closes(Ok(0)),
+    ];
+    let image = with_file(&rt, rt.alloc(), &steps);
     same(&rt, at(&rt, &image, 0).extent.name, *b"U       DAT");
     same(&rt, at(&rt, &image, 0).extent.blocks[0], 2);
     check_record(&rt, &image, 16, 0x42);
@@ -140,107 +146,101 @@ fn erased_blocks_are_written_again(rt: HostRuntime) {
 
 #[test]
 fn maps_are_merged_by_a_close(rt: HostRuntime) {
-    let system = blank(&rt, rt.alloc());
-    let mut disks = session(&rt, rt.alloc(), blank(&rt, rt.alloc()));
-    let mut file = with_file(&rt, &mut disks, &system);
-    file.extent.blocks[0] = 0;
-    same(&rt, disks.close_file(&system, &mut file), Ok(1));
-    same(&rt, file.extent.blocks[0], 0x12);
-    file.extent.blocks[0] = 5;
-    same(&rt, disks.close_file(&system, &mut file), Ok(0xFF));
-    check_entries(&rt, &first_image(&rt, disks));
-}
-
-/// No function writes a record of the file, for this reason.
-fn refuses_records(
-    rt: &impl Abort,
-    disks: &mut Disks,
-    system: &Image,
-    file: &mut Fcb,
-    fault: Fault,
-) {
-    let record = [1; 128];
-    same(rt, disks.write_next(system, file, &record), Err(fault));
-    same(rt, disks.write_random(system, file, &record), Err(fault));
-    same(
-        rt,
-        disks.write_random_cleared(system, file, &record),
-        Err(fault),
-    );
+    let steps = [
+        PutBlock(0, 0),
+        Closes(Ok(1)),
+        HasBlock(0, 0x12),
+        PutBlock(0, 5),
+        Closes(Ok(0xFF)),
+    ];
+    let image = with_file(&rt, rt.alloc(), &steps);
+    check_entries(&rt, &image);
 }
 
 #[test]
 fn protected_drive_is_not_written(rt: HostRuntime) {
-    let system = blank(&rt, rt.alloc());
-    let mut disks = session(&rt, rt.alloc(), text_image(&rt, rt.alloc()));
-    disks.protect(&system);
-    let mut file = fcb(0, b"T       TXT");
-    same(&rt, disks.open_file(&system, &mut file), Ok(0));
-    refuses_records(&rt, &mut disks, &system, &mut file, Fault::ReadOnly);
-    same(&rt, disks.close_file(&system, &mut file), Ok(0));
-    check_record(&rt, &first_image(&rt, disks), 16, 0x41);
+    let refused = Err(Fault::ReadOnly);
+    let steps = [
+        Protect,
+        Names(0, b"T       TXT"),
+        Opens(Ok(0)),
+        Writes(1, refused),
+        WritesRandom(1, refused),
+        WritesCleared(1, refused),
+        Closes(Ok(0)),
+    ];
+    let image = changed(&rt, rt.alloc(), &steps);
+    check_record(&rt, &image, 16, 0x41);
 }
 
 #[test]
 fn directory_of_a_protected_drive_is_not_written(rt: HostRuntime) {
-    let system = blank(&rt, rt.alloc());
-    let mut disks = session(&rt, rt.alloc(), text_image(&rt, rt.alloc()));
-    disks.protect(&system);
-    let mut file = fcb(0, b"T       TXT");
-    let name = *b"U       TXT";
     let refused = Err(Fault::ReadOnly);
-    same(&rt, disks.make_file(&system, &mut file), refused);
-    same(&rt, disks.erase_files(&system, &file), refused);
-    same(&rt, disks.rename_files(&system, &file, &name), refused);
-    same(&rt, disks.set_attributes(&system, &file), refused);
-    disks.reset_drives(1);
-    same(&rt, disks.rename_files(&system, &file, &name), Ok(0));
-    let image = first_image(&rt, disks);
-    same(&rt, at(&rt, &image, 0).extent.name, name);
+    let steps = [
+        Protect,
+        Names(0, b"T       TXT"),
+        Makes(refused),
+        Erases(refused),
+        Renames(b"U       TXT", refused),
+        SetsAttributes(refused),
+        ResetDrives(1),
+        Renames(b"U       TXT", Ok(0)),
+    ];
+    let image = changed(&rt, rt.alloc(), &steps);
+    same(&rt, at(&rt, &image, 0).extent.name, *b"U       TXT");
 }
 
 #[test]
 fn read_only_file_is_not_written(rt: HostRuntime) {
-    let system = blank(&rt, rt.alloc());
-    let mut disks = session(&rt, rt.alloc(), text_image(&rt, rt.alloc()));
-    let mut file = fcb(0, b"T       TXT");
-    same(&rt, disks.open_file(&system, &mut file), Ok(0));
-    file.extent.name[8] = b'T' + 0x80;
-    refuses_records(&rt, &mut disks, &system, &mut file, Fault::FileReadOnly);
-    check_record(&rt, &first_image(&rt, disks), 16, 0x41);
+    let refused = Err(Fault::FileReadOnly);
+    let steps = [
+        Names(0, b"T       TXT"),
+        Opens(Ok(0)),
+        PutName(b"T       \xD4XT"),
+        Writes(1, refused),
+        WritesRandom(1, refused),
+        WritesCleared(1, refused),
+    ];
+    let image = changed(&rt, rt.alloc(), &steps);
+    check_record(&rt, &image, 16, 0x41);
 }
 
 #[test]
 fn read_only_file_is_not_erased(rt: HostRuntime) {
-    let system = blank(&rt, rt.alloc());
-    let mut disks = session(&rt, rt.alloc(), text_image(&rt, rt.alloc()));
-    let mut file = fcb(0, b"T       TXT");
-    file.extent.name[8] = b'T' + 0x80;
-    same(&rt, disks.set_attributes(&system, &file), Ok(0));
-    let plain = fcb(0, b"T       TXT");
     let refused = Err(Fault::FileReadOnly);
-    same(&rt, disks.erase_files(&system, &plain), refused);
-    same(
-        &rt,
-        disks.rename_files(&system, &plain, b"U       TXT"),
-        refused,
-    );
-    same(&rt, disks.set_attributes(&system, &plain), Ok(0));
-    same(&rt, disks.erase_files(&system, &plain), Ok(0));
+    let steps = [
+        Names(0, b"T       \xD4XT"),
+        SetsAttributes(Ok(0)),
+        Names(0, b"T       TXT"),
+        Erases(refused),
+        Renames(b"U       TXT", refused),
+        SetsAttributes(Ok(0)),
+        Erases(Ok(0)),
+    ];
+    on_text(&rt, rt.alloc(), &steps);
+}
+
+/// The record of an entry of the text file of eight records in block 2.
+fn directory(rt: &impl Abort, alloc: Global) -> [u8; 128] {
+    let mut image = blank(rt, alloc);
+    put(rt, &mut image, 0, 0, b"T       TXT", (0, 8, 2));
+    let mut directory = [0; 128];
+    directory.copy_from_slice(image.record(0).expect(rt, "record 0"));
+    directory
 }
 
 #[test]
 fn blocks_are_reserved_at_login_alone(rt: HostRuntime) {
-    let system = blank(&rt, rt.alloc());
-    let mut disks = session(&rt, rt.alloc(), blank(&rt, rt.alloc()));
-    same(&rt, disks.select(&system, 0), Ok(0));
-    let mut image = blank(&rt, rt.alloc());
-    put(&rt, &mut image, 0, 0, b"T       TXT", (0, 8, 2));
-    let mut directory = [0; 128];
-    directory.copy_from_slice(image.record(0).expect(&rt, "record 0"));
-    assert!(rt; disks.write_sector(0, 2, 1, &directory));
-    let mut file = fcb(0, b"U       TXT");
-    same(&rt, disks.make_file(&system, &mut file), Ok(1));
-    same(&rt, disks.write_next(&system, &mut file, &[1; 128]), Ok(0));
-    same(&rt, file.extent.blocks[0], 2);
+    let image = blank(&rt, rt.alloc());
+    let mut trial = session_on(&rt, rt.alloc(), image);
+    follow(&rt, &mut trial, &[Selects(0, Ok(0))]);
+    let directory = directory(&rt, rt.alloc());
+    assert!(rt; trial.disks.write_sector(0, 2, 1, &directory));
+    let steps = [
+        Names(0, b"U       TXT"),
+        Makes(Ok(1)),
+        Writes(1, Ok(0)),
+        HasBlock(0, 2),
+    ];
+    follow(&rt, &mut trial, &steps);
 }

@@ -59,7 +59,6 @@ pub fn grant_until<M: Memory>(
     ensures state { state_of runner.new (M.contents memory.new) ≡ after system.now result.executed (state_of runner.old (M.contents memory.old)) }
     ensures sound { IsSound (state_of runner.new (M.contents memory.new)) }
     ensures right { IsRightFor (M.contents memory.new) (M.stamps memory.new) runner.new.cache }
-    ensures surroundings { M.surroundings memory.new ≡ M.surroundings memory.old }
     ensures leads { M.Leads memory.old memory.new }
 {
     let mut executed = 0;

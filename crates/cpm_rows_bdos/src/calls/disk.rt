@@ -1,5 +1,6 @@
 //! Disks and file control blocks.
 
+use crate::steps::{Step, on_drive};
 use crate::trial::{Trial, blank};
 use cpm_geom::Image;
 use std::alloc::Global;
@@ -31,7 +32,7 @@ pub fn name_file(trial: &mut Trial, address: u16, drive: u8, name: &[u8; 11]) {
     trial.store(address, &bytes);
 }
 
-/// Sets the random record of the file control block.
-pub fn seek(trial: &mut Trial, random_record: [u8; 3]) {
-    trial.store(FCB + 33, &random_record);
+/// Takes the steps in a session whose drive A has `T.TXT`.
+pub fn on_text_disk(rt: &impl Abort, alloc: Global, steps: &[Step]) {
+    on_drive(rt, alloc, text_disk(rt, alloc), steps);
 }

@@ -1,140 +1,173 @@
 //! Output, and its hold by ^S.
 
 use crate::same::same;
+use crate::steps::Step::{
+    Call, EchoToList, FirstKey, Gives, Goes, Has, IsAt, IsIn, Lists, Press, Rebooted, Returned,
+    Shows, Store,
+};
+use crate::steps::{follow, on_blank};
 use crate::trial::Trial;
 use cpm_bdos::{Held, Mode, Went};
-use std::test::Fail;
 
 #[test]
-fn shows_a_byte(rt: HostRuntime) -> Result<(), Fail> {
-    let mut trial = Trial::new(rt.alloc())?;
-    trial.gives(&rt, 2, 0x5541, 0);
-    trial.gives(&rt, 2, 0x0009, 0);
-    trial.shows(&rt, b"A       ");
-    trial.lists(&rt, b"");
+fn shows_a_byte(rt: HostRuntime) {
+    let mut trial = Trial::new(rt.alloc()).expect(&rt, "memory");
+    follow(
+        &rt,
+        &mut trial,
+        &[
+            Gives(2, 0x5541, 0),
+            Gives(2, 0x0009, 0),
+            Shows(b"A       "),
+            Lists(b""),
+        ],
+    );
     same(&rt, trial.session.regs.c, 2);
     same(&rt, trial.session.regs.e, 9);
-    Ok(())
 }
 
 #[test]
-fn a_byte_waits_for_the_end_of_a_hold(rt: HostRuntime) -> Result<(), Fail> {
-    let mut trial = Trial::new(rt.alloc())?;
-    trial.press(&rt, &[0x13, 0x20]);
-    trial.call(2, 0x0041);
-    trial.goes(&rt, Went::GoesOn);
-    trial.is_in(&rt, Mode::Hold(Held::Call));
-    trial.is_at(&rt, 0xEC06);
-    trial.shows(&rt, b"");
-    trial.goes(&rt, Went::GoesOn);
-    trial.is_in(&rt, Mode::Program);
-    trial.shows(&rt, b"");
-    trial.goes(&rt, Went::Returned);
-    trial.has_returned(&rt, 0);
-    trial.shows(&rt, b"A");
-    Ok(())
+fn a_byte_waits_for_the_end_of_a_hold(rt: HostRuntime) {
+    on_blank(
+        &rt,
+        rt.alloc(),
+        &[
+            Press(&[0x13, 0x20]),
+            Call(2, 0x0041),
+            Goes(Went::GoesOn),
+            IsIn(Mode::Hold(Held::Call)),
+            IsAt(0xEC06),
+            Shows(b""),
+            Goes(Went::GoesOn),
+            IsIn(Mode::Program),
+            Shows(b""),
+            Goes(Went::Returned),
+            Returned(0),
+            Shows(b"A"),
+        ],
+    );
 }
 
 #[test]
-fn break_ends_a_hold(rt: HostRuntime) -> Result<(), Fail> {
-    let mut trial = Trial::new(rt.alloc())?;
-    trial.press(&rt, &[0x13, 0x03]);
-    trial.echo_to_list();
-    trial.store(0x0000, &[0, 0, 0]);
-    trial.call(2, 0x0041);
-    trial.goes(&rt, Went::GoesOn);
-    trial.goes(&rt, Went::Reboot);
-    trial.is_rebooted(&rt);
-    trial.shows(&rt, b"");
-    trial.lists(&rt, b"");
-    trial.has_byte(&rt, 0x0000, 0xC3);
-    trial.has_byte(&rt, 0x0002, 0xFA);
-    Ok(())
+fn break_ends_a_hold(rt: HostRuntime) {
+    on_blank(
+        &rt,
+        rt.alloc(),
+        &[
+            Press(&[0x13, 0x03]),
+            EchoToList,
+            Store(0x0000, &[0, 0, 0]),
+            Call(2, 0x0041),
+            Goes(Went::GoesOn),
+            Goes(Went::Reboot),
+            Rebooted,
+            Shows(b""),
+            Lists(b""),
+            Has(0x0000, &[0xC3]),
+            Has(0x0002, &[0xFA]),
+        ],
+    );
 }
 
 #[test]
-fn a_hold_looks_for_stop_again(rt: HostRuntime) -> Result<(), Fail> {
-    let mut trial = Trial::new(rt.alloc())?;
-    trial.press(&rt, &[0x13, 0x20, 0x13, 0x13]);
-    trial.call(2, 0x0041);
-    trial.goes(&rt, Went::GoesOn);
-    trial.goes(&rt, Went::GoesOn);
-    trial.goes(&rt, Went::GoesOn);
-    trial.is_in(&rt, Mode::Hold(Held::Call));
-    // a second ^S is a key as any other
-    trial.goes(&rt, Went::GoesOn);
-    trial.goes(&rt, Went::Returned);
-    trial.shows(&rt, b"A");
-    Ok(())
+fn a_hold_looks_for_stop_again(rt: HostRuntime) {
+    on_blank(
+        &rt,
+        rt.alloc(),
+        &[
+            Press(&[0x13, 0x20, 0x13, 0x13]),
+            Call(2, 0x0041),
+            Goes(Went::GoesOn),
+            Goes(Went::GoesOn),
+            Goes(Went::GoesOn),
+            IsIn(Mode::Hold(Held::Call)),
+            // a second ^S is a key as any other
+            Goes(Went::GoesOn),
+            Goes(Went::Returned),
+            Shows(b"A"),
+        ],
+    );
 }
 
 #[test]
-fn a_text_is_held_in_the_middle(rt: HostRuntime) -> Result<(), Fail> {
-    let mut trial = Trial::new(rt.alloc())?;
-    trial.store(0x8000, b"HI$");
-    trial.call(9, 0x8000);
-    trial.goes(&rt, Went::GoesOn);
-    trial.press(&rt, &[0x13]);
-    trial.goes(&rt, Went::GoesOn);
-    trial.is_in(&rt, Mode::Hold(Held::Text { next: 0x8001 }));
-    trial.goes(&rt, Went::Waits);
-    trial.shows(&rt, b"H");
-    trial.press(&rt, b"q");
-    trial.goes(&rt, Went::GoesOn);
-    trial.is_in(&rt, Mode::Text { next: 0x8001 });
-    trial.goes(&rt, Went::GoesOn);
-    trial.shows(&rt, b"I");
-    // no look at the end of the text
-    trial.press(&rt, &[0x13]);
-    trial.goes(&rt, Went::Returned);
-    trial.has_returned(&rt, 0);
-    same(&rt, trial.session.console.first_key(), Some(0x13));
-    trial.shows(&rt, b"");
-    Ok(())
+fn a_text_is_held_in_the_middle(rt: HostRuntime) {
+    on_blank(
+        &rt,
+        rt.alloc(),
+        &[
+            Store(0x8000, b"HI$"),
+            Call(9, 0x8000),
+            Goes(Went::GoesOn),
+            Press(&[0x13]),
+            Goes(Went::GoesOn),
+            IsIn(Mode::Hold(Held::Text { next: 0x8001 })),
+            Goes(Went::Waits),
+            Shows(b"H"),
+            Press(b"q"),
+            Goes(Went::GoesOn),
+            IsIn(Mode::Text { next: 0x8001 }),
+            Goes(Went::GoesOn),
+            Shows(b"I"),
+            // no look at the end of the text
+            Press(&[0x13]),
+            Goes(Went::Returned),
+            Returned(0),
+            FirstKey(Some(0x13)),
+            Shows(b""),
+        ],
+    );
 }
 
 #[test]
-fn a_text_is_held_before_it_begins(rt: HostRuntime) -> Result<(), Fail> {
-    let mut trial = Trial::new(rt.alloc())?;
-    trial.store(0x8000, b"A\tB$");
-    trial.call(9, 0x8000);
-    trial.press(&rt, &[0x13, 0x20]);
-    trial.goes(&rt, Went::GoesOn);
-    trial.is_in(&rt, Mode::Hold(Held::Call));
-    trial.goes(&rt, Went::GoesOn);
-    trial.is_in(&rt, Mode::Program);
-    for _ in 0..3 {
-        trial.goes(&rt, Went::GoesOn);
-    }
-    trial.goes(&rt, Went::Returned);
-    trial.shows(&rt, b"A       B");
-    Ok(())
+fn a_text_is_held_before_it_begins(rt: HostRuntime) {
+    on_blank(
+        &rt,
+        rt.alloc(),
+        &[
+            Store(0x8000, b"A\tB$"),
+            Call(9, 0x8000),
+            Press(&[0x13, 0x20]),
+            Goes(Went::GoesOn),
+            IsIn(Mode::Hold(Held::Call)),
+            Goes(Went::GoesOn),
+            IsIn(Mode::Program),
+            Goes(Went::GoesOn),
+            Goes(Went::GoesOn),
+            Goes(Went::GoesOn),
+            Goes(Went::Returned),
+            Shows(b"A       B"),
+        ],
+    );
 }
 
 #[test]
-fn echoes_to_the_list_device(rt: HostRuntime) -> Result<(), Fail> {
-    let mut trial = Trial::new(rt.alloc())?;
-    trial.gives(&rt, 5, 0x0009, 0);
-    trial.lists(&rt, b"\t");
-    trial.shows(&rt, b"");
-    trial.echo_to_list();
-    trial.gives(&rt, 2, 0x0041, 0);
-    trial.gives(&rt, 2, 0x0009, 0);
-    trial.shows(&rt, b"A       ");
-    trial.lists(&rt, b"A       ");
-    // functions 5 and 6 go to one device alone
-    trial.gives(&rt, 5, 0x0042, 0);
-    trial.gives(&rt, 6, 0x0043, 0);
-    trial.shows(&rt, b"C");
-    trial.lists(&rt, b"B");
-    trial.store(0x8000, b"T$");
-    trial.call(9, 0x8000);
-    trial.goes(&rt, Went::GoesOn);
-    trial.goes(&rt, Went::Returned);
-    trial.shows(&rt, b"T");
-    trial.lists(&rt, b"T");
-    trial.call(0, 0);
-    trial.goes(&rt, Went::Reboot);
-    trial.is_rebooted(&rt);
-    Ok(())
+fn echoes_to_the_list_device(rt: HostRuntime) {
+    on_blank(
+        &rt,
+        rt.alloc(),
+        &[
+            Gives(5, 0x0009, 0),
+            Lists(b"\t"),
+            Shows(b""),
+            EchoToList,
+            Gives(2, 0x0041, 0),
+            Gives(2, 0x0009, 0),
+            Shows(b"A       "),
+            Lists(b"A       "),
+            // functions 5 and 6 go to one device alone
+            Gives(5, 0x0042, 0),
+            Gives(6, 0x0043, 0),
+            Shows(b"C"),
+            Lists(b"B"),
+            Store(0x8000, b"T$"),
+            Call(9, 0x8000),
+            Goes(Went::GoesOn),
+            Goes(Went::Returned),
+            Shows(b"T"),
+            Lists(b"T"),
+            Call(0, 0),
+            Goes(Went::Reboot),
+            Rebooted,
+        ],
+    );
 }

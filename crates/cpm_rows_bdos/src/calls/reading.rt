@@ -1,109 +1,157 @@
 //! A file of two records, read.
 
-use crate::calls::disk::{FCB, name_file, seek, text_disk};
-use crate::same::same;
+use crate::calls::disk::{FCB, on_text_disk, text_disk};
+use crate::steps::Step::{Call, Fails, File, Gives, Goes, Has, Store};
+use crate::steps::{Step, follow};
 use crate::trial::Trial;
 use cpm_bdos::Went;
 use std::alloc::Global;
 use std::process::Abort;
-use std::test::Fail;
 
-/// A session on the disk of `T.TXT`, which is opened.
-fn opened(rt: &impl Abort, alloc: Global) -> Result<Trial, Fail> {
-    let mut trial = Trial::on(alloc, text_disk(rt, alloc))?;
-    name_file(&mut trial, FCB, 0, b"T       TXT");
-    trial.gives(rt, 15, FCB, 0x00);
-    Ok(trial)
+/// Takes the steps in a session on the disk of `T.TXT`, which is opened.
+fn once_opened(rt: &impl Abort, alloc: Global, steps: &[Step]) {
+    let mut trial = Trial::on(alloc, text_disk(rt, alloc)).expect(rt, "memory");
+    let open = [File(FCB, 0, b"T       TXT"), Gives(15, FCB, 0x00)];
+    follow(rt, &mut trial, &open);
+    follow(rt, &mut trial, steps);
 }
 
 #[test]
-fn reads_a_file_to_its_end(rt: HostRuntime) -> Result<(), Fail> {
-    let mut trial = opened(&rt, rt.alloc())?;
-    same(&rt, trial.bytes::<5>(FCB + 12), [0, 0, 0, 2, 2]);
-    for (code, byte) in [(0x00, 0x41), (0x00, 0x42), (0x01, 0x42)] {
-        trial.gives(&rt, 20, FCB, code);
-        same(&rt, trial.bytes::<128>(0x0080), [byte; 128]);
-    }
-    // the record that the file control block stands at, and the size of the file
-    trial.gives(&rt, 36, FCB, 0x00);
-    same(&rt, trial.bytes::<3>(FCB + 33), [2, 0, 0]);
-    seek(&mut trial, [9, 9, 9]);
-    trial.gives(&rt, 35, FCB, 0x00);
-    same(&rt, trial.bytes::<3>(FCB + 33), [2, 0, 0]);
-    Ok(())
+fn reads_a_file_to_its_end(rt: HostRuntime) {
+    once_opened(
+        &rt,
+        rt.alloc(),
+        &[
+            Has(FCB + 12, &[0, 0, 0, 2, 2]),
+            Gives(20, FCB, 0x00),
+            Has(0x0080, &[0x41; 128]),
+            Gives(20, FCB, 0x00),
+            Has(0x0080, &[0x42; 128]),
+            Gives(20, FCB, 0x01),
+            Has(0x0080, &[0x42; 128]),
+            // the record that the file control block stands at, and the size of the file
+            Gives(36, FCB, 0x00),
+            Has(FCB + 33, &[2, 0, 0]),
+            Store(FCB + 33, &[9, 9, 9]),
+            Gives(35, FCB, 0x00),
+            Has(FCB + 33, &[2, 0, 0]),
+        ],
+    );
 }
 
 #[test]
-fn reads_records_by_number(rt: HostRuntime) -> Result<(), Fail> {
-    let mut trial = opened(&rt, rt.alloc())?;
-    for (number, code) in [
-        ([1, 0, 0], 0x00),
-        ([2, 0, 0], 0x01),
-        ([0, 1, 0], 0x04),
-        ([0, 0, 1], 0x06),
-    ] {
-        seek(&mut trial, number);
-        trial.gives(&rt, 33, FCB, code);
-        same(&rt, trial.bytes::<128>(0x0080), [0x42; 128]);
-    }
-    Ok(())
+fn reads_records_by_number(rt: HostRuntime) {
+    once_opened(
+        &rt,
+        rt.alloc(),
+        &[
+            Store(FCB + 33, &[1, 0, 0]),
+            Gives(33, FCB, 0x00),
+            Has(0x0080, &[0x42; 128]),
+            Store(FCB + 33, &[2, 0, 0]),
+            Gives(33, FCB, 0x01),
+            Has(0x0080, &[0x42; 128]),
+            Store(FCB + 33, &[0, 1, 0]),
+            Gives(33, FCB, 0x04),
+            Has(0x0080, &[0x42; 128]),
+            Store(FCB + 33, &[0, 0, 1]),
+            Gives(33, FCB, 0x06),
+            Has(0x0080, &[0x42; 128]),
+        ],
+    );
 }
 
-#[test]
-fn searches_the_directory(rt: HostRuntime) -> Result<(), Fail> {
-    let mut trial = Trial::on(rt.alloc(), text_disk(&rt, rt.alloc()))?;
-    // without a search there is no next entry
-    trial.gives(&rt, 18, 0, 0xFF);
-    name_file(&mut trial, FCB, 0, b"???????????");
-    trial.gives(&rt, 17, FCB, 0x00);
-    same(&rt, trial.bytes::<12>(0x0080), *b"\x00T       TXT");
-    same(&rt, trial.bytes::<96>(0x00A0), [0xE5; 96]);
-    trial.gives(&rt, 18, 0, 0xFF);
-    trial.gives(&rt, 18, 0, 0xFF);
-    // a `?` as the drive is every entry, free ones too
-    name_file(&mut trial, FCB, b'?', b"NO     NAME");
-    trial.gives(&rt, 17, FCB, 0x00);
+/// Every entry behind the first is found.
+fn finds_the_rest(rt: &impl Abort, trial: &mut Trial) {
     for index in 1..64 {
-        trial.gives(&rt, 18, 0, index % 4);
+        trial.gives(rt, 18, 0, index % 4);
     }
-    trial.gives(&rt, 18, 0, 0xFF);
-    // a warm boot ends a search
-    trial.gives(&rt, 17, FCB, 0x00);
-    trial.call(0, 0);
-    trial.goes(&rt, Went::Reboot);
-    trial.gives(&rt, 18, 0, 0xFF);
-    Ok(())
 }
 
 #[test]
-fn a_search_goes_by_user_and_extent(rt: HostRuntime) -> Result<(), Fail> {
-    let mut trial = Trial::on(rt.alloc(), text_disk(&rt, rt.alloc()))?;
-    name_file(&mut trial, FCB, 1, b"T       T?T");
-    trial.store(FCB + 12, &[1]);
-    trial.gives(&rt, 17, FCB, 0xFF);
-    trial.store(FCB + 12, b"?");
-    trial.gives(&rt, 17, FCB, 0x00);
-    trial.gives(&rt, 32, 0x0003, 0x00);
-    trial.gives(&rt, 17, FCB, 0xFF);
-    trial.gives(&rt, 15, FCB, 0xFF);
-    Ok(())
+fn searches_the_directory(rt: HostRuntime) {
+    let image = text_disk(&rt, rt.alloc());
+    let mut trial = Trial::on(rt.alloc(), image).expect(&rt, "memory");
+    follow(
+        &rt,
+        &mut trial,
+        &[
+            // without a search there is no next entry
+            Gives(18, 0, 0xFF),
+            File(FCB, 0, b"???????????"),
+            Gives(17, FCB, 0x00),
+            Has(0x0080, b"\x00T       TXT"),
+            Has(0x00A0, &[0xE5; 96]),
+            Gives(18, 0, 0xFF),
+            Gives(18, 0, 0xFF),
+            // a `?` as the drive is every entry, free ones too
+            File(FCB, b'?', b"NO     NAME"),
+            Gives(17, FCB, 0x00),
+        ],
+    );
+    finds_the_rest(&rt, &mut trial);
+    follow(
+        &rt,
+        &mut trial,
+        &[
+            Gives(18, 0, 0xFF),
+            // a warm boot ends a search
+            Gives(17, FCB, 0x00),
+            Call(0, 0),
+            Goes(Went::Reboot),
+            Gives(18, 0, 0xFF),
+        ],
+    );
 }
 
 #[test]
-fn a_number_above_the_last_block_is_a_bad_sector(rt: HostRuntime) -> Result<(), Fail> {
-    let mut trial = opened(&rt, rt.alloc())?;
-    trial.store(FCB + 15, &[1, 0xF3]);
-    trial.fails(&rt, 20, FCB, b"\r\nBdos Err On A: Bad Sector");
-    Ok(())
+fn a_search_goes_by_user_and_extent(rt: HostRuntime) {
+    on_text_disk(
+        &rt,
+        rt.alloc(),
+        &[
+            File(FCB, 1, b"T       T?T"),
+            Store(FCB + 12, &[1]),
+            Gives(17, FCB, 0xFF),
+            Store(FCB + 12, b"?"),
+            Gives(17, FCB, 0x00),
+            Gives(32, 0x0003, 0x00),
+            Gives(17, FCB, 0xFF),
+            Gives(15, FCB, 0xFF),
+        ],
+    );
 }
 
 #[test]
-fn a_record_number_past_the_extent_asks_for_the_next(rt: HostRuntime) -> Result<(), Fail> {
-    let mut trial = opened(&rt, rt.alloc())?;
-    for current_record in [128, 129, 200, 255] {
-        trial.store(FCB + 32, &[current_record]);
-        trial.gives(&rt, 20, FCB, 0x01);
-        same(&rt, trial.bytes::<1>(FCB + 32), [current_record]);
-    }
-    Ok(())
+fn a_number_above_the_last_block_is_a_bad_sector(rt: HostRuntime) {
+    once_opened(
+        &rt,
+        rt.alloc(),
+        &[
+            Store(FCB + 15, &[1, 0xF3]),
+            Fails(20, FCB, b"\r\nBdos Err On A: Bad Sector"),
+        ],
+    );
+}
+
+#[test]
+fn a_record_number_past_the_extent_asks_for_the_next(rt: HostRuntime) {
+    once_opened(
+        &rt,
+        rt.alloc(),
+        &[
+            Store(FCB + 32, &[128]),
+            Gives(20, FCB, 0x01),
+            Has(FCB + 32, &[128]),
+            Store(FCB + 32, &[129]),
+            Gives(20, FCB, 0x01),
+            Has(FCB + 32, &[129]),
+            Store(FCB + 32, &[200]),
+            Gives(20, FCB, 0x01),
+            Has(FCB + 32, &[200]),
+            Store(FCB + 32, &[255]),
+            Gives(20, FCB, 0x01),
+            Has(FCB + 32, &[255]),
+        ],
+    );
 }

@@ -1,60 +1,82 @@
 //! The words of lines, and what programs find of them.
 
-use crate::commands::parsing::{check, check_program, check_unknown, file};
+use crate::commands::parsing::Is::{Just, Program};
+use crate::commands::parsing::{UNKNOWN, check};
 use crate::same::same;
 use crate::trial::{Trial, disk_of};
 use cpm_ccp::Command;
-use std::test::Fail;
+use std::process::Abort;
 
 #[test]
 fn other_names_are_programs(rt: HostRuntime) {
-    check_program(&rt, b"W=X", file(0, b"W       COM"));
-    check_program(&rt, b" STAT  A:*.* ", file(0, b"STAT    COM"));
-    check_program(&rt, b"P:STAT", file(16, b"STAT    COM"));
-    check_program(&rt, b"P:Q:R S", file(16, b"Q       COM"));
-    check_program(&rt, b"PROG. X", file(0, b"PROG    COM"));
-    check_program(&rt, b"PROG..X", file(0, b"PROG    COM"));
-    check_program(&rt, b"PROG\x01.X", file(0, b"PROG    COM"));
-    check_program(&rt, b"ABCDEFGHIJ", file(0, b"ABCDEFGHCOM"));
-    check_program(&rt, b"A,B", file(0, b"A,B     COM"));
-    check_program(&rt, b"\x7F\xFF", file(0, b"\x7F\xFF      COM"));
+    check(
+        &rt,
+        &[
+            (b"W=X", Program(0, b"W       COM")),
+            (b" STAT  A:*.* ", Program(0, b"STAT    COM")),
+            (b"P:STAT", Program(16, b"STAT    COM")),
+            (b"P:Q:R S", Program(16, b"Q       COM")),
+            (b"PROG. X", Program(0, b"PROG    COM")),
+            (b"PROG..X", Program(0, b"PROG    COM")),
+            (b"PROG\x01.X", Program(0, b"PROG    COM")),
+            (b"ABCDEFGHIJ", Program(0, b"ABCDEFGHCOM")),
+            (b"A,B", Program(0, b"A,B     COM")),
+            (b"\x7F\xFF", Program(0, b"\x7F\xFF      COM")),
+        ],
+    );
 }
 
 #[test]
 fn words_that_name_no_program_are_refused(rt: HostRuntime) {
-    check_unknown(&rt, b"  PROG.COM X");
-    check_unknown(&rt, b"PROG.*");
-    check_unknown(&rt, b"PR?G");
-    check_unknown(&rt, b"P*");
-    check_unknown(&rt, b"B:P? X");
-    check_unknown(&rt, b"PR\xBFG");
-    check_unknown(&rt, b";X");
-    check_unknown(&rt, b".TYP");
-    check_unknown(&rt, b"=");
-    check_unknown(&rt, b"\t");
-    check_unknown(&rt, b"\x00\x01 \x02");
+    check(
+        &rt,
+        &[
+            (b"  PROG.COM X", UNKNOWN),
+            (b"PROG.*", UNKNOWN),
+            (b"PR?G", UNKNOWN),
+            (b"P*", UNKNOWN),
+            (b"B:P? X", UNKNOWN),
+            (b"PR\xBFG", UNKNOWN),
+            (b";X", UNKNOWN),
+            (b".TYP", UNKNOWN),
+            (b"=", UNKNOWN),
+            (b"\t", UNKNOWN),
+            (b"\x00\x01 \x02", UNKNOWN),
+        ],
+    );
 }
 
 #[test]
 fn whole_lines_of_127_characters(rt: HostRuntime) {
-    let mut line = [b'A'; 127];
-    check_program(&rt, &line, file(0, b"AAAAAAAACOM"));
-    line[1] = b' ';
-    check(&rt, &line, Command::Program(file(0, b"A       COM")));
-    line[126] = b'?';
-    check(&rt, &line, Command::Program(file(0, b"A       COM")));
-    line[1] = b'A';
-    check(&rt, &line, Command::Program(file(0, b"AAAAAAAACOM")));
-    line[7] = b'?';
-    check_unknown(&rt, &line);
-    let mut line = [b' '; 127];
-    line[126] = b'X';
-    check_program(&rt, &line, file(0, b"X       COM"));
-    line[125] = b':';
-    line[124] = b'C';
-    check_program(&rt, &line, file(3, b"X       COM"));
-    line[126] = b' ';
-    check(&rt, &line, Command::SelectDrive(2));
+    let all = [b'A'; 127];
+    let mut word = all;
+    word[1] = b' ';
+    let mut question = word;
+    question[126] = b'?';
+    let mut long = all;
+    long[126] = b'?';
+    let mut unknown = long;
+    unknown[7] = b'?';
+    let mut last = [b' '; 127];
+    last[126] = b'X';
+    let mut of_drive = last;
+    of_drive[125] = b':';
+    of_drive[124] = b'C';
+    let mut drive = of_drive;
+    drive[126] = b' ';
+    check(
+        &rt,
+        &[
+            (&all, Program(0, b"AAAAAAAACOM")),
+            (&word, Program(0, b"A       COM")),
+            (&question, Program(0, b"A       COM")),
+            (&long, Program(0, b"AAAAAAAACOM")),
+            (&unknown, UNKNOWN),
+            (&last, Program(0, b"X       COM")),
+            (&of_drive, Program(3, b"X       COM")),
+            (&drive, Just(Command::SelectDrive(2))),
+        ],
+    );
 }
 
 /// A tail, and the names that a program finds of it: at 005Ch and at 006Ch.
@@ -115,17 +137,21 @@ const NAMES: [Names; 9] = [
     },
 ];
 
+/// Runs a program with a tail, of which it finds these names.
+fn finds(rt: &impl Abort, trial: &mut Trial, names: &Names) {
+    trial.press(rt, b"W");
+    trial.press(rt, names.tail);
+    trial.types(rt, b"\r");
+    trial.is_at(rt, 0x0100);
+    same(rt, trial.bytes(0x005C), names.first);
+    same(rt, trial.bytes(0x006C), names.second);
+}
+
 #[test]
-fn programs_find_two_names(rt: HostRuntime) -> Result<(), Fail> {
+fn programs_find_two_names(rt: HostRuntime) {
     for names in &NAMES {
         let image = disk_of(&rt, rt.alloc(), &[b"\x00W       COM\x00\x00\x00\x01\x02"]);
-        let mut trial = Trial::on(rt.alloc(), image)?;
-        trial.press(&rt, b"W");
-        trial.press(&rt, names.tail);
-        trial.types(&rt, b"\r");
-        trial.is_at(&rt, 0x0100);
-        same(&rt, trial.bytes(0x005C), names.first);
-        same(&rt, trial.bytes(0x006C), names.second);
+        let mut trial = Trial::on(rt.alloc(), image).expect(&rt, "memory");
+        finds(&rt, &mut trial, names);
     }
-    Ok(())
 }

@@ -21,7 +21,6 @@ loop-byte-preserved g c =
           ∙ (ap (λ x. after_set x c.loop-byte.target (get_or bs n 0)) i.run
           ∙ (ap (λ k. after_set (after_sets old (run_puts a (take n bs))) k (get_or bs n 0)) i.target
           ∙ sym (stored-more old a bs n (omega arith) (omega arith))));
-      surroundings = c.set.ensures.surroundings ∙ i.surroundings;
       leads = g.met.M.Memory.leads_on c.args.memory.now c.loop-byte.memory c.set.new.self i.leads c.set.ensures.leads;
       target = omega (arith, i.target);
     }

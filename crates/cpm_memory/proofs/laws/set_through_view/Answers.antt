@@ -5,5 +5,5 @@ use Rattle.cpm_memory.proofs.laws.set_through_view.Goals as goal
 
 pub returns-clause-memories : goal.returns-clause-memories
 returns-clause-memories c =
-    let e = memories-after_view c.view-view.result c.set.new.self c.set.ensures.surroundings in
+    let e = memories-after_view c.view-view.result c.set.new.self c.set.ensures.leads.stores.surroundings in
     grind (arith, common_steps)

@@ -12,7 +12,7 @@ use Rattle.cpm_sessions.proofs.seats.grant_table.Goals.{After-grant, After-grant
 
 -- what is lent to the grant, and what is left
 lent : (c : After-grant) → Lent c.args.store.now (view.store_of c.view-view.result) (view.store_of c.grant.new.memory) c.args.table (view.table_of c.view-view.result) (view.table_of c.grant.new.memory)
-lent c = lent-view c.view-view.result c.grant.new.memory c.args.store.now c.args.table c.view-view.ensures.store c.view-view.ensures.table c.view-view.ensures.memory c.grant.ensures.surroundings
+lent c = lent-view c.view-view.result c.grant.new.memory c.args.store.now c.args.table c.view-view.ensures.store c.view-view.ensures.table c.view-view.ensures.memory c.grant.ensures.leads.stores.surroundings
 
 lent_leaves : (c : After-grant) → Leaves c.args.store.now (view.store_of c.grant.new.memory) c.args.table (memory_of (view.store_of c.view-view.result) (view.table_of c.view-view.result)) (memory_of (view.store_of c.grant.new.memory) (view.table_of c.grant.new.memory))
 lent_leaves c = leaves c.args.store.now (view.store_of c.view-view.result) (view.store_of c.grant.new.memory) c.args.table (view.table_of c.view-view.result) (view.table_of c.grant.new.memory) (lent c)
@@ -52,7 +52,7 @@ returns-then-steps-lt-LEAST_MIRRORED-clause-stamps c =
 
 -- what is lent to the grant with a mirror, and what is left
 lent_mirrored : (c : After-grant-2) → Lent c.args.store.now (mirrored.store_of c.new-mirrored.result) (mirrored.store_of c.grant-2.new.memory) c.args.table (mirrored.table_of c.new-mirrored.result) (mirrored.table_of c.grant-2.new.memory)
-lent_mirrored c = lent-mirrored c.new-mirrored.result c.grant-2.new.memory c.args.store.now c.args.table c.new-mirrored.ensures.store c.new-mirrored.ensures.table c.new-mirrored.ensures.memory c.grant-2.ensures.surroundings
+lent_mirrored c = lent-mirrored c.new-mirrored.result c.grant-2.new.memory c.args.store.now c.args.table c.new-mirrored.ensures.store c.new-mirrored.ensures.table c.new-mirrored.ensures.memory c.grant-2.ensures.leads.stores.surroundings
 
 lent_mirrored_leaves : (c : After-grant-2) → Leaves c.args.store.now (mirrored.store_of c.grant-2.new.memory) c.args.table (memory_of (mirrored.store_of c.new-mirrored.result) (mirrored.table_of c.new-mirrored.result)) (memory_of (mirrored.store_of c.grant-2.new.memory) (mirrored.table_of c.grant-2.new.memory))
 lent_mirrored_leaves c = leaves c.args.store.now (mirrored.store_of c.new-mirrored.result) (mirrored.store_of c.grant-2.new.memory) c.args.table (mirrored.table_of c.new-mirrored.result) (mirrored.table_of c.grant-2.new.memory) (lent_mirrored c)

@@ -11,7 +11,7 @@ use Rattle.cpm_sessions.proofs.seats.grant_table_until.Goals.{After-grant_until}
 
 -- what is lent to the grant, and what is left
 lent : (c : After-grant_until) → Lent c.args.store.now (view.store_of c.view-view.result) (view.store_of c.grant_until.new.memory) c.args.table (view.table_of c.view-view.result) (view.table_of c.grant_until.new.memory)
-lent c = lent-view c.view-view.result c.grant_until.new.memory c.args.store.now c.args.table c.view-view.ensures.store c.view-view.ensures.table c.view-view.ensures.memory c.grant_until.ensures.surroundings
+lent c = lent-view c.view-view.result c.grant_until.new.memory c.args.store.now c.args.table c.view-view.ensures.store c.view-view.ensures.table c.view-view.ensures.memory c.grant_until.ensures.leads.stores.surroundings
 
 lent_leaves : (c : After-grant_until) → Leaves c.args.store.now (view.store_of c.grant_until.new.memory) c.args.table (memory_of (view.store_of c.view-view.result) (view.table_of c.view-view.result)) (memory_of (view.store_of c.grant_until.new.memory) (view.table_of c.grant_until.new.memory))
 lent_leaves c = leaves c.args.store.now (view.store_of c.view-view.result) (view.store_of c.grant_until.new.memory) c.args.table (view.table_of c.view-view.result) (view.table_of c.grant_until.new.memory) (lent c)

@@ -24,7 +24,6 @@ loop-executed-preserved g c =
           subst (IsRightFor (m.contents new) (m.stamps new)) (sym c.step_or_wait-executed.ensures.cache)
           (stays-right (m.contents old) (m.contents new) (m.stamps old) (m.stamps new) (law.stamped old) (law.leads_stamps old new c.step_or_wait-executed.ensures.leads) c.loop-executed.runner.cache c.loop-executed.invariant.right);
       within = omega arith;
-      surroundings = c.step_or_wait-executed.ensures.surroundings ∙ c.loop-executed.invariant.surroundings;
       leads = g.met.M.Memory.leads_on _ _ _ c.loop-executed.invariant.leads c.step_or_wait-executed.ensures.leads;
     }
 

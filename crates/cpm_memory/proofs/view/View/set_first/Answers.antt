@@ -42,19 +42,15 @@ returns-clause-contents c = memory (goal.at.returns-clause-contents c).After-pla
 pub returns-clause-stamps : goal.returns-clause-stamps
 returns-clause-stamps c = (stamped (goal.at.returns-clause-stamps c).After-place_at).stamps
 
-pub returns-clause-surroundings : goal.returns-clause-surroundings
-returns-clause-surroundings c =
-    let v = c.args.self.now in
-    surroundings_at-kept v.store.ghost_name v.store.now c.raise_stamp.new.self v.table (changes (goal.at.returns-clause-surroundings c).After-place_at)
-
 pub returns-clause-moves : goal.returns-clause-moves
 returns-clause-moves c = moves (goal.at.returns-clause-moves c).After-place_at
 
 pub returns-clause-leads : goal.returns-clause-leads
 returns-clause-leads c =
     let o = (goal.at.returns-clause-leads c).After-place_at in
+    let v = c.args.self.now in
     record {
-      stores = IsAfterSets-one _ _ _ _ c.args.address c.args.value (memory o) (returns-clause-surroundings c);
+      stores = IsAfterSets-one _ _ _ _ c.args.address c.args.value (memory o) (surroundings_at-kept v.store.ghost_name v.store.now c.raise_stamp.new.self v.table (changes o));
       stamps = IsStored-one _ _ _ _ c.args.address c.args.value (memory o) (stamped o).stamps;
       places = λ t page ne. moves o t page (λ e _. ne e);
       other_stamps = (stamped o).others;
