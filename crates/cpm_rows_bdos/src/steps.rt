@@ -96,6 +96,7 @@ fn users(rt: &impl Abort, trial: &Trial) -> [u8; 4] {
     ]
 }
 
+/// What a step does with a session, and what that must give.
 fn take(rt: &impl Abort, trial: &mut Trial, step: Step) {
     match step {
         Step::Gives(function, parameter, wanted) => trial.gives(rt, function, parameter, wanted),
@@ -109,21 +110,29 @@ fn take(rt: &impl Abort, trial: &mut Trial, step: Step) {
         Step::Store(address, bytes) => trial.store(address, bytes),
         Step::File(address, drive, name) => name_file(trial, address, drive, name),
         Step::EchoToList => trial.echo_to_list(),
+        Step::Shows(wanted) => trial.shows(rt, wanted),
+        Step::Lists(wanted) => trial.lists(rt, wanted),
+        _ => look(rt, trial, step),
+    }
+}
+
+/// What must be so of a session, which stays as it is.
+fn look(rt: &impl Abort, trial: &Trial, step: Step) {
+    match step {
         Step::Returned(wanted) => trial.has_returned(rt, wanted),
         Step::Rebooted => trial.is_rebooted(rt),
         Step::IsIn(mode) => trial.is_in(rt, mode),
         Step::IsAt(address) => trial.is_at(rt, address),
-        Step::Shows(wanted) => trial.shows(rt, wanted),
-        Step::Lists(wanted) => trial.lists(rt, wanted),
         Step::EchoIs(wanted) => same(rt, trial.session.console.list_echo(), wanted),
         Step::Pending(wanted) => same(rt, trial.session.console.pending(), wanted),
         Step::FirstKey(wanted) => same(rt, trial.session.console.first_key(), wanted),
+        Step::Buffer(wanted) => same(rt, trial.session.buffer, wanted),
         Step::Has(address, wanted) => has(rt, trial, address, wanted),
         Step::Entry(index, place, wanted) => has_entry(rt, trial, index, place, wanted),
         Step::Users(wanted) => same(rt, users(rt, trial), wanted),
         Step::Record(number, byte) => same(rt, trial.record(rt, number), [byte; 128]),
         Step::Touched(wanted) => same(rt, trial.memory.touched(), wanted),
-        Step::Buffer(wanted) => same(rt, trial.session.buffer, wanted),
+        _ => panic!(rt; "a step that no function takes"),
     }
 }
 

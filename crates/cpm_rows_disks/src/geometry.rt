@@ -56,44 +56,40 @@ fn last_record_is_there(rt: HostRuntime) {
     }
 }
 
+/// Writes records and sectors, and tries others that there are not.
+fn write(rt: &impl Abort, image: &mut Image) {
+    let missing = Err(GeomError::NoSuchSector);
+    same(rt, image.put_record(1, &[0x41; 128]), Ok(()));
+    same(rt, image.put_record(26, &[0x42; 128]), Ok(()));
+    same(rt, image.put_sector(0, 26, &[0x43; 128]), Ok(()));
+    same(rt, image.put_record(1950, &[0x44; 128]), missing);
+    same(rt, image.put_sector(77, 1, &[0x44; 128]), missing);
+}
+
+/// A sector is of this byte alone.
+fn is_of(rt: &impl Abort, image: &Image, track: u16, sector: u16, byte: u8) {
+    let bytes = image.sector(track, sector).expect(rt, "a sector");
+    assert!(rt; bytes.iter().all(|b| *b == byte));
+}
+
+/// Where the bytes that were written are.
+fn check_places(rt: &impl Abort, bytes: &[u8]) {
+    same(rt, bytes.len(), 256_256);
+    same(rt, bytes.iter().filter(|b| **b != 0xE5).count(), 384);
+    same(rt, bytes.iter().position(|b| *b != 0xE5), Some(25 * 128));
+    same(
+        rt,
+        bytes.iter().rposition(|b| *b == 0x41),
+        Some((2 * 26 + 7) * 128 - 1),
+    );
+}
+
 #[test]
 fn records_follow_the_skew(rt: HostRuntime) {
     let mut image = blank(&rt, rt.alloc());
     records_lie_apart();
-    same(&rt, image.put_record(1, &[0x41; 128]), Ok(()));
-    same(&rt, image.put_record(26, &[0x42; 128]), Ok(()));
-    same(&rt, image.put_sector(0, 26, &[0x43; 128]), Ok(()));
-    same(
-        &rt,
-        image.put_record(1950, &[0x44; 128]),
-        Err(GeomError::NoSuchSector),
-    );
-    same(
-        &rt,
-        image.put_sector(77, 1, &[0x44; 128]),
-        Err(GeomError::NoSuchSector),
-    );
-    same(
-        &rt,
-        image
-            .sector(2, 7)
-            .map(|bytes| bytes.iter().all(|b| *b == 0x41)),
-        Ok(true),
-    );
-    same(
-        &rt,
-        image
-            .sector(3, 1)
-            .map(|bytes| bytes.iter().all(|b| *b == 0x42)),
-        Ok(true),
-    );
-    let bytes = image.into_bytes();
-    same(&rt, bytes.len(), 256_256);
-    same(&rt, bytes.iter().filter(|b| **b != 0xE5).count(), 384);
-    same(&rt, bytes.iter().position(|b| *b != 0xE5), Some(25 * 128));
-    same(
-        &rt,
-        bytes.iter().rposition(|b| *b == 0x41),
-        Some((2 * 26 + 7) * 128 - 1),
-    );
+    write(&rt, &mut image);
+    is_of(&rt, &image, 2, 7, 0x41);
+    is_of(&rt, &image, 3, 1, 0x42);
+    check_places(&rt, image.into_bytes().as_slice());
 }

@@ -14,11 +14,6 @@ fn refusal(rt: &(impl Abort + AllocGlobal), words: &[&str]) -> String {
     }
 }
 
-/// Fails unless the words name this task.
-fn check(rt: &(impl Abort + AllocGlobal), words: &[&str], wanted: Task) {
-    assert_eq!(rt; command(rt.alloc(), words), Ok(wanted), "at {words:?}");
-}
-
 /// Lines with a program, and how many steps it may do.
 const FILES_AND_STEPS: [(&[&str], u64); 7] = [
     (&["cpmhost", "com", "a.com"], 1_000_000),
@@ -36,13 +31,13 @@ const FILES_AND_STEPS: [(&[&str], u64); 7] = [
 #[test]
 fn takes_a_file_and_steps(rt: HostRuntime) {
     for (words, steps) in FILES_AND_STEPS {
-        let wanted = Task::Com {
+        let wanted = Ok(Task::Com {
             file: "a.com",
             cpu: Cpu::I8080,
             steps,
             keys: None,
-        };
-        check(&rt, words, wanted);
+        });
+        assert_eq!(rt; command(rt.alloc(), words), wanted, "at {words:?}");
     }
 }
 
@@ -90,13 +85,13 @@ const PROCESSORS: [(&[&str], &str, Cpu, u64); 7] = [
 #[test]
 fn takes_a_processor(rt: HostRuntime) {
     for (words, file, cpu, steps) in PROCESSORS {
-        let wanted = Task::Com {
+        let wanted = Ok(Task::Com {
             file,
             cpu,
             steps,
             keys: None,
-        };
-        check(&rt, words, wanted);
+        });
+        assert_eq!(rt; command(rt.alloc(), words), wanted, "at {words:?}");
     }
 }
 
@@ -117,20 +112,20 @@ const KEY_SCRIPTS: [&[&str]; 4] = [
 #[test]
 fn takes_a_key_script(rt: HostRuntime) {
     for words in KEY_SCRIPTS {
-        let wanted = Task::Com {
+        let wanted = Ok(Task::Com {
             file: "a.com",
             cpu: Cpu::I8080,
             steps: 1_000_000,
             keys: Some("a.keys"),
-        };
-        check(&rt, words, wanted);
+        });
+        assert_eq!(rt; command(rt.alloc(), words), wanted, "at {words:?}");
     }
 }
 
 #[test]
 fn takes_a_configuration(rt: HostRuntime) {
-    let wanted = Task::Run { config: "a.toml" };
-    check(&rt, &["cpmhost", "run", "a.toml"], wanted);
+    let wanted = Ok(Task::Run { config: "a.toml" });
+    assert_eq!(rt; command(rt.alloc(), &["cpmhost", "run", "a.toml"]), wanted);
 }
 
 /// Lines with a program to debug, and its processor.
@@ -143,19 +138,23 @@ const DEBUGGED: [(&[&str], Cpu); 3] = [
 #[test]
 fn takes_a_program_to_debug(rt: HostRuntime) {
     for (words, cpu) in DEBUGGED {
-        check(&rt, words, Task::Debug { file: "a.com", cpu });
+        let wanted = Ok(Task::Debug { file: "a.com", cpu });
+        assert_eq!(rt; command(rt.alloc(), words), wanted, "at {words:?}");
     }
 }
 
 #[test]
 fn takes_a_source_and_a_file_to_list(rt: HostRuntime) {
-    let asm = Task::Asm {
+    let asm = Ok(Task::Asm {
         source: "a.asm",
         out: "a.com",
-    };
-    check(&rt, &["cpmhost", "asm", "a.asm", "a.com"], asm);
-    let list = Task::List { file: "a.com" };
-    check(&rt, &["cpmhost", "list", "a.com"], list);
+    });
+    assert_eq!(rt;
+        command(rt.alloc(), &["cpmhost", "asm", "a.asm", "a.com"]),
+        asm
+    );
+    let list = Ok(Task::List { file: "a.com" });
+    assert_eq!(rt; command(rt.alloc(), &["cpmhost", "list", "a.com"]), list);
 }
 
 /// What is said of a number of steps.

@@ -71,55 +71,45 @@ fn at_top(field: Field) -> Place {
     Place { session: 0, field }
 }
 
-/// The configuration of one session.
-fn check_one(rt: &impl Abort, config: &Config) {
-    same(rt, config.frames, 64);
-    same(rt, config.quantum, 1);
-    same(rt, config.system.as_str(), "p.img");
-    same(rt, config.sessions.len(), 1);
-    let session = config.sessions.first().expect(rt, "a session");
-    same(rt, session.name.as_str(), "one");
-    same(rt, session.cpu, Cpu::I8080);
-    same(rt, session.quota, 16);
-    same(rt, session.steps, 50);
-    same(rt, session.drives.len(), 1);
-    same(rt, session.console.as_str(), "one.txt");
-    same(rt, session.keys.as_deref(), Some("one.keys"));
-    assert!(rt; session.list.is_none());
-    assert!(rt; session.out.is_none());
-}
-
 #[test]
 fn reads_one_session(rt: HostRuntime) {
     let config = Config::read(rt.alloc(), GOOD.as_bytes()).expect(&rt, "a good configuration");
-    check_one(&rt, &config);
-}
-
-/// The configuration of two sessions, of which the last one has all that may be left out.
-fn check_two(rt: &impl Abort, config: &Config) {
-    same(rt, config.sessions.len(), 2);
-    let session = config.sessions.last().expect(rt, "a session");
-    same(rt, session.name.as_str(), "two_-2");
-    same(rt, session.cpu, Cpu::Z80);
-    same(rt, session.quota, 256);
-    same(rt, session.steps, 1_000_000_000_000);
-    assert!(rt; session.keys.is_none());
-    same(rt, session.list.as_deref(), Some("two.lst"));
-    let out = session.out.as_ref().expect(rt, "names");
-    same(rt, out.len(), 2);
-    same(rt, out.first().expect(rt, "a name").as_str(), "a.out");
-    same(rt, out.last().expect(rt, "a name").as_str(), "b.out");
-    let a = session.drives.first().expect(rt, "a name");
-    same(rt, a.as_str(), "a.img");
-    let b = session.drives.last().expect(rt, "a name");
-    same(rt, b.as_str(), "b.img");
+    same(&rt, config.frames, 64);
+    same(&rt, config.quantum, 1);
+    same(&rt, config.system.as_str(), "p.img");
+    same(&rt, config.sessions.len(), 1);
+    let session = config.sessions.first().expect(&rt, "a session");
+    same(&rt, session.name.as_str(), "one");
+    same(&rt, session.cpu, Cpu::I8080);
+    same(&rt, session.quota, 16);
+    same(&rt, session.steps, 50);
+    same(&rt, session.drives.len(), 1);
+    same(&rt, session.console.as_str(), "one.txt");
+    same(&rt, session.keys.as_deref(), Some("one.keys"));
+    assert!(rt; session.list.is_none());
+    assert!(rt; session.out.is_none());
 }
 
 #[test]
 fn reads_what_may_be_left_out(rt: HostRuntime) {
     let text = joined(&rt, &[GOOD, SECOND]);
     let config = Config::read(rt.alloc(), text.as_bytes()).expect(&rt, "a good configuration");
-    check_two(&rt, &config);
+    same(&rt, config.sessions.len(), 2);
+    let session = config.sessions.last().expect(&rt, "a session");
+    same(&rt, session.name.as_str(), "two_-2");
+    same(&rt, session.cpu, Cpu::Z80);
+    same(&rt, session.quota, 256);
+    same(&rt, session.steps, 1_000_000_000_000);
+    assert!(rt; session.keys.is_none());
+    same(&rt, session.list.as_deref(), Some("two.lst"));
+    let out = session.out.as_ref().expect(&rt, "names");
+    same(&rt, out.len(), 2);
+    same(&rt, out.first().expect(&rt, "a name").as_str(), "a.out");
+    same(&rt, out.last().expect(&rt, "a name").as_str(), "b.out");
+    let a = session.drives.first().expect(&rt, "a name");
+    same(&rt, a.as_str(), "a.img");
+    let b = session.drives.last().expect(&rt, "a name");
+    same(&rt, b.as_str(), "b.img");
 }
 
 #[test]
@@ -184,20 +174,26 @@ const LACKING: [(&str, Field); 4] = [
     ("# nothing\n", Field::Frames),
 ];
 
-/// Fails unless the good configuration is refused so once a text in it is another.
-fn check_edit(rt: &(impl Abort + AllocGlobal), old: &str, new: &str, wanted: ConfigError) {
-    let text = replaced(rt, GOOD, old, new);
-    same_at(rt, new, refusal(rt, text.as_str()), wanted);
-}
-
 #[test]
 fn refuses_keys(rt: HostRuntime) {
     for (old, new, session, field) in WANTED {
+        let text = replaced(&rt, GOOD, old, new);
         let wanted = KeyFault::Wanted(Place { session, field });
-        check_edit(&rt, old, new, ConfigError::Key(wanted));
+        same_at(
+            &rt,
+            new,
+            refusal(&rt, text.as_str()),
+            ConfigError::Key(wanted),
+        );
     }
     for (old, new, wanted) in UNKNOWN {
-        check_edit(&rt, old, new, ConfigError::Key(wanted));
+        let text = replaced(&rt, GOOD, old, new);
+        same_at(
+            &rt,
+            new,
+            refusal(&rt, text.as_str()),
+            ConfigError::Key(wanted),
+        );
     }
     for (text, field) in LACKING {
         let wanted = KeyFault::Wanted(at_top(field));
@@ -239,8 +235,9 @@ const OUT_OF_RANGE: [(&str, &str, u64, Field); 22] = [
 #[test]
 fn refuses_values(rt: HostRuntime) {
     for (old, new, session, field) in OUT_OF_RANGE {
+        let text = replaced(&rt, GOOD, old, new);
         let wanted = ConfigError::Range(Place { session, field });
-        check_edit(&rt, old, new, wanted);
+        same_at(&rt, new, refusal(&rt, text.as_str()), wanted);
     }
     let text = "frames = 64\nquantum = 1\nsystem = \"p.img\"\nsession = []\n";
     same(

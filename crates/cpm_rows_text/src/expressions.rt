@@ -18,68 +18,60 @@ fn read(rt: &(impl Abort + AllocGlobal), text: &[u8]) -> Option<Valued> {
     value_of(rt.alloc(), &names, 0x100, text).expect(rt, "memory")
 }
 
-/// Fails unless each text has the value that stands beside it.
-fn check_values(rt: &(impl Abort + AllocGlobal), rows: &[(&[u8], u16)]) {
-    for (text, number) in rows {
-        let wanted = Valued {
-            number: *number,
-            is_unknown: false,
-            is_outside: false,
-        };
-        same_at(rt, *text, read(rt, text), Some(wanted));
-    }
+/// Fails unless the text has this value.
+fn check_value(rt: &(impl Abort + AllocGlobal), text: &[u8], number: u16) {
+    let wanted = Valued {
+        number,
+        is_unknown: false,
+        is_outside: false,
+    };
+    same_at(rt, text, read(rt, text), Some(wanted));
 }
 
 #[test]
 fn reads_numbers_to_every_base(rt: HostRuntime) {
-    check_values(&rt, &[
-        (b"10", 10),
-        (b"10D", 10),
-        (b"1010b", 10),
-        (b"17O", 15),
-        (b"17q", 15),
-        (b"0ffH", 255),
-        (b"0BH", 11),
-        (b"0B", 0),
-        (b"1$000$H$", 0x1000),
-        (b"65536", 0),
-        (b"65537", 1),
-    ]);
+    check_value(&rt, b"10", 10);
+    check_value(&rt, b"10D", 10);
+    check_value(&rt, b"1010b", 10);
+    check_value(&rt, b"17O", 15);
+    check_value(&rt, b"17q", 15);
+    check_value(&rt, b"0ffH", 255);
+    check_value(&rt, b"0BH", 11);
+    check_value(&rt, b"0B", 0);
+    check_value(&rt, b"1$000$H$", 0x1000);
+    check_value(&rt, b"65536", 0);
+    check_value(&rt, b"65537", 1);
 }
 
 #[test]
 fn reads_names_texts_and_the_address(rt: HostRuntime) {
-    check_values(&rt, &[
-        (b" one ", 1),
-        (b"O$NE", 1),
-        (b"$", 0x100),
-        (b"'A'", 0x41),
-        (b"'AB'", 0x4142),
-        (b"''''", 0x27),
-    ]);
+    check_value(&rt, b" one ", 1);
+    check_value(&rt, b"O$NE", 1);
+    check_value(&rt, b"$", 0x100);
+    check_value(&rt, b"'A'", 0x41);
+    check_value(&rt, b"'AB'", 0x4142);
+    check_value(&rt, b"''''", 0x27);
 }
 
 #[test]
 fn operators_bind_by_their_levels(rt: HostRuntime) {
-    check_values(&rt, &[
-        (b"2+3*4", 14),
-        (b"(2+3)*4", 20),
-        (b"10-4-3", 3),
-        (b"--5", 5),
-        (b"-1", 0xFFFF),
-        (b"NOT NOT 5", 5),
-        (b"NOT 1 AND 3", 2),
-        (b"NOT 1+1", 0xFFFD),
-        (b"1 OR 6 AND 4", 5),
-        (b"5 XOR 1", 4),
-        (b"17 MOD 5", 2),
-        (b"17/5", 3),
-        (b"1 SHL 15", 0x8000),
-        (b"1 SHL 16", 0),
-        (b"LAST SHR 15", 1),
-        (b"LAST SHR 16", 0),
-        (b"LAST*LAST", 1),
-    ]);
+    check_value(&rt, b"2+3*4", 14);
+    check_value(&rt, b"(2+3)*4", 20);
+    check_value(&rt, b"10-4-3", 3);
+    check_value(&rt, b"--5", 5);
+    check_value(&rt, b"-1", 0xFFFF);
+    check_value(&rt, b"NOT NOT 5", 5);
+    check_value(&rt, b"NOT 1 AND 3", 2);
+    check_value(&rt, b"NOT 1+1", 0xFFFD);
+    check_value(&rt, b"1 OR 6 AND 4", 5);
+    check_value(&rt, b"5 XOR 1", 4);
+    check_value(&rt, b"17 MOD 5", 2);
+    check_value(&rt, b"17/5", 3);
+    check_value(&rt, b"1 SHL 15", 0x8000);
+    check_value(&rt, b"1 SHL 16", 0);
+    check_value(&rt, b"LAST SHR 15", 1);
+    check_value(&rt, b"LAST SHR 16", 0);
+    check_value(&rt, b"LAST*LAST", 1);
 }
 
 #[test]

@@ -33,19 +33,14 @@ fn line_of(rt: &(impl Abort + AllocGlobal), keys: usize) -> String {
 
 #[test]
 fn reads_counts_and_keys(rt: HostRuntime) {
-    let scripts: [(&[u8], &[(u64, u8)]); 8] = [
-        (b"", &[]),
-        (b"3 a^M", &[(3, 0x61), (3, 0x0D)]),
-        (b"0 ^~^?", &[(0, 0x5E), (0, 0x7F)]),
-        (b"1 A\n1 B\n7 C\n", &[(1, 0x41), (1, 0x42), (7, 0x43)]),
-        (b"007 A", &[(7, 0x41)]),
-        (b"18446744073709551615 A", &[(u64::MAX, 0x41)]),
-        (b"5  ~ ", &[(5, 0x20), (5, 0x7E), (5, 0x20)]),
-        (b"5 #", &[(5, 0x23)]),
-    ];
-    for (text, wanted) in scripts {
-        check_keys(&rt, text, wanted);
-    }
+    check_keys(&rt, b"", &[]);
+    check_keys(&rt, b"3 a^M", &[(3, 0x61), (3, 0x0D)]);
+    check_keys(&rt, b"0 ^~^?", &[(0, 0x5E), (0, 0x7F)]);
+    check_keys(&rt, b"1 A\n1 B\n7 C\n", &[(1, 0x41), (1, 0x42), (7, 0x43)]);
+    check_keys(&rt, b"007 A", &[(7, 0x41)]);
+    check_keys(&rt, b"18446744073709551615 A", &[(u64::MAX, 0x41)]);
+    check_keys(&rt, b"5  ~ ", &[(5, 0x20), (5, 0x7E), (5, 0x20)]);
+    check_keys(&rt, b"5 #", &[(5, 0x23)]);
 }
 
 #[test]

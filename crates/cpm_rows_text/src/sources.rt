@@ -12,25 +12,11 @@ fn check_image(rt: &(impl Abort + AllocGlobal), source: &[u8], image: &[u8]) {
     }
 }
 
-/// Fails unless each source has the image that stands beside it.
-fn check_images(rt: &(impl Abort + AllocGlobal), rows: &[(&[u8], &[u8])]) {
-    for (source, image) in rows {
-        check_image(rt, source, image);
-    }
-}
-
 /// Fails unless the source is refused at this line.
 fn check_refusal(rt: &(impl Abort + AllocGlobal), source: &[u8], line: u64, kind: AsmErrorKind) {
     match assemble(rt.alloc(), source) {
         Ok(found) => panic!(rt; "{found:?} at {source:?}"),
         Err(error) => same_at(rt, source, error, AsmError { line, kind }),
-    }
-}
-
-/// Fails unless each source is refused at the line beside it.
-fn check_refusals(rt: &(impl Abort + AllocGlobal), rows: &[(&[u8], u64, AsmErrorKind)]) {
-    for (source, line, kind) in rows {
-        check_refusal(rt, source, *line, *kind);
     }
 }
 
@@ -58,61 +44,63 @@ fn prints_hi(rt: HostRuntime) {
 
 #[test]
 fn bytes_and_words(rt: HostRuntime) {
-    check_images(&rt, &[
-        (b" MVI A,-1", &[0x3E, 0xFF]),
-        (b" DW 1234H", &[0x34, 0x12]),
-        (
-            b" DB 'it''s', 'A' + 1, 0",
-            &[0x69, 0x74, 0x27, 0x73, 0x42, 0x00],
-        ),
-        (b" DB 'a;b!c' ; d ! e", &[0x61, 0x3B, 0x62, 0x21, 0x63]),
-        (b" DW 'AB', $", &[0x42, 0x41, 0x00, 0x01]),
-    ]);
+    check_image(&rt, b" MVI A,-1", &[0x3E, 0xFF]);
+    check_image(&rt, b" DW 1234H", &[0x34, 0x12]);
+    check_image(
+        &rt,
+        b" DB 'it''s', 'A' + 1, 0",
+        &[0x69, 0x74, 0x27, 0x73, 0x42, 0x00],
+    );
+    check_image(&rt, b" DB 'a;b!c' ; d ! e", &[0x61, 0x3B, 0x62, 0x21, 0x63]);
+    check_image(&rt, b" DW 'AB', $", &[0x42, 0x41, 0x00, 0x01]);
 }
 
 #[test]
 fn origins_and_spaces(rt: HostRuntime) {
-    check_images(&rt, &[
-        (b" NOP ! ORG 104H ! NOP ! ORG 200H", &[0, 0, 0, 0, 0]),
-        (b" INR A ! DS 3 ! RET ! DS 0", &[0x3C, 0, 0, 0, 0xC9]),
-        (b" RET ! DS 2", &[0xC9, 0, 0]),
-    ]);
+    check_image(&rt, b" NOP ! ORG 104H ! NOP ! ORG 200H", &[0, 0, 0, 0, 0]);
+    check_image(&rt, b" INR A ! DS 3 ! RET ! DS 0", &[0x3C, 0, 0, 0, 0xC9]);
+    check_image(&rt, b" RET ! DS 2", &[0xC9, 0, 0]);
 }
 
 #[test]
 fn conditions(rt: HostRuntime) {
-    check_images(&rt, &[
-        (
-            b"T EQU 1\n IF T\n NOP\n IF 0\n # ! IF 1\n ENDIF\n ENDIF ! RET\n ENDIF\n",
-            &[0x00, 0xC9],
-        ),
-        (b" END garbage\n # \n", &[]),
-    ]);
-    check_refusals(&rt, &[
-        (b" IF 1\n IF 1\n ENDIF\n", 1, AsmErrorKind::Syntax),
-        (b" IF 1\n NOP\n JUMP\n", 1, AsmErrorKind::Syntax),
-        (b" IF 1\n NOP\n ORG 0\n ENDIF\n", 3, AsmErrorKind::OriginBelow),
-        (b" ENDIF\n", 1, AsmErrorKind::Syntax),
-    ]);
+    check_image(
+        &rt,
+        b"T EQU 1\n IF T\n NOP\n IF 0\n # ! IF 1\n ENDIF\n ENDIF ! RET\n ENDIF\n",
+        &[0x00, 0xC9],
+    );
+    check_refusal(&rt, b" IF 1\n IF 1\n ENDIF\n", 1, AsmErrorKind::Syntax);
+    check_refusal(&rt, b" IF 1\n NOP\n JUMP\n", 1, AsmErrorKind::Syntax);
+    check_refusal(
+        &rt,
+        b" IF 1\n NOP\n ORG 0\n ENDIF\n",
+        3,
+        AsmErrorKind::OriginBelow,
+    );
+    check_refusal(&rt, b" ENDIF\n", 1, AsmErrorKind::Syntax);
+    check_image(&rt, b" END garbage\n # \n", &[]);
 }
 
 #[test]
 fn names_the_line_and_the_fault(rt: HostRuntime) {
-    check_refusals(&rt, &[
-        (b" DS X\nX EQU 1\n", 1, AsmErrorKind::NotYetDefined),
-        (b"L1: NOP\nL1: NOP\n", 2, AsmErrorKind::DefinedTwice),
-        (b" ORG 0\n", 1, AsmErrorKind::OriginBelow),
-        (b" JMP Q1\n", 1, AsmErrorKind::Undefined),
-        (b" MVI A,100H\n", 1, AsmErrorKind::OutOfRange),
-        (b" DB 'AB", 1, AsmErrorKind::Syntax),
-        (b" RST 8\n", 1, AsmErrorKind::OutOfRange),
-        (b" MOV M,M\n", 1, AsmErrorKind::Syntax),
-        (b" EQU 5\n", 1, AsmErrorKind::Syntax),
-        (b"L1: DS L1\n", 1, AsmErrorKind::NotYetDefined),
-        (b"\n NOP\r\n RET\r", 3, AsmErrorKind::Syntax),
-        (b" JMP Q1\nL1: ! L1:\n", 2, AsmErrorKind::DefinedTwice),
-        (b" ORG 0FFFFH ! NOP\nL1:\n", 2, AsmErrorKind::OutOfRange),
-    ]);
+    check_refusal(&rt, b" DS X\nX EQU 1\n", 1, AsmErrorKind::NotYetDefined);
+    check_refusal(&rt, b"L1: NOP\nL1: NOP\n", 2, AsmErrorKind::DefinedTwice);
+    check_refusal(&rt, b" ORG 0\n", 1, AsmErrorKind::OriginBelow);
+    check_refusal(&rt, b" JMP Q1\n", 1, AsmErrorKind::Undefined);
+    check_refusal(&rt, b" MVI A,100H\n", 1, AsmErrorKind::OutOfRange);
+    check_refusal(&rt, b" DB 'AB", 1, AsmErrorKind::Syntax);
+    check_refusal(&rt, b" RST 8\n", 1, AsmErrorKind::OutOfRange);
+    check_refusal(&rt, b" MOV M,M\n", 1, AsmErrorKind::Syntax);
+    check_refusal(&rt, b" EQU 5\n", 1, AsmErrorKind::Syntax);
+    check_refusal(&rt, b"L1: DS L1\n", 1, AsmErrorKind::NotYetDefined);
+    check_refusal(&rt, b"\n NOP\r\n RET\r", 3, AsmErrorKind::Syntax);
+    check_refusal(&rt, b" JMP Q1\nL1: ! L1:\n", 2, AsmErrorKind::DefinedTwice);
+    check_refusal(
+        &rt,
+        b" ORG 0FFFFH ! NOP\nL1:\n",
+        2,
+        AsmErrorKind::OutOfRange,
+    );
 }
 
 #[test]
