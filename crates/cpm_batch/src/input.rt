@@ -1,7 +1,9 @@
 //! Reading what the sessions of a configuration need, in their order.
-ghost use Rattle.std.specs.Prelude.{◌≡◌, ◌≤◌, ◌∷◌, ◌⊎◌, [], IfErr, IfOk, map};
+ghost use Rattle.std.specs.Prelude.{◌≡◌, ◌≤◌, ◌∷◌, ◌⊎◌, [], IfErr, IfOk, OnErr, map};
 ghost use Rattle.cpm_store.specs.Files.{CountsFailure, Finds};
+ghost use Rattle.cpm_store.specs.Log.{AreNoWrites, Gave, Missed, RanBy};
 ghost use Rattle.cpm_batch.specs.Inputs.{AllImages, AllInputs, AreInputs, HasInput, HasKeys, ImageIn, IsFileFault, IsImageIn, IsReadRefusal, IsScriptIn, ScriptIn, given, image_needs, needs_of, needs_of_all, needs_of_config, script_needs};
+ghost use Rattle.cpm_batch.specs.Reads.{AreImagesRead, AreInputsRead, AreKeysRead, AreRead, IsImageRead, IsInputRead, IsScriptRead};
 
 use crate::error::ReadError;
 use cpm_command::shown;
@@ -33,9 +35,12 @@ pub struct Inputs<'a> {
 /// The bytes of a file.
 fn read_bytes<S: Store>(alloc: Global, store: &mut S, name: &str) -> Result<Vec<u8>, ReadError>
     ensures found { IfOk result (λ v. Finds (S.files store.old) name.now v.items) }
+    ensures gave { IfOk result (λ v. S.does store.old (Gave name.now v.items) store.new) }
+    ensures missed { OnErr result (S.does store.old (Missed name.now) store.new) }
     ensures refusal { IfErr result (λ e. (e ≡ ReadError.OutOfMemory) ⊎ IsFileFault e) }
     ensures device { IfErr result (λ e. IsFileFault e → CountsFailure (S.failed store.old) (S.failed store.new)) }
     ensures same { S.files store.new ≡ S.files store.old }
+    ensures unwritten { RanBy S.does AreNoWrites store.old store.new }
     ensures counted { S.failed store.old ≤ S.failed store.new }
 {
     match store.read(alloc, name) {
@@ -48,9 +53,11 @@ fn read_bytes<S: Store>(alloc: Global, store: &mut S, name: &str) -> Result<Vec<
 /// The image in a file.
 fn read_image<S: Store>(alloc: Global, store: &mut S, name: &str) -> Result<Image, ReadError>
     ensures image { IfOk result (IsImageIn (S.files store.old) name.now) }
+    ensures log { IfOk result (λ d. RanBy S.does (IsImageRead name.now d) store.old store.new) }
     ensures refusal { IfErr result (IsReadRefusal (S.files store.old) (ImageIn name.now ∷ [])) }
     ensures device { IfErr result (λ e. IsFileFault e → CountsFailure (S.failed store.old) (S.failed store.new)) }
     ensures same { S.files store.new ≡ S.files store.old }
+    ensures unwritten { RanBy S.does AreNoWrites store.old store.new }
     ensures counted { S.failed store.old ≤ S.failed store.new }
 {
     let bytes = read_bytes(alloc, store, name)?;
@@ -70,9 +77,11 @@ fn read_images<S: Store>(
     names: &[String],
 ) -> Result<Vec<Image>, ReadError>
     ensures images { IfOk result (λ v. AllImages (S.files store.old) names.now v.items) }
+    ensures log { IfOk result (λ v. RanBy S.does (AreImagesRead names.now v.items) store.old store.new) }
     ensures refusal { IfErr result (IsReadRefusal (S.files store.old) (image_needs names.now)) }
     ensures device { IfErr result (λ e. IsFileFault e → CountsFailure (S.failed store.old) (S.failed store.new)) }
     ensures same { S.files store.new ≡ S.files store.old }
+    ensures unwritten { RanBy S.does AreNoWrites store.old store.new }
     ensures counted { S.failed store.old ≤ S.failed store.new }
 {
     let mut images = Vec::new(alloc);
@@ -85,9 +94,11 @@ fn read_images<S: Store>(
 /// The keys of the script in a file.
 fn read_script<S: Store>(alloc: Global, store: &mut S, name: &str) -> Result<Vec<Key>, ReadError>
     ensures keys { IfOk result (λ v. IsScriptIn (S.files store.old) name.now v.items) }
+    ensures log { IfOk result (λ v. RanBy S.does (IsScriptRead name.now v.items) store.old store.new) }
     ensures refusal { IfErr result (IsReadRefusal (S.files store.old) (ScriptIn name.now ∷ [])) }
     ensures device { IfErr result (λ e. IsFileFault e → CountsFailure (S.failed store.old) (S.failed store.new)) }
     ensures same { S.files store.new ≡ S.files store.old }
+    ensures unwritten { RanBy S.does AreNoWrites store.old store.new }
     ensures counted { S.failed store.old ≤ S.failed store.new }
 {
     let text = read_bytes(alloc, store, name)?;
@@ -109,9 +120,11 @@ fn read_keys_of<S: Store>(
     name: &Option<String>,
 ) -> Result<Vec<Key>, ReadError>
     ensures keys { IfOk result (λ v. HasKeys (S.files store.old) name.now v.items) }
+    ensures log { IfOk result (λ v. RanBy S.does (AreKeysRead name.now v.items) store.old store.new) }
     ensures refusal { IfErr result (IsReadRefusal (S.files store.old) (script_needs name.now)) }
     ensures device { IfErr result (λ e. IsFileFault e → CountsFailure (S.failed store.old) (S.failed store.new)) }
     ensures same { S.files store.new ≡ S.files store.old }
+    ensures unwritten { RanBy S.does AreNoWrites store.old store.new }
     ensures counted { S.failed store.old ≤ S.failed store.new }
 {
     match name {
@@ -127,10 +140,12 @@ fn read_session<'a, S: Store>(
     session: &'a Session,
 ) -> Result<Input<'a>, ReadError>
     ensures input { IfOk result (λ i. HasInput (S.files store.old) (given i)) }
+    ensures log { IfOk result (λ i. RanBy S.does (IsInputRead (given i)) store.old store.new) }
     ensures session { IfOk result (λ i. i.session.now ≡ session.entry.now) }
     ensures refusal { IfErr result (IsReadRefusal (S.files store.old) (needs_of session.entry.now)) }
     ensures device { IfErr result (λ e. IsFileFault e → CountsFailure (S.failed store.old) (S.failed store.new)) }
     ensures same { S.files store.new ≡ S.files store.old }
+    ensures unwritten { RanBy S.does AreNoWrites store.old store.new }
     ensures counted { S.failed store.old ≤ S.failed store.new }
 {
     let drives = read_images(alloc, store, session.drives.as_slice())?;
@@ -149,10 +164,12 @@ fn read_sessions<'a, S: Store>(
     sessions: &'a [Session],
 ) -> Result<Vec<Input<'a>>, ReadError>
     ensures inputs { IfOk result (λ v. AllInputs (S.files store.old) (map given v.items)) }
+    ensures log { IfOk result (λ v. RanBy S.does (AreInputsRead (map given v.items)) store.old store.new) }
     ensures sessions { IfOk result (λ v. map (λ i. i.session) (map given v.items) ≡ sessions.entry.now) }
     ensures refusal { IfErr result (IsReadRefusal (S.files store.old) (needs_of_all sessions.entry.now)) }
     ensures device { IfErr result (λ e. IsFileFault e → CountsFailure (S.failed store.old) (S.failed store.new)) }
     ensures same { S.files store.new ≡ S.files store.old }
+    ensures unwritten { RanBy S.does AreNoWrites store.old store.new }
     ensures counted { S.failed store.old ≤ S.failed store.new }
 {
     let mut inputs = Vec::new(alloc);
@@ -173,9 +190,12 @@ pub fn read_inputs<'a, S: Store>(
     store: &mut S,
 ) -> Result<Inputs<'a>, ReadError>
     ensures read { IfOk result (λ i. AreInputs (S.files store.old) config.entry.now i.system (map given i.sessions.items)) }
+    // The calls were these reads and no others, of whichever store.
+    ensures log { IfOk result (λ i. RanBy S.does (AreRead config.entry.now i.system (map given i.sessions.items)) store.old store.new) }
     ensures refusal { IfErr result (IsReadRefusal (S.files store.old) (needs_of_config config.entry.now)) }
     ensures device { IfErr result (λ e. IsFileFault e → CountsFailure (S.failed store.old) (S.failed store.new)) }
     ensures same { S.files store.new ≡ S.files store.old }
+    ensures unwritten { RanBy S.does AreNoWrites store.old store.new }
     ensures counted { S.failed store.old ≤ S.failed store.new }
 {
     let system = read_image(alloc, store, config.system.as_str())?;

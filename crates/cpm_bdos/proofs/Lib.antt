@@ -9,3 +9,4 @@ pub mod Bounded
 pub mod Waiting
 pub mod Showing
 pub mod WaitLaws
+pub mod HoldLaws

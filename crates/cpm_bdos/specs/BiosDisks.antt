@@ -1,5 +1,5 @@
 -- The calls of the BIOS on disks.
--- CP/M 2.2 Operating System Manual, section 6 (CP/M 2 Alteration). Own: the BIOS has a drive, a track, a sector and a buffer of its own, which the BDOS leaves alone.
+-- CP/M 2.2 Operating System Manual, section 6.6, The BIOS Entry Points. Own: the BIOS has a drive, a track, a sector and a buffer of its own, which the BDOS leaves alone.
 use Rattle.std.specs.Prelude.{ℕ, ◌+◌, ◌%◌, ◌==◌, List, Option, Some, None, if◌then◌else◌}
 use Rattle.cpm_geom.specs.Disk.{Disk}
 use Rattle.cpm_memory.specs.Contents.{Contents, byte_at, run_at}

@@ -1,5 +1,5 @@
 -- The functions on the drives of a session.
--- CP/M 2.2 Operating System Manual, section 5 (Operating System Call Conventions), functions 13 to 37 and 40.
+-- CP/M 2.2 Operating System Manual, section 5.2, Operating System Call Conventions, functions 13 to 37 and 40.
 use Rattle.std.specs.Prelude.{ℕ, ◌+◌, ◌*◌, ◌%◌, ◌==◌, List, [], ◌∷◌, Result, Ok, Err, if◌then◌else◌, slice_index, take}
 use Rattle.cpm_geom.specs.Disk.{Disk}
 use Rattle.cpm_files.specs.declared.answer.Fault.{Fault}

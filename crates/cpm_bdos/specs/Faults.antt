@@ -10,14 +10,14 @@ use Rattle.cpm_bdos.specs.declared.session.Session.{Session}
 use Rattle.cpm_bdos.specs.declared.session.Mode.TheVariants as mode
 use Rattle.cpm_bdos.specs.declared.session.Went.TheVariants.{Waits, GoesOn}
 
--- CP/M 2.2 Operating System Manual, section 1 (BDOS error messages)
+-- CP/M 2.2 Operating System Manual, section 1.7, BDOS Error Messages; own: the words as they stand here
 abbrev pub fault_name : Fault → List ℕ
 fault_name BadSector = codes "Bad Sector"
 fault_name Select = codes "Select"
 fault_name FileReadOnly = codes "File R/O"
 fault_name ReadOnly = codes "R/O"
 
--- the message, with the letter of the drive; own: the number of a drive is taken modulo 16
+-- own: the message, with the letter of the drive, whose number is taken modulo 16
 abbrev pub fault_text : Fault → ℕ → List ℕ
 fault_text fault drive =
     13 ∷ 10 ∷ (codes "Bdos Err On " ++ ((65 + drive % 16) ∷ (codes ": " ++ fault_name fault)))
@@ -29,7 +29,7 @@ in_fault s fault drive = record s { console = shown s.console (fault_text fault 
 abbrev pub faulted : Session → Contents → Fault → ℕ → Did
 faulted s m fault drive = did (in_fault s fault drive) m GoesOn
 
--- the key that is then read boots the session anew
+-- own: the key that is then read, whichever it is, boots the session anew
 abbrev pub after_fault : Option ℕ → Session → Contents → Did
 after_fault None s m = did s m Waits
 after_fault (Some key) s m = rebooted (took_key s) m

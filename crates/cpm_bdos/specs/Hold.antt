@@ -1,4 +1,4 @@
--- Output that was stopped, and goes on after a key: CP/M 2.2 Operating System Manual, section 5, function 2 (start/stop scroll by ^S).
+-- Output that was stopped, and goes on after a key: CP/M 2.2 Operating System Manual, section 5.2, function 2 (start/stop scroll by ^S).
 use Rattle.std.specs.Prelude.{ℕ, Bool, false, ◌==◌, if◌then◌else◌, Option, Some, None}
 use Rattle.cpm_console.specs.Terminal.{key_read}
 use Rattle.cpm_memory.specs.Contents.{Contents}

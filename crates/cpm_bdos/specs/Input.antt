@@ -7,11 +7,11 @@ use Rattle.cpm_bdos.specs.Output.{wrote, showed}
 use Rattle.cpm_bdos.specs.declared.session.Session.{Session}
 use Rattle.cpm_bdos.specs.declared.session.Went.TheVariants.{Waits}
 
--- CP/M 2.2 Operating System Manual, section 5, function 1: graphic characters are echoed, with backspace, tab, line feed and carriage return; own: all from 20h on are
+-- CP/M 2.2 Operating System Manual, section 5.2, function 1: graphic characters are echoed, with backspace, tab, line feed and carriage return; own: all from 20h on are
 abbrev pub is_echoed : ℕ → Bool
 is_echoed key = (key == 8) || (key == 9) || (key == 10) || (key == 13) || nat_le 32 key
 
--- function 1: a key, echoed or not, is the result
+-- function 1: a key, echoed or not, is the result; own: ^S and ^P are keys as others to it
 abbrev pub read_key : Option ℕ → Session → Contents → Did
 read_key None s m = did s m Waits
 read_key (Some key) s m = answered (if is_echoed key then wrote (took_key s) key else took_key s) m key

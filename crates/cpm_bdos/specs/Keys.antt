@@ -11,7 +11,7 @@ first_key s = slice_get s.console.keys 0
 abbrev pub took_key : Session → Session
 took_key s = record s { console = key_read s.console }
 
--- CP/M 2.2 Operating System Manual, section 5, function 11, and section 6, CONST: FFh where a key is pending, else 00h
+-- CP/M 2.2 Operating System Manual, section 5.2, function 11, and section 6.6, The BIOS Entry Points, CONST: FFh where a key is pending, else 00h
 abbrev pub console_status : Option ℕ → ℕ
 console_status None = 0
 console_status (Some key) = 255

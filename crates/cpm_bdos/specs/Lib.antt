@@ -14,3 +14,4 @@ pub mod Step
 pub mod Waiting
 pub mod Bounds
 pub mod Behind
+pub mod Laws

@@ -22,7 +22,7 @@ showed s byte = record s { console = shown s.console (byte ∷ []) }
 abbrev pub listed : Session → ℕ → Session
 listed s byte = record s { console = printed s.console (byte ∷ []) }
 
--- function 2: the byte in E is said, unless ^S holds it
+-- function 2: the byte in E is said, unless ^S holds it; own: it doesn't look for ^P
 abbrev pub write_byte : Session → Contents → Did
 write_byte s m = if is_stop (first_key s) then held_at held.Call s m else answered (wrote s s.regs.e) m 0
 

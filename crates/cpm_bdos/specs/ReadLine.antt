@@ -1,4 +1,4 @@
--- Function 10: CP/M 2.2 Operating System Manual, section 5 (Read Console Buffer).
+-- Function 10: CP/M 2.2 Operating System Manual, section 5.2, Operating System Call Conventions, function 10, Read Console Buffer.
 use Rattle.std.specs.Prelude.{ℕ, Bool, nat_lt, if◌then◌else◌, [], ◌∷◌, length, Option, Some, None}
 use Rattle.cpm_console.specs.Terminal.{said, key_read}
 use Rattle.cpm_console.specs.Draft.{Draft}

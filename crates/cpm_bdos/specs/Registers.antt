@@ -32,7 +32,7 @@ at_opening = record {
 abbrev pub de_of : Regs → ℕ
 de_of regs = 256 * regs.d + regs.e
 
--- CP/M 2.2 Operating System Manual, section 5: a result lies in HL, with its low byte in A and its high byte in B
+-- CP/M 2.2 Operating System Manual, section 5.2, Operating System Call Conventions: a result lies in HL, with its low byte in A and its high byte in B
 abbrev pub with_result : Regs → ℕ → Regs
 with_result regs value = record regs { h = value / 256; l = value % 256; a = value % 256; b = value / 256 }
 

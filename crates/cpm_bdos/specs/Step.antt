@@ -53,7 +53,7 @@ opened console images =
       file = no_file;
     }
 
--- CP/M 2.2 Operating System Manual, section 5: the first step of a call, by its function. Own: the reader gives 1Ah, what is punched is dropped, and a number without a function gives 0.
+-- CP/M 2.2 Operating System Manual, section 5.2, Operating System Call Conventions: the first step of a call, by its function. Own: the reader gives 1Ah, what is punched is dropped, and a number without a function gives 0.
 abbrev pub called : Function → Disk → Session → Contents → Did
 called WarmBoot system s m = rebooted s m
 called ReadKey system s m = read_key (first_key s) s m
@@ -103,7 +103,7 @@ abbrev pub console_input : Option ℕ → Session → Contents → Did
 console_input None s m = did s m Waits
 console_input (Some key) s m = returned_a (took_key s) m key
 
--- CP/M 2.2 Operating System Manual, section 6: a call of the BIOS. Own: the list device is always ready, the reader gives 1Ah, what is punched is dropped, and a number without a call returns with nothing changed.
+-- CP/M 2.2 Operating System Manual, section 6.6, The BIOS Entry Points: a call of the BIOS. Own: the list device is always ready, the reader gives 1Ah, what is punched is dropped, and a number without a call returns with nothing changed.
 abbrev pub bios_called : BiosCall → Disk → Session → Contents → Did
 bios_called entry.Boot system s m = booted s m
 bios_called entry.WarmBoot system s m = rebooted s m

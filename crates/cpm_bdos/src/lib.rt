@@ -9,6 +9,7 @@ mod disks;
 mod fault;
 mod function;
 mod input;
+pub mod laws;
 mod line;
 mod output;
 mod registers;

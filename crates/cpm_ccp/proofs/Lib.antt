@@ -11,3 +11,8 @@ pub mod StartLemmas
 pub mod BoundLaws
 pub mod LimitLaws
 pub mod KeyLaws
+pub mod AheadLemmas
+pub mod ShownLemmas
+pub mod FreeLaws
+pub mod HoldLaws
+pub mod MarkLaws

@@ -11,7 +11,7 @@ use Rattle.cpm_ccp.specs.declared.built_in.BuiltIn.TheVariants as built_in
 use Rattle.cpm_ccp.specs.declared.command.Command.{Command}
 use Rattle.cpm_ccp.specs.declared.command.Command.TheVariants.{Nothing, SelectDrive, Directory, Erase, EraseAll, Rename, RenameForm, Save, SaveForm, TypeFile, TypeForm, User, UserForm, Program, Unknown}
 
--- CP/M 2.2 Operating System Manual, section 1 (CCP commands): the built-in commands; own: without a drive and a type
+-- CP/M 2.2 Operating System Manual, section 1.4, Built-in Commands: the built-in commands; own: without a drive and a type
 unfoldable pub built_in_of : Fcb → Option BuiltIn
 built_in_of file =
     if not (file.drive == 0) then None

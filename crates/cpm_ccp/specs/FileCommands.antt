@@ -1,4 +1,4 @@
--- ERA, REN and SAVE: CP/M 2.2 Operating System Manual, section 1 (ERA, REN, SAVE).
+-- ERA, REN and SAVE: CP/M 2.2 Operating System Manual, section 1.4, Built-in Commands.
 use Rattle.std.specs.Prelude.{ℕ, ◌+◌, ◌-◌, ◌*◌, ◌%◌, ◌==◌, ◌&&◌, ◌||◌, Bool, nat_lt, List, length, slice_index, None, Result, Ok, Err, if◌then◌else◌}
 use Rattle.cpm_geom.specs.Disk.{Disk}
 use Rattle.cpm_geom.specs.Geometry.{dpb_of}

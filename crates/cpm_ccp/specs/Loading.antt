@@ -1,4 +1,4 @@
--- The loader of programs: CP/M 2.2 Operating System Manual, section 1 (transient commands) and section 5 (page zero).
+-- The loader of programs: CP/M 2.2 Operating System Manual, section 1.6, Transient Commands, and section 6.9, Reserved Locations in Page Zero.
 use Rattle.std.specs.Prelude.{ℕ, ◌+◌, ◌==◌, nat_lt, List, [], ◌∷◌, ◌++◌, length, Result, Ok, Err, if◌then◌else◌}
 use Rattle.cpm_geom.specs.Disk.{Disk}
 use Rattle.cpm_files.specs.declared.fcb.Fcb.{Fcb}

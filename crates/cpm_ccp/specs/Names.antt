@@ -17,7 +17,7 @@ is_wildcard c = c % 128 == 63
 unfoldable pub is_every : Fcb → Bool
 is_every file = list_all is_wildcard file.extent.name
 
--- CP/M 2.2 Operating System Manual, section 1 (transient commands): a name, which stands for one file; own: no type
+-- CP/M 2.2 Operating System Manual, section 1.6, Transient Commands: a name, which stands for one file; own: no type
 unfoldable pub is_command_name : Fcb → Bool
 is_command_name file =
     not (bytes_eq (take 8 file.extent.name) (codes "        ")) && (bytes_eq (drop 8 file.extent.name) (codes "   ") && not (has_wildcard file.extent.name))
@@ -25,6 +25,6 @@ is_command_name file =
 unfoldable pub all_of : Fcb → Fcb
 all_of file = record file { extent = record file.extent { name = replicate 11 63 } }
 
--- CP/M 2.2 Operating System Manual, section 1 (transient commands): programs are files of type COM
+-- CP/M 2.2 Operating System Manual, section 1.6, Transient Commands: programs are files of type COM
 unfoldable pub program_file : Fcb → Fcb
 program_file file = record file { extent = record file.extent { name = take 8 file.extent.name ++ codes "COM" } }

@@ -1,5 +1,5 @@
 -- What the parts of the command processor leave.
--- CP/M 2.2 Operating System Manual, section 1 (CCP commands); own: the steps, and that each message follows a fresh line.
+-- CP/M 2.2 Operating System Manual, section 1.4, Built-in Commands; own: the steps, and that each message follows a fresh line.
 use Rattle.std.specs.Prelude.{ℕ, Bool, List, ◌∷◌, map, replicate, take}
 use Rattle.cpm_files.specs.declared.fcb.Fcb.{Fcb}
 use Rattle.cpm_files.specs.declared.answer.Fault.{Fault}

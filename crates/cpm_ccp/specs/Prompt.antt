@@ -1,5 +1,5 @@
 -- The prompt, the line behind it, and the commands that leave it another drive or user.
--- CP/M 2.2 Operating System Manual, section 1 (CCP commands); own: the user and the drive lie at 0004h, each in four bits.
+-- CP/M 2.2 Operating System Manual, section 1.4, Built-in Commands; own: the user and the drive lie at 0004h, each in four bits.
 use Rattle.std.specs.Prelude.{ℕ, ◌+◌, ◌*◌, ◌/◌, ◌%◌, List, [], ◌∷◌, Option, Some, None, if◌then◌else◌}
 use Rattle.cpm_geom.specs.Disk.{Disk}
 use Rattle.cpm_files.specs.declared.answer.Fault.TheVariants.{Select}

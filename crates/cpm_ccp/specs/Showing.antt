@@ -1,4 +1,4 @@
--- TYPE: CP/M 2.2 Operating System Manual, section 1 (TYPE).
+-- TYPE: CP/M 2.2 Operating System Manual, section 1.4, Built-in Commands.
 use Rattle.std.specs.Prelude.{ℕ, ◌==◌, ◌&&◌, Bool, true, false, not, List, [], ◌∷◌, slice_index, Result, Ok, Err, if◌then◌else◌}
 use Rattle.std.specs.List.{before_first, list_any}
 use Rattle.cpm_geom.specs.Disk.{Disk}

@@ -8,7 +8,7 @@ use Rattle.cpm_directory.specs.CommandLine.{after_spaces, is_drive}
 abbrev pub is_space : ℕ → Bool
 is_space c = c == 32
 
--- CP/M 2.2 Operating System Manual, section 1 (CCP commands); own: spaces in front are skipped, and a space alone ends the word
+-- CP/M 2.2 Operating System Manual, section 1.4, Built-in Commands; own: spaces in front are skipped, and a space alone ends the word
 unfoldable pub first_word : List ℕ → List ℕ
 first_word line = before_first is_space (after_spaces line)
 
@@ -16,7 +16,7 @@ first_word line = before_first is_space (after_spaces line)
 unfoldable pub tail_of : List ℕ → List ℕ
 tail_of line = drop (position_or_len is_space (after_spaces line)) (after_spaces line)
 
--- CP/M 2.2 Operating System Manual, section 1 (switching disks): a drive's letter and a colon; own: nothing but spaces behind them
+-- CP/M 2.2 Operating System Manual, section 1.3, Switching Disks: a drive's letter and a colon; own: nothing but spaces behind them
 unfoldable pub is_drive_alone : List ℕ → List ℕ → Bool
 is_drive_alone word tail = (length word == 2) && (is_drive word && list_all is_space tail)
 

@@ -7,7 +7,7 @@ use Rattle.cpm_console.specs.declared.line.Progress.{Progress}
 use Rattle.cpm_console.specs.declared.line.Progress.TheVariants.{GoesOn, Ended, Interrupted}
 use Rattle.cpm_console.specs.Draft.{Draft}
 
--- CP/M 2.2 Operating System Manual, section 1.5 (Line Editing and Output Control) and section 5, function 10
+-- CP/M 2.2 Operating System Manual, section 1.5, Line Editing and Output Control, and section 5.2, function 10
 -- (Read Console Buffer): the keys that edit a line. ^C counts only in a line with no character; every other
 -- key is a character of the line. ^J and return both end it.
 unfoldable pub keystroke : Bool → ℕ → Keystroke
@@ -24,7 +24,7 @@ keystroke is_empty key =
     else Character))))))))
 
 -- own: the echo of a character that is typed at a column. A tab is the spaces up to the next multiple of eight (CP/M 2.2
--- Operating System Manual, section 5, function 2), a control character and rubout `^` and a letter or sign, any other itself.
+-- Operating System Manual, section 5.2, function 2), a control character and rubout `^` and a letter or sign, any other itself.
 unfoldable pub echo_at : ℕ → ℕ → List ℕ
 echo_at column character =
     if character == 9 then replicate (8 - column % 8) 32
@@ -48,8 +48,8 @@ abbrev pub erasure : ℕ → List ℕ
 erasure zero = []
 erasure (suc n) = 8 ∷ 32 ∷ 8 ∷ erasure n
 
--- CP/M 2.2 Operating System Manual, section 5, function 10: `#` closes the line that is given up, and the next begins at
--- the same column, below a prompt's end
+-- CP/M 2.2 Operating System Manual, section 5.2, function 10: the line that is given up is left, and the next begins at
+-- the same column, below a prompt's end; own: `#` closes it
 abbrev pub fresh_line : Draft → List ℕ
 fresh_line l = 35 ∷ 13 ∷ 10 ∷ replicate l.start 32
 
@@ -85,14 +85,14 @@ pub record Edited : Type 0 where
 abbrev pub edited : Terminal → Draft → Progress → Edited
 edited t l p = record { terminal = t; line = l; progress = p }
 
--- CP/M 2.2 Operating System Manual, section 5, function 10: the line ends where it has as many characters as it may;
+-- CP/M 2.2 Operating System Manual, section 5.2, function 10: the line ends where it has as many characters as it may;
 -- own: in the same step, and as by return
 abbrev pub put_in : Terminal → Draft → ℕ → Edited
 put_in t l c =
     if length l.characters + 1 == l.limit then edited (said t (typed_echo l c ++ 13 ∷ [])) (with_character l c) Ended
     else edited (said t (typed_echo l c)) (with_character l c) GoesOn
 
--- CP/M 2.2 Operating System Manual, section 1.5 and section 5, function 10: what each key shows and leaves. The bytes that
+-- CP/M 2.2 Operating System Manual, section 1.5, Line Editing and Output Control, and section 5.2, function 10: what each key shows and leaves. The bytes that
 -- it shows, and that ^E keeps the column where the line began, are own.
 abbrev pub edit : Keystroke → Terminal → Draft → ℕ → Edited
 edit Interrupt t l key = edited (said t (94 ∷ 67 ∷ [])) l Interrupted  -- `^C`

@@ -47,21 +47,21 @@ column_after column byte =
 abbrev pub column_past : ℕ → List ℕ → ℕ
 column_past column bytes = fold column_after column bytes
 
--- CP/M 2.2 Operating System Manual, section 5, function 6 (Direct Console I/O): bytes shown on the console alone
+-- CP/M 2.2 Operating System Manual, section 5.2, function 6 (Direct Console I/O): bytes shown on the console alone
 unfoldable pub shown : Terminal → List ℕ → Terminal
 shown t bytes = record t { screen = t.screen ++ bytes; column = column_past t.column bytes }
 
--- CP/M 2.2 Operating System Manual, section 5, function 5 (List Output): bytes sent to the list device alone
+-- CP/M 2.2 Operating System Manual, section 5.2, function 5 (List Output): bytes sent to the list device alone
 unfoldable pub printed : Terminal → List ℕ → Terminal
 printed t bytes = record t { printer = t.printer ++ bytes }
 
--- CP/M 2.2 Operating System Manual, section 1.5 (Line Editing and Output Control): after ^P what the console shows goes to
+-- CP/M 2.2 Operating System Manual, section 1.5, Line Editing and Output Control: after ^P what the console shows goes to
 -- the list device too. Which calls show bytes so is said where they are defined.
 unfoldable pub said : Terminal → List ℕ → Terminal
 said t bytes =
     record t { screen = t.screen ++ bytes; printer = (if t.list_echo then t.printer ++ bytes else t.printer); column = column_past t.column bytes }
 
--- CP/M 2.2 Operating System Manual, section 5, function 2 (Console Output): a tab is shown as spaces up to the next multiple
+-- CP/M 2.2 Operating System Manual, section 5.2, function 2 (Console Output): a tab is shown as spaces up to the next multiple
 -- of eight columns
 unfoldable pub expanded : ℕ → ℕ → List ℕ
 expanded column byte = if byte == 9 then replicate (8 - column % 8) 32 else byte ∷ []

@@ -119,7 +119,7 @@ impl Line {
     }
 
     /// Puts a key into the line, which must not be full, and shows its echo, which is 2,304 bytes at most: there must be
-    /// room for all that a step may put. CP/M 2.2 Operating System Manual, section 5, function 10.
+    /// room for all that a step may put. CP/M 2.2 Operating System Manual, section 5.2, function 10.
     #[tactic(auto, using(crate::proofs::Growth::editing))]
     pub fn key_into_line(&mut self, console: &mut Console, key: u8) -> Progress
         requires open { length self.old.characters < self.old.limit }

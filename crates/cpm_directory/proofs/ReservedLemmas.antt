@@ -1,20 +1,10 @@
 -- The reserved blocks as the first so many tests of a table.
-use Rattle.std.proofs.Common.{ap, ◌≡◌, ℕ, ◌<◌, ◌≤◌, Bool, true, false, not, List, length, get_or, take, ◌∙◌, arith, refl, ◌+◌}
+use Rattle.std.proofs.Common.{ap, ◌≡◌, ◌⊎◌, ℕ, ◌<◌, ◌≤◌, Bool, true, false, not, List, length, get_or, take, sym, inl, inr, ◌∙◌, arith}
 use Rattle.std.proofs.lemmas.List.{get_or_past, get_or-take, length-take-le, get_or_default}
 use Rattle.std.specs.List.{position_or_len}
 use Rattle.std.proofs.lemmas.List.Sums.{position_or_len_is, fails_before_first, passes_at_first}
-use Rattle.cpm_geom.specs.Geometry.{dpb_of}
-use Rattle.cpm_geom.specs.declared.format.Format.{Format}
-use Rattle.cpm_geom.specs.declared.format.Format.TheVariants.{Ibm3740}
+use Rattle.std.proofs.lemmas.Bool.{cases_lt}
 use Rattle.cpm_files.specs.Reserved.{is_reserved, least_free}
-
--- all formats have as many blocks
-pub same_count : (format other : Format) → (dpb_of format).last_block ≡ (dpb_of other).last_block
-same_count Ibm3740 Ibm3740 = refl
-
-pub count_small : (count : ℕ) → ((format : Format) → count ≡ (dpb_of format).last_block + 1) → count ≤ 512
-unfolding dpb_of
-count_small count h = let e = h Ibm3740 in omega arith
 
 pub past_is_reserved : (xs : List Bool) (count b : ℕ) → count ≤ length xs → count ≤ b → is_reserved (take count xs) b ≡ true
 unfolding is_reserved
@@ -38,3 +28,14 @@ lowest_past xs count h l =
     position_or_len_is not (take count xs) count true (omega (arith, length-take-le count xs h))
     (λ k m. ap not (get_or-take count xs k true m) ∙ fails_before_first not xs k true (omega arith))
     (λ m. absurd (omega (arith, length-take-le count xs h)))
+
+-- the lowest is past the first tests, or above a last number
+pub none_within : (xs : List Bool) (count last : ℕ) → count ≤ length xs → (count ≤ least_free xs) ⊎ (last < least_free xs) → (least_free (take count xs) ≡ length (take count xs)) ⊎ (last < least_free (take count xs))
+none_within xs count last h out =
+    elim (cases_lt (least_free xs) count) [
+      | inl low ↦ elim out [
+        | inl past ↦ absurd (omega arith)
+        | inr above ↦ inr (rw (lowest_within xs count h low) above)
+      ]
+      | inr high ↦ inl (lowest_past xs count h high ∙ sym (length-take-le count xs h))
+    ]

@@ -3,7 +3,7 @@ use Rattle.std.specs.Prelude.{ℕ, ◌-◌, Bool, not, ◌||◌, ◌&&◌, ◌==
 use Rattle.std.specs.List.{position_or_len, range_with_len}
 use Rattle.cpm_files.specs.declared.fcb.Fcb.{Fcb}
 
--- CP/M 2.2 Operating System Manual, File References: the characters that end a name or a type: a space and = _ . : ; < >; own: a byte below 20h
+-- CP/M 2.2 Operating System Manual, File References: some characters end a name or a type; own: they are a space and = _ . : ; < > and all below 20h
 abbrev pub is_delimiter : ℕ → Bool
 is_delimiter c =
     nat_lt c 32 || (c == 32) || (c == 61) || (c == 95) || (c == 46) || (c == 58) || (c == 59) || (c == 60) || (c == 62)

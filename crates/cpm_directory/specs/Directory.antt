@@ -12,7 +12,7 @@ use Rattle.cpm_files.specs.Encoding.{entry_of, entry_bytes, IsStorable}
 unfoldable pub slot_bytes : List ℕ → ℕ → List ℕ
 slot_bytes bytes slot = slice_range bytes (32 * slot) (32 * slot + 32)
 
--- CP/M 2.2 Operating System Manual, Disk Parameter Tables: DRM + 1 entries of 32 bytes, four in a record from the first on
+-- CP/M 2.2 Operating System Manual, section 6.10, Disk Parameter Tables: DRM + 1 entries of 32 bytes, four in a record from the first on
 unfoldable pub directory_of : Dpb → List (List ℕ) → List Entry
 directory_of d records =
     map (λ i. entry_of d (slot_bytes (slice_index_or records (i / 4) []) (i % 4))) (range_with_len 0 (d.last_entry + 1))

@@ -1,6 +1,6 @@
 //! The reserved blocks of a drive.
 
-ghost use Rattle.std.specs.Prelude.{◌≡◌, ◌<◌, ◌≤◌, ◌+◌, ◌==◌, ◌&&◌, ◌||◌, ℕ, length, replicate, MatchResult, not, nat_lt, slice_set, slice_index_or, false, true};
+ghost use Rattle.std.specs.Prelude.{◌≡◌, ◌<◌, ◌≤◌, ◌+◌, ◌⊎◌, ◌==◌, ◌&&◌, ◌||◌, ℕ, length, replicate, MatchResult, not, nat_lt, slice_set, slice_index_or, false, true};
 ghost use Rattle.std.specs.List.{list_any};
 ghost use Rattle.cpm_geom.specs.Geometry.{dpb_of};
 ghost use Rattle.cpm_files.specs.Reserved.{least_free, is_reserved, is_directory_block};
@@ -15,8 +15,7 @@ use crate::pattern::is_named;
 use cpm_geom::{Dpb, Format};
 use std::marker::Model;
 
-/// The reserved blocks of a drive: for each block number of its format whether it is reserved. All formats have as many
-/// blocks today.
+/// The reserved blocks of a drive: for each of its block numbers whether it is reserved.
 #[derive(Drop)]
 pub struct Reserved {
     blocks: Bits,
@@ -24,20 +23,16 @@ pub struct Reserved {
 }
 
 impl Model for Reserved {
-    ghost use Rattle.std.specs.Prelude.{◌≡◌, ◌+◌, Bool, List, length, take};
-    ghost use Rattle.cpm_geom.specs.declared.format.Format.{Format};
-    ghost use Rattle.cpm_geom.specs.Geometry.{dpb_of};
+    ghost use Rattle.std.specs.Prelude.{◌≡◌, ◌≤◌, Bool, List, length, take};
 
     ghost Value = { List Bool };
 
     ghost view = { λ reserved. take reserved.count reserved.blocks };
 
-    ghost invariant = { λ reserved. (length reserved.blocks ≡ 512) × ((format : Format) → reserved.count ≡ (dpb_of format).last_block + 1) };
+    ghost invariant = { λ reserved. (length reserved.blocks ≡ 512) × (reserved.count ≤ 512) };
 }
 
 impl Reserved {
-    ghost use Rattle.cpm_geom.specs.declared.format.Format.{Format};
-
     /// No block of a drive of this format is reserved.
     pub fn none(format: Format) -> Reserved
         ensures { result ≡ replicate ((dpb_of format).last_block + 1) false }
@@ -48,13 +43,6 @@ impl Reserved {
         }
     }
 
-    /// Does nothing, and says that there is a test for each block of a drive, whatever its format.
-    pub fn has_all_blocks(&self)
-        ensures { (format : Format) → length self.now ≡ (dpb_of format).last_block + 1 }
-    {
-        let _ = &self.count;
-    }
-
     /// Whether the block is reserved; a number above the last block is.
     pub fn contains(&self, block: u16) -> bool
         ensures { result ≡ is_reserved self.now block }
@@ -63,14 +51,14 @@ impl Reserved {
         block >= self.count || self.blocks.contains(block)
     }
 
-    /// Reserves the lowest block that is not reserved.
-    pub fn take_lowest(&mut self) -> Result<u16, DirectoryError>
+    /// Reserves the lowest block that is not reserved, of a drive with this last block.
+    pub fn take_lowest(&mut self, last_block: u16) -> Result<u16, DirectoryError>
         ensures { MatchResult result
-            (λ block. (block ≡ least_free self.old) × (block < length self.old) × (self.new ≡ slice_set self.old block true))
-            (λ e. (e ≡ DirectoryError.NoBlockFree) × (least_free self.old ≡ length self.old) × (self.new ≡ self.old)) }
+            (λ block. (block ≡ least_free self.old) × (block < length self.old) × (block ≤ last_block) × (self.new ≡ slice_set self.old block true))
+            (λ e. (e ≡ DirectoryError.NoBlockFree) × ((least_free self.old ≡ length self.old) ⊎ (last_block < least_free self.old)) × (self.new ≡ self.old)) }
     {
         let lowest = self.blocks.lowest_clear();
-        if lowest >= self.count {
+        if lowest >= self.count || lowest > usize::from(last_block) {
             return Err(DirectoryError::NoBlockFree);
         }
         self.blocks.insert(lowest);

@@ -5,6 +5,7 @@ use Rattle.std.proofs.lemmas.Grind.{common_steps}
 use Rattle.std.proofs.lemmas.List.{get_or_default}
 use Rattle.std.proofs.lemmas.List.FromFn.{map-range_with_len_more}
 use Rattle.std.proofs.Math.Nat.{pow-suc}
+use Rattle.cpm_geom.specs.declared.dpb.Dpb.{Dpb}
 use Rattle.cpm_drive.specs.declared.drive.Drive.{Drive}
 use Rattle.cpm_drive.specs.declared.drive.Marks.{Marks}
 use Rattle.cpm_disks.specs.Vectors.{bit, vector_from, allocation_bit}
@@ -31,9 +32,9 @@ vector_of_four test drives o p q r a b c d h ha hb hc hd =
     ap (vector_from test 0) (four drives None h) ∙ (vector_more test 0 _ _ a (at_none test drives 0 o a (omega arith) ha) ∙ ap (λ v. bit a 0 + v) (vector_more test 1 _ _ b (at_none test drives 1 p b (omega arith) hb) ∙ ap (λ v. bit b 1 + v) (vector_more test 2 _ _ c (at_none test drives 2 q c (omega arith) hc) ∙ ap (λ v. bit c 2 + v) (vector_more test 3 _ _ d (at_none test drives 3 r d (omega arith) hd) ∙ (let none = vector_none test 4 in omega arith)))))
 
 -- one more bit of a byte
-pub byte_more : (reserved : List Bool) (k n byte new : ℕ) → n < 8 → byte ≡ sum (map (allocation_bit reserved k) (range_with_len 0 n)) → byte + 2 ^ (8 - n) ≤ 256 → new ≡ allocation_bit reserved k n → new ≤ 2 ^ (7 - n) → (byte + new ≡ sum (map (allocation_bit reserved k) (range_with_len 0 (n + 1)))) × (byte + new + 2 ^ (8 - (n + 1)) ≤ 256)
-byte_more reserved k n byte new below is small bit_is bit_small =
-    let more = map-range_with_len_more (allocation_bit reserved k) 0 n n (zero-add n) in
+pub byte_more : (d : Dpb) (reserved : List Bool) (k n byte new : ℕ) → n < 8 → byte ≡ sum (map (allocation_bit d reserved k) (range_with_len 0 n)) → byte + 2 ^ (8 - n) ≤ 256 → new ≡ allocation_bit d reserved k n → new ≤ 2 ^ (7 - n) → (byte + new ≡ sum (map (allocation_bit d reserved k) (range_with_len 0 (n + 1)))) × (byte + new + 2 ^ (8 - (n + 1)) ≤ 256)
+byte_more d reserved k n byte new below is small bit_is bit_small =
+    let more = map-range_with_len_more (allocation_bit d reserved k) 0 n n (zero-add n) in
     let e : 8 - n ≡ suc (7 - n) = omega arith in
     let f : 8 - (n + 1) ≡ 7 - n = omega arith in
     let twice = ap (λ m. 2 ^ m) e ∙ pow-suc 2 (7 - n) in

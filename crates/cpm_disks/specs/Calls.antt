@@ -12,7 +12,7 @@ use Rattle.cpm_disks.specs.declared.disks.Disks.{Disks}
 use Rattle.cpm_disks.specs.Disks.{is_there, drive_at, with_drive}
 use Rattle.cpm_disks.specs.Selecting.{ready}
 
--- CP/M 2.2 Operating System Manual, Operating System Call Conventions: the code of a record's call; own: where the manual leaves them open
+-- CP/M 2.2 Operating System Manual, section 5.2, Operating System Call Conventions: the code of a record's call; own: where the manual leaves them open
 abbrev pub code_of_answer : Answer → Result ℕ Fault
 code_of_answer answer.Done = Ok 0
 code_of_answer answer.NoRecord = Ok 1

@@ -1,5 +1,5 @@
 -- The calls on files. Each is a call of its drive's.
--- CP/M 2.2 Operating System Manual, Operating System Call Conventions, functions 15, 16, 19 to 23, 30, 33 to 36 and 40; own: what the manual leaves open.
+-- CP/M 2.2 Operating System Manual, section 5.2, Operating System Call Conventions, functions 15, 16, 19 to 23, 30, 33 to 36 and 40; own: what the manual leaves open.
 use Rattle.std.specs.Prelude.{ℕ, ◌+◌, ◌*◌, ◌/◌, ◌%◌, ◌==◌, List, [], ◌∷◌, Option, Result, Ok, Err, if◌then◌else◌, slice_index, unwrap_or, is_some}
 use Rattle.cpm_geom.specs.Disk.{Disk}
 use Rattle.cpm_geom.specs.Geometry.{dpb_of}

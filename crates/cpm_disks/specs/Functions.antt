@@ -24,7 +24,7 @@ bytes_in_memory fcb = fcb_bytes (dpb_of Ibm3740) fcb
 abbrev pub new_name : List ℕ → List ℕ
 new_name bytes = slice_range bytes 17 28
 
--- CP/M 2.2 Operating System Manual, Operating System Call Conventions: each function, over the 36 bytes of a file control block
+-- CP/M 2.2 Operating System Manual, section 5.2, Operating System Call Conventions: each function, over the 36 bytes of a file control block
 unfoldable pub function_on : FileFunction → List ℕ → Disks → Disk → Fcb → List ℕ → FileCall
 function_on OpenFile bytes = open_file
 function_on CloseFile bytes = close_file

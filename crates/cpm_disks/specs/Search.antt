@@ -1,5 +1,5 @@
 -- SEARCH FOR FIRST and SEARCH FOR NEXT.
--- CP/M 2.2 Operating System Manual, Operating System Call Conventions, functions 17 and 18; own: what the manual leaves open.
+-- CP/M 2.2 Operating System Manual, section 5.2, Operating System Call Conventions, functions 17 and 18; own: what the manual leaves open.
 use Rattle.std.specs.Prelude.{ℕ, ◌+◌, ◌%◌, ◌==◌, List, Option, Some, None, Ok, Err, if◌then◌else◌, length}
 use Rattle.cpm_geom.specs.Disk.{Disk}
 use Rattle.cpm_geom.specs.Geometry.{dpb_of}

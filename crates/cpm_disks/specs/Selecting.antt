@@ -1,5 +1,5 @@
 -- Selecting drives, and the marks of all drives.
--- CP/M 2.2 Operating System Manual, Operating System Call Conventions, functions 13, 14, 24, 25, 28, 29 and 37.
+-- CP/M 2.2 Operating System Manual, section 5.2, Operating System Call Conventions, functions 13, 14, 24, 25, 28, 29 and 37.
 use Rattle.std.specs.Prelude.{ℕ, ◌+◌, ◌/◌, ◌%◌, ◌^◌, ◌==◌, Bool, true, false, List, [], ◌∷◌, Option, Some, None, Result, Ok, Err, if◌then◌else◌, map}
 use Rattle.cpm_geom.specs.Disk.{Disk}
 use Rattle.cpm_files.specs.declared.answer.Fault.{Fault}

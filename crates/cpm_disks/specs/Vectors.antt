@@ -1,9 +1,10 @@
 -- The vectors of drives and of blocks.
--- CP/M 2.2 Operating System Manual, Operating System Call Conventions, functions 24, 27 and 29.
-use Rattle.std.specs.Prelude.{ℕ, ◌+◌, ◌-◌, ◌*◌, ◌/◌, ◌^◌, Bool, false, List, [], ◌∷◌, Option, Some, None, if◌then◌else◌, map, sum, slice_index_or}
+-- CP/M 2.2 Operating System Manual, section 5.2, Operating System Call Conventions, functions 24, 27 and 29.
+use Rattle.std.specs.Prelude.{ℕ, ◌+◌, ◌-◌, ◌*◌, ◌/◌, ◌^◌, Bool, ◌&&◌, nat_le, List, [], ◌∷◌, Option, Some, None, if◌then◌else◌, map, sum}
 use Rattle.std.specs.List.{range_with_len}
 use Rattle.cpm_geom.specs.Geometry.{dpb_of}
 use Rattle.cpm_geom.specs.declared.dpb.Dpb.{Dpb}
+use Rattle.cpm_files.specs.Reserved.{is_reserved}
 use Rattle.cpm_drive.specs.declared.drive.Drive.{Drive}
 use Rattle.cpm_drive.specs.declared.drive.Marks.{Marks}
 use Rattle.cpm_disks.specs.declared.disks.Disks.{Disks}
@@ -25,16 +26,20 @@ login_vector disks = vector_from (λ marks. marks.is_logged_in) 0 disks.drives +
 unfoldable pub read_only_vector : Disks → ℕ
 read_only_vector disks = vector_from (λ marks. marks.is_protected) 0 disks.drives + 2 ^ 15
 
--- eight blocks as a byte, the first as its highest bit
-abbrev pub allocation_bit : List Bool → ℕ → ℕ → ℕ
-allocation_bit reserved k place = bit (slice_index_or reserved (8 * k + place) false) (7 - place)
+-- the number is a block of the drive, and reserved
+abbrev pub is_reserved_block : Dpb → List Bool → ℕ → Bool
+is_reserved_block d reserved b = nat_le b d.last_block && is_reserved reserved b
 
-abbrev pub allocation_byte : List Bool → ℕ → ℕ
-allocation_byte reserved k = sum (map (allocation_bit reserved k) (range_with_len 0 8))
+-- eight blocks as a byte, the first as its highest bit
+abbrev pub allocation_bit : Dpb → List Bool → ℕ → ℕ → ℕ
+allocation_bit d reserved k place = bit (is_reserved_block d reserved (8 * k + place)) (7 - place)
+
+abbrev pub allocation_byte : Dpb → List Bool → ℕ → ℕ
+allocation_byte d reserved k = sum (map (allocation_bit d reserved k) (range_with_len 0 8))
 
 -- GET ADDR(ALLOC): a bit for each block of a drive, set where it is reserved
 unfoldable pub allocation_vector : Dpb → List Bool → List ℕ
-allocation_vector d reserved = map (allocation_byte reserved) (range_with_len 0 (d.last_block / 8 + 1))
+allocation_vector d reserved = map (allocation_byte d reserved) (range_with_len 0 (d.last_block / 8 + 1))
 
 abbrev pub allocation_of : Drive → List ℕ
 allocation_of drive = allocation_vector (dpb_of drive.image.format) drive.marks.reserved

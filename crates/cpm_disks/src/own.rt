@@ -80,7 +80,6 @@ pub(crate) fn write_next(
     if fcb.extent.is_read_only() {
         return Err(Fault::FileReadOnly);
     }
-    drive.marks.reserved.has_all_blocks();
     code_of(drive.write_next(user, fcb, buffer))
 }
 
@@ -115,7 +114,6 @@ pub(crate) fn write_at(
     if fcb.random_record[2] != 0 {
         return Ok(PAST_ANY_DISK);
     }
-    drive.marks.reserved.has_all_blocks();
     code_of(drive.write_at(user, random_number(fcb), fcb, buffer))
 }
 
@@ -136,6 +134,5 @@ pub(crate) fn write_at_cleared(
     if fcb.random_record[2] != 0 {
         return Ok(PAST_ANY_DISK);
     }
-    drive.marks.reserved.has_all_blocks();
     code_of(drive.write_at_cleared(user, random_number(fcb), fcb, buffer))
 }

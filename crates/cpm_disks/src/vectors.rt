@@ -1,9 +1,9 @@
 //! The vectors of drives and of blocks.
 
-ghost use Rattle.std.specs.Prelude.{◌≡◌, ◌≤◌, ◌<◌, ◌+◌, ◌^◌, false, MatchOption, length, slice_index_or};
+ghost use Rattle.std.specs.Prelude.{◌≡◌, ◌≤◌, ◌<◌, ◌+◌, ◌^◌, false, MatchOption, length};
 ghost use Rattle.cpm_geom.specs.Geometry.{dpb_of};
 ghost use Rattle.cpm_disks.specs.Disks.{drive_at};
-ghost use Rattle.cpm_disks.specs.Vectors.{bit, login_vector, read_only_vector, allocation_byte, allocation_vector, allocation_of};
+ghost use Rattle.cpm_disks.specs.Vectors.{bit, login_vector, read_only_vector, is_reserved_block, allocation_byte, allocation_vector, allocation_of};
 
 use crate::disks::Disks;
 use crate::selecting::SYSTEM;
@@ -108,7 +108,7 @@ fn allocation_vector(format: Format, reserved: &Reserved) -> ArrayVec<u8, 64>
 /// The bits of eight blocks.
 fn allocation_byte(format: Format, reserved: &Reserved, place: u16) -> u8
     requires { place < 64 }
-    ensures { result ≡ allocation_byte reserved.now place }
+    ensures { result ≡ allocation_byte (dpb_of format) reserved.now place }
 {
     let mut byte = 0;
     for offset in 0..8u8 {
@@ -120,8 +120,7 @@ fn allocation_byte(format: Format, reserved: &Reserved, place: u16) -> u8
 
 /// Whether a block is one of the drive's and reserved.
 fn is_reserved(format: Format, reserved: &Reserved, block: u16) -> bool
-    ensures { result ≡ slice_index_or reserved.now block false }
+    ensures { result ≡ is_reserved_block (dpb_of format) reserved.now block }
 {
-    reserved.has_all_blocks();
     block <= format.dpb().last_block && reserved.contains(block)
 }

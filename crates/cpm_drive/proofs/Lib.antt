@@ -8,3 +8,8 @@ pub mod PlaceLemmas
 pub mod PutLemmas
 pub mod ReadLemmas
 pub mod WriteLemmas
+pub mod DiskLemmas
+pub mod DiskFiles
+pub mod DiskFits
+pub mod DiskCalls
+pub mod DiskReach

@@ -16,10 +16,9 @@ use Rattle.cpm_geom.specs.Disk.{Disk, records_of}
 use Rattle.cpm_directory.specs.Directory.{entries_of, PutsEntry}
 use Rattle.cpm_directory.specs.declared.pattern.Pattern.{Pattern}
 use Rattle.cpm_drive.specs.declared.drive.Drive.{Drive}
-use Rattle.cpm_drive.specs.Drive.{directory_code, MarksEachBlock, volume_of, after_write, after_writes, drive_after}
+use Rattle.cpm_drive.specs.Drive.{directory_code, volume_of, after_write, after_writes, drive_after}
 use Rattle.cpm_drive.specs.Writes.{drive_written}
 use Rattle.cpm_drive.specs.Named.{after_named, searched}
-use Rattle.cpm_drive.proofs.PutLemmas.{writes_format}
 use Rattle.cpm_directory.specs.Matching.{is_match, match_from}
 use Rattle.cpm_directory.specs.declared.pattern.Pattern.TheVariants.{Files}
 
@@ -107,10 +106,6 @@ one_put drive disk i e rest puts = rw puts.bytes refl
 pub none_put : (drive : Drive) → drive_written drive [] ≡ drive
 unfolding after_writes
 none_put drive = refl
-
-pub keeps_blocks : (drive : Drive) (ws : List Write) → MarksEachBlock drive → MarksEachBlock (drive_written drive ws)
-keeps_blocks drive ws h =
-    h ∙ ap (λ f. (dpb_of f).last_block + 1) (sym (writes_format ws drive.image))
 
 -- ---- the calls
 module _ (drive : Drive) (user : ℕ) (name : List ℕ) where

@@ -1,6 +1,7 @@
 -- A write, case by case.
-use Rattle.std.proofs.Common.{◌≡◌, ◌≢◌, ℕ, ◌+◌, ◌*◌, ◌<◌, map, replicate, ◌≤◌, Bool, true, false, List, [], ◌∷◌, ◌++◌, Some, None, Option, length, set, refl, sym, ap, ◌∙◌, arith}
+use Rattle.std.proofs.Common.{◌≡◌, ◌≢◌, ◌⊎◌, ℕ, ◌+◌, ◌*◌, ◌<◌, map, replicate, ◌≤◌, Bool, true, false, ◌&&◌, nat_lt, inl, inr, List, [], ◌∷◌, ◌++◌, Some, None, Option, length, set, refl, sym, ap, ◌∙◌, arith}
 use Rattle.std.proofs.lemmas.Bool.{lt-ltb, le-ltb, ne_eqb, eq-eqb}
+use Rattle.std.proofs.Math.Bool.{and-false}
 use Rattle.std.specs.List.{range_with_len}
 use Rattle.std.proofs.lemmas.Nat.{mod-mul-add}
 use Rattle.std.proofs.lemmas.List.FromFn.{map-range_with_len_more}
@@ -23,6 +24,11 @@ use Rattle.cpm_drive.specs.Judged.{with_change}
 use Rattle.cpm_drive.specs.Writes.{drive_written, stood_on}
 use Rattle.cpm_drive.proofs.WriteLemmas.{writes_append}
 
+-- no block of the drive is free
+none_to_take : (reserved : List Bool) (last : ℕ) → (least_free reserved ≡ length reserved) ⊎ (last < least_free reserved) → (nat_lt (least_free reserved) (length reserved) && nat_lt (least_free reserved) (last + 1)) ≡ false
+none_to_take reserved last (inl full) = rw (le-ltb (least_free reserved) (length reserved) (omega arith)) refl
+none_to_take reserved last (inr above) = rw (le-ltb (least_free reserved) (last + 1) (omega arith)) (and-false _)
+
 module _ (d : Dpb) (drive : Drive) (fcb : Fcb) (bytes : List ℕ) (clears : Bool) (next : ℕ) (free : drive.marks.is_protected ≡ false) where
   pub put_bad : d.last_block < block_number fcb.extent (place_of d fcb.extent fcb.current_record) → called (fault Fault.BadSector) drive fcb bytes ≡ after_call drive fcb bytes (put_record d clears (volume_of drive.image drive.marks.reserved) fcb.extent fcb.current_record next bytes)
   unfolding after_call put_record block_to_write put_found ends drive_after volume_of after_writes
@@ -32,17 +38,19 @@ module _ (d : Dpb) (drive : Drive) (fcb : Fcb) (bytes : List ℕ) (clears : Bool
   unfolding after_call put_record block_to_write put_found ends drive_after volume_of
   put_old b is h n = rw (← is, le-ltb _ _ h, ne_eqb _ _ n, free) refl
 
-  pub put_none : (b : ℕ) → b ≡ block_number fcb.extent (place_of d fcb.extent fcb.current_record) → b ≤ d.last_block → b ≡ 0 → length drive.marks.reserved ≤ least_free drive.marks.reserved → called no_block drive fcb bytes ≡ after_call drive fcb bytes (put_record d clears (volume_of drive.image drive.marks.reserved) fcb.extent fcb.current_record next bytes)
+  pub put_none : (b : ℕ) → b ≡ block_number fcb.extent (place_of d fcb.extent fcb.current_record) → b ≤ d.last_block → b ≡ 0 → (least_free drive.marks.reserved ≡ length drive.marks.reserved) ⊎ (d.last_block < least_free drive.marks.reserved) → called no_block drive fcb bytes ≡ after_call drive fcb bytes (put_record d clears (volume_of drive.image drive.marks.reserved) fcb.extent fcb.current_record next bytes)
   unfolding after_call put_record block_to_write put_found ends drive_after volume_of after_writes
-  put_none b is h z none = rw (← is, le-ltb _ _ h, eq-eqb _ _ z, le-ltb _ _ none, free) refl
+  put_none b is h z none = rw (← is, le-ltb _ _ h, eq-eqb _ _ z, none_to_take _ _ none, free) refl
 
-  pub put_new : (b new : ℕ) → b ≡ block_number fcb.extent (place_of d fcb.extent fcb.current_record) → b ≤ d.last_block → b ≡ 0 → new ≡ least_free drive.marks.reserved → new < length drive.marks.reserved → called done (record drive { image = after_writes (taken_writes d clears new ++ record_put (record_in_block d new fcb.current_record) bytes ∷ []) drive.image; marks = record drive.marks { reserved = set drive.marks.reserved new true } }) (stood_on (counting (with_block fcb.extent (place_of d fcb.extent fcb.current_record) new) fcb.current_record) next fcb) bytes ≡ after_call drive fcb bytes (put_record d clears (volume_of drive.image drive.marks.reserved) fcb.extent fcb.current_record next bytes)
+  pub put_new : (b new : ℕ) → b ≡ block_number fcb.extent (place_of d fcb.extent fcb.current_record) → b ≤ d.last_block → b ≡ 0 → new ≡ least_free drive.marks.reserved → new < length drive.marks.reserved → new ≤ d.last_block → called done (record drive { image = after_writes (taken_writes d clears new ++ record_put (record_in_block d new fcb.current_record) bytes ∷ []) drive.image; marks = record drive.marks { reserved = set drive.marks.reserved new true } }) (stood_on (counting (with_block fcb.extent (place_of d fcb.extent fcb.current_record) new) fcb.current_record) next fcb) bytes ≡ after_call drive fcb bytes (put_record d clears (volume_of drive.image drive.marks.reserved) fcb.extent fcb.current_record next bytes)
   unfolding after_call put_record block_to_write put_found ends drive_after volume_of
-  put_new b new is h z least below = rw (← is, le-ltb _ _ h, eq-eqb _ _ z, ← least, lt-ltb _ _ below, free) refl
+  put_new b new is h z least below there =
+      let within : new < d.last_block + 1 = omega arith in
+      rw (← is, le-ltb _ _ h, eq-eqb _ _ z, ← least, lt-ltb _ _ below, lt-ltb _ _ within, free) refl
 
-  pub put_taken : (b new : ℕ) (drive1 drive2 drive3 : Drive) (fcb' : Fcb) → b ≡ block_number fcb.extent (place_of d fcb.extent fcb.current_record) → b ≤ d.last_block → b ≡ 0 → new ≡ least_free drive.marks.reserved → new < length drive.marks.reserved → drive1 ≡ record drive { marks = record drive.marks { reserved = set drive.marks.reserved new true } } → drive2 ≡ drive_written drive1 (taken_writes d clears new) → drive3 ≡ drive_written drive2 (record_put (record_in_block d new fcb.current_record) bytes ∷ []) → fcb' ≡ stood_on (counting (with_block fcb.extent (place_of d fcb.extent fcb.current_record) new) fcb.current_record) next fcb → called done drive3 fcb' bytes ≡ after_call drive fcb bytes (put_record d clears (volume_of drive.image drive.marks.reserved) fcb.extent fcb.current_record next bytes)
-  put_taken b new drive1 drive2 drive3 fcb' is h z least below e1 e2 e3 f =
-      rw (e3, e2, e1, f, ← writes_append (taken_writes d clears new) (record_put (record_in_block d new fcb.current_record) bytes ∷ []) drive.image) (put_new b new is h z least below)
+  pub put_taken : (b new : ℕ) (drive1 drive2 drive3 : Drive) (fcb' : Fcb) → b ≡ block_number fcb.extent (place_of d fcb.extent fcb.current_record) → b ≤ d.last_block → b ≡ 0 → new ≡ least_free drive.marks.reserved → new < length drive.marks.reserved → new ≤ d.last_block → drive1 ≡ record drive { marks = record drive.marks { reserved = set drive.marks.reserved new true } } → drive2 ≡ drive_written drive1 (taken_writes d clears new) → drive3 ≡ drive_written drive2 (record_put (record_in_block d new fcb.current_record) bytes ∷ []) → fcb' ≡ stood_on (counting (with_block fcb.extent (place_of d fcb.extent fcb.current_record) new) fcb.current_record) next fcb → called done drive3 fcb' bytes ≡ after_call drive fcb bytes (put_record d clears (volume_of drive.image drive.marks.reserved) fcb.extent fcb.current_record next bytes)
+  put_taken b new drive1 drive2 drive3 fcb' is h z least below there e1 e2 e3 f =
+      rw (e3, e2, e1, f, ← writes_append (taken_writes d clears new) (record_put (record_in_block d new fcb.current_record) bytes ∷ []) drive.image) (put_new b new is h z least below there)
 
 -- a block that is not cleared
 pub not_cleared : (d : Dpb) (drive : Drive) (b : ℕ) → drive ≡ drive_written drive (taken_writes d false b)

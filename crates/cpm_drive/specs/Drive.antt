@@ -1,5 +1,5 @@
 -- A drive with its marks, and what the calls on files leave of it.
-use Rattle.std.specs.Prelude.{◌≡◌, ℕ, ◌+◌, ◌/◌, ◌%◌, Bool, false, if◌then◌else◌, List, [], ◌∷◌, Option, Some, None, length, replicate, slice_index_or}
+use Rattle.std.specs.Prelude.{ℕ, ◌+◌, ◌/◌, ◌%◌, Bool, false, if◌then◌else◌, List, [], ◌∷◌, Option, Some, None, replicate, slice_index_or}
 use Rattle.cpm_geom.specs.declared.format.Format.{Format}
 use Rattle.cpm_geom.specs.Geometry.{dpb_of, record_index}
 use Rattle.cpm_geom.specs.Disk.{Disk, records_of, sector_at, with_sector}
@@ -12,13 +12,9 @@ use Rattle.cpm_directory.specs.Directory.{entries_of, with_slot}
 use Rattle.cpm_drive.specs.declared.drive.Drive.{Drive}
 use Rattle.cpm_drive.specs.declared.drive.Marks.{Marks}
 
--- CP/M 2.2 Operating System Manual, Operating System Call Conventions: the code of an entry is its place in its record of four
+-- CP/M 2.2 Operating System Manual, section 5.2, Operating System Call Conventions: the code of an entry is its place in its record of four
 abbrev pub directory_code : ℕ → ℕ
 directory_code index = index % 4
-
--- the marks say of each block of the drive whether it is reserved
-abbrev pub MarksEachBlock : Drive → Type 0
-MarksEachBlock drive = length drive.marks.reserved ≡ (dpb_of drive.image.format).last_block + 1
 
 -- own: before the first login no block is reserved
 abbrev pub fresh_marks : Format → Bool → Marks

@@ -4,3 +4,4 @@ pub mod Calls
 pub mod Named
 pub mod Reads
 pub mod Writes
+pub mod Laws

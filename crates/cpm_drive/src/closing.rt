@@ -7,7 +7,6 @@ ghost use Rattle.cpm_files.specs.Files.{group_of};
 ghost use Rattle.cpm_files.specs.Operations.{close_extent, close_function, merged, agree, has_bad_block, closed_entry, is_unchanged, same_numbers};
 ghost use Rattle.cpm_directory.specs.Directory.{entries_of};
 ghost use Rattle.cpm_drive.specs.Calls.{closed_file, close_answer, after_close};
-ghost use Rattle.cpm_drive.specs.Drive.{MarksEachBlock};
 ghost use Rattle.cpm_drive.specs.Judged.{close_of, change_of, IsWithin, agreeing};
 
 use crate::change::{Change, first_match};
@@ -65,8 +64,7 @@ impl Drive {
     /// entry is of the extent or a place has two different numbers. A block number above the last block is a fault, and
     /// so is a close that would change a protected drive.
     pub fn close_file(&mut self, user: u8, fcb: &mut Fcb) -> Result<Option<u8>, Fault>
-        ensures value { closed_file result self.new fcb.new ≡ after_close self.old fcb.old (close_function (dpb_of self.old.image.format) self.old.marks.is_protected (entries_of self.old.image) user fcb.old.extent) }
-        ensures blocks { MarksEachBlock self.old → MarksEachBlock self.new }
+        ensures { closed_file result self.new fcb.new ≡ after_close self.old fcb.old (close_function (dpb_of self.old.image.format) self.old.marks.is_protected (entries_of self.old.image) user fcb.old.extent) }
     {
         let closing = judge_close(
             &self.image.lent(),

@@ -5,7 +5,7 @@ ghost use Rattle.cpm_geom.specs.Geometry.{dpb_of};
 ghost use Rattle.cpm_geom.specs.Disk.{records_of};
 ghost use Rattle.cpm_files.specs.Files.{directory_records};
 ghost use Rattle.cpm_drive.specs.Calls.{logged_in_marks, logged_in};
-ghost use Rattle.cpm_drive.specs.Drive.{directory_code, MarksEachBlock, fresh_marks, volume_of, drive_after};
+ghost use Rattle.cpm_drive.specs.Drive.{directory_code, fresh_marks, volume_of, drive_after};
 ghost use Rattle.cpm_drive.specs.Judged.{with_change, IsWithin};
 ghost use Rattle.cpm_drive.specs.Reads.{lent_drive};
 
@@ -51,8 +51,7 @@ impl Marks {
 
     /// Logs the drive of an image in: its directory's blocks and those of its files are reserved.
     pub fn log_in(&mut self, image: &LentImage<'_>)
-        ensures marks { self.new ≡ logged_in_marks image.now self.old }
-        ensures blocks { MarksEachBlock (lent_drive image.now self.new) }
+        ensures { self.new ≡ logged_in_marks image.now self.old }
     {
         self.reserved = login(image);
         self.is_logged_in = true;
@@ -62,8 +61,7 @@ impl Marks {
 impl Drive {
     /// A drive that was never logged in and may be written.
     pub fn new(image: Image) -> Drive
-        ensures drive { result ≡ lent_drive image (fresh_marks image.format false) }
-        ensures blocks { MarksEachBlock result }
+        ensures { result ≡ lent_drive image (fresh_marks image.format false) }
     {
         let marks = Marks::new(image.format(), false);
         let image = ListedImage::new(image);
@@ -72,8 +70,7 @@ impl Drive {
 
     /// Logs the drive in: its directory's blocks and those of its files are reserved.
     pub fn log_in(&mut self)
-        ensures drive { self.new ≡ logged_in self.old }
-        ensures blocks { MarksEachBlock self.new }
+        ensures { self.new ≡ logged_in self.old }
     {
         self.marks.log_in(&self.image.lent());
     }
@@ -84,7 +81,6 @@ impl Drive {
         ensures drive { self.new ≡ drive_after self.old (with_change (volume_of self.old.image self.old.marks.reserved) change) }
         ensures format { self.new.image.format ≡ self.old.image.format }
         ensures records { (n : ℕ) → directory_records (dpb_of self.old.image.format) ≤ n → slice_index_or (records_of self.new.image) n [] ≡ slice_index_or (records_of self.old.image) n [] }
-        ensures blocks { MarksEachBlock self.old → MarksEachBlock self.new }
     {
         if let Some(change) = change {
             if !self.marks.is_protected {

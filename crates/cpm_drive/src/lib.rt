@@ -5,6 +5,7 @@
 pub mod change;
 pub mod closing;
 pub mod drive;
+pub mod laws;
 pub mod named;
 pub mod opening;
 pub mod place;

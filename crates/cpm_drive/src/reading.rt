@@ -5,7 +5,7 @@ ghost use Rattle.cpm_geom.specs.Geometry.{dpb_of, IsRecord};
 ghost use Rattle.cpm_files.specs.Files.{Volume};
 ghost use Rattle.cpm_files.specs.Laws.{position};
 ghost use Rattle.cpm_files.specs.Operations.{get_record, read_in, read_next, read_at, record_in_block};
-ghost use Rattle.cpm_drive.specs.Drive.{MarksEachBlock, volume_of, called, after_call, buffer_after};
+ghost use Rattle.cpm_drive.specs.Drive.{volume_of, called, after_call, buffer_after};
 ghost use Rattle.cpm_drive.specs.Judged.{IsWithin, place_of_arrival};
 ghost use Rattle.cpm_drive.specs.Reads.{record_found, ahead, answer_of, read_of, after_record, after_reading, lent_drive, GivesRecord};
 
@@ -187,7 +187,6 @@ impl Drive {
     pub fn read_next(&mut self, user: u8, fcb: &mut Fcb, buffer: &mut [u8; 128]) -> Answer
         ensures value { called result self.new fcb.new buffer.new ≡ after_call self.old fcb.old buffer.old (read_next (dpb_of self.old.image.format) self.old.marks.is_protected (volume_of self.old.image self.old.marks.reserved) user fcb.old.extent fcb.old.current_record) }
         ensures file { GivesRecord self.old user fcb.old (position fcb.old.extent fcb.old.current_record) result buffer.new }
-        ensures blocks { MarksEachBlock self.old → MarksEachBlock self.new }
     {
         let reading = judge_read_next(&self.image.lent(), &self.marks, user, fcb);
         self.write_change(reading.closed);
@@ -205,7 +204,6 @@ impl Drive {
     ) -> Answer
         ensures value { called result self.new fcb.new buffer.new ≡ after_call self.old fcb.old buffer.old (read_at (dpb_of self.old.image.format) self.old.marks.is_protected (volume_of self.old.image self.old.marks.reserved) user fcb.old.extent fcb.old.current_record number) }
         ensures file { GivesRecord self.old user fcb.old number result buffer.new }
-        ensures blocks { MarksEachBlock self.old → MarksEachBlock self.new }
     {
         let reading = judge_read_at(&self.image.lent(), &self.marks, user, number, fcb);
         self.write_change(reading.closed);

@@ -4,7 +4,7 @@ ghost use Rattle.std.specs.Prelude.{◌≡◌, ◌+◌, ◌<◌, ◌≤◌, IfOk
 ghost use Rattle.cpm_geom.specs.Geometry.{dpb_of};
 ghost use Rattle.cpm_files.specs.Files.{place_of, record_put};
 ghost use Rattle.cpm_files.specs.Operations.{writing, place_at, target_of, put_record, taken_writes, record_in_block, with_block, write_in, write_next, write_at, write_at_cleared, counting};
-ghost use Rattle.cpm_drive.specs.Drive.{MarksEachBlock, volume_of, called, after_call};
+ghost use Rattle.cpm_drive.specs.Drive.{volume_of, called, after_call};
 ghost use Rattle.cpm_drive.specs.Judged.{IsArrival, place_of_arrival};
 ghost use Rattle.cpm_drive.specs.Writes.{drive_written, stood_on};
 
@@ -94,12 +94,11 @@ impl Drive {
         requires current { fcb.old.current_record < 128 }
         requires step { step ≤ 1 }
         requires writable { self.old.marks.is_protected ≡ false }
-        requires blocks { MarksEachBlock self.old }
-        ensures value { called result self.new fcb.new bytes.now ≡ after_call self.old fcb.old bytes.now (put_record (dpb_of self.old.image.format) clears (volume_of self.old.image self.old.marks.reserved) fcb.old.extent fcb.old.current_record (fcb.old.current_record + step) bytes.now) }
-        ensures blocks { MarksEachBlock self.new }
+        ensures { called result self.new fcb.new bytes.now ≡ after_call self.old fcb.old bytes.now (put_record (dpb_of self.old.image.format) clears (volume_of self.old.image self.old.marks.reserved) fcb.old.extent fcb.old.current_record (fcb.old.current_record + step) bytes.now) }
     {
         let format = self.image.format();
-        let old = match block_at(&format.dpb(), fcb) {
+        let dpb = format.dpb();
+        let old = match block_at(&dpb, fcb) {
             Ok(block) => block,
             Err(_) => return Answer::Fault(Fault::BadSector),
         };
@@ -107,7 +106,7 @@ impl Drive {
             self.write_record(old, step, fcb, bytes);
             return Answer::Done;
         }
-        let block = match self.marks.reserved.take_lowest() {
+        let block = match self.marks.reserved.take_lowest(dpb.last_block) {
             Ok(block) => block,
             Err(_) => return Answer::NoBlock,
         };
@@ -131,9 +130,7 @@ impl Drive {
         requires step { step ≤ 1 }
         requires within { IsArrival (dpb_of self.old.image.format) arrival.now }
         requires writable { self.old.marks.is_protected ≡ false }
-        requires blocks { MarksEachBlock self.old }
-        ensures value { called result self.new fcb.new bytes.now ≡ after_call self.old fcb.old bytes.now (write_in (dpb_of self.old.image.format) clears fcb.old.current_record step bytes.now (place_of_arrival (volume_of self.old.image self.old.marks.reserved) arrival.now)) }
-        ensures blocks { MarksEachBlock self.new }
+        ensures { called result self.new fcb.new bytes.now ≡ after_call self.old fcb.old bytes.now (write_in (dpb_of self.old.image.format) clears fcb.old.current_record step bytes.now (place_of_arrival (volume_of self.old.image self.old.marks.reserved) arrival.now)) }
     {
         self.write_change(arrival.closed);
         self.write_change(arrival.made);
@@ -150,10 +147,8 @@ impl Drive {
     /// WRITE SEQUENTIAL: the record that is next in sequence, for which the extent may be closed and the next one opened
     /// or made.
     pub fn write_next(&mut self, user: u8, fcb: &mut Fcb, bytes: &[u8; 128]) -> Answer
-        requires writable { self.old.marks.is_protected ≡ false }
-        requires blocks { MarksEachBlock self.old }
-        ensures value { called result self.new fcb.new bytes.now ≡ after_call self.old fcb.old bytes.now (write_next (dpb_of self.old.image.format) (volume_of self.old.image self.old.marks.reserved) user fcb.old.extent fcb.old.current_record bytes.now) }
-        ensures blocks { MarksEachBlock self.new }
+        requires { self.old.marks.is_protected ≡ false }
+        ensures { called result self.new fcb.new bytes.now ≡ after_call self.old fcb.old bytes.now (write_next (dpb_of self.old.image.format) (volume_of self.old.image self.old.marks.reserved) user fcb.old.extent fcb.old.current_record bytes.now) }
     {
         let arrival = next_place(&self.image.lent(), &self.marks, Access::Write, user, fcb);
         self.write_arrived(false, &arrival, 1, fcb, bytes)
@@ -168,10 +163,8 @@ impl Drive {
         fcb: &mut Fcb,
         bytes: &[u8; 128],
     ) -> Answer
-        requires writable { self.old.marks.is_protected ≡ false }
-        requires blocks { MarksEachBlock self.old }
-        ensures value { called result self.new fcb.new bytes.now ≡ after_call self.old fcb.old bytes.now (write_in (dpb_of self.old.image.format) clears fcb.old.current_record 0 bytes.now (place_at (dpb_of self.old.image.format) writing false (volume_of self.old.image self.old.marks.reserved) user fcb.old.extent (target_of Answer.NoEntryFree number))) }
-        ensures blocks { MarksEachBlock self.new }
+        requires { self.old.marks.is_protected ≡ false }
+        ensures { called result self.new fcb.new bytes.now ≡ after_call self.old fcb.old bytes.now (write_in (dpb_of self.old.image.format) clears fcb.old.current_record 0 bytes.now (place_at (dpb_of self.old.image.format) writing false (volume_of self.old.image self.old.marks.reserved) user fcb.old.extent (target_of Answer.NoEntryFree number))) }
     {
         let arrival = place_at(
             &self.image.lent(),
@@ -188,10 +181,8 @@ impl Drive {
     /// WRITE RANDOM: record `number` of the file, for which the extent may be closed and another one opened or made.
     #[tactic(auto, unfolding(cpm_files::specs::Operations::write_at))]
     pub fn write_at(&mut self, user: u8, number: u16, fcb: &mut Fcb, bytes: &[u8; 128]) -> Answer
-        requires writable { self.old.marks.is_protected ≡ false }
-        requires blocks { MarksEachBlock self.old }
-        ensures value { called result self.new fcb.new bytes.now ≡ after_call self.old fcb.old bytes.now (write_at (dpb_of self.old.image.format) (volume_of self.old.image self.old.marks.reserved) user fcb.old.extent fcb.old.current_record number bytes.now) }
-        ensures blocks { MarksEachBlock self.new }
+        requires { self.old.marks.is_protected ≡ false }
+        ensures { called result self.new fcb.new bytes.now ≡ after_call self.old fcb.old bytes.now (write_at (dpb_of self.old.image.format) (volume_of self.old.image self.old.marks.reserved) user fcb.old.extent fcb.old.current_record number bytes.now) }
     {
         self.write_random(false, user, number, fcb, bytes)
     }
@@ -205,10 +196,8 @@ impl Drive {
         fcb: &mut Fcb,
         bytes: &[u8; 128],
     ) -> Answer
-        requires writable { self.old.marks.is_protected ≡ false }
-        requires blocks { MarksEachBlock self.old }
-        ensures value { called result self.new fcb.new bytes.now ≡ after_call self.old fcb.old bytes.now (write_at_cleared (dpb_of self.old.image.format) (volume_of self.old.image self.old.marks.reserved) user fcb.old.extent fcb.old.current_record number bytes.now) }
-        ensures blocks { MarksEachBlock self.new }
+        requires { self.old.marks.is_protected ≡ false }
+        ensures { called result self.new fcb.new bytes.now ≡ after_call self.old fcb.old bytes.now (write_at_cleared (dpb_of self.old.image.format) (volume_of self.old.image self.old.marks.reserved) user fcb.old.extent fcb.old.current_record number bytes.now) }
     {
         self.write_random(true, user, number, fcb, bytes)
     }

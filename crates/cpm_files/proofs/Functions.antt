@@ -1,14 +1,15 @@
 -- The laws of opening and making a file.
-use Rattle.std.proofs.Common.{◌≡◌, ◌≢◌, ℕ, ◌%◌, ◌<◌, ◌≤◌, true, false, List, Some, None, length, refl, inl, inr, arith}
-use Rattle.std.proofs.lemmas.Bool.{cases_lt, lt-ltb, le-ltb}
+use Rattle.std.proofs.Common.{◌≡◌, ◌≢◌, ℕ, ◌%◌, ◌<◌, ◌≤◌, true, false, List, Some, None, length, sym, refl, ◌∙◌, inl, inr, arith}
+use Rattle.std.proofs.lemmas.Bool.{false≢true, cases_lt, lt-ltb, le-ltb}
 use Rattle.std.proofs.lemmas.List.{length-replicate}
 use Rattle.cpm_geom.specs.declared.dpb.Dpb.{Dpb}
 use Rattle.cpm_files.specs.declared.extent.Extent.{Extent}
 use Rattle.cpm_files.specs.Files.{extent_number, group_of, has_wildcard, deleted, entry_at, is_of, first_of, first_free, directory_file, open_file, Volume, IsSoundDrive}
 use Rattle.cpm_files.specs.Operations.{with_entry, opened, made, open_to_read, make_extent, open_function, make_function}
-use Rattle.cpm_files.specs.Laws.{KnowsFile, OpensFile, MakesFile}
-use Rattle.cpm_files.proofs.Entries.{first_of_passes}
-use Rattle.cpm_files.proofs.NameLemmas.{first_match_plain, same_name-refl}
+use Rattle.cpm_files.specs.Laws.{KnowsFile, HasNoFile, OpensFile, MakesFile}
+use Rattle.cpm_files.proofs.Entries.{is_of_parts, is_of_from, first_of_passes}
+use Rattle.cpm_files.proofs.NameLemmas.{first_match_plain, same_name-trans, same_name-sym, same_name-refl}
+use Rattle.cpm_files.proofs.Moving.{none_of, all_used}
 use Rattle.cpm_files.proofs.Opening as opening
 use Rattle.cpm_files.proofs.Making as making
 
@@ -58,6 +59,22 @@ module _ (d : Dpb) (user : ℕ) (v : Volume) (x : Extent) (user_ok : user ≢ de
         };
       }
 
+  -- the one entry of the group is the first
+  only_lesser : first_of d v.entries user x.name (group_of d (x.ex % 32)) < length v.entries → extent_number (entry_at v.entries index).extent < x.ex % 32 → HasNoFile d user v x
+  unfolding index
+  only_lesser there l = record {
+    lesser = λ i own.
+        let q = is_of_parts d user x.name (group_of d (x.ex % 32)) _ own in
+        let p = is_of_parts d user x.name (group_of d (x.ex % 32)) _ (matched there) in
+        let same = drive.well_formed.apart i index (record { used = λ e. user_ok (sym q.0 ∙ e) }) (is_of_from d _ _ _ _ (p.0 ∙ sym q.0) (same_name-trans _ _ _ (same_name-sym _ _ q.1) (same_name-sym _ _ p.1)) (p.2 ∙ sym q.2)) in
+        rw same l;
+  }
+
+  none_there : length v.entries ≤ first_of d v.entries user x.name (group_of d (x.ex % 32)) → HasNoFile d user v x
+  none_there h = record {
+    lesser = λ i own. absurd (false≢true (sym (none_of d v.entries user x.name (group_of d (x.ex % 32)) user_ok h i) ∙ own));
+  }
+
   past : length v.entries ≤ first_of d v.entries user x.name (group_of d (x.ex % 32)) → open_function d v.entries user x ≡ None
   unfolding open_function open_to_read
   past h = rw (first_match_plain d v.entries user x.name (group_of d (x.ex % 32)) plain, le-ltb _ _ h) refl
@@ -65,10 +82,10 @@ module _ (d : Dpb) (user : ℕ) (v : Volume) (x : Extent) (user_ok : user ≢ de
   pub opens_file : OpensFile d user v x
   opens_file =
       elim (cases_lt (first_of d v.entries user x.name (group_of d (x.ex % 32))) (length v.entries)) [
-        | inr h ↦ inl (past h)
+        | inr h ↦ inl (past h, none_there h)
         | inl there ↦ elim (cases_lt (extent_number (entry_at v.entries index).extent) (x.ex % 32)) [
-          | inl l ↦ inl (lesser there l)
-          | inr g ↦ inr (it there, opens there g, number_it there, knows there g)
+          | inl l ↦ inl (lesser there l, only_lesser there l)
+          | inr g ↦ inr (it there, opens there g, record { index = index; owner = matched there; no_lesser = g }, number_it there, knows there g)
         ]
       ]
 
@@ -103,6 +120,6 @@ module _ (d : Dpb) (user : ℕ) (v : Volume) (x : Extent) (user_ok : user ≢ de
     pub makes_file : MakesFile d user v x
     makes_file =
         elim (cases_lt (first_free v.entries) (length v.entries)) [
-          | inl free ↦ inr (making.after d v.entries v.reserved user x (x.ex % 32) user_ok plain small drive.well_formed none free, made x (x.ex % 32), makes free, making.made_number x (x.ex % 32) small, knows_made free, stays free)
-          | inr full ↦ inl (no_room full)
+          | inl free ↦ inr (making.after d v.entries v.reserved user x (x.ex % 32) user_ok plain small drive.well_formed none free, made x (x.ex % 32), makes free, record { within = free; unused = making.free_user d v.entries v.reserved user x (x.ex % 32) user_ok plain small drive.well_formed none free }, making.made_number x (x.ex % 32) small, knows_made free, stays free)
+          | inr full ↦ inl (no_room full, record { used = all_used v.entries full })
         ]

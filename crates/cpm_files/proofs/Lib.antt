@@ -18,3 +18,4 @@ pub mod Formats
 pub mod EncodingLemmas
 pub mod Functions
 pub mod Erasing
+pub mod Logging

@@ -56,7 +56,7 @@ module _ (d : Dpb) (es : List Entry) (reserved : List Bool) (user : ℕ) (x : Ex
   unfolding make_extent after
   make_answer = rw (lt-ltb _ _ free) refl
 
-  free_user : (entry_at es (first_free es)).user ≡ deleted
+  pub free_user : (entry_at es (first_free es)).user ≡ deleted
   unfolding first_free entry_at
   free_user = eqb-true _ _ (passes_at_first (λ (e : Entry). eqb e.user deleted) es no_entry free)
 

@@ -80,7 +80,7 @@ unfolding made
 made_map x number = length-replicate {A = ℕ} 16 0
 
 -- no entry is free
-all_used : (es : List Entry) → length es ≤ first_free es → (i : ℕ) → i < length es → InUse es i
+pub all_used : (es : List Entry) → length es ≤ first_free es → (i : ℕ) → i < length es → InUse es i
 unfolding first_free entry_at
 all_used es full i lt =
     record { used = λ e. false≢true (sym (fails_before_first (λ (e : Entry). eqb e.user deleted) es i no_entry (omega arith)) ∙ eq-eqb _ _ e) }

@@ -18,7 +18,9 @@ module _ (d : Dpb) (es : List Entry) (reserved : List Bool) (user : ℕ) (x : Ex
 
   pub take_answer : block_to_write d reserved (block_number x (map_place d n)) ≡ new_block (least_free reserved)
   unfolding block_to_write
-  take_answer = rw (none, le-ltb d.last_block 0 (omega arith), lt-ltb _ _ free) refl
+  take_answer =
+      let there : least_free reserved < d.last_block + 1 = omega arith in
+      rw (none, le-ltb d.last_block 0 (omega arith), lt-ltb _ _ free, lt-ltb _ _ there) refl
 
   pub was_free : is_reserved reserved (least_free reserved) ≡ false
   unfolding is_reserved least_free

@@ -6,13 +6,13 @@ use Rattle.cpm_files.specs.declared.extent.Extent.{Extent}
 use Rattle.cpm_files.specs.declared.extent.Entry.{Entry}
 use Rattle.cpm_files.specs.declared.fcb.Fcb.{Fcb}
 
--- CP/M 2.2 Operating System Manual, Disk Parameter Tables: block numbers are bytes where DSM is below 256, else words
+-- CP/M 2.2 Operating System Manual, section 6.10, Disk Parameter Tables: block numbers are bytes where DSM is below 256, else words
 unfoldable pub number_in : Dpb → List ℕ → ℕ → ℕ
 number_in d bytes place =
     if nat_lt d.last_block 256 then slice_index bytes (16 + place)
     else (if nat_lt place 8 then slice_index bytes (16 + 2 * place) + 256 * slice_index bytes (17 + 2 * place) else 0)
 
--- CP/M 2.2 Operating System Manual, Operating System Call Conventions: bytes 1 to 31 of a file control block, which are those of a directory entry
+-- CP/M 2.2 Operating System Manual, section 5.2, Operating System Call Conventions: bytes 1 to 31 of a file control block, which are those of a directory entry
 unfoldable pub extent_of : Dpb → List ℕ → Extent
 extent_of d bytes =
     record {
@@ -28,7 +28,7 @@ extent_of d bytes =
 unfoldable pub entry_of : Dpb → List ℕ → Entry
 entry_of d bytes = record { user = slice_index bytes 0; extent = extent_of d bytes }
 
--- CP/M 2.2 Operating System Manual, Operating System Call Conventions: the file control block of 36 bytes
+-- CP/M 2.2 Operating System Manual, section 5.2, Operating System Call Conventions: the file control block of 36 bytes
 unfoldable pub fcb_of : Dpb → List ℕ → Fcb
 fcb_of d bytes =
     record {

@@ -14,7 +14,7 @@ extent_number x = 32 * (x.s2 % 16) + x.ex % 32
 unfoldable pub group_of : Dpb → ℕ → ℕ
 group_of d number = number / (d.extent_mask + 1)
 
--- CP/M 2.2 Operating System Manual, Disk Parameter Tables: an entry's numbers are those of its EXM + 1 extents in order, each of 128 records
+-- CP/M 2.2 Operating System Manual, section 6.10, Disk Parameter Tables: an entry's numbers are those of its EXM + 1 extents in order, each of 128 records
 unfoldable pub place_of : Dpb → Extent → ℕ → ℕ
 place_of d x current =
     (extent_number x % (d.extent_mask + 1)) * (128 / (d.block_mask + 1)) + current / (d.block_mask + 1)

@@ -5,7 +5,7 @@ use Rattle.cpm_geom.specs.declared.format.Format.{Format}
 use Rattle.cpm_geom.specs.Geometry.{dpb_of}
 use Rattle.cpm_files.specs.declared.extent.Extent.{Extent}
 use Rattle.cpm_files.specs.declared.extent.Entry.{Entry}
-use Rattle.cpm_files.specs.Files.{extent_number, group_of, is_of, entry_at, InUse, same_name, deleted, is_reserved, first_free, file_block, open_file_block, directory_records, directory_file, open_file, IsWellFormed, IsKept, IsFormat, IsSound, IsSoundDrive, Volume, has_wildcard}
+use Rattle.cpm_files.specs.Files.{extent_number, group_of, is_of, entry_at, InUse, same_name, deleted, is_reserved, first_free, file_block, open_file_block, directory_records, directory_file, open_file, IsWellFormed, IsKept, IsFormat, IsVolume, IsSound, IsSoundDrive, Volume, has_wildcard}
 use Rattle.cpm_files.specs.Operations.{read_only, done, no_record, no_block, no_extent, no_entry_free, fault, Outcome, with_entry, closed, close_fault, close_function, open_function, make_function, read_next, write_next, read_at, write_at, write_at_cleared}
 use Rattle.cpm_files.specs.Rows.{large}
 
@@ -126,18 +126,19 @@ ClearsBlock d user v n o = (o.answer ≡ done) → HasCleared d user v n o.volum
 
 -- ---- close, open, make
 
--- after a close the directory has the file as the file control block knew it, and no other file changed
-pub record ClosesFile (d : Dpb) (protected : Bool) (es : List Entry) (reserved : List Bool) (user : ℕ) (x : Extent) : Type 0 where
+-- after a close the directory has the file as the file control block knew it, no other file changed, and the drive still agrees with itself and with the file control block
+pub record ClosesFile (d : Dpb) (protected : Bool) (v : Volume) (user : ℕ) (x : Extent) : Type 0 where
   pub index : ℕ
   pub after : List Entry
-  pub answer : close_function d protected es user x ≡ closed index after x
-  pub owner : is_of d user x.name (group_of d (extent_number x)) (entry_at es index) ≡ true
-  pub protects : protected ≡ true → after ≡ es
-  pub file : (n : ℕ) → file_block d after user x.name n ≡ open_file_block d es user x n
-  pub open_file : (n : ℕ) → open_file_block d after user x n ≡ open_file_block d es user x n
-  pub others : (v : ℕ) (name : List ℕ) → (v ≡ user → same_name name x.name ≡ true → ⊥) → (n : ℕ) → file_block d after v name n ≡ file_block d es v name n
-  pub well_formed : IsWellFormed d after reserved
-  pub kept : IsKept d after reserved user x
+  pub answer : close_function d protected v.entries user x ≡ closed index after x
+  pub owner : is_of d user x.name (group_of d (extent_number x)) (entry_at v.entries index) ≡ true
+  pub protects : protected ≡ true → after ≡ v.entries
+  pub file : (n : ℕ) → file_block d after user x.name n ≡ open_file_block d v.entries user x n
+  pub open_file : (n : ℕ) → open_file_block d after user x n ≡ open_file_block d v.entries user x n
+  pub others : (other : ℕ) (name : List ℕ) → (other ≡ user → same_name name x.name ≡ true → ⊥) → (n : ℕ) → file_block d after other name n ≡ file_block d v.entries other name n
+  pub well_formed : IsWellFormed d after v.reserved
+  pub kept : IsKept d after v.reserved user x
+  pub sound : IsVolume d v → length x.blocks ≡ 16 → IsSound d (with_entry v index after) user x
 
 -- the file control block knows the file as the directory has it
 pub record KnowsFile (d : Dpb) (user : ℕ) (name : List ℕ) (v : Volume) (v' : Volume) (x : Extent) : Type 0 where
@@ -145,15 +146,30 @@ pub record KnowsFile (d : Dpb) (user : ℕ) (name : List ℕ) (v : Volume) (v' :
   pub file : (m : ℕ) → open_file d v'.entries v'.records user x m ≡ directory_file d v.entries v.records user name m
   pub sound : IsSound d v' user x
 
--- an open answers that there is no such file, or the file
+-- the directory's entry of the user, name and group that an open asks for, if it has one, is of a lesser number than its extent's
+pub record HasNoFile (d : Dpb) (user : ℕ) (v : Volume) (x : Extent) : Type 0 where
+  pub lesser : (i : ℕ) → is_of d user x.name (group_of d (x.ex % 32)) (entry_at v.entries i) ≡ true → extent_number (entry_at v.entries i).extent < x.ex % 32
+
+-- it has one, of no lesser number
+pub record HasFile (d : Dpb) (user : ℕ) (v : Volume) (x : Extent) : Type 0 where
+  pub index : ℕ
+  pub owner : is_of d user x.name (group_of d (x.ex % 32)) (entry_at v.entries index) ≡ true
+  pub no_lesser : x.ex % 32 ≤ extent_number (entry_at v.entries index).extent
+
+-- an open answers that there is no such file exactly where the directory has none, or the file
 abbrev pub OpensFile : Dpb → ℕ → Volume → Extent → Type 0
 OpensFile d user v x =
-    (open_function d v.entries user x ≡ None) ⊎ ((x' : Extent) × (open_function d v.entries user x ≡ Some x') × (extent_number x' ≡ x.ex % 32) × KnowsFile d user x.name v v x')
+    ((open_function d v.entries user x ≡ None) × HasNoFile d user v x) ⊎ ((x' : Extent) × (open_function d v.entries user x ≡ Some x') × HasFile d user v x × (extent_number x' ≡ x.ex % 32) × KnowsFile d user x.name v v x')
 
--- a make answers that the directory is full, or makes an extent of the file and changes no file
+-- the first entry that is not in use is one of the directory's
+pub record HasFreeEntry (es : List Entry) : Type 0 where
+  pub within : first_free es < length es
+  pub unused : (entry_at es (first_free es)).user ≡ deleted
+
+-- a make answers that the directory is full exactly where it is, or makes an extent of the file at a free entry and changes no file
 abbrev pub MakesFile : Dpb → ℕ → Volume → Extent → Type 0
 MakesFile d user v x =
-    (make_function v.entries user x ≡ None) ⊎ ((es : List Entry) × (x' : Extent) × (make_function v.entries user x ≡ Some (es, x')) × (extent_number x' ≡ x.ex % 32) × KnowsFile d user x.name v (with_entry v (first_free v.entries) es) x' × ((other : ℕ) (name : List ℕ) (m : ℕ) → other ≢ deleted → directory_file d es v.records other name m ≡ directory_file d v.entries v.records other name m))
+    ((make_function v.entries user x ≡ None) × IsFull v.entries) ⊎ ((es : List Entry) × (x' : Extent) × (make_function v.entries user x ≡ Some (es, x')) × HasFreeEntry v.entries × (extent_number x' ≡ x.ex % 32) × KnowsFile d user x.name v (with_entry v (first_free v.entries) es) x' × ((other : ℕ) (name : List ℕ) (m : ℕ) → other ≢ deleted → directory_file d es v.records other name m ≡ directory_file d v.entries v.records other name m))
 
 -- ---- the laws
 
@@ -163,7 +179,7 @@ FormatsLaw = ((f : Format) → IsFormat (dpb_of f)) × IsFormat large
 
 abbrev pub CloseLaw : Type 0
 CloseLaw =
-    (d : Dpb) (protected : Bool) (es : List Entry) (reserved : List Bool) (user : ℕ) (x : Extent) → user ≢ deleted → IsWellFormed d es reserved → IsKept d es reserved user x → ClosesFile d protected es reserved user x ⊎ ((protected ≡ true) × (close_function d protected es user x ≡ close_fault read_only))
+    (d : Dpb) (protected : Bool) (v : Volume) (user : ℕ) (x : Extent) → user ≢ deleted → IsWellFormed d v.entries v.reserved → IsKept d v.entries v.reserved user x → ClosesFile d protected v user x ⊎ ((protected ≡ true) × (close_function d protected v.entries user x ≡ close_fault read_only))
 
 abbrev pub SequentialReadLaw : Type 0
 SequentialReadLaw =

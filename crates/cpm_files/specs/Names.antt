@@ -1,5 +1,5 @@
 -- What the calls on all entries of a name do: erase, rename, set attributes, compute the size.
--- CP/M 2.2 Operating System Manual, Operating System Call Conventions; own: what the manual leaves open.
+-- CP/M 2.2 Operating System Manual, section 5.2, Operating System Call Conventions; own: what the manual leaves open.
 use Rattle.std.specs.Prelude.{ℕ, ◌+◌, ◌*◌, ◌/◌, ◌%◌, Bool, ◌&&◌, ◌||◌, not, nat_lt, ◌==◌, if◌then◌else◌, List, [], ◌∷◌, ◌++◌, Option, max, length, map, slice_index}
 use Rattle.std.specs.List.{position_or_len, list_any, filter, reduce, range_with_len}
 use Rattle.cpm_geom.specs.declared.dpb.Dpb.{Dpb}

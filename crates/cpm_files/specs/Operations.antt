@@ -1,5 +1,5 @@
 -- What the calls on files do to a drive and to a file control block, in every case.
--- CP/M 2.2 Operating System Manual, Operating System Call Conventions; own: what the manual leaves open.
+-- CP/M 2.2 Operating System Manual, section 5.2, Operating System Call Conventions; own: what the manual leaves open.
 use Rattle.std.specs.Prelude.{ℕ, zero, suc, ◌+◌, ◌*◌, ◌/◌, ◌%◌, Bool, true, false, ◌&&◌, ◌||◌, not, nat_lt, ◌==◌, if◌then◌else◌, List, [], ◌∷◌, ◌++◌, map, Option, Some, None, max, replicate, length, slice_set}
 use Rattle.std.specs.List.{range_with_len}
 use Rattle.cpm_geom.specs.declared.dpb.Dpb.{Dpb}
@@ -236,12 +236,12 @@ pub data Found : Type 0 where
   old_block : (block : ℕ) → Found
   new_block : (block : ℕ) → Found
 
--- a number of the map, for none the least block that is not reserved
+-- a number of the map, for none the least block that is not reserved, if it is one of the drive's
 unfoldable pub block_to_write : Dpb → List Bool → ℕ → Found
 block_to_write d reserved b =
     if nat_lt d.last_block b then no_such_block
     else (if not (b == 0) then old_block b
-    else (if nat_lt (least_free reserved) (length reserved) then new_block (least_free reserved) else none_free))
+    else (if nat_lt (least_free reserved) (length reserved) && nat_lt (least_free reserved) (d.last_block + 1) then new_block (least_free reserved) else none_free))
 
 -- the extent with a block at a place of its map
 unfoldable pub with_block : Extent → ℕ → ℕ → Extent

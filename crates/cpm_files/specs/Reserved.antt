@@ -11,6 +11,6 @@ is_reserved reserved b = slice_index_or reserved b true
 unfoldable pub least_free : List Bool → ℕ
 least_free reserved = position_or_len not reserved
 
--- CP/M 2.2 Operating System Manual, Disk Parameter Tables: AL0 and AL1 reserve the directory's blocks, the highest bit being block 0
+-- CP/M 2.2 Operating System Manual, section 6.10, Disk Parameter Tables: AL0 and AL1 reserve the directory's blocks, the highest bit being block 0
 unfoldable pub is_directory_block : Dpb → ℕ → Bool
 is_directory_block d b = nat_lt b 16 && (d.directory_bits / 2 ^ (15 - b) % 2 == 1)

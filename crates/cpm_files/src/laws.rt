@@ -3,6 +3,7 @@
 ghost use Rattle.cpm_files.specs.Laws.{CloseLaw, SequentialWriteLaw, SequentialReadLaw, RandomWriteLaw, ClearingWriteLaw, RandomReadLaw, OpenLaw, MakeLaw, FormatsLaw};
 ghost use Rattle.cpm_files.specs.Encoding.{EncodingLaw};
 ghost use Rattle.cpm_files.specs.NameLaws.{EraseLaw};
+ghost use Rattle.cpm_files.specs.LogLaws.{LogLaw};
 
 /// Entries and file control blocks are their bytes.
 pub fn entries_are_their_bytes()
@@ -57,4 +58,9 @@ pub fn formats_serve_files()
 /// An erase removes the files of a name, frees their blocks and changes no other file.
 pub fn erase_frees_the_file()
     ensures { EraseLaw }
+{}
+
+/// A call has written what it changed, and changed what it has written.
+pub fn calls_log_what_they_change()
+    ensures { LogLaw }
 {}

@@ -8,7 +8,7 @@ use Rattle.cpm_geom.specs.declared.format.Format.TheVariants.{Ibm3740}
 unfoldable pub format_of_length : ℕ → Option Format
 format_of_length n = if n == 256256 then Some Ibm3740 else None
 
--- CP/M 2.2 Operating System Manual, Disk Parameter Tables: the values of the standard 8-inch single density disk
+-- CP/M 2.2 Operating System Manual, section 6.10, Disk Parameter Tables: the parameter block; own: these numbers, of the standard 8-inch single density disk
 unfoldable pub dpb_of : Format → Dpb
 dpb_of Ibm3740 =
     record {
@@ -30,7 +30,7 @@ tracks_of Ibm3740 = 77
 unfoldable pub first_sector_of : Format → ℕ
 first_sector_of Ibm3740 = 1
 
--- CP/M 2.2 Operating System Manual, Disk Parameter Tables: the sector translation vector, the sectors of a track in the order of its records
+-- CP/M 2.2 Operating System Manual, section 6.10, Disk Parameter Tables: the sector translation vector, the sectors of a track in the order of its records
 unfoldable pub skew : List ℕ
 skew =
     1 ∷ 7 ∷ 13 ∷ 19 ∷ 25 ∷ 5 ∷ 11 ∷ 17 ∷ 23 ∷ 3 ∷ 9 ∷ 15 ∷ 21 ∷ 2 ∷ 8 ∷ 14 ∷ 20 ∷ 26 ∷ 6 ∷ 12 ∷ 18 ∷ 24 ∷ 4 ∷ 10 ∷ 16 ∷ 22 ∷ []
@@ -56,7 +56,7 @@ pub record IsSector (f : Format) (track sector : ℕ) : Type 0 where
 unfoldable pub sector_index : Format → ℕ → ℕ → ℕ
 sector_index f track sector = track * sectors_per_track f + (sector - first_sector_of f)
 
--- CP/M 2.2 Operating System Manual, Disk Parameter Tables: OFF tracks are skipped before the first record
+-- CP/M 2.2 Operating System Manual, section 6.10, Disk Parameter Tables: OFF tracks are skipped before the first record
 unfoldable pub track_of : Format → ℕ → ℕ
 track_of f n = (dpb_of f).track_offset + n / sectors_per_track f
 

@@ -16,7 +16,7 @@ use Rattle.cpm_turns.specs.declared.player.Player.{Player}
 use Rattle.cpm_host.specs.Playing.{AllEnded, AllSeated, ArePressable, HasEnded, IsSeatRefusal, IsSeated, TakesSeat}
 use Rattle.cpm_host.specs.declared.error.HostError.{HostError}
 use Rattle.cpm_host.specs.declared.error.HostError.TheVariants as refusal
-use Rattle.cpm_host.specs.Run.{IsFirstRefused, IsOpening, start_of}
+use Rattle.cpm_host.specs.Run.{AllAccepted, IsFirstRefused, IsOpening, start_of}
 
 -- ---- seats
 
@@ -35,6 +35,7 @@ pub record IsOpened (start now : Host) (all rest : List SessionInput) (ps : List
   pub differ : AllDiffer ps
   pub system : now.system ≡ start.system
   pub refused : (fault : OpenError) → IsFirstRefused now rest fault → IsFirstRefused start all fault
+  pub accepted : AllAccepted now rest → AllAccepted start all
 
 -- at its opening
 opening_is : (i : SessionInput) (o : Opening) → IsOpening i o → opened_slot o ≡ start_of i
@@ -89,6 +90,7 @@ opened_more start now new all rest i ps more p h seat pushed =
       differ = differ_more n ps p h.numbered seat.id h.differ;
       system = h.system;
       refused = λ fault f. h.refused fault (o, seat.opens, inr (seat.accepted, f));
+      accepted = λ more. h.accepted (o, seat.opens, seat.accepted, more);
     } in
     subst (λ (host : Host). IsOpened start host all rest more) (sym seat.host) (subst (λ (qs : List Player). IsOpened start next all rest qs) (sym pushed) made)
 

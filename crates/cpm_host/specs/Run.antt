@@ -2,6 +2,7 @@
 use Rattle.std.specs.Prelude.{⊤, ◌≡◌, ◌⊎◌, ℕ, ◌==◌, ◌&&◌, not, nat_le, List, [], ◌∷◌, length, map, Option, Some, None, string_bytes, if◌then◌else◌}
 use Rattle.cpm_batch.specs.Inputs.{AreInputs, IsReadRefusal, SessionInput, needs_of_config}
 use Rattle.cpm_batch.specs.Outputs.{SessionOutput, files_of_all}
+use Rattle.cpm_batch.specs.Reads.{AreRead}
 use Rattle.cpm_batch.specs.declared.error.ReadError.TheVariants as reading
 use Rattle.cpm_config.specs.declared.config.Config.{Config}
 use Rattle.cpm_config.specs.declared.config.Session.{Session}
@@ -16,6 +17,7 @@ use Rattle.cpm_slots.specs.declared.opening.Opening.{Opening}
 use Rattle.cpm_slots.specs.declared.opening.OpenError.{OpenError}
 use Rattle.cpm_slots.specs.declared.reply.End.{End}
 use Rattle.cpm_store.specs.Files.{Files, Text, Told}
+use Rattle.cpm_store.specs.Log.{Access, AreNoWrites, AreWrites, RanBy, StopsAfter, Then}
 use Rattle.cpm_store.specs.Writes.{Named, StopsAt, WritesAll}
 use Rattle.cpm_turns.specs.Playing.{alone_by}
 use Rattle.cpm_host.specs.declared.error.HostError.{HostError}
@@ -70,16 +72,6 @@ files_left system inputs = map (λ i. left_of i.session (run_of system i)) input
 abbrev pub outputs_of : Disk → List SessionInput → List Named
 outputs_of system inputs = files_of_all (files_left system inputs)
 
--- Where the store tells its files: with what the files held, the sessions were run alone. The files that they name were written in order, and nothing else; and each session is reported.
-pub record HasRun (config : Config) (reports : List SessionReport) (old new : Option Files) : Type 0 where
-  pub system : Disk
-  pub inputs : List SessionInput
-  pub read : AreInputs old config system inputs
-  pub written : Told old new (WritesAll (outputs_of system inputs))
-  pub reported : map report_view reports ≡ reports_of system inputs
-
--- ---- refusals
-
 -- a number that no host can have, or no turn
 abbrev pub top_fault : Config → Option Field
 top_fault config =
@@ -91,6 +83,32 @@ pub record IsOpening (i : SessionInput) (o : Opening) : Type 0 where
   pub cpu : o.cpu ≡ i.session.cpu
   pub quota : o.quota ≡ i.session.quota
   pub drives : o.drives.items ≡ i.drives
+
+-- sessions that are opened one after another are all accepted
+abbrev pub AllAccepted : Host → List SessionInput → Type 0
+AllAccepted h [] = ⊤
+AllAccepted h (i ∷ is) = (o : Opening) × IsOpening i o × (refusal_of h o ≡ None) × AllAccepted (with_opened h o) is
+
+-- Where the store tells its files: with what the files held, the sessions were run alone. The files that they name were written in order, and nothing else; and each session is reported.
+pub record HasRun (config : Config) (reports : List SessionReport) (old new : Option Files) : Type 0 where
+  pub system : Disk
+  pub inputs : List SessionInput
+  pub read : AreInputs old config system inputs
+  -- no refusal is due: the numbers at the top are in range, and each session's opening is accepted
+  pub frames_and_quantum : top_fault config ≡ None
+  pub accepted : AllAccepted (new_host system config.frames) inputs
+  pub written : Told old new (WritesAll (outputs_of system inputs))
+  pub reported : map report_view reports ≡ reports_of system inputs
+
+-- Over any store: with what its files gave, the sessions were run alone. The calls were the reads of what the configuration needs, then the writes of the files that the sessions name, in order, and no others.
+pub record HasAccessed {S : Type 0} (does : S → Access → S → Type 0) (config : Config) (reports : List SessionReport) (old new : S) : Type 0 where
+  pub system : Disk
+  pub inputs : List SessionInput
+  pub accepted : AllAccepted (new_host system config.frames) inputs
+  pub calls : RanBy does (Then (AreRead config system inputs) (AreWrites (outputs_of system inputs))) old new
+  pub reported : map report_view reports ≡ reports_of system inputs
+
+-- ---- refusals
 
 -- of sessions that are opened one after another the first whose opening is refused is refused for this reason
 abbrev pub IsFirstRefused : Host → List SessionInput → OpenError → Type 0
@@ -127,6 +145,19 @@ IsRunRefusal config old new (refusal.SessionRefused name fault) = IsOpenRefusal 
 IsRunRefusal config old new (refusal.WriteFault name) = StopsWriting config old new
 IsRunRefusal config old new refusal.OutOfMemory = (new ≡ old) ⊎ StopsWriting config old new
 IsRunRefusal config old new _ = ⊥
+
+-- Over any store: what is needed was read, then those before one of the files were written, writing that one failed, and no other call was made.
+pub record FailsAtWrite {S : Type 0} (does : S → Access → S → Type 0) (config : Config) (old new : S) : Type 0 where
+  pub system : Disk
+  pub inputs : List SessionInput
+  pub place : ℕ
+  pub calls : RanBy does (Then (AreRead config system inputs) (StopsAfter (outputs_of system inputs) place)) old new
+
+-- what calls a run that is refused has made of any store: where it was not at its writes, none that writes
+abbrev pub IsStoppedRun : {S : Type 0} → (S → Access → S → Type 0) → Config → S → S → HostError → Type 0
+IsStoppedRun {S} does config old new (refusal.WriteFault name) = FailsAtWrite does config old new
+IsStoppedRun {S} does config old new refusal.OutOfMemory = RanBy does AreNoWrites old new ⊎ FailsAtWrite does config old new
+IsStoppedRun {S} does config old new _ = RanBy does AreNoWrites old new
 
 -- a device failed
 abbrev pub IsDeviceFault : HostError → Type 0

@@ -1,5 +1,5 @@
 //! Playing the sessions of a configuration in a host.
-ghost use Rattle.std.specs.Prelude.{◌≡◌, ◌≤◌, ◌∷◌, [], IfErr, IfOk, List, OnErr, Some, map};
+ghost use Rattle.std.specs.Prelude.{◌≡◌, ◌≤◌, ◌∷◌, [], IfErr, IfOk, List, OnErr, OnOk, Some, map};
 ghost use Rattle.std.specs.Vec.Iter.{into_iter_items};
 ghost use Rattle.cpm_batch.specs.Inputs.{SessionInput, given};
 ghost use Rattle.cpm_batch.specs.Outputs.{left_by};
@@ -10,7 +10,7 @@ ghost use Rattle.cpm_slots.specs.declared.opening.Opening.{Opening as OpeningVal
 ghost use Rattle.cpm_turns.specs.Players.{AllDiffer};
 ghost use Rattle.cpm_turns.specs.declared.player.Player.{Player};
 ghost use Rattle.cpm_host.specs.Playing.{AllSeated, AreFinished, ArePressable, IsClosed, IsSeatRefusal, TakesSeat, files_by, report_by};
-ghost use Rattle.cpm_host.specs.Run.{IsOpening, files_left, report_view, reports_of};
+ghost use Rattle.cpm_host.specs.Run.{AllAccepted, IsOpening, files_left, report_view, reports_of};
 
 use crate::error::HostError;
 use crate::report::SessionReport;
@@ -73,6 +73,7 @@ fn seat_all(
 ) -> Result<Vec<Player>, HostError>
     requires { host.old.host.slots ≡ [] }
     ensures seated { IfOk result (λ players. AllSeated host.new.host.slots (map given inputs.entry.items) players.items) }
+    ensures accepted { OnOk result (AllAccepted host.old.host (map given inputs.entry.items)) }
     ensures differ { IfOk result (λ players. AllDiffer players.items) }
     ensures system { host.new.host.system ≡ host.old.host.system }
     ensures refusal { IfErr result (IsSeatRefusal host.old.host (map given inputs.entry.items)) }
@@ -162,6 +163,7 @@ pub(crate) fn play_all<'a>(
     requires sessions { map (λ i. i.session) (map given inputs.sessions.items) ≡ config.now.sessions.items }
     ensures reports { IfOk result (λ p. map report_view p.reports.items ≡ reports_of inputs.entry.system (map given inputs.entry.sessions.items)) }
     ensures files { IfOk result (λ p. map left_by p.files.items ≡ files_left inputs.entry.system (map given inputs.entry.sessions.items)) }
+    ensures accepted { OnOk result (AllAccepted (new_host inputs.entry.system config.entry.now.frames) (map given inputs.entry.sessions.items)) }
     ensures refusal { IfErr result (IsSeatRefusal (new_host inputs.entry.system config.entry.now.frames) (map given inputs.entry.sessions.items)) }
 {
     let Inputs { system, sessions } = inputs;

@@ -1,8 +1,9 @@
 //! The command `run`.
-ghost use Rattle.std.specs.Prelude.{◌≡◌, ◌⊎◌, ◌<◌, ◌≤◌, IfErr, IfOk, OnOk, length, map};
+ghost use Rattle.std.specs.Prelude.{◌≡◌, ◌⊎◌, ◌<◌, ◌≤◌, ℕ, IfErr, IfOk, OnOk, length, map};
 ghost use Rattle.cpm_store.specs.Files.{CountsFailure, Told};
+ghost use Rattle.cpm_store.specs.Log.{AreWrites, RanBy, StopsAfter};
 ghost use Rattle.cpm_store.specs.Writes.{StopsAt, WritesAll, named};
-ghost use Rattle.cpm_host.specs.Run.{HasRun, IsDeviceFault, IsRunRefusal, IsWriteRefusal, top_fault};
+ghost use Rattle.cpm_host.specs.Run.{HasAccessed, HasRun, IsDeviceFault, IsRunRefusal, IsStoppedRun, IsWriteRefusal, top_fault};
 
 use crate::error::HostError;
 use crate::play::{Played, play_all};
@@ -31,6 +32,8 @@ fn top_fault(config: &Config) -> Option<Field>
 fn write_files<S: Store>(outputs: &[Output<'_>], store: &mut S) -> Result<(), HostError>
     ensures written { OnOk result (Told (S.files store.old) (S.files store.new) (WritesAll (map named outputs.now))) }
     ensures refusal { IfErr result (IsWriteRefusal (map named outputs.now) (S.files store.old) (S.files store.new)) }
+    ensures log { OnOk result (RanBy S.does (AreWrites (map named outputs.now)) store.old store.new) }
+    ensures stopped_log { IfErr result (λ _. (place : ℕ) × RanBy S.does (StopsAfter (map named outputs.now) place) store.old store.new) }
     ensures device { IfErr result (λ e. IsDeviceFault e → CountsFailure (S.failed store.old) (S.failed store.new)) }
     ensures counted { S.failed store.old ≤ S.failed store.new }
 {
@@ -57,6 +60,9 @@ pub fn run_host<S: Store>(
     // Each session stands in its files and its report as its machine alone, whatever the turns.
     ensures run { IfOk result (λ report. HasRun config.now report.items (S.files store.old) (S.files store.new)) }
     ensures refusal { IfErr result (IsRunRefusal config.now (S.files store.old) (S.files store.new)) }
+    // So it is of a store that doesn't tell its files: by what they gave, and by the calls alone.
+    ensures log { IfOk result (λ report. HasAccessed S.does config.now report.items store.old store.new) }
+    ensures stopped_log { IfErr result (IsStoppedRun S.does config.now store.old store.new) }
     ensures device { IfErr result (λ e. IsDeviceFault e → CountsFailure (S.failed store.old) (S.failed store.new)) }
     ensures counted { S.failed store.old ≤ S.failed store.new }
 {

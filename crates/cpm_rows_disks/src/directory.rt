@@ -125,13 +125,13 @@ fn the_lowest_blocks_are_taken(rt: HostRuntime) {
     ] {
         same_at(&rt, block, reserved.contains(block), want);
     }
-    same(&rt, reserved.take_lowest(), Ok(2));
+    same(&rt, reserved.take_lowest(242), Ok(2));
     for block in 4..243u16 {
-        same(&rt, reserved.take_lowest(), Ok(block));
+        same(&rt, reserved.take_lowest(242), Ok(block));
     }
     same(
         &rt,
-        reserved.take_lowest(),
+        reserved.take_lowest(242),
         Err(DirectoryError::NoBlockFree),
     );
 }
@@ -139,12 +139,11 @@ fn the_lowest_blocks_are_taken(rt: HostRuntime) {
 #[test]
 fn a_block_is_given_back(rt: HostRuntime) {
     let mut reserved = Reserved::none(Format::Ibm3740);
-    reserved.has_all_blocks();
     assert!(rt; !reserved.contains(0));
     assert!(rt; !reserved.contains(242));
     assert!(rt; reserved.contains(243));
     for block in 0..243u16 {
-        same(&rt, reserved.take_lowest(), Ok(block));
+        same(&rt, reserved.take_lowest(242), Ok(block));
     }
     reserved.free(242);
     reserved.free(7);
@@ -152,11 +151,16 @@ fn a_block_is_given_back(rt: HostRuntime) {
     reserved.free(65535);
     assert!(rt; reserved.contains(243));
     assert!(rt; !reserved.contains(7));
-    same(&rt, reserved.take_lowest(), Ok(7));
-    same(&rt, reserved.take_lowest(), Ok(242));
     same(
         &rt,
-        reserved.take_lowest(),
+        reserved.take_lowest(6),
+        Err(DirectoryError::NoBlockFree),
+    );
+    same(&rt, reserved.take_lowest(7), Ok(7));
+    same(&rt, reserved.take_lowest(242), Ok(242));
+    same(
+        &rt,
+        reserved.take_lowest(242),
         Err(DirectoryError::NoBlockFree),
     );
 }

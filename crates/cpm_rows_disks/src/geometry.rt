@@ -2,7 +2,7 @@
 
 use crate::same::same;
 use cpm_geom::{Dpb, Format, GeomError, Image, records_lie_apart};
-use std::alloc::Global;
+use std::alloc::{AllocError, Global};
 use std::process::Abort;
 use std::test::Fail;
 
@@ -24,15 +24,31 @@ fn blank_disk_is_all_e5(rt: HostRuntime) -> Result<(), Fail> {
     Ok(())
 }
 
+/// The byte at a place, another one than those near it.
+fn byte_at(place: usize) -> u8 {
+    (place % 251) as u8
+}
+
+/// So many of those bytes.
+fn numbered(alloc: Global, length: usize) -> Result<Vec<u8>, AllocError> {
+    let mut bytes = Vec::with_capacity(alloc, length)?;
+    for place in 0..length {
+        bytes.push(byte_at(place))?;
+    }
+    Ok(bytes)
+}
+
 #[test]
 fn other_lengths_come_back(rt: HostRuntime) -> Result<(), Fail> {
-    for length in [0, 256_255, 256_257] {
-        let bytes = vec![in rt.alloc(); 0xE5u8; length]?;
-        match Image::from_bytes(bytes) {
+    for length in [0, 1, 256_255, 256_257] {
+        match Image::from_bytes(numbered(rt.alloc(), length)?) {
             Ok(_) => panic!(&rt; "{length} bytes are accepted"),
             Err((bytes, error)) => {
                 same(&rt, bytes.len(), length);
                 same(&rt, error, GeomError::WrongLength);
+                for (place, byte) in bytes.iter().enumerate() {
+                    same(&rt, *byte, byte_at(place));
+                }
             }
         }
     }

@@ -153,5 +153,5 @@ fn finds_files_and_blocks(rt: HostRuntime) {
     same(&rt, find(&LentImage::new(&image), &last, 0), Ok(7));
     let mut reserved = login(&LentImage::new(&image));
     assert!(&rt; reserved.contains(0x4E));
-    same(&rt, reserved.take_lowest(), Ok(0x4F));
+    same(&rt, reserved.take_lowest(242), Ok(0x4F));
 }

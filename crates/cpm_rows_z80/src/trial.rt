@@ -26,7 +26,8 @@ pub struct Trial {
     pub steps: u32,
 }
 
-const CLEAR: Flags = Flags {
+/// No flag set.
+pub const CLEAR: Flags = Flags {
     sign: false,
     zero: false,
     bit5: false,

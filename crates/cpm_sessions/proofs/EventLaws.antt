@@ -1,12 +1,13 @@
 -- What happens to a host, event by event, is to each slot its own events alone.
-use Rattle.std.proofs.Common.{◌≡◌, ◌≢◌, ℕ, ◌<◌, ◌≤◌, true, false, ◌==◌, List, [], ◌∷◌, ◌++◌, Option, Some, None, refl, sym, ap, ◌∙◌, arith, if◌then◌else◌}
+use Rattle.std.proofs.Common.{◌≡◌, ◌≢◌, ℕ, ◌<◌, ◌≤◌, true, false, ◌==◌, List, [], ◌∷◌, ◌++◌, map, Option, Some, None, refl, sym, ap, ◌∙◌, arith, if◌then◌else◌}
 use Rattle.std.proofs.lemmas.Bool.Decides.{nat_tests}
 use Rattle.std.proofs.lemmas.Bool.{eqb-true}
 use Rattle.cpm_geom.specs.Disk.{Disk}
 use Rattle.cpm_slots.specs.MachineState.{MachineState}
-use Rattle.cpm_sessions.specs.Serving.{Ask, serve_slot}
+use Rattle.cpm_sessions.specs.declared.event.Event.{Event}
+use Rattle.cpm_sessions.specs.Serving.{Ask, ask_of, serve_slot}
 use Rattle.cpm_sessions.specs.Account.{slot_after, replies_of}
-use Rattle.cpm_sessions.specs.Host.{Host, Happening, Opens, Asks, Told, opened_slot, refusal_of, opened_if, slot_at, after_ask, after_one, host_after, told_by, told, told_of, asked_of, own, AllBelow}
+use Rattle.cpm_sessions.specs.Host.{Host, Happening, Opens, Asks, Told, opened_slot, refusal_of, opened_if, slot_at, after_ask, after_one, host_after, told_by, told, told_of, asked_of, own, happening_of, AllBelow}
 use Rattle.cpm_sessions.proofs.SlotLaws.{slot_at-other, slot_at-same, slot_at-added, AllBelow-added, AllBelow-with}
 
 pub apart : (h : Host) (id other : ℕ) (ask : Ask) → other ≢ id → slot_at other (after_ask h id ask).slots ≡ slot_at other h.slots
@@ -20,16 +21,20 @@ pub after_one-openings : (h : Host) (x : Happening) → h.openings ≤ (after_on
 after_one-openings h (Opens o) = elim (refusal_of h o) as (λ r. h.openings ≤ (opened_if r h o).openings) [ None ↦ omega arith | Some fault ↦ omega arith ]
 after_one-openings h (Asks id ask) = omega arith
 
+-- what is asked leaves of the slot what it leaves if the slot was asked, and all of it else
+asked-slot : (id : ℕ) (h : Host) (named : ℕ) (ask : Ask) → slot_at id (after_ask h named ask).slots ≡ slot_after h.system (asked_of id (Asks named ask)) (slot_at id h.slots)
+asked-slot id h named ask =
+    elim (named == id) as (λ b. (named == id) ≡ b → slot_at id (after_ask h named ask).slots ≡ slot_after h.system (if b then ask ∷ [] else []) (slot_at id h.slots)) [
+      | true ↦ (λ e. let same : named ≡ id = grind (arith, nat_tests) in rw same (slot_at-same id ask h.system h.slots (slot_at id h.slots) refl))
+      | false ↦ (λ e. slot_at-other id named (serve_slot h.system ask (slot_at named h.slots)).slot h.slots e)
+    ] refl
+
 -- an event leaves of the slot what its own events leave
 after_one-slot : (id : ℕ) (h : Host) (x : Happening) → id < h.openings → slot_at id (after_one h x).slots ≡ slot_after h.system (asked_of id x) (slot_at id h.slots)
 after_one-slot id h (Opens o) below =
     elim (refusal_of h o) as (λ r. slot_at id (opened_if r h o).slots ≡ slot_at id h.slots)
     [ None ↦ slot_at-added id (record { id = h.openings; state = opened_slot o }) h.slots below | Some fault ↦ refl ]
-after_one-slot id h (Asks named ask) below =
-    elim (named == id) as (λ b. (named == id) ≡ b → slot_at id (after_ask h named ask).slots ≡ slot_after h.system (if b then ask ∷ [] else []) (slot_at id h.slots)) [
-      | true ↦ (λ e. let same : named ≡ id = grind (arith, nat_tests) in rw same (slot_at-same id ask h.system h.slots (slot_at id h.slots) refl))
-      | false ↦ (λ e. slot_at-other id named (serve_slot h.system ask (slot_at named h.slots)).slot h.slots e)
-    ] refl
+after_one-slot id h (Asks named ask) below = asked-slot id h named ask
 
 -- and tells it what its own events are replied
 told_by-slot : (id : ℕ) (h : Host) (x : Happening) → told_of id (told_by h x) ≡ replies_of h.system (asked_of id x) (slot_at id h.slots)
@@ -86,3 +91,18 @@ pub slot_after-none : (system : Disk) (asks : List Ask) → slot_after system as
 unfolding serve_slot
 slot_after-none system [] = refl
 slot_after-none system (x ∷ xs) = slot_after-none system xs
+
+-- where nothing is opened the number may be any
+pub slot-asked : (id : ℕ) (events : List Event) (h : Host) → slot_at id (host_after (map happening_of events) h).slots ≡ slot_after h.system (own id (map happening_of events)) (slot_at id h.slots)
+slot-asked id [] h = refl
+slot-asked id (e ∷ es) h =
+    let x = happening_of e in
+    rw (slot-asked id es (after_one h x), asked-slot id h e.slot.0 (ask_of e.request))
+    (sym (slot_after-append h.system (asked_of id x) (own id (map happening_of es)) (slot_at id h.slots)))
+
+pub told-asked : (id : ℕ) (events : List Event) (h : Host) → told_of id (told (map happening_of events) h) ≡ replies_of h.system (own id (map happening_of events)) (slot_at id h.slots)
+told-asked id [] h = refl
+told-asked id (e ∷ es) h =
+    let x = happening_of e in
+    rw (told_of-append id (told_by h x) (told (map happening_of es) (after_one h x)), told-asked id es (after_one h x), told_by-slot id h x, asked-slot id h e.slot.0 (ask_of e.request))
+    (sym (replies_of-append h.system (asked_of id x) (own id (map happening_of es)) (slot_at id h.slots)))

@@ -5,6 +5,7 @@ pub mod AccountLaws
 pub mod OpeningLaws
 pub mod CutLaws
 pub mod SeatLaws
+pub mod FitSeats
 pub mod ServeLaws
 pub mod PlaceLaws
 pub mod CallLaws

@@ -21,7 +21,7 @@ use Rattle.cpm_sessions.specs.Seating.{contents_at, slot_of, slots_of, NoneAt, A
 
 -- the seat with another runner
 abbrev pub seated : Seat → Runner → Seat
-seated s runner = record { id = s.id; runner = runner; table = s.table }
+seated s runner = record s { runner = runner }
 
 -- what holds of a seat at its place
 pub record IsSeat (m : List (Option Contents)) (s : Seat) : Type 0 where

@@ -1,22 +1,26 @@
 //! Up to 64 sessions over one system drive.
 
-ghost use Rattle.std.specs.Prelude.{◌≡◌, ◌≤◌, ◌<◌, [], length, drop, None, IfOk, IfErr, IfNone, IfSome, OnErr};
+ghost use Rattle.std.specs.Prelude.{◌≡◌, ℕ, ◌≤◌, ◌<◌, [], length, drop, None, Some, IfOk, IfErr, IfNone, IfSome, OnErr};
+ghost use Rattle.cpm_geom.specs.Disk.{Disk};
 ghost use Rattle.cpm_disks.specs.Disks.{images_of};
 ghost use Rattle.cpm_console.specs.Terminal.{blank};
 ghost use Rattle.cpm_memory.specs.Frames.{memories, IsSound, IsTaken};
 ghost use Rattle.cpm_memory.specs.Opening.{opening as memory_opening};
 ghost use Rattle.cpm_memory.specs.Tabulated.{tabulated};
+ghost use Rattle.cpm_slots.specs.Laws.{IsBounded};
+ghost use Rattle.cpm_slots.specs.MachineState.{MachineState};
 ghost use Rattle.cpm_slots.specs.Opening.{IsRefusal};
 ghost use Rattle.cpm_slots.specs.Runner.{state_of};
 ghost use Rattle.cpm_slots.specs.Serve.{look_of};
+ghost use Rattle.cpm_slots.specs.Step.{step};
 ghost use Rattle.cpm_slots.specs.Calls.{Key, Grant, GrantUntil, Take, TakeList, LookAt, Peek};
 ghost use Rattle.cpm_sessions.specs.Host.{opened_slot};
 ghost use Rattle.cpm_sessions.specs.Serving.{Calls, Closes};
 
 use crate::event::{Refusal, SlotId};
 use crate::seats::{
-    Seat, close_at, grant_at, grant_until_at, key_at, look_at, peek_at, place_of, quotas_of,
-    table_at, take_at, take_list_at,
+    Seat, close_at, grant_at, grant_until_at, key_at, look_at, numbers_fit, peek_at, place_of,
+    quotas_of, table_at, take_at, take_list_at,
 };
 use cpm_bdos::Session;
 use cpm_console::Console;
@@ -272,6 +276,14 @@ impl Host {
         ensures frames { IsHoused self.now }
     {
         &self.store
+    }
+
+    /// Does nothing, and says that a step of a slot that is open newly writes at most 8 pages and puts at most 4,096 bytes on each
+    /// device, whatever the system drive.
+    pub fn steps_are_bounded(&self)
+        ensures { (system : Disk) (id : ℕ) (s : MachineState) → slot_at id self.now.host.slots ≡ Some s → IsBounded s (step system s) }
+    {
+        numbers_fit(&self.seats);
     }
 
     /// Closes a slot, whose number never comes again, and gives what is left of it. Bytes not taken are dropped.

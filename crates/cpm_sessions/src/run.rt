@@ -1,8 +1,10 @@
 //! Lists of events.
 
-ghost use Rattle.std.specs.Prelude.{◌≡◌, ℕ, ◌<◌, ◌≤◌, length, map, take, drop};
+ghost use Rattle.std.specs.Prelude.{◌≡◌, ℕ, ◌≤◌, Some, length, map, take, drop};
 ghost use Rattle.cpm_sessions.specs.Serving.{ask_of};
-ghost use Rattle.cpm_sessions.specs.Account.{slot_after, replies_of};
+ghost use Rattle.cpm_slots.specs.MachineState.{MachineState};
+ghost use Rattle.cpm_slots.specs.Calls.{no_account};
+ghost use Rattle.cpm_sessions.specs.Account.{account_by, slot_after, replies_of, IsAlone};
 
 use crate::event::{Event, Reply, Request, SlotId};
 use crate::host::Host;
@@ -84,16 +86,19 @@ impl Host {
     }
 
     /// Serves a list of events in order, and puts the reply to each in its place. A slot's replies and its state are those of the slot by
-    /// itself, by its own events. Places past the last event are left as they are.
+    /// itself, by its own events. A slot that was open and still is was the machine run alone, from its state before, by the account
+    /// of its own events and replies. Places past the last event are left as they are.
     pub fn run(&mut self, events: &[Event], replies: &mut [Reply])
         requires { length events.now ≤ length replies.old }
         ensures host { self.new.host ≡ host_after (map happening_of events.now) self.old.host }
         ensures replies { take (length events.now) replies.new ≡ map (λ t. t.reply) (told (map happening_of events.now) self.old.host) }
         ensures rest { drop (length events.now) replies.new ≡ drop (length events.now) replies.old }
-        ensures own_replies { (id : ℕ) → id < self.old.host.openings →
+        ensures own_replies { (id : ℕ) →
             replies_to id events.now replies.new ≡ replies_of self.old.host.system (own id (map happening_of events.now)) (slot_at id self.old.host.slots) }
-        ensures own_state { (id : ℕ) → id < self.old.host.openings →
+        ensures own_state { (id : ℕ) →
             slot_at id self.new.host.slots ≡ slot_after self.old.host.system (own id (map happening_of events.now)) (slot_at id self.old.host.slots) }
+        ensures own_account { (id : ℕ) (start : MachineState) → slot_at id self.old.host.slots ≡ Some start →
+            IsAlone self.old.host.system start (account_by no_account (own id (map happening_of events.now)) (replies_to id events.now replies.new)) (slot_at id self.new.host.slots) }
     {
         self.serve_all(events, replies);
     }

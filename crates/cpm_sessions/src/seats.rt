@@ -1,7 +1,9 @@
 //! Sessions whose memories lie in one store of frames, by their places.
 
 ghost use Rattle.std.specs.Prelude.{◌≡◌, ℕ, true, false, nat_lt, IfOk, IfErr, ◌<◌, ◌≤◌, ◌*◌, ◌+◌, List, Option, length, take, drop, sum_by, slice_get, remove, IfSome};
+ghost use Rattle.std.specs.List.{All};
 ghost use Rattle.cpm_geom.specs.Disk.{Disk};
+ghost use Rattle.cpm_bdos.specs.Bounds.{IsFit};
 ghost use Rattle.cpm_console.specs.Terminal.{pressed};
 ghost use Rattle.cpm_disks.specs.Disks.{images_of};
 ghost use Rattle.cpm_memory.specs.Contents.{Contents, byte_at};
@@ -59,6 +61,15 @@ pub fn quotas_of(seats: &[Seat]) -> u64
         total += u64::from(seat.runner.quota);
     }
     total
+}
+
+/// Does nothing, and says of each session that its columns and its line's length are bytes, and its addresses words.
+pub fn numbers_fit(seats: &[Seat])
+    ensures { All (λ seat. IsFit seat.runner.session) seats.now }
+{
+    for seat in seats {
+        seat.runner.session.numbers_fit();
+    }
 }
 
 /// Presses a key, which is refused where 4,096 are pending.

@@ -4,5 +4,6 @@ pub mod GrantLaws
 pub mod PressLaws
 pub mod AloneLaws
 pub mod WaitLaws
+pub mod WaitCalls
 pub mod StepBounds
 pub mod KeyLaws

@@ -9,6 +9,7 @@ use Rattle.cpm_slots.specs.declared.steps.Outcome.TheVariants as outcome
 use Rattle.cpm_slots.specs.MachineState.{MachineState}
 use Rattle.cpm_slots.specs.Step.{step, after, can_step, after_part, made}
 use Rattle.cpm_slots.specs.Serve.{executed, look_of}
+use Rattle.cpm_slots.specs.Waits.{WaitsWhereItSays}
 use Rattle.cpm_slots.specs.Alone.{Press, due, alone}
 use Rattle.cpm_slots.specs.Calls.{Call, no_account, account_after, state_after, state_behind}
 
@@ -54,6 +55,10 @@ Alone = (system : Disk) (calls : List Call) (start : MachineState) →
 -- a step of a machine that waits for a key changes its count alone, and its end by that
 abbrev pub Waiting : Type 0
 Waiting = (system : Disk) (s : MachineState) → (look_of s).waiting ≡ true → step system s ≡ after_part s (made s.session s.memory outcome.GoesOn)
+
+-- And it is said to wait nowhere else: exactly where its next step is that of a call which needs a key and finds none.
+abbrev pub WaitsExactly : Type 0
+WaitsExactly = (system : Disk) (s : MachineState) → WaitsWhereItSays system s
 
 -- keys that come later make no difference
 abbrev pub LateKeys : Type 0

@@ -1,6 +1,6 @@
 //! Laws of machines, as contracts.
 
-ghost use Rattle.cpm_slots.specs.Laws.{Greatest, Cutting, Bounded, KeysLeave, KeysFromFront, Alone, LateKeys, Waiting};
+ghost use Rattle.cpm_slots.specs.Laws.{Greatest, Cutting, Bounded, KeysLeave, KeysFromFront, Alone, LateKeys, Waiting, WaitsExactly};
 
 /// A grant executes the greatest number of steps that can be made.
 pub fn greatest()
@@ -37,6 +37,11 @@ pub fn alone()
 /// A step of a machine that waits for a key changes its count alone, and its end by that.
 pub fn waiting()
     ensures { Waiting }
+{}
+
+/// A machine is said to wait exactly where its next step is that of a call which needs a key and finds none.
+pub fn waits_exactly()
+    ensures { WaitsExactly }
 {}
 
 /// Keys that come later make no difference to the machine run alone.

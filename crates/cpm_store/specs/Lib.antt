@@ -1,4 +1,5 @@
 pub mod Files
 pub mod Laws
+pub mod Log
 pub mod Memory
 pub mod Writes

@@ -1,6 +1,7 @@
 //! A store over memory, of which one call can be made to fail.
 ghost use Rattle.std.specs.Prelude.{◌≡◌, ◌+◌, ◌≤◌, ◌⊎◌, Some, None, Ok, Err, IfErr, IfOk, IfSome, IsErrOf, IsSome, OnErr, OnOk, option_map, true};
 ghost use Rattle.cpm_store.specs.Files.{CountsFailure, Finds, Told, KeepsOthers, Writes, file_at};
+ghost use Rattle.cpm_store.specs.Log.{Access, Does, Gave, Missed, Wrote};
 ghost use Rattle.cpm_store.specs.Memory.{calls_left, failures_of, files_in, is_last, one_less};
 
 use crate::store::{Store, StoreError};
@@ -114,9 +115,13 @@ impl Store for MemoryStore {
 
     ghost failed = { λ s. failures_of s };
 
+    ghost does = { λ s a t. Does a (files_in s) (files_in t) };
+
     fn read(&mut self, alloc: Global, name: &str) -> Result<Vec<u8>, StoreError>
         ensures found { IfOk result (λ v. Finds (Some (files_in self.old)) name.now v.items) }
         ensures same { Some (files_in self.new) ≡ Some (files_in self.old) }
+        ensures gave { IfOk result (λ v. Does (Gave name.now v.items) (files_in self.old) (files_in self.new)) }
+        ensures missed { OnErr result (Does (Missed name.now) (files_in self.old) (files_in self.new)) }
         ensures device { IsErrOf result StoreError.Device → CountsFailure (failures_of self.old) (failures_of self.new) }
         ensures counted { failures_of self.old ≤ failures_of self.new }
         // It fails exactly at the call that is to fail, or where there is no such file.
@@ -140,6 +145,8 @@ impl Store for MemoryStore {
     fn write(&mut self, name: &str, bytes: &[u8]) -> Result<(), StoreError>
         ensures written { OnOk result (Told (Some (files_in self.old)) (Some (files_in self.new)) (Writes name.now bytes.now)) }
         ensures others { OnErr result (Told (Some (files_in self.old)) (Some (files_in self.new)) (KeepsOthers name.now)) }
+        ensures wrote { OnOk result (Does (Wrote name.now bytes.now) (files_in self.old) (files_in self.new)) }
+        ensures missed { OnErr result (Does (Missed name.now) (files_in self.old) (files_in self.new)) }
         ensures device { IsErrOf result StoreError.Device → CountsFailure (failures_of self.old) (failures_of self.new) }
         ensures counted { failures_of self.old ≤ failures_of self.new }
         // It fails exactly at the call that is to fail, but for want of memory, and then changes no file.

@@ -1,6 +1,7 @@
 //! What a store of named files offers.
 ghost use Rattle.std.specs.Prelude.{◌≡◌, ◌≤◌, ℕ, Option, IfOk, OnOk, OnErr, IsErrOf};
 ghost use Rattle.cpm_store.specs.Files.{CountsFailure, Files, Finds, KeepsOthers, Told, Writes};
+ghost use Rattle.cpm_store.specs.Log.{Access, Gave, Missed, Wrote};
 
 use std::alloc::Global;
 use thiserror::Error;
@@ -24,10 +25,16 @@ pub trait Store {
     // The number of calls that failed.
     ghost failed: { Self → ℕ };
 
+    // From this state, by this call, to that state. Every store has it, and a body that is proved for each of
+    // them can know no step but those that its own calls made.
+    ghost does: { Self → Access → Self → Type 0 };
+
     /// The bytes of a file. `Device` where it can't be read, which counts a failure.
     fn read(&mut self, alloc: Global, name: &str) -> Result<Vec<u8>, StoreError>
         ensures found { IfOk result (λ v. Finds (files self.old) name.now v.items) }
         ensures same { files self.new ≡ files self.old }
+        ensures gave { IfOk result (λ v. does self.old (Gave name.now v.items) self.new) }
+        ensures missed { OnErr result (does self.old (Missed name.now) self.new) }
         ensures device { IsErrOf result StoreError.Device → CountsFailure (failed self.old) (failed self.new) }
         ensures counted { failed self.old ≤ failed self.new };
 
@@ -36,6 +43,8 @@ pub trait Store {
     fn write(&mut self, name: &str, bytes: &[u8]) -> Result<(), StoreError>
         ensures written { OnOk result (Told (files self.old) (files self.new) (Writes name.now bytes.now)) }
         ensures others { OnErr result (Told (files self.old) (files self.new) (KeepsOthers name.now)) }
+        ensures wrote { OnOk result (does self.old (Wrote name.now bytes.now) self.new) }
+        ensures missed { OnErr result (does self.old (Missed name.now) self.new) }
         ensures device { IsErrOf result StoreError.Device → CountsFailure (failed self.old) (failed self.new) }
         ensures counted { failed self.old ≤ failed self.new };
 

@@ -1,6 +1,7 @@
 //! The writes of a run, one after another.
 ghost use Rattle.std.specs.Prelude.{◌≡◌, ◌<◌, ◌≤◌, IfErr, OnOk, length, map};
 ghost use Rattle.cpm_store.specs.Files.{CountsFailure, Told};
+ghost use Rattle.cpm_store.specs.Log.{AreWrites, RanBy, StopsAfter};
 ghost use Rattle.cpm_store.specs.Writes.{StopsAt, WritesAll, named};
 
 use crate::store::{Store, StoreError};
@@ -28,6 +29,9 @@ pub fn write_all<S: Store>(outputs: &[Output<'_>], store: &mut S) -> Result<(), 
     // Those before the failed one were written, it may hold anything, and nothing else has changed.
     ensures stopped { IfErr result (λ e.
         Told (S.files store.old) (S.files store.new) (StopsAt (map named outputs.now) e.place)) }
+    // The calls were these writes and no others, up to the one that failed, of whichever store.
+    ensures log { OnOk result (RanBy S.does (AreWrites (map named outputs.now)) store.old store.new) }
+    ensures stopped_log { IfErr result (λ e. RanBy S.does (StopsAfter (map named outputs.now) e.place) store.old store.new) }
     ensures place { IfErr result (λ e. e.place < length outputs.now) }
     ensures device { IfErr result (λ e.
         e.cause ≡ StoreError.Device → CountsFailure (S.failed store.old) (S.failed store.new)) }

@@ -1,5 +1,5 @@
 //! The files of the machine that the program runs on.
-ghost use Rattle.std.specs.Prelude.{◌≡◌, ◌≤◌, None, IfErr, IfOk, vec_len};
+ghost use Rattle.std.specs.Prelude.{⊤, ◌≡◌, ◌≤◌, None, IfErr, IfOk, vec_len};
 ghost use Rattle.cpm_host.specs.Refusals.{IsFileRefusal, IsOutRefusal};
 ghost use Rattle.cpm_store.specs.Files.{CountsFailure};
 
@@ -66,7 +66,9 @@ pub struct MachineFiles<'a, R: Files> {
 
 impl<'a, R: Files> MachineFiles<'a, R> {
     /// The files, of which no call has failed yet.
-    pub fn new(rt: &'a R) -> MachineFiles<'a, R> {
+    pub fn new(rt: &'a R) -> MachineFiles<'a, R>
+        ensures { result.failures ≡ 0 }
+    {
         MachineFiles { rt, failures: 0 }
     }
 
@@ -87,6 +89,9 @@ impl<R: Files> Store for MachineFiles<'_, R> {
     ghost files = { λ _. None };
 
     ghost failed = { λ s. s.failures };
+
+    // Nothing can be said of what a file of the machine holds. What was read and written is said by the log of whoever calls.
+    ghost does = { λ _ _ _. ⊤ };
 
     fn read(&mut self, alloc: Global, name: &str) -> Result<Vec<u8>, StoreError> {
         match whole_file(self.rt, alloc, name) {

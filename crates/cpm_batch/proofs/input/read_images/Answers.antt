@@ -2,8 +2,10 @@ use Rattle.std.proofs.Common.{◌≡◌, sym, subst, List, arith}
 use Rattle.std.proofs.lemmas.Result.{err_from_is_err_and}
 use Rattle.std.specs.Prelude.{string_bytes}
 use Rattle.cpm_geom.specs.Disk.{Disk}
+use Rattle.cpm_store.proofs.LogLemmas.{unwritten_more}
 use Rattle.cpm_batch.specs.Inputs.{AllImages}
 use Rattle.cpm_batch.proofs.InputLemmas.{image_as, image_refusal_as, name_read, name_refused}
+use Rattle.cpm_batch.proofs.ReadLemmas.{image_read_as, images_more}
 use Rattle.cpm_batch.proofs.input.read_images.Goals as goal
 
 pub returns-in_err-read_image-clause-refusal : goal.returns-in_err-read_image-clause-refusal
@@ -22,6 +24,19 @@ loop-name-preserved g c =
       images = name_read files c.args.names.now c.loop-name.name-index c.name-item.result c.loop-name.images.items c.push.new.self.items c.in_ok-read_image.field-0 c.loop-name-test.true
           c.name-item.is c.in_ok-push.ensures.items i.images
           (image_as files (g.S.Store.files c.loop-name.store) (string_bytes c.name-item.result) c.as_str.result.now c.in_ok-read_image.field-0 i.same c.as_str.ensures.value c.in_ok-read_image.ensures.image);
+      log = images_more g.S.Store.does c.args.names.now c.loop-name.name-index c.name-item.result c.loop-name.images.items c.push.new.self.items c.in_ok-read_image.field-0 c.args.store.now
+          c.loop-name.store c.read_image.new.store c.loop-name-test.true c.name-item.is c.in_ok-push.ensures.items i.log
+          (image_read_as g.S.Store.does (string_bytes c.name-item.result) c.as_str.result.now c.in_ok-read_image.field-0 c.loop-name.store c.read_image.new.store c.as_str.ensures.value
+          c.in_ok-read_image.ensures.log);
+      unwritten = unwritten_more g.S.Store.does c.args.store.now c.loop-name.store c.read_image.new.store i.unwritten c.in_ok-read_image.ensures.unwritten;
       same = let s = c.in_ok-read_image.ensures.same in let t = i.same in cc;
       counted = omega (arith, i.counted, c.in_ok-read_image.ensures.counted);
     }
+
+pub returns-in_err-read_image-clause-unwritten : goal.returns-in_err-read_image-clause-unwritten
+returns-in_err-read_image-clause-unwritten g c =
+    unwritten_more g.S.Store.does c.args.store.now c.loop-name.store c.read_image.new.store c.loop-name.invariant.unwritten c.in_err-read_image.ensures.unwritten
+
+pub returns-in_err-push-clause-unwritten : goal.returns-in_err-push-clause-unwritten
+returns-in_err-push-clause-unwritten g c =
+    unwritten_more g.S.Store.does c.args.store.now c.loop-name.store c.read_image.new.store c.loop-name.invariant.unwritten c.in_ok-read_image.ensures.unwritten

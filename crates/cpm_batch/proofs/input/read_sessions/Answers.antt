@@ -1,8 +1,10 @@
 use Rattle.std.proofs.Common.{◌≡◌, ◌∙◌, ap, refl, sym, subst, List, map, take, ◌+◌, arith}
 use Rattle.std.proofs.lemmas.Result.{err_from_is_err_and}
+use Rattle.cpm_store.proofs.LogLemmas.{unwritten_more}
 use Rattle.cpm_batch.specs.Inputs.{AllInputs, given, needs_of}
 use Rattle.cpm_batch.specs.declared.input.Input.{Input}
 use Rattle.cpm_batch.proofs.InputLemmas.{input_as, inputs_more, refusal_as, session_refused, sessions_more}
+use Rattle.cpm_batch.proofs.ReadLemmas.{sessions_read}
 use Rattle.cpm_batch.proofs.input.read_sessions.Goals as goal
 
 pub returns-in_err-read_session-clause-refusal : goal.returns-in_err-read_session-clause-refusal
@@ -23,6 +25,17 @@ loop-session-preserved g c =
           (input_as files (g.S.Store.files c.loop-session.store) (given x) i.same c.in_ok-read_session.ensures.input);
       sessions = sessions_more c.loop-session.inputs.items c.push.new.self.items x c.args.sessions.now c.loop-session.session-index c.session-item.result c.loop-session-test.true c.session-item.is
           c.in_ok-push.ensures.items i.sessions c.in_ok-read_session.ensures.session;
+      log = sessions_read g.S.Store.does c.loop-session.inputs.items c.push.new.self.items x c.args.store.now c.loop-session.store c.read_session.new.store c.in_ok-push.ensures.items i.log
+          c.in_ok-read_session.ensures.log;
+      unwritten = unwritten_more g.S.Store.does c.args.store.now c.loop-session.store c.read_session.new.store i.unwritten c.in_ok-read_session.ensures.unwritten;
       same = let s = c.in_ok-read_session.ensures.same in let t = i.same in cc;
       counted = omega (arith, i.counted, c.in_ok-read_session.ensures.counted);
     }
+
+pub returns-in_err-read_session-clause-unwritten : goal.returns-in_err-read_session-clause-unwritten
+returns-in_err-read_session-clause-unwritten g c =
+    unwritten_more g.S.Store.does c.args.store.now c.loop-session.store c.read_session.new.store c.loop-session.invariant.unwritten c.in_err-read_session.ensures.unwritten
+
+pub returns-in_err-push-clause-unwritten : goal.returns-in_err-push-clause-unwritten
+returns-in_err-push-clause-unwritten g c =
+    unwritten_more g.S.Store.does c.args.store.now c.loop-session.store c.read_session.new.store c.loop-session.invariant.unwritten c.in_ok-read_session.ensures.unwritten

@@ -10,7 +10,6 @@ use Rattle.cpm_directory.specs.Directory.{entries_of}
 use Rattle.cpm_files.specs.Reserved.{is_directory_block}
 use Rattle.cpm_directory.specs.Login.{reserved_at_login, has_block}
 use Rattle.cpm_directory.proofs.DriveLemmas.{last_entry_small, last_block_small, entries_length}
-use Rattle.cpm_directory.proofs.ReservedLemmas.{same_count}
 use Rattle.cpm_directory.proofs.LoginLemmas.{entry_in_use, entry_unused, logged_in}
 use Rattle.cpm_directory.proofs.reserved.login.Goals as goal
 use Rattle.cpm_directory.proofs.reserved.login.Goals.{then-entry, else-entry}
@@ -47,7 +46,7 @@ pub invariant_of-result : goal.invariant_of-result
 invariant_of-result c =
     let d : c.dpb-dpb.result ≡ dpb_of c.args.image.now.format = cc in
     let last = ap (λ (p : Dpb). p.last_block) d in
-    (c.loop-index.invariant.0, λ format. let same = same_count format c.args.image.now.format in omega arith)
+    (c.loop-index.invariant.0, omega (arith, last_block_small c.args.image.now.format))
 
 pub returns : goal.returns
 returns c =

@@ -10,7 +10,6 @@ use Rattle.cpm_files.specs.Names.{is_named, is_erased, reserved_after}
 use Rattle.cpm_directory.specs.Directory.{entries_of}
 use Rattle.cpm_directory.proofs.DriveLemmas.{last_entry_small, entries_length}
 use Rattle.cpm_directory.proofs.LoginLemmas.{none_erased, entry_erased, entry_stays, erased}
-use Rattle.cpm_directory.proofs.ReservedLemmas.{count_small}
 use Rattle.cpm_directory.proofs.reserved.without_files.Goals as goal
 use Rattle.cpm_directory.proofs.reserved.without_files.Goals.{then-is_named, else-is_named}
 
@@ -50,6 +49,6 @@ returns c =
     let last = ap (λ (p : Dpb). p.last_entry) d in
     let size = entries_length c.args.image.now in
     let all : take c.loop-index.index (entries_of c.args.image.now) ≡ entries_of c.args.image.now = ap (λ k. take k (entries_of c.args.image.now)) (let e : c.loop-index.index ≡ length (entries_of c.args.image.now) = omega arith in e) ∙ take-length (entries_of c.args.image.now) in
-    let kept = erased c.dpb-dpb.result c.args.user c.args.name.now (entries_of c.args.image.now) c.copied-blocks.result c.loop-index.blocks c.reserved.inside.count (rw c.copied-blocks.ensures c.reserved.invariant.0) c.loop-index.invariant.0 (count_small c.reserved.inside.count c.reserved.invariant.1) (λ b h. c.loop-index.invariant.1 b h ∙ ap (λ es. get_or c.copied-blocks.result b true && (is_directory_block c.dpb-dpb.result b || not (is_erased c.args.user c.args.name.now es b))) all) in
+    let kept = erased c.dpb-dpb.result c.args.user c.args.name.now (entries_of c.args.image.now) c.copied-blocks.result c.loop-index.blocks c.reserved.inside.count (rw c.copied-blocks.ensures c.reserved.invariant.0) c.loop-index.invariant.0 c.reserved.invariant.1 (λ b h. c.loop-index.invariant.1 b h ∙ ap (λ es. get_or c.copied-blocks.result b true && (is_directory_block c.dpb-dpb.result b || not (is_erased c.args.user c.args.name.now es b))) all) in
     let same = ap (λ blocks. reserved_after c.dpb-dpb.result c.args.user c.args.name.now (entries_of c.args.image.now) (take c.reserved.inside.count blocks)) c.copied-blocks.ensures in
     kept ∙ (same ∙ (ap (λ p. reserved_after p c.args.user c.args.name.now (entries_of c.args.image.now) (take c.reserved.inside.count c.reserved.inside.blocks)) d ∙ ap (reserved_after (dpb_of c.args.image.now.format) c.args.user c.args.name.now (entries_of c.args.image.now)) c.reserved.view_is))

@@ -6,4 +6,4 @@ use Rattle.cpm_disks.proofs.own.close.Goals as goal
 pub returns : goal.returns
 unfolding close_on
 returns c =
-    λ buffer. rw c.code_or_fault.ensures (ap (λ (o : ClosedFile). closed_on buffer o) c.close_file.ensures.value)
+    λ buffer. rw c.code_or_fault.ensures (ap (λ (o : ClosedFile). closed_on buffer o) c.close_file.ensures)

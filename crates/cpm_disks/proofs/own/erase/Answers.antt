@@ -10,4 +10,4 @@ returns-then-drive c = λ buffer. rw c.if-drive.true refl
 pub returns : goal.returns
 unfolding erase_on
 returns c =
-    λ buffer. rw c.code_or_fault.ensures (named_call c.args.drive.now c.erase_files.new.self c.args.fcb.now buffer _ c.erase_files.result c.erase_files.ensures.value ∙ allowed c.args.drive.now c.args.fcb.now buffer _ c.if-drive.false)
+    λ buffer. rw c.code_or_fault.ensures (named_call c.args.drive.now c.erase_files.new.self c.args.fcb.now buffer _ c.erase_files.result c.erase_files.ensures ∙ allowed c.args.drive.now c.args.fcb.now buffer _ c.if-drive.false)

@@ -11,4 +11,4 @@ returns-then-drive c = λ buffer. rw c.if-drive.true refl
 pub returns : goal.returns
 unfolding make_on
 returns c =
-    λ buffer. rw c.code_or_none.ensures (ap (λ (o : MadeFile). made_on buffer o) c.make_file.ensures.value ∙ allowed c.args.drive.now c.args.fcb.now buffer _ c.if-drive.false)
+    λ buffer. rw c.code_or_none.ensures (ap (λ (o : MadeFile). made_on buffer o) c.make_file.ensures ∙ allowed c.args.drive.now c.args.fcb.now buffer _ c.if-drive.false)

@@ -10,4 +10,4 @@ returns-then-drive c = λ buffer. rw c.if-drive.true refl
 pub returns : goal.returns
 unfolding rename_on
 returns c =
-    λ buffer. rw c.code_or_fault.ensures (named_call c.args.drive.now c.rename_files.new.self c.args.fcb.now buffer _ c.rename_files.result c.rename_files.ensures.value ∙ allowed c.args.drive.now c.args.fcb.now buffer _ c.if-drive.false)
+    λ buffer. rw c.code_or_fault.ensures (named_call c.args.drive.now c.rename_files.new.self c.args.fcb.now buffer _ c.rename_files.result c.rename_files.ensures ∙ allowed c.args.drive.now c.args.fcb.now buffer _ c.if-drive.false)

@@ -10,4 +10,4 @@ returns-then-drive c = λ buffer. rw c.if-drive.true refl
 pub returns : goal.returns
 unfolding attributes_on
 returns c =
-    λ buffer. rw c.code_or_none.ensures (named_call c.args.drive.now c.set_attributes.new.self c.args.fcb.now buffer _ (Ok c.set_attributes.result) c.set_attributes.ensures.value ∙ allowed c.args.drive.now c.args.fcb.now buffer _ c.if-drive.false)
+    λ buffer. rw c.code_or_none.ensures (named_call c.args.drive.now c.set_attributes.new.self c.args.fcb.now buffer _ (Ok c.set_attributes.result) c.set_attributes.ensures ∙ allowed c.args.drive.now c.args.fcb.now buffer _ c.if-drive.false)

@@ -20,4 +20,4 @@ returns-then-fcb-ne0 c = rw (c.if-drive.false, ← c.is_read_only.ensures, c.if-
 pub returns : goal.returns
 unfolding write_at_cleared_on
 returns c =
-    rw (← c.random_number.ensures, c.code_of.ensures) ((ap (λ (o : Called). record_on o) c.write_at_cleared.ensures.value) ∙ (within c.args.drive.now c.args.fcb.now c.args.buffer.now _ c.if-fcb-ne0.false ∙ (written c.args.drive.now c.args.fcb.now c.args.buffer.now _ (sym c.is_read_only.ensures ∙ c.if-is_read_only.false) ∙ (allowed c.args.drive.now c.args.fcb.now c.args.buffer.now _ c.if-drive.false))))
+    rw (← c.random_number.ensures, c.code_of.ensures) ((ap (λ (o : Called). record_on o) c.write_at_cleared.ensures) ∙ (within c.args.drive.now c.args.fcb.now c.args.buffer.now _ c.if-fcb-ne0.false ∙ (written c.args.drive.now c.args.fcb.now c.args.buffer.now _ (sym c.is_read_only.ensures ∙ c.if-is_read_only.false) ∙ (allowed c.args.drive.now c.args.fcb.now c.args.buffer.now _ c.if-drive.false))))

@@ -15,4 +15,4 @@ returns-then-is_read_only c = rw (c.if-drive.false, ← c.is_read_only.ensures, 
 pub returns : goal.returns
 unfolding write_next_on
 returns c =
-    rw (c.code_of.ensures) ((ap (λ (o : Called). record_on o) c.write_next.ensures.value) ∙ (written c.args.drive.now c.args.fcb.now c.args.buffer.now _ (sym c.is_read_only.ensures ∙ c.if-is_read_only.false) ∙ (allowed c.args.drive.now c.args.fcb.now c.args.buffer.now _ c.if-drive.false)))
+    rw (c.code_of.ensures) ((ap (λ (o : Called). record_on o) c.write_next.ensures) ∙ (written c.args.drive.now c.args.fcb.now c.args.buffer.now _ (sym c.is_read_only.ensures ∙ c.if-is_read_only.false) ∙ (allowed c.args.drive.now c.args.fcb.now c.args.buffer.now _ c.if-drive.false)))

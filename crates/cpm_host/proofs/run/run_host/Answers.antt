@@ -1,7 +1,41 @@
-use Rattle.std.proofs.Common.{map}
+use Rattle.std.proofs.Common.{◌∙◌, ap, map}
+use Rattle.std.proofs.lemmas.Result.{err_from_is_err_and}
 use Rattle.cpm_batch.specs.Inputs.{given}
+use Rattle.cpm_batch.specs.Outputs.{files_of_all}
+use Rattle.cpm_store.specs.Writes.{named}
+use Rattle.cpm_host.proofs.RunLemmas.{fails_at_write, read_and_written, writing_stopped}
 use Rattle.cpm_host.proofs.ScriptLemmas.{inputs_pressable}
 use Rattle.cpm_host.proofs.run.run_host.Goals as goal
 
 pub play_all-requires-clause-keys : goal.play_all-requires-clause-keys
 play_all-requires-clause-keys g c = inputs_pressable (g.S.Store.files c.args.store.now) (map given c.in_ok-inputs.inputs.sessions.items) c.in_ok-inputs.ensures.read.all
+
+pub returns-in_err-write_files-clause-stopped_log : goal.returns-in_err-write_files-clause-stopped_log
+returns-in_err-write_files-clause-stopped_log g c =
+    let p = err_from_is_err_and c.from_residual-in_err-write_files.result c.from_residual-in_err-write_files.ensures.1 in
+    let does = g.S.Store.does in
+    let config = c.args.config.now in
+    let start = c.args.store.now in
+    let between = c.read_inputs.new.store in
+    let end = c.write_files.new.store in
+    let outputs = map named c.as_slice.result.now in
+    let are = ap (map named) c.as_slice.ensures.value ∙ c.in_ok-outputs.ensures ∙ ap files_of_all c.in_ok-reports.ensures.files in
+    let stopped = c.in_err-write_files.ensures.stopped_log in
+    rw (p.1, p.2) (writing_stopped does config start end outputs (g.S.Store.files between) (g.S.Store.files end) c.in_err-write_files.field-0.0 c.in_err-write_files.ensures.refusal
+    (fails_at_write does config start end between c.in_ok-inputs.inputs.system (map given c.in_ok-inputs.inputs.sessions.items) outputs stopped.0 are c.in_ok-inputs.ensures.log stopped.1))
+
+pub returns-clause-log : goal.returns-clause-log
+returns-clause-log g c =
+    let does = g.S.Store.does in
+    let config = c.args.config.now in
+    let system = c.in_ok-inputs.inputs.system in
+    let inputs = map given c.in_ok-inputs.inputs.sessions.items in
+    let are = ap (map named) c.as_slice.ensures.value ∙ c.in_ok-outputs.ensures ∙ ap files_of_all c.in_ok-reports.ensures.files in
+    record {
+      system = system;
+      inputs = inputs;
+      accepted = c.in_ok-reports.ensures.accepted;
+      calls = read_and_written does config c.args.store.now c.write_files.new.store c.read_inputs.new.store system inputs (map named c.as_slice.result.now) are c.in_ok-inputs.ensures.log
+          c.in_ok-write_files.ensures.log;
+      reported = c.in_ok-reports.ensures.reports;
+    }

@@ -1,7 +1,6 @@
 use Rattle.std.proofs.Common.{arith, take, false, sym, ◌∙◌, ◌≤◌, length}
 use Rattle.std.proofs.Math.Seq.{take-set-lt}
 use Rattle.std.proofs.lemmas.List.{length-take-le, length-set, set_past}
-use Rattle.cpm_directory.proofs.ReservedLemmas.{count_small}
 use Rattle.cpm_directory.proofs.reserved.Reserved.free.Goals as goal
 
 pub invariant_of-self : goal.invariant_of-self
@@ -13,6 +12,6 @@ returns-then-block-self c =
 
 pub returns-else-block-self : goal.returns-else-block-self
 returns-else-block-self c =
-    let size = length-take-le c.self.inside.count c.self.inside.blocks (omega (arith, c.self.invariant.0, count_small c.self.inside.count c.self.invariant.1)) in
+    let size = length-take-le c.self.inside.count c.self.inside.blocks (omega (arith, c.self.invariant.0, c.self.invariant.1)) in
     let past : length (take c.self.inside.count c.self.inside.blocks) ≤ c.from-block.result = omega arith in
     rw (← c.self.view_is, ← c.from-block.ensures) (sym (set_past (take c.self.inside.count c.self.inside.blocks) c.from-block.result false past))

@@ -43,8 +43,8 @@ loop-index-preserved c =
       )
     ]
 
-pub returns-clause-drive : goal.returns-clause-drive
-returns-clause-drive c =
+pub returns : goal.returns
+returns c =
     let d : c.dpb-index-end.result ≡ dpb_of c.args.self.now.image.format = cc in
     let last = ap (λ (p : Dpb). p.last_entry) d in
     let size = entries_length c.args.self.now.image in

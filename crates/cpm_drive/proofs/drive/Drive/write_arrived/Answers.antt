@@ -11,28 +11,17 @@ put_record-requires-clause-writable c =
     let t = rw c.write_change.ensures.drive at c.write_change-2.ensures.drive ∙ twice c.args.self.now c.args.arrival.now.closed c.args.arrival.now.made c.requires.writable in
     rw t c.requires.writable
 
-pub put_record-requires-clause-blocks : goal.put_record-requires-clause-blocks
-put_record-requires-clause-blocks c =
-    c.write_change-2.ensures.blocks (c.write_change.ensures.blocks c.requires.blocks)
-
-pub returns-in-Ok-clause-blocks : goal.returns-in-Ok-clause-blocks
-returns-in-Ok-clause-blocks c = c.put_record.ensures.blocks
-
-pub returns-in-Err-clause-blocks : goal.returns-in-Err-clause-blocks
-returns-in-Err-clause-blocks c =
-    c.write_change-2.ensures.blocks (c.write_change.ensures.blocks c.requires.blocks)
-
-pub returns-in-Ok-clause-value : goal.returns-in-Ok-clause-value
+pub returns-in-Ok : goal.returns-in-Ok
 unfolding write_in volume_of after_writes
-returns-in-Ok-clause-value c =
+returns-in-Ok c =
     let t = rw c.write_change.ensures.drive at c.write_change-2.ensures.drive ∙ twice c.args.self.now c.args.arrival.now.closed c.args.arrival.now.made c.requires.writable in
     let is : c.args.arrival.now.current ≡ Ok c.in-Ok.here = cc in
     let same = reserved_kept (volume_of c.args.self.now.image c.args.self.now.marks.reserved) c.args.arrival.now.closed c.args.arrival.now.made in
-    rw is (rw (t, writes_format (with_change (with_change (volume_of c.args.self.now.image c.args.self.now.marks.reserved) c.args.arrival.now.closed) c.args.arrival.now.made).written c.args.self.now.image) at c.put_record.ensures.value ∙ put_after (dpb_of c.args.self.now.image.format) c.args.self.now (with_change (with_change (volume_of c.args.self.now.image c.args.self.now.marks.reserved) c.args.arrival.now.closed) c.args.arrival.now.made) c.args.fcb.now c.args.arrival.now.extent c.in-Ok.here (c.in-Ok.here + c.args.step) c.args.bytes.now c.args.clears c.requires.writable same)
+    rw is (rw (t, writes_format (with_change (with_change (volume_of c.args.self.now.image c.args.self.now.marks.reserved) c.args.arrival.now.closed) c.args.arrival.now.made).written c.args.self.now.image) at c.put_record.ensures ∙ put_after (dpb_of c.args.self.now.image.format) c.args.self.now (with_change (with_change (volume_of c.args.self.now.image c.args.self.now.marks.reserved) c.args.arrival.now.closed) c.args.arrival.now.made) c.args.fcb.now c.args.arrival.now.extent c.in-Ok.here (c.in-Ok.here + c.args.step) c.args.bytes.now c.args.clears c.requires.writable same)
 
-pub returns-in-Err-clause-value : goal.returns-in-Err-clause-value
+pub returns-in-Err : goal.returns-in-Err
 unfolding write_in volume_of
-returns-in-Err-clause-value c =
+returns-in-Err c =
     let t = rw c.write_change.ensures.drive at c.write_change-2.ensures.drive ∙ twice c.args.self.now c.args.arrival.now.closed c.args.arrival.now.made c.requires.writable in
     let is : c.args.arrival.now.current ≡ Err c.in-Err.answer = cc in
     let same = reserved_kept (volume_of c.args.self.now.image c.args.self.now.marks.reserved) c.args.arrival.now.closed c.args.arrival.now.made in

@@ -1,6 +1,4 @@
-use Rattle.std.proofs.Common.{◌≡◌, ◌+◌, Some, None, true, false, sym, ap, ◌∙◌, arith}
-use Rattle.cpm_geom.specs.Geometry.{dpb_of}
-use Rattle.cpm_geom.specs.Disk.{Disk}
+use Rattle.std.proofs.Common.{◌≡◌, Some, None, true, false, sym, arith}
 use Rattle.cpm_files.specs.Files.{directory_records}
 use Rattle.cpm_files.proofs.Formats.{each_format}
 use Rattle.cpm_drive.proofs.WriteLemmas.{drive_put, drive_kept, no_write}
@@ -11,9 +9,6 @@ returns-then-not-self-clause-drive c =
     let is : c.args.change ≡ Some c.in-Some.change = cc in
     let free : c.args.self.now.marks.is_protected ≡ false = cc in
     rw is (drive_put c.args.self.now c.in-Some.change c.put_entry.new.self free c.put_entry.ensures)
-
-pub returns-then-not-self-clause-blocks : goal.returns-then-not-self-clause-blocks
-returns-then-not-self-clause-blocks c = λ h. h ∙ ap (λ (disk : Disk). (dpb_of disk.format).last_block + 1) (sym c.put_entry.ensures.bytes)
 
 pub returns-else-not-self-clause-drive : goal.returns-else-not-self-clause-drive
 returns-else-not-self-clause-drive c =

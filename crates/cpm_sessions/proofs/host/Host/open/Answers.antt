@@ -1,7 +1,8 @@
-use Rattle.std.proofs.Common.{[], ◌∷◌, ◌++◌, sym, ap, ◌∙◌, subst}
+use Rattle.std.proofs.Common.{ℕ, [], ◌∷◌, ◌++◌, sym, ap, ◌∙◌, subst}
 use Rattle.cpm_memory.specs.Frames.{Frames, memories}
 use Rattle.cpm_decode.specs.Cache.{IsRightFor}
 use Rattle.cpm_decode.specs.declared.cache.DecodeCache.{DecodeCache}
+use Rattle.cpm_slots.specs.declared.steps.Runner.{Runner}
 use Rattle.cpm_sessions.specs.declared.seats.Seat.{Seat}
 use Rattle.cpm_sessions.proofs.CallLaws.{same-host}
 use Rattle.cpm_sessions.proofs.OpenHost.{IsOpening, opened-host, opened-seated, opened-is}
@@ -9,12 +10,16 @@ use Rattle.cpm_sessions.proofs.OpenSeats.{none-at}
 use Rattle.cpm_sessions.proofs.CachedSeats.{AllCached-opened}
 use Rattle.cpm_sessions.proofs.host.Host.open.Goals as goal
 
+-- the seat that is pushed
+abbrev new_seat : ℕ → Runner → ℕ → Seat
+new_seat id runner table = record { id = id; runner = runner; table = table }
+
 pub invariant_of-self-2 : goal.invariant_of-self-2
 invariant_of-self-2 c =
     let i = c.self.inside in
     let old = memories i.store in
     let new = memories c.reserve.new.self in
-    let s : Seat = record { id = i.openings; runner = c.opened-runner.result; table = c.in-Ok-reserve.table } in
+    let s = new_seat i.openings c.opened-runner.result c.in-Ok-reserve.table in
     let k : IsOpening i.system i.frames c.args.self.now.host old new i.seats.items c.push_reserved.new.self.items s c.args.opening = record {
       view = same-host c.self.view_is;
       accepted = c.in_default.ensures.refusal;
@@ -40,7 +45,7 @@ returns-clause-opened c =
     let i = c.self.inside in
     let old = memories i.store in
     let new = memories c.reserve.new.self in
-    let s : Seat = record { id = i.openings; runner = c.opened-runner.result; table = c.in-Ok-reserve.table } in
+    let s = new_seat i.openings c.opened-runner.result c.in-Ok-reserve.table in
     let k : IsOpening i.system i.frames c.args.self.now.host old new i.seats.items c.push_reserved.new.self.items s c.args.opening = record {
       view = same-host c.self.view_is;
       accepted = c.in_default.ensures.refusal;

@@ -19,3 +19,11 @@ returns-in-Some-clause-absent c none =
 pub returns-clause-refused : goal.returns-clause-refused
 returns-clause-refused c _ =
     inr (ap (λ m. file_at m c.args.name.now) (sym c.is_failing.ensures.files) ∙ ap (option_map (λ w. w.items)) (sym c.in_default.ensures.value))
+
+pub returns-in-Some-clause-gave : goal.returns-in-Some-clause-gave
+returns-in-Some-clause-gave c =
+    IfOk-weaker c.copy_of.result _ _ (λ v is. (
+      ap (λ m. file_at m c.args.name.now) (sym c.is_failing.ensures.files)
+          ∙ ap (option_map (λ w. w.items)) (sym c.in-Some.ensures.value) ∙ ap Some (sym (is ∙ c.as_slice.ensures.value)),
+      ap (λ m. file_at m) c.is_failing.ensures.files,
+    )) c.copy_of.ensures.copy

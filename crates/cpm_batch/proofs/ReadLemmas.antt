@@ -1,0 +1,82 @@
+-- Reads one after another.
+use Rattle.std.proofs.Common.{◌≡◌, ◌∙◌, ℕ, List, [], ◌∷◌, ◌++◌, String, append_assoc, append-nil, refl, ◌+◌, length, get_or, take, map, ◌<◌, ap, sym, subst}
+use Rattle.std.proofs.lemmas.List.{map-append, take_more}
+use Rattle.std.specs.Prelude.{string_bytes}
+use Rattle.std.specs.declared.alloc.Global.{Global}
+use Rattle.cpm_geom.specs.Disk.{Disk}
+use Rattle.cpm_store.specs.Files.{Text}
+use Rattle.cpm_store.specs.Log.{Access, Gave, Ran, RanBy, Then}
+use Rattle.cpm_store.proofs.LogLemmas.{ran_more, ran_one, ran_then}
+use Rattle.cpm_script.specs.Script.{script}
+use Rattle.cpm_script.specs.declared.script.Key.{Key}
+use Rattle.std.specs.Prelude.{Ok, Option, Some, None}
+use Rattle.cpm_batch.specs.Inputs.{IsImage, SessionInput, given}
+use Rattle.cpm_batch.specs.Reads.{AreImagesRead, AreInputsRead, AreKeysRead, IsImageRead, IsInputRead, IsScriptRead}
+use Rattle.cpm_batch.specs.declared.input.Input.{Input}
+
+-- one read
+pub image_read : {S : Type 0} (does : S → Access → S → Type 0) (name : Text) (bytes : List ℕ) (d : Disk) (s t : S) → does s (Gave name bytes) t → IsImage bytes d → RanBy does (IsImageRead name d) s t
+image_read does name bytes d s t call image = (Gave name bytes ∷ [], record { bytes = bytes; image = image; calls = refl }, ran_one does (Gave name bytes) s t call)
+
+pub script_read : {S : Type 0} (does : S → Access → S → Type 0) (name : Text) (text : List ℕ) (keys : List Key) (s t : S) → does s (Gave name text) t → script text ≡ Ok keys → RanBy does (IsScriptRead name keys) s t
+script_read does name text keys s t call read = (Gave name text ∷ [], record { text = text; read = read; calls = refl }, ran_one does (Gave name text) s t call)
+
+-- the same of the text of a name
+pub image_read_as : {S : Type 0} (does : S → Access → S → Type 0) (name text : Text) (d : Disk) (s t : S) → text ≡ name → RanBy does (IsImageRead text d) s t → RanBy does (IsImageRead name d) s t
+image_read_as does name text d s t is h = subst (λ (n : Text). RanBy does (IsImageRead n d) s t) is h
+
+-- the keys of a script that is named, and of none
+pub script_named : {S : Type 0} (does : S → Access → S → Type 0) (script : Option (String Global)) (name : String Global) (text : Text) (keys : List Key) (s t : S) → script ≡ Some name → text ≡ string_bytes name
+    → RanBy does (IsScriptRead text keys) s t → RanBy does (AreKeysRead script keys) s t
+script_named does script name text keys s t is named h =
+    subst (λ (o : Option (String Global)). RanBy does (AreKeysRead o keys) s t) (sym is) (subst (λ (n : Text). RanBy does (IsScriptRead n keys) s t) named h)
+
+pub no_script : {S : Type 0} (does : S → Access → S → Type 0) (script : Option (String Global)) (keys : List Key) (s : S) → script ≡ None → keys ≡ [] → RanBy does (AreKeysRead script keys) s s
+no_script does script keys s is none = subst (λ (o : Option (String Global)). RanBy does (AreKeysRead o keys) s s) (sym is) ([], (none, refl), refl)
+
+-- the reads of a list, and one more
+then_more : (Before After All : List Access → Type 0) (xs ys : List Access) (h : Then Before After xs) → All (h.rest ++ ys) → Then Before All (xs ++ ys)
+then_more Before After All xs ys h more = record {
+  first = h.first;
+  rest = h.rest ++ ys;
+  order = ap (λ (zs : List Access). zs ++ ys) h.order ∙ append_assoc h.first h.rest ys;
+  begins = h.begins;
+  goes_on = more;
+}
+
+then_last : (Before : List Access → Type 0) (xs ys : List Access) → xs ≡ [] → Before ys → Then Before (λ log. log ≡ []) (xs ++ ys)
+then_last Before xs ys none one = record {
+  first = ys;
+  rest = [];
+  order = ap (λ (zs : List Access). zs ++ ys) none ∙ sym (append-nil ys);
+  begins = one;
+  goes_on = refl;
+}
+
+images_push : (names : List (String Global)) (ds : List Disk) (name : String Global) (d : Disk) (xs ys : List Access) → AreImagesRead names ds xs → IsImageRead (string_bytes name) d ys
+    → AreImagesRead (names ++ name ∷ []) (ds ++ d ∷ []) (xs ++ ys)
+images_push [] [] name d xs ys h g = then_last (IsImageRead (string_bytes name) d) xs ys h g
+images_push [] (x ∷ ds) name d xs ys h g = absurd h
+images_push (n ∷ names) [] name d xs ys h g = absurd h
+images_push (n ∷ names) (x ∷ ds) name d xs ys h g =
+    then_more (IsImageRead (string_bytes n) x) (AreImagesRead names ds) (AreImagesRead (names ++ name ∷ []) (ds ++ d ∷ [])) xs ys h (images_push names ds name d h.rest ys h.goes_on g)
+
+inputs_push : (is : List SessionInput) (x : SessionInput) (xs ys : List Access) → AreInputsRead is xs → IsInputRead x ys → AreInputsRead (is ++ x ∷ []) (xs ++ ys)
+inputs_push [] x xs ys h g = then_last (IsInputRead x) xs ys h g
+inputs_push (i ∷ is) x xs ys h g = then_more (IsInputRead i) (AreInputsRead is) (AreInputsRead (is ++ x ∷ [])) xs ys h (inputs_push is x h.rest ys h.goes_on g)
+
+-- one more of a list that is gone through
+pub images_more : {S : Type 0} (does : S → Access → S → Type 0) (names : List (String Global)) (i : ℕ) (name : String Global) (ds all : List Disk) (d : Disk) (s m t : S) → i < length names
+    → name ≡ get_or names i name → all ≡ ds ++ d ∷ [] → RanBy does (AreImagesRead (take i names) ds) s m → RanBy does (IsImageRead (string_bytes name) d) m t
+    → RanBy does (AreImagesRead (take (i + 1) names) all) s t
+images_more does names i name ds all d s m t within is pushed h g =
+    let more : take (i + 1) names ≡ take i names ++ name ∷ [] = take_more names i name within ∙ ap (λ x. take i names ++ x ∷ []) (sym is) in
+    subst (λ (xs : List Disk). RanBy does (AreImagesRead (take (i + 1) names) xs) s t) (sym pushed)
+    (subst (λ (ns : List (String Global)). RanBy does (AreImagesRead ns (ds ++ d ∷ [])) s t) (sym more)
+    (h.0 ++ g.0, images_push (take i names) ds name d h.0 g.0 h.1 g.1, ran_more does h.0 g.0 s m t h.2 g.2))
+
+pub sessions_read : {S : Type 0} (does : S → Access → S → Type 0) (is all : List Input) (x : Input) (s m t : S) → all ≡ is ++ x ∷ [] → RanBy does (AreInputsRead (map given is)) s m
+    → RanBy does (IsInputRead (given x)) m t → RanBy does (AreInputsRead (map given all)) s t
+sessions_read does is all x s m t pushed h g =
+    subst (λ (ys : List SessionInput). RanBy does (AreInputsRead ys) s t) (sym (ap (map given) pushed ∙ map-append given is (x ∷ [])))
+    (h.0 ++ g.0, inputs_push (map given is) (given x) h.0 g.0 h.1 g.1, ran_more does h.0 g.0 s m t h.2 g.2)

@@ -1,0 +1,27 @@
+use Rattle.std.proofs.Common.{◌∙◌, map}
+use Rattle.std.specs.Prelude.{string_bytes}
+use Rattle.cpm_store.proofs.LogLemmas.{ran_then, unwritten_more}
+use Rattle.cpm_batch.specs.Inputs.{given}
+use Rattle.cpm_batch.specs.Reads.{AreInputsRead, IsImageRead}
+use Rattle.cpm_batch.proofs.ReadLemmas.{image_read_as}
+use Rattle.cpm_batch.proofs.input.read_inputs.Goals as goal
+
+pub returns-clause-log : goal.returns-clause-log
+returns-clause-log g c =
+    let does = g.S.Store.does in
+    let name = string_bytes c.args.config.now.system in
+    let system = c.in_ok-system.system in
+    let inputs = map given c.in_ok-sessions.sessions.items in
+    let start = c.args.store.now in
+    let between = c.read_image.new.store in
+    let both = ran_then does (IsImageRead name system) (AreInputsRead inputs) start between c.read_sessions.new.store
+    (image_read_as does name c.as_str.result.now system start between c.as_str.ensures.value c.in_ok-system.ensures.log) c.in_ok-sessions.ensures.log in
+    (both.0, record { sessions = c.in_ok-sessions.ensures.sessions ∙ c.as_slice.ensures.value; calls = both.1 }, both.2)
+
+pub returns-in_err-sessions-clause-unwritten : goal.returns-in_err-sessions-clause-unwritten
+returns-in_err-sessions-clause-unwritten g c =
+    unwritten_more g.S.Store.does c.args.store.now c.read_image.new.store c.read_sessions.new.store c.in_ok-system.ensures.unwritten c.in_err-sessions.ensures.unwritten
+
+pub returns-clause-unwritten : goal.returns-clause-unwritten
+returns-clause-unwritten g c =
+    unwritten_more g.S.Store.does c.args.store.now c.read_image.new.store c.read_sessions.new.store c.in_ok-system.ensures.unwritten c.in_ok-sessions.ensures.unwritten
