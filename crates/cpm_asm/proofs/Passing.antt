@@ -49,12 +49,6 @@ first-last names p x xs s m later is taken none last named =
     ∙ sym (ap (λ b. last_or b (at_end p (table_after names s.label m.label)) (first_pass (table_after names s.label m.label) (moved p x.line s.deed m) xs)) last)
     ∙ first_quiet names p x xs s m is taken none
 
-pub first-fault : (names : Table) (p : Place) (x : Numbered) (xs : List Numbered) (s : Said) (m : Measure) (kind : AsmErrorKind)
-    → s ≡ said p x → m ≡ measured names p.address s.deed → first_fault names p s m ≡ Some kind
-    → first_pass names p (x ∷ xs) ≡ Err (blamed p x.line kind (x ∷ xs))
-first-fault names p x xs s m kind is taken found =
-    sym (first_at names p x xs s m is taken) ∙ ap (λ o. unless_first p x xs o (first_more names p x xs s m)) found
-
 -- ---- the second pass
 
 abbrev second_more : Table → List ℕ → Place → Numbered → List Numbered → Said → Measure → Result (List ℕ) AsmError

@@ -10,11 +10,6 @@ more : (size n : ℕ) (rest : Option ℕ) → capped (min (size + n) 65537) rest
 more size n None = refl
 more size n (Some k) = ap (λ (x : ℕ). Some x) (omega arith)
 
--- one operand more
-pub capped-more : (is_words : Bool) (size n : ℕ) (operand : List ℕ) (rest : List (List ℕ)) → operand_size is_words operand ≡ Some n
-    → capped (min (size + n) 65537) (sizes is_words rest) ≡ capped size (sizes is_words (operand ∷ rest))
-capped-more is_words size n operand rest is = more size n (sizes is_words rest) ∙ ap (λ o. capped size (plus o (sizes is_words rest))) (sym is)
-
 pub capped-start : (o : Option ℕ) → capped 0 o ≡ option_map (λ n. min n 65537) o
 capped-start None = refl
 capped-start (Some n) = ap (λ (x : ℕ). Some x) (omega arith)

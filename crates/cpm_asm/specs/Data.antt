@@ -75,7 +75,7 @@ certain bytes = record { bytes = bytes; doubt = no_doubt }
 
 -- 0 to 255, or FF80h to FFFFh
 abbrev pub is_byte : ℕ → Bool
-is_byte n = nat_lt n 256 || nat_le 65408 n
+is_byte n = nat_lt n 256 || nat_le 0xFF80 n
 
 abbrev pub byte_doubt : Valued → Doubt
 byte_doubt v = record { is_unknown = v.is_unknown; is_outside = v.is_outside || not (is_byte v.number) }

@@ -40,7 +40,7 @@ is_blank_text text = length (after_blanks text) == 0
 -- without a colon
 abbrev pub without_colon : List ℕ → List ℕ
 without_colon [] = []
-without_colon (b ∷ rest) = if b == 58 then rest else b ∷ rest
+without_colon (b ∷ rest) = if b == 0x3A then rest else b ∷ rest
 
 abbrev pub after_colon : List ℕ → List ℕ
 after_colon text = without_colon (after_blanks text)

@@ -7,7 +7,7 @@ use Rattle.cpm_expression.specs.Quotes.{is_quote}
 
 -- 1Ah ends a source
 abbrev pub is_end : ℕ → Bool
-is_end b = b == 26
+is_end b = b == 0x1A
 
 abbrev pub source_text : List ℕ → List ℕ
 source_text source = before_first is_end source
@@ -34,4 +34,4 @@ parts_behind sign (Some rest) = parts sign false rest.now
 -- A line without its comment: `*` as its first character makes it one, and so does `;` outside quotes what follows.
 abbrev pub code_of : List ℕ → List ℕ
 code_of [] = []
-code_of (b ∷ bs) = if b == 42 then [] else take (outside 59 false (b ∷ bs)) (b ∷ bs)
+code_of (b ∷ bs) = if b == 0x2A then [] else take (outside 0x3B false (b ∷ bs)) (b ∷ bs)

@@ -18,7 +18,7 @@ use Rattle.cpm_asm.specs.Heads.{Front, Nothing, Word, Other, is_blank_text, word
 
 -- a comma ends an operand
 abbrev pub comma : ℕ
-comma = 44
+comma = 0x2C
 
 abbrev pub only_one : List (List ℕ) → Option (List ℕ)
 only_one (only ∷ []) = Some only

@@ -17,7 +17,7 @@ numbered line text = record { line = line; text = text }
 
 -- ! outside quotes separates statements
 abbrev pub bang : ℕ
-bang = 33
+bang = 0x21
 
 abbrev pub in_line : ℕ → List (List ℕ) → List Numbered
 in_line line texts = map (numbered line) texts

@@ -1,17 +1,84 @@
--- The calls by their numbers.
-use Rattle.std.specs.Prelude.{ℕ, ◌==◌, if◌then◌else◌}
+-- The calls by their numbers: a row for each, with the manual's name of the call behind it.
+use Rattle.std.specs.Prelude.{ℕ, ◌==◌, if◌then◌else◌, List, [], ◌∷◌}
 use Rattle.cpm_disks.specs.declared.function.FileFunction.TheVariants as file
 use Rattle.cpm_bdos.specs.declared.function.Function.{Function}
 use Rattle.cpm_bdos.specs.declared.function.Function.TheVariants.{WarmBoot, ReadKey, WriteByte, ReaderInput, PunchOutput, ListOutput, DirectConsole, GetIoByte, SetIoByte, WriteText, ReadLine, ConsoleStatus, Version, ResetDisks, SelectDisk, File, LoginVector, CurrentDisk, SetBuffer, AllocationVector, ProtectDisk, ReadOnlyVector, DiskParameters, UserCode, ResetDrives, Other}
 use Rattle.cpm_bdos.specs.declared.function.BiosCall.{BiosCall}
 use Rattle.cpm_bdos.specs.declared.function.BiosCall.TheVariants as entry
 
--- CP/M 2.2 Operating System Manual, section 5.2, Operating System Call Conventions: the number of a function in C
-unfoldable pub function_of : ℕ → Function
-function_of n =
-    if n == 0 then WarmBoot else if n == 1 then ReadKey else if n == 2 then WriteByte else if n == 3 then ReaderInput else if n == 4 then PunchOutput else if n == 5 then ListOutput else if n == 6 then DirectConsole else if n == 7 then GetIoByte else if n == 8 then SetIoByte else if n == 9 then WriteText else if n == 10 then ReadLine else if n == 11 then ConsoleStatus else if n == 12 then Version else if n == 13 then ResetDisks else if n == 14 then SelectDisk else if n == 15 then File file.OpenFile else if n == 16 then File file.CloseFile else if n == 17 then File file.SearchFirst else if n == 18 then File file.SearchNext else if n == 19 then File file.DeleteFile else if n == 20 then File file.ReadSequential else if n == 21 then File file.WriteSequential else if n == 22 then File file.MakeFile else if n == 23 then File file.RenameFile else if n == 24 then LoginVector else if n == 25 then CurrentDisk else if n == 26 then SetBuffer else if n == 27 then AllocationVector else if n == 28 then ProtectDisk else if n == 29 then ReadOnlyVector else if n == 30 then File file.SetAttributes else if n == 31 then DiskParameters else if n == 32 then UserCode else if n == 33 then File file.ReadRandom else if n == 34 then File file.WriteRandom else if n == 35 then File file.FileSize else if n == 36 then File file.SetRandomRecord else if n == 37 then ResetDrives else if n == 40 then File file.WriteRandomZeroFill else Other
+-- the first row of a number, or what stands for a number that has none
+abbrev pub numbered : {A : Type 0} → List (ℕ × A) → A → ℕ → A
+numbered [] other n = other
+numbered (row ∷ rows) other n = if n == row.0 then row.1 else numbered rows other n
 
--- CP/M 2.2 Operating System Manual, section 6.6, The BIOS Entry Points: the place of a call in the table of jumps
+-- CP/M 2.2 Operating System Manual, section 5.2, Operating System Call Conventions: the functions by the number in C
+abbrev pub functions : List (ℕ × Function)
+functions =
+    (0, WarmBoot) ∷  -- SYSTEM RESET
+    (1, ReadKey) ∷  -- CONSOLE INPUT
+    (2, WriteByte) ∷  -- CONSOLE OUTPUT
+    (3, ReaderInput) ∷  -- READER INPUT
+    (4, PunchOutput) ∷  -- PUNCH OUTPUT
+    (5, ListOutput) ∷  -- LIST OUTPUT
+    (6, DirectConsole) ∷  -- DIRECT CONSOLE I/O
+    (7, GetIoByte) ∷  -- GET I/O BYTE
+    (8, SetIoByte) ∷  -- SET I/O BYTE
+    (9, WriteText) ∷  -- PRINT STRING
+    (10, ReadLine) ∷  -- READ CONSOLE BUFFER
+    (11, ConsoleStatus) ∷  -- GET CONSOLE STATUS
+    (12, Version) ∷  -- RETURN VERSION NUMBER
+    (13, ResetDisks) ∷  -- RESET DISK SYSTEM
+    (14, SelectDisk) ∷  -- SELECT DISK
+    (15, File file.OpenFile) ∷  -- OPEN FILE
+    (16, File file.CloseFile) ∷  -- CLOSE FILE
+    (17, File file.SearchFirst) ∷  -- SEARCH FOR FIRST
+    (18, File file.SearchNext) ∷  -- SEARCH FOR NEXT
+    (19, File file.EraseFiles) ∷  -- DELETE FILE
+    (20, File file.ReadNext) ∷  -- READ SEQUENTIAL
+    (21, File file.WriteNext) ∷  -- WRITE SEQUENTIAL
+    (22, File file.MakeFile) ∷  -- MAKE FILE
+    (23, File file.RenameFiles) ∷  -- RENAME FILE
+    (24, LoginVector) ∷  -- RETURN LOG-IN VECTOR
+    (25, CurrentDisk) ∷  -- RETURN CURRENT DISK
+    (26, SetBuffer) ∷  -- SET DMA ADDRESS
+    (27, AllocationVector) ∷  -- GET ADDR(ALLOC)
+    (28, ProtectDisk) ∷  -- WRITE PROTECT DISK
+    (29, ReadOnlyVector) ∷  -- GET READ-ONLY VECTOR
+    (30, File file.SetAttributes) ∷  -- SET FILE ATTRIBUTES
+    (31, DiskParameters) ∷  -- GET ADDR(DISK PARMS)
+    (32, UserCode) ∷  -- SET/GET USER CODE
+    (33, File file.ReadRandom) ∷  -- READ RANDOM
+    (34, File file.WriteRandom) ∷  -- WRITE RANDOM
+    (35, File file.ComputeSize) ∷  -- COMPUTE FILE SIZE
+    (36, File file.SetRandomRecord) ∷  -- SET RANDOM RECORD
+    (37, ResetDrives) ∷  -- RESET DRIVE
+    (40, File file.WriteRandomCleared) ∷  -- WRITE RANDOM WITH ZERO FILL
+    []
+
+unfoldable pub function_of : ℕ → Function
+function_of n = numbered functions Other n
+
+-- CP/M 2.2 Operating System Manual, section 6.6, The BIOS Entry Points: the calls by their places in the table of jumps
+abbrev pub bios_calls : List (ℕ × BiosCall)
+bios_calls =
+    (0, entry.Boot) ∷  -- BOOT
+    (1, entry.WarmBoot) ∷  -- WBOOT
+    (2, entry.ConsoleStatus) ∷  -- CONST
+    (3, entry.ConsoleInput) ∷  -- CONIN
+    (4, entry.ConsoleOutput) ∷  -- CONOUT
+    (5, entry.List) ∷  -- LIST
+    (6, entry.Punch) ∷  -- PUNCH
+    (7, entry.Reader) ∷  -- READER
+    (8, entry.Home) ∷  -- HOME
+    (9, entry.SelectDrive) ∷  -- SELDSK
+    (10, entry.SetTrack) ∷  -- SETTRK
+    (11, entry.SetSector) ∷  -- SETSEC
+    (12, entry.SetSectorBuffer) ∷  -- SETDMA
+    (13, entry.ReadSector) ∷  -- READ
+    (14, entry.WriteSector) ∷  -- WRITE
+    (15, entry.ListStatus) ∷  -- LISTST
+    (16, entry.Translate) ∷  -- SECTRAN
+    []
+
 unfoldable pub bios_call_of : ℕ → BiosCall
-bios_call_of n =
-    if n == 0 then entry.Boot else if n == 1 then entry.WarmBoot else if n == 2 then entry.ConsoleStatus else if n == 3 then entry.ConsoleInput else if n == 4 then entry.ConsoleOutput else if n == 5 then entry.List else if n == 6 then entry.Punch else if n == 7 then entry.Reader else if n == 8 then entry.Home else if n == 9 then entry.SelectDisk else if n == 10 then entry.SetTrack else if n == 11 then entry.SetSector else if n == 12 then entry.SetBuffer else if n == 13 then entry.Read else if n == 14 then entry.Write else if n == 15 then entry.ListStatus else if n == 16 then entry.SectorTranslate else entry.Other
+bios_call_of n = numbered bios_calls entry.Other n

@@ -2,6 +2,7 @@
 use Rattle.std.specs.Prelude.{ℕ, ◌+◌, ◌*◌, ◌/◌, ◌%◌, false}
 use Rattle.cpm_flags.specs.declared.regs.Flags.{Flags}
 use Rattle.cpm_flags.specs.declared.regs.Regs.{Regs}
+use Rattle.cpm_memory.specs.Layout.{command_processor_address, stack_address}
 
 abbrev pub no_flags : Flags
 no_flags = record { sign = false; zero = false; bit5 = false; half_carry = false; bit3 = false; parity = false; subtract = false; carry = false }
@@ -17,8 +18,8 @@ at_opening = record {
   e = 0;
   h = 0;
   l = 0;
-  sp = 60414;
-  pc = 58374;
+  sp = stack_address;
+  pc = command_processor_address;
   ix = 0;
   iy = 0;
   interrupt_page = 0;

@@ -2,29 +2,25 @@
 
 ghost use Rattle.std.specs.Prelude.{◌≡◌, ◌≤◌, [], ◌∷◌, List, ℕ, length};
 ghost use Rattle.cpm_memory.specs.Contents.{after_run};
+ghost use Rattle.cpm_memory.specs.Layout.{io_byte_address};
 ghost use Rattle.cpm_memory.specs.Room.{HasRoom};
 ghost use Rattle.cpm_bdos.specs.Function.{function_of};
 ghost use Rattle.cpm_bdos.specs.Did.{did, answered};
 ghost use Rattle.cpm_bdos.specs.Step.{called, bdos};
 ghost use Rattle.cpm_bdos.specs.Bounds.{IsBounded};
-ghost use Rattle.cpm_bdos.specs.Behind.{session_behind, did_behind};
+ghost use Rattle.cpm_bdos.specs.Behind.{cpm_behind, did_behind};
 
+use crate::cpm::{Cpm, Held, Mode, Went};
 use crate::function::Function;
 use crate::registers::pair_de;
-use crate::session::{Held, Mode, Session, Went};
 use cpm_geom::Image;
+use cpm_memory::layout::{IO_BYTE, PARAMETER_BLOCK};
 use cpm_memory::{Memory, change_run};
-
-/// Where the I/O byte lies.
-const IO_BYTE: u16 = 0x0003;
-
-/// Where the disk parameter block lies.
-const DISK_PARAMETERS: u16 = 0xFC20;
 
 /// What the reader gives: the end of a text.
 pub(crate) const READER_BYTE: u8 = 0x1A;
 
-impl Session {
+impl Cpm {
     /// One step of the call in progress, or the first step of the one that the registers ask for. A call that ends
     /// returns to the program, or boots the session anew. The system drive is lent. Both devices must have room for
     /// 4,096 bytes.
@@ -37,7 +33,7 @@ impl Session {
         ensures bounds { IsBounded self.old (M.contents memory.old) (did self.new (M.contents memory.new) result) }
 
         // Output that waits already changes nothing in a step, which shows its own behind it.
-        ensures behind { (p q : List ℕ) → bdos system.now (session_behind p q self.old) (M.contents memory.old) ≡ did_behind p q (did self.new (M.contents memory.new) result) }
+        ensures behind { (p q : List ℕ) → bdos system.now (cpm_behind p q self.old) (M.contents memory.old) ≡ did_behind p q (did self.new (M.contents memory.new) result) }
     {
         self.numbers_fit();
         self.call_step(memory, system)
@@ -94,7 +90,7 @@ impl Session {
             Function::AllocationVector => self.give_allocation(memory, system),
             Function::ProtectDisk => self.protect_disk(memory, system),
             Function::ReadOnlyVector => self.give_read_only_vector(memory),
-            Function::DiskParameters => self.answer(memory, DISK_PARAMETERS),
+            Function::DiskParameters => self.answer(memory, PARAMETER_BLOCK),
             Function::UserCode => self.user_code(memory),
             Function::ResetDrives => self.reset_drives(memory),
             Function::PunchOutput | Function::Other => self.answer(memory, 0),
@@ -104,7 +100,7 @@ impl Session {
     /// Stores E as the I/O byte.
     fn set_io_byte<M: Memory>(&mut self, memory: &mut M) -> Went
         requires { HasRoom (M.contents memory.old) }
-        ensures step { did self.new (M.contents memory.new) result ≡ answered self.old (after_run (M.contents memory.old) 3 (self.old.regs.e ∷ [])) 0 }
+        ensures step { did self.new (M.contents memory.new) result ≡ answered self.old (after_run (M.contents memory.old) io_byte_address (self.old.regs.e ∷ [])) 0 }
         ensures leads { M.Leads memory.old memory.new }
     {
         change_run(memory, IO_BYTE, &[self.regs.e]);

@@ -4,22 +4,22 @@ ghost use Rattle.std.specs.Prelude.{◌≡◌, ◌≤◌, List, ℕ, length};
 ghost use Rattle.cpm_memory.specs.Room.{HasRoom};
 ghost use Rattle.cpm_bdos.specs.Did.{did, returned};
 ghost use Rattle.cpm_bdos.specs.Keys.{first_key};
-ghost use Rattle.cpm_bdos.specs.Output.{showed, listed};
+ghost use Rattle.cpm_bdos.specs.Output.{showed, list_byte};
 ghost use Rattle.cpm_bdos.specs.BiosDisks.{returned_a};
 ghost use Rattle.cpm_bdos.specs.Step.{booted, console_input, bios};
 ghost use Rattle.cpm_bdos.specs.Bounds.{IsBounded};
-ghost use Rattle.cpm_bdos.specs.Behind.{session_behind, did_behind};
+ghost use Rattle.cpm_bdos.specs.Behind.{cpm_behind, did_behind};
 
 use crate::bdos::READER_BYTE;
+use crate::cpm::{Cpm, Went};
 use crate::function::BiosCall;
-use crate::session::{Session, Went};
 use cpm_geom::Image;
 use cpm_memory::{Memory, change_run};
 
 /// What says that the list device is ready.
 const READY: u8 = 0xFF;
 
-impl Session {
+impl Cpm {
     /// The call of the BIOS with this number. It returns to the program, boots the session anew, or waits for a key.
     /// Both devices must have room for 4,096 bytes.
     pub fn bios_step<M: Memory>(&mut self, memory: &mut M, system: &Image, number: u8) -> Went
@@ -31,7 +31,7 @@ impl Session {
         ensures bounds { IsBounded self.old (M.contents memory.old) (did self.new (M.contents memory.new) result) }
 
         // Output that waits already changes nothing in a step, which shows its own behind it.
-        ensures behind { (p q : List ℕ) → bios number system.now (session_behind p q self.old) (M.contents memory.old) ≡ did_behind p q (did self.new (M.contents memory.new) result) }
+        ensures behind { (p q : List ℕ) → bios number system.now (cpm_behind p q self.old) (M.contents memory.old) ≡ did_behind p q (did self.new (M.contents memory.new) result) }
     {
         self.numbers_fit();
         self.bios_call(memory, system, number)
@@ -57,13 +57,13 @@ impl Session {
             BiosCall::List => self.list(memory),
             BiosCall::Reader => self.return_byte(memory, READER_BYTE),
             BiosCall::Home => self.home(memory),
-            BiosCall::SelectDisk => self.select_drive(memory),
+            BiosCall::SelectDrive => self.select_drive(memory),
             BiosCall::SetTrack => self.set_track(memory),
             BiosCall::SetSector => self.set_sector(memory),
-            BiosCall::SetBuffer => self.set_sector_buffer(memory),
-            BiosCall::Read => self.read_sector(memory, system),
-            BiosCall::Write => self.write_sector(memory),
-            BiosCall::SectorTranslate => self.translate(memory),
+            BiosCall::SetSectorBuffer => self.set_sector_buffer(memory),
+            BiosCall::ReadSector => self.read_sector(memory, system),
+            BiosCall::WriteSector => self.write_sector(memory),
+            BiosCall::Translate => self.translate(memory),
             BiosCall::ListStatus => self.return_byte(memory, READY),
             BiosCall::Punch | BiosCall::Other => self.return_from_call(memory),
         }
@@ -109,7 +109,7 @@ impl Session {
     /// Sends the byte in C to the list device.
     fn list<M: Memory>(&mut self, memory: &M) -> Went
         requires { length self.old.console.printer ≤ 4096 }
-        ensures { did self.new (M.contents memory.now) result ≡ returned (listed self.old self.old.regs.c) (M.contents memory.now) }
+        ensures { did self.new (M.contents memory.now) result ≡ returned (list_byte self.old self.old.regs.c) (M.contents memory.now) }
     {
         self.console.put_list(self.regs.c);
         self.return_from_call(memory)

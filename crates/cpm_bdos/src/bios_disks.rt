@@ -3,11 +3,11 @@
 ghost use Rattle.std.specs.Prelude.{◌≡◌};
 ghost use Rattle.cpm_memory.specs.Room.{HasRoom};
 ghost use Rattle.cpm_bdos.specs.Did.{did};
-ghost use Rattle.cpm_bdos.specs.BiosDisks.{returned_hl, home, select_drive, set_track, set_sector, set_buffer, read_sector, write_sector, translate};
+ghost use Rattle.cpm_bdos.specs.BiosDisks.{returned_hl, home, select_drive, set_track, set_sector, set_sector_buffer, read_sector, write_sector, translate};
 
-use crate::disks::header_address;
+use crate::cpm::{Cpm, Went};
+use crate::disks::header_of;
 use crate::registers::{pair_bc, pair_de, put_hl};
-use crate::session::{Session, Went};
 use crate::transfer::{get_record, store_record};
 use cpm_geom::Image;
 use cpm_memory::Memory;
@@ -17,7 +17,7 @@ const DONE: u8 = 0;
 
 const NO_SECTOR: u8 = 1;
 
-impl Session {
+impl Cpm {
     /// Returns with a word in HL.
     fn return_word<M: Memory>(&mut self, memory: &M, value: u16) -> Went
         ensures { did self.new (M.contents memory.now) result ≡ returned_hl self.old (M.contents memory.now) value }
@@ -44,7 +44,7 @@ impl Session {
             return self.return_word(memory, 0);
         }
         self.place.drive = drive;
-        self.return_word(memory, header_address(drive))
+        self.return_word(memory, header_of(drive))
     }
 
     /// Sets the track to BC.
@@ -65,7 +65,7 @@ impl Session {
 
     /// Sets the buffer of a sector to BC.
     pub(crate) fn set_sector_buffer<M: Memory>(&mut self, memory: &M) -> Went
-        ensures { did self.new (M.contents memory.now) result ≡ set_buffer self.old (M.contents memory.now) }
+        ensures { did self.new (M.contents memory.now) result ≡ set_sector_buffer self.old (M.contents memory.now) }
     {
         self.place.buffer = pair_bc(&self.regs);
         self.return_from_call(memory)

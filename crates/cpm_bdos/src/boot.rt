@@ -4,11 +4,12 @@ ghost use Rattle.std.specs.Prelude.{◌≡◌};
 ghost use Rattle.cpm_memory.specs.Room.{HasRoomFor};
 ghost use Rattle.cpm_bdos.specs.Did.{did, returned, answered, rebooted};
 
+use crate::cpm::{Cpm, Mode, Went};
 use crate::registers::{put_result, return_to};
-use crate::session::{Mode, Session, Went};
+use cpm_memory::layout::{BDOS_JUMP, COMMAND_PROCESSOR, DEFAULT_BUFFER, STACK, WARM_BOOT_JUMP};
 use cpm_memory::{Memory, change_run, get_word};
 
-impl Session {
+impl Cpm {
     /// Returns from a call as RET does.
     pub(crate) fn return_from_call<M: Memory>(&mut self, memory: &M) -> Went
         ensures { did self.new (M.contents memory.now) result ≡ returned self.old (M.contents memory.now) }
@@ -34,13 +35,13 @@ impl Session {
         ensures step { did self.new (M.contents memory.new) result ≡ rebooted self.old (M.contents memory.old) }
         ensures leads { M.Leads memory.old memory.new }
     {
-        change_run(memory, 0x0000, &[0xC3, 0x03, 0xFA]);
-        change_run(memory, 0x0005, &[0xC3, 0x06, 0xEC]);
-        self.regs.sp = 0xEBFE;
-        self.regs.pc = 0xE406;
+        change_run(memory, 0x0000, &WARM_BOOT_JUMP);
+        change_run(memory, 0x0005, &BDOS_JUMP);
+        self.regs.sp = STACK;
+        self.regs.pc = COMMAND_PROCESSOR;
         self.console.set_list_echo(false);
         self.disks.reboot();
-        self.buffer = 0x0080;
+        self.buffer = DEFAULT_BUFFER;
         self.mode = Mode::Program;
         Went::Reboot
     }

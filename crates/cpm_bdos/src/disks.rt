@@ -6,32 +6,24 @@ ghost use Rattle.cpm_disks.specs.Selecting.{drives_reset, protect};
 ghost use Rattle.cpm_disks.specs.Vectors.{login_vector, read_only_vector};
 ghost use Rattle.cpm_bdos.specs.Did.{did, answered};
 ghost use Rattle.cpm_bdos.specs.Registers.{de_of};
-ghost use Rattle.cpm_bdos.specs.Disks.{with_disks, by_answer, file_function, table_of, vector_address, header_address, reset_disks, select_disk, give_allocation, user_code};
+ghost use Rattle.cpm_bdos.specs.Disks.{with_disks, by_answer, file_function, table_of, vector_of, header_of, reset_disks, select_disk, give_allocation, user_code};
 
+use crate::cpm::{Cpm, Went};
 use crate::registers::pair_de;
-use crate::session::{Session, Went};
 use crate::transfer::{get_fcb, get_record, store_fcb, store_record};
 use cpm_disks::FileFunction;
 use cpm_files::Fault;
 use cpm_geom::Image;
+use cpm_memory::layout::{DEFAULT_BUFFER, FIRST_ALLOCATION_VECTOR, FIRST_HEADER};
 use cpm_memory::{Memory, change_run};
 
 /// The number of the system drive.
 const SYSTEM: u8 = 15;
 
-/// Where a session's buffer lies unless a program moves it.
-pub(crate) const BUFFER: u16 = 0x0080;
-
-/// Where the allocation vectors of the drives lie.
-const VECTORS: u16 = 0xFE00;
-
-/// Where the parameter headers of the drives lie.
-const HEADERS: u16 = 0xFC40;
-
 /// The parameter of function 32 that asks for the user.
 const ASK_USER: u8 = 0xFF;
 
-impl Session {
+impl Cpm {
     /// Returns with a call's code, or goes into its fault on a drive.
     fn answer_or_fault<M: Memory>(
         &mut self,
@@ -77,7 +69,7 @@ impl Session {
         ensures { did self.new (M.contents memory.now) result ≡ reset_disks system.now self.old (M.contents memory.now) }
     {
         self.disks.reset(system);
-        self.buffer = BUFFER;
+        self.buffer = DEFAULT_BUFFER;
         self.answer(memory, 0)
     }
 
@@ -124,7 +116,7 @@ impl Session {
         ensures leads { M.Leads memory.old memory.new }
     {
         let drive = self.disks.current;
-        let at = vector_address(drive);
+        let at = vector_of(drive);
         self.disks.use_drive(system, drive);
         let vector = self.disks.allocation_vector(system);
         change_run(memory, at, &vector);
@@ -168,15 +160,15 @@ fn table_of(drive: u8) -> u16
 }
 
 /// The address of a drive's allocation vector.
-fn vector_address(drive: u8) -> u16
-    ensures { result ≡ vector_address drive }
+fn vector_of(drive: u8) -> u16
+    ensures { result ≡ vector_of drive }
 {
-    VECTORS.wrapping_add(64 * table_of(drive))
+    FIRST_ALLOCATION_VECTOR.wrapping_add(64 * table_of(drive))
 }
 
 /// The address of a drive's parameter header.
-pub(crate) fn header_address(drive: u8) -> u16
-    ensures { result ≡ header_address drive }
+pub(crate) fn header_of(drive: u8) -> u16
+    ensures { result ≡ header_of drive }
 {
-    HEADERS.wrapping_add(32 * table_of(drive))
+    FIRST_HEADER.wrapping_add(32 * table_of(drive))
 }

@@ -1,17 +1,18 @@
 //! A line that is read, one key a step.
 
-ghost use Rattle.std.specs.Prelude.{◌≡◌, ◌<◌, ◌≤◌, length};
+ghost use Rattle.std.specs.Prelude.{◌≡◌, ◌≤◌, MatchOption, IfNone, length};
+ghost use Rattle.cpm_memory.specs.Contents.{Contents};
 ghost use Rattle.cpm_memory.specs.Room.{HasRoom};
-ghost use Rattle.cpm_console.specs.Editing.{key_into_line};
 ghost use Rattle.cpm_bdos.specs.Did.{did};
-ghost use Rattle.cpm_bdos.specs.ReadLine.{is_open, line_ended, edited_with, edit_line, read_line};
+ghost use Rattle.cpm_bdos.specs.ReadLine.{LineReader, is_open, line_ended, line_step, edit_line, read_line};
+ghost use Rattle.cpm_bdos.specs.declared.cpm.Went.TheVariants.{Waits};
 
+use crate::cpm::{Cpm, Mode, Went};
 use crate::registers::pair_de;
-use crate::session::{Mode, Session, Went};
 use cpm_console::{Line, Progress};
 use cpm_memory::{Memory, change_run};
 
-impl Session {
+impl Cpm {
     /// The first step of a line.
     pub(crate) fn read_line<M: Memory>(&mut self, memory: &mut M) -> Went
         requires screen { length self.old.console.screen ≤ 4096 }
@@ -29,7 +30,7 @@ impl Session {
         self.edit_line(memory)
     }
 
-    /// A step of the line that is being read.
+    /// A step of function 10's line.
     pub(crate) fn edit_line<M: Memory>(&mut self, memory: &mut M) -> Went
         requires screen { length self.old.console.screen ≤ 4096 }
         requires printer { length self.old.console.printer ≤ 4096 }
@@ -37,33 +38,33 @@ impl Session {
         ensures step { did self.new (M.contents memory.new) result ≡ edit_line self.old.line self.old (M.contents memory.old) }
         ensures leads { M.Leads memory.old memory.new }
     {
-        if !is_open(&self.line) {
-            self.console.say(b'\r');
-            return self.end_line(memory);
-        }
-        match self.console.next_key() {
-            Some(key) => self.edit_with(memory, key),
+        match self.step_line() {
+            Some(Progress::GoesOn) => {
+                self.mode = Mode::Line;
+                Went::GoesOn
+            }
+            Some(Progress::Ended) => self.end_line(memory),
+            Some(Progress::Interrupted) => self.reboot(memory),
             None => Went::Waits,
         }
     }
 
-    /// Puts a key into the line.
-    fn edit_with<M: Memory>(&mut self, memory: &mut M, key: u8) -> Went
+    /// A step of the line that is being read, by function 10 or by the command processor: how the line goes on, or
+    /// nothing where it needs a key and none is pending, and then nothing has changed.
+    pub fn step_line(&mut self) -> Option<Progress>
         requires screen { length self.old.console.screen ≤ 4096 }
         requires printer { length self.old.console.printer ≤ 4096 }
-        requires room { HasRoom (M.contents memory.old) }
-        requires open { length self.old.line.characters < self.old.line.limit }
-        ensures step { did self.new (M.contents memory.new) result ≡ edited_with self.old (M.contents memory.old) (key_into_line self.old.console self.old.line key) }
-        ensures leads { M.Leads memory.old memory.new }
+        ensures step { (goes_on : LineReader) (m : Contents) → MatchOption result
+            (did self.old m Waits ≡ line_step goes_on self.old.line self.old m)
+            (λ progress. goes_on progress self.new m ≡ line_step goes_on self.old.line self.old m) }
+        ensures waits { IfNone result (self.new ≡ self.old) }
     {
-        match self.line.key_into_line(&mut self.console, key) {
-            Progress::GoesOn => {
-                self.mode = Mode::Line;
-                Went::GoesOn
-            }
-            Progress::Ended => self.end_line(memory),
-            Progress::Interrupted => self.reboot(memory),
+        if !is_open(&self.line) {
+            self.console.say(b'\r');
+            return Some(Progress::Ended);
         }
+        let key = self.console.next_key()?;
+        Some(self.line.key_into_line(&mut self.console, key))
     }
 
     /// Puts the line into memory behind the byte of its greatest length, and returns.
@@ -81,7 +82,7 @@ impl Session {
 }
 
 /// Whether a line may have a character more.
-pub fn is_open(line: &Line) -> bool
+pub(crate) fn is_open(line: &Line) -> bool
     ensures { result ≡ is_open line.now }
 {
     line.characters().len() < usize::from(line.limit())

@@ -5,9 +5,9 @@ ghost use Rattle.cpm_memory.specs.Room.{HasRoom};
 ghost use Rattle.cpm_bdos.specs.Did.{did, answered};
 ghost use Rattle.cpm_bdos.specs.Keys.{first_key};
 ghost use Rattle.cpm_bdos.specs.Hold.{is_stop, stopped, release};
-ghost use Rattle.cpm_bdos.specs.Output.{listed, write_byte, write_text};
+ghost use Rattle.cpm_bdos.specs.Output.{list_byte, write_byte, write_text};
 
-use crate::session::{Held, Mode, Session, Went};
+use crate::cpm::{Cpm, Held, Mode, Went};
 use cpm_memory::Memory;
 
 /// The key that holds output.
@@ -16,7 +16,7 @@ const STOP: u8 = 0x13;
 /// The key that ends a hold, or a line that is empty, by a warm boot.
 const BREAK: u8 = 0x03;
 
-impl Session {
+impl Cpm {
     /// Shows the byte in E.
     pub(crate) fn write_byte<M: Memory>(&mut self, memory: &M) -> Went
         requires screen { length self.old.console.screen ≤ 4096 }
@@ -53,7 +53,7 @@ impl Session {
     /// Sends the byte in E to the list device.
     pub(crate) fn list_byte<M: Memory>(&mut self, memory: &M) -> Went
         requires { length self.old.console.printer ≤ 4096 }
-        ensures { did self.new (M.contents memory.now) result ≡ answered (listed self.old self.old.regs.e) (M.contents memory.now) 0 }
+        ensures { did self.new (M.contents memory.now) result ≡ answered (list_byte self.old self.old.regs.e) (M.contents memory.now) 0 }
     {
         self.console.put_list(self.regs.e);
         self.answer(memory, 0)
@@ -68,7 +68,7 @@ impl Session {
 
     /// Takes ^S, and holds the output until another key.
     pub fn hold(&mut self, held: Held) -> Went
-        ensures session { self.new ≡ stopped self.old held }
+        ensures cpm { self.new ≡ stopped self.old held }
         ensures went { result ≡ Went.GoesOn }
     {
         self.console.next_key();

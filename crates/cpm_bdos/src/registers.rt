@@ -4,6 +4,7 @@ ghost use Rattle.std.specs.Prelude.{◌≡◌, ◌+◌, ◌*◌, ◌/◌, ◌%�
 ghost use Rattle.cpm_bdos.specs.Registers.{at_opening, bc_of, de_of, with_hl, with_result, returned_to};
 
 use cpm_flags::{Alternate, Flags, Regs};
+use cpm_memory::layout::{COMMAND_PROCESSOR, STACK};
 
 const NO_FLAGS: Flags = Flags {
     sign: false,
@@ -29,8 +30,8 @@ pub fn at_opening() -> Regs
         e: 0,
         h: 0,
         l: 0,
-        sp: 0xEBFE,
-        pc: 0xE406,
+        sp: STACK,
+        pc: COMMAND_PROCESSOR,
         ix: 0,
         iy: 0,
         interrupt_page: 0,

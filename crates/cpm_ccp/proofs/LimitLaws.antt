@@ -1,33 +1,28 @@
 -- No step of the command processor changes how many pages may be written.
-use Rattle.std.proofs.Common.{◌≡◌, ℕ, Bool, true, false, ◌&&◌, refl, List, Option, Some, None, Result, Ok, Err}
+use Rattle.std.proofs.Common.{◌≡◌, ℕ, Bool, true, false, ◌&&◌, refl, List, Result, Ok, Err}
 use Rattle.std.specs.Prelude.{if◌then◌else◌, ◌==◌, nat_lt}
 use Rattle.cpm_geom.specs.Disk.{Disk}
-use Rattle.cpm_console.specs.Terminal.{key_read}
-use Rattle.cpm_console.specs.Editing.{key_into_line}
-use Rattle.cpm_console.specs.declared.line.Progress.{Progress}
 use Rattle.cpm_console.specs.declared.line.Progress.TheVariants as line
 use Rattle.cpm_memory.specs.Contents.{Contents, byte_at}
 use Rattle.cpm_memory.specs.Room.{limit-after_change}
 use Rattle.cpm_memory.proofs.Runs.{limit-run}
 use Rattle.cpm_files.specs.declared.answer.Fault.{Fault as Failure}
 use Rattle.cpm_disks.specs.Disks.{is_there}
-use Rattle.cpm_disks.specs.Files.{read_next_record}
+use Rattle.cpm_disks.specs.Files.{read_next}
 use Rattle.cpm_bdos.specs.Did.{Did}
-use Rattle.cpm_bdos.specs.Keys.{first_key}
-use Rattle.cpm_bdos.specs.ReadLine.{is_open, with_edited}
-use Rattle.cpm_bdos.specs.declared.session.Session.{Session}
-use Rattle.cpm_bdos.specs.declared.session.CommandPart.{CommandPart}
-use Rattle.cpm_bdos.specs.declared.session.CommandPart.TheVariants as part
-use Rattle.cpm_bdos.specs.declared.session.Mode.{Mode}
-use Rattle.cpm_bdos.specs.declared.session.Mode.TheVariants.{Program, Text, Line, Hold, Fault, Command}
-use Rattle.cpm_bdos.proofs.Limits.{limit-rebooted}
+use Rattle.cpm_bdos.specs.declared.cpm.Cpm.{Cpm}
+use Rattle.cpm_bdos.specs.declared.cpm.CommandPart.{CommandPart}
+use Rattle.cpm_bdos.specs.declared.cpm.CommandPart.TheVariants as part
+use Rattle.cpm_bdos.specs.declared.cpm.Mode.{Mode}
+use Rattle.cpm_bdos.specs.declared.cpm.Mode.TheVariants.{Program, Text, Line, Hold, Fault, Command}
+use Rattle.cpm_bdos.proofs.Limits.{ReaderKeepsLimit, limit-rebooted, limit_line_step}
 use Rattle.cpm_ccp.specs.declared.command.Command.{Command as Typed}
 use Rattle.cpm_ccp.specs.declared.command.Command.TheVariants as typed
 use Rattle.cpm_ccp.specs.Command.{command_of}
 use Rattle.cpm_ccp.specs.Words.{tail_of}
 use Rattle.cpm_ccp.specs.Parts.{is_stopped, line_of, own_record, record_of, with_call}
-use Rattle.cpm_ccp.specs.Prompt.{with_drive, with_user, after_key, take_key, edit_line, drive_selected}
-use Rattle.cpm_ccp.specs.Loading.{after_read, load_record}
+use Rattle.cpm_ccp.specs.Prompt.{with_drive, with_user, after_key, drive_selected}
+use Rattle.cpm_ccp.specs.Loading.{after_load_read, load_record}
 use Rattle.cpm_ccp.specs.Step.{looks_first, begun_by, begun, in_part, in_mode}
 use Rattle.cpm_ccp.specs.Laws.{LimitLaw}
 use Rattle.cpm_ccp.proofs.StartLemmas.{limit_started}
@@ -39,35 +34,27 @@ limit_if : (b : Bool) (m : Contents) (x y : Did) → KeepsLimit m x → KeepsLim
 limit_if true m x y hx hy = hx
 limit_if false m x y hx hy = hy
 
-limit_after_key : (next : CommandPart) (p : Progress) (s : Session) (m : Contents) → KeepsLimit m (after_key next p s m)
+limit_after_key : (next : CommandPart) → ReaderKeepsLimit (after_key next)
 limit_after_key next line.GoesOn s m = refl
 limit_after_key next line.Ended s m = refl
 limit_after_key next line.Interrupted s m = limit-rebooted s m
 
-limit_take_key : (next : CommandPart) (k : Option ℕ) (s : Session) (m : Contents) → KeepsLimit m (take_key next k s m)
-limit_take_key next None s m = refl
-limit_take_key next (Some k) s m =
-    let e = key_into_line (key_read s.console) s.line k in limit_after_key next e.progress (with_edited s e) m
-
-limit_edit_line : (next : CommandPart) (s : Session) (m : Contents) → KeepsLimit m (edit_line next s m)
-limit_edit_line next s m = limit_if (is_open s.line) m _ _ (limit_take_key next (first_key s) s m) refl
-
-limit_drive_selected : (drive : ℕ) (s : Session) (m : Contents) → KeepsLimit m (drive_selected drive s m)
+limit_drive_selected : (drive : ℕ) (s : Cpm) (m : Contents) → KeepsLimit m (drive_selected drive s m)
 limit_drive_selected drive s m =
     limit_if (is_there s.disks drive) m _ _ (limit-after_change m 4 (with_drive drive (byte_at m 4))) refl
 
-limit_after_read : (a : Result ℕ Failure) (next : ℕ) (bytes : List ℕ) (s : Session) (m : Contents) → KeepsLimit m (after_read a next bytes s m)
+limit_after_read : (a : Result ℕ Failure) (next : ℕ) (bytes : List ℕ) (s : Cpm) (m : Contents) → KeepsLimit m (after_load_read a next bytes s m)
 limit_after_read (Err which) next bytes s m = refl
 limit_after_read (Ok code) next bytes s m =
     limit_if (code == 0) m _ _ (limit_if (nat_lt 58240 next) m _ _ refl (limit-run m next bytes)) (limit_started (tail_of (line_of s)) m)
 
-limit_load_record : (system : Disk) (next : ℕ) (s : Session) (m : Contents) → KeepsLimit m (load_record system next s m)
+limit_load_record : (system : Disk) (next : ℕ) (s : Cpm) (m : Contents) → KeepsLimit m (load_record system next s m)
 unfolding load_record
 limit_load_record system next s m =
-    let c = read_next_record s.disks system s.file own_record in
+    let c = read_next s.disks system s.file own_record in
     limit_after_read c.answer next (record_of c) (with_call s c) m
 
-limit_begun_by : (command : Typed) (system : Disk) (s : Session) (m : Contents) → KeepsLimit m (begun_by command system s m)
+limit_begun_by : (command : Typed) (system : Disk) (s : Cpm) (m : Contents) → KeepsLimit m (begun_by command system s m)
 limit_begun_by typed.Nothing system s m = refl
 limit_begun_by (typed.SelectDrive drive) system s m = limit_drive_selected drive s m
 limit_begun_by (typed.Directory file) system s m = refl
@@ -84,22 +71,22 @@ limit_begun_by typed.UserForm system s m = refl
 limit_begun_by (typed.Program file) system s m = refl
 limit_begun_by typed.Unknown system s m = refl
 
-limit_begun : (command : Typed) (system : Disk) (s : Session) (m : Contents) → KeepsLimit m (begun command system s m)
+limit_begun : (command : Typed) (system : Disk) (s : Cpm) (m : Contents) → KeepsLimit m (begun command system s m)
 limit_begun command system s m =
     limit_if (is_stopped s && looks_first command) m _ _ refl (limit_begun_by command system s m)
 
-limit_in_part : (p : CommandPart) (system : Disk) (s : Session) (m : Contents) → KeepsLimit m (in_part p system s m)
-limit_in_part part.Line system s m = limit_edit_line part.Begin s m
+limit_in_part : (p : CommandPart) (system : Disk) (s : Cpm) (m : Contents) → KeepsLimit m (in_part p system s m)
+limit_in_part part.Line system s m = limit_line_step (after_key part.Begin) (limit_after_key part.Begin) s.line s m
 limit_in_part part.Begin system s m = limit_begun (command_of s.disks.current (line_of s)) system s m
 limit_in_part (part.Directory next column) system s m = refl
-limit_in_part part.Answer system s m = limit_edit_line part.EraseAll s m
+limit_in_part part.Answer system s m = limit_line_step (after_key part.EraseAll) (limit_after_key part.EraseAll) s.line s m
 limit_in_part part.EraseAll system s m = refl
 limit_in_part (part.Save next left) system s m = refl
 limit_in_part part.Close system s m = refl
 limit_in_part part.Show system s m = refl
 limit_in_part (part.Load next) system s m = limit_load_record system next s m
 
-limit_in_mode : (mode : Mode) (system : Disk) (s : Session) (m : Contents) → KeepsLimit m (in_mode mode system s m)
+limit_in_mode : (mode : Mode) (system : Disk) (s : Cpm) (m : Contents) → KeepsLimit m (in_mode mode system s m)
 limit_in_mode Program system s m = refl
 limit_in_mode (Text next) system s m = refl
 limit_in_mode Line system s m = refl

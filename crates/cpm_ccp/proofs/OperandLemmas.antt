@@ -7,7 +7,7 @@ use Rattle.cpm_files.specs.Files.{has_wildcard}
 use Rattle.cpm_directory.specs.CommandLine.{is_drive, fcb_named}
 use Rattle.cpm_ccp.specs.Words.{is_drive_alone, number_up_to}
 use Rattle.cpm_ccp.specs.Names.{is_command_name, is_every, program_file}
-use Rattle.cpm_ccp.specs.Command.{HasOperands, built_in_of, by_name, directory_of, erase_of, is_elsewhere, meaning, rename_of, renamed, save_of, saved, type_of, user_numbered, user_of}
+use Rattle.cpm_ccp.specs.Command.{HasOperands, built_in_of, by_name, directory_of, erase_of, is_elsewhere, meaning, rename_of, rename_command, save_of, save_command, type_of, user_numbered, user_of}
 use Rattle.cpm_ccp.specs.declared.built_in.BuiltIn.{BuiltIn}
 use Rattle.cpm_ccp.specs.declared.built_in.BuiltIn.TheVariants as built_in
 use Rattle.cpm_ccp.specs.declared.command.Command.TheVariants.{Erase, EraseAll, RenameForm, Rename, TypeFile, TypeForm, SaveForm, Save}
@@ -33,10 +33,10 @@ saved_one : (pages : ℕ) (file : Fcb) (b : Bool) → pages ≤ 255 → has_wild
 saved_one pages file true few is = tt
 saved_one pages file false few is = (omega arith, is)
 
-saved-fits : (pages : Option ℕ) (file : Fcb) → ((n : ℕ) → pages ≡ Some n → n ≤ 255) → HasOperands (saved pages file)
-unfolding saved
-saved-fits None file few = tt
-saved-fits (Some n) file few = saved_one n file (has_wildcard file.extent.name) (few n refl) refl
+save_command-fits : (pages : Option ℕ) (file : Fcb) → ((n : ℕ) → pages ≡ Some n → n ≤ 255) → HasOperands (save_command pages file)
+unfolding save_command
+save_command-fits None file few = tt
+save_command-fits (Some n) file few = saved_one n file (has_wildcard file.extent.name) (few n refl) refl
 
 user-fits : (user : Option ℕ) → ((n : ℕ) → user ≡ Some n → n ≤ 15) → HasOperands (user_numbered user)
 unfolding user_numbered
@@ -50,10 +50,10 @@ renamed_one old new elsewhere false true new_is old_is = tt
 renamed_one old new true false false new_is old_is = tt
 renamed_one old new false false false new_is old_is = (refl, old_is, new_is)
 
-renamed-fits : (current : ℕ) (new : Fcb) (text : Option (List ℕ)) → HasOperands (renamed current new text)
-unfolding renamed
-renamed-fits current new None = tt
-renamed-fits current new (Some text) =
+rename_command-fits : (current : ℕ) (new : Fcb) (text : Option (List ℕ)) → HasOperands (rename_command current new text)
+unfolding rename_command
+rename_command-fits current new None = tt
+rename_command-fits current new (Some text) =
     let old = fcb_named text in renamed_one old new (is_elsewhere current new old) _ _ refl refl
 
 one_file : (a b : Bool) → (a || b) ≡ false → (a ≡ false) × (b ≡ false)
@@ -90,8 +90,8 @@ unfolding by_name directory_of erase_of rename_of save_of type_of user_of
 by_name-fits current file tail None eight named = program-fits file eight named
 by_name-fits current file tail (Some built_in.Dir) eight named = tt
 by_name-fits current file tail (Some built_in.Era) eight named = erased (fcb_named tail) _ refl
-by_name-fits current file tail (Some built_in.Ren) eight named = renamed-fits current _ _
-by_name-fits current file tail (Some built_in.Save) eight named = saved-fits _ _ (number_up_to-le 255 _)
+by_name-fits current file tail (Some built_in.Ren) eight named = rename_command-fits current _ _
+by_name-fits current file tail (Some built_in.Save) eight named = save_command-fits _ _ (number_up_to-le 255 _)
 by_name-fits current file tail (Some built_in.TypeFile) eight named = shown (fcb_named tail) _ refl
 by_name-fits current file tail (Some built_in.User) eight named = user-fits _ (number_up_to-le 15 _)
 

@@ -35,7 +35,7 @@ erase_of tail = let file = fcb_named tail in if is_every file then EraseAll file
 unfoldable pub behind_equals : List ℕ → Option (List ℕ)
 behind_equals text =
     let sign = slice_index (after_spaces text) 0 in
-    if (sign == 61) || (sign == 95) then Some (drop 1 (after_spaces text)) else None
+    if (sign == 0x3D) || (sign == 0x5F) then Some (drop 1 (after_spaces text)) else None
 
 -- the drive of a file, 0 for A, with this current drive
 unfoldable pub effective_drive : ℕ → Fcb → ℕ
@@ -47,23 +47,23 @@ is_elsewhere current new old =
     not (old.drive == 0) && not (effective_drive current old == effective_drive current new)
 
 -- section 1, REN: both names are of one drive, and stand for one file
-unfoldable pub renamed : ℕ → Fcb → Option (List ℕ) → Command
-renamed current new None = RenameForm
-renamed current new (Some text) =
+unfoldable pub rename_command : ℕ → Fcb → Option (List ℕ) → Command
+rename_command current new None = RenameForm
+rename_command current new (Some text) =
     let old = fcb_named text in
     if has_wildcard new.extent.name || (has_wildcard old.extent.name || is_elsewhere current new old) then RenameForm
     else Rename (record old { drive = new.drive }) new
 
 unfoldable pub rename_of : ℕ → List ℕ → Command
-rename_of current tail = renamed current (fcb_named tail) (behind_equals (rest_of tail))
+rename_of current tail = rename_command current (fcb_named tail) (behind_equals (rest_of tail))
 
 -- section 1, SAVE: a number of pages and one file; own: 0 to 255 pages
-unfoldable pub saved : Option ℕ → Fcb → Command
-saved None file = SaveForm
-saved (Some pages) file = if has_wildcard file.extent.name then SaveForm else Save pages file
+unfoldable pub save_command : Option ℕ → Fcb → Command
+save_command None file = SaveForm
+save_command (Some pages) file = if has_wildcard file.extent.name then SaveForm else Save pages file
 
 unfoldable pub save_of : List ℕ → Command
-save_of tail = saved (number_up_to 255 (first_word tail)) (fcb_named (tail_of tail))
+save_of tail = save_command (number_up_to 255 (first_word tail)) (fcb_named (tail_of tail))
 
 -- section 1, TYPE: one file
 unfoldable pub type_of : List ℕ → Command
@@ -97,7 +97,7 @@ command_of current line =
     let tail = tail_of line in
     let file = fcb_named word in
     if length word == 0 then Nothing
-    else if is_drive_alone word tail then SelectDrive (slice_index word 0 - 65)
+    else if is_drive_alone word tail then SelectDrive (slice_index word 0 - 0x41)
     else if is_command_name file then meaning current file tail
     else Unknown
 

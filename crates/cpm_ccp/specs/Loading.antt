@@ -5,30 +5,31 @@ use Rattle.cpm_files.specs.declared.fcb.Fcb.{Fcb}
 use Rattle.cpm_files.specs.declared.answer.Fault.{Fault}
 use Rattle.cpm_directory.specs.CommandLine.{fcb_named, rest_of}
 use Rattle.cpm_memory.specs.Contents.{Contents, after_run}
-use Rattle.cpm_disks.specs.Files.{open_file, read_next_record}
+use Rattle.cpm_memory.specs.Layout.{command_processor_address, default_buffer_address, default_fcbs_address, program_address, stack_address, word_bytes}
+use Rattle.cpm_disks.specs.Files.{open_file, read_next}
 use Rattle.cpm_bdos.specs.Did.{Did, did}
 use Rattle.cpm_bdos.specs.Faults.{faulted}
-use Rattle.cpm_bdos.specs.declared.session.Session.{Session}
-use Rattle.cpm_bdos.specs.declared.session.CommandPart.TheVariants as part
-use Rattle.cpm_bdos.specs.declared.session.Mode.{Mode}
-use Rattle.cpm_bdos.specs.declared.session.Mode.TheVariants.{Program, Command}
-use Rattle.cpm_bdos.specs.declared.session.Went.TheVariants.{Returned, GoesOn}
+use Rattle.cpm_bdos.specs.declared.cpm.Cpm.{Cpm}
+use Rattle.cpm_bdos.specs.declared.cpm.CommandPart.TheVariants as part
+use Rattle.cpm_bdos.specs.declared.cpm.Mode.{Mode}
+use Rattle.cpm_bdos.specs.declared.cpm.Mode.TheVariants.{Program, Command}
+use Rattle.cpm_bdos.specs.declared.cpm.Went.TheVariants.{Returned, GoesOn}
 use Rattle.cpm_ccp.specs.declared.message.Message.TheVariants.{BadLoad}
 use Rattle.cpm_ccp.specs.Words.{first_word, tail_of}
 use Rattle.cpm_ccp.specs.Parts.{at_part, finished, says_below, told, line_of, own_record, record_of, drive_of, failed, with_call}
 
 -- own: a first word that no command has is shown as it is, with ?
-abbrev pub unknown : Session → Session
-unknown s = finished (says_below s (first_word (line_of s) ++ (63 ∷ [])))
+abbrev pub unknown : Cpm → Cpm
+unknown s = finished (says_below s (first_word (line_of s) ++ (0x3F ∷ [])))
 
-abbrev pub after_open : Result ℕ Fault → Session → Session
-after_open (Err which) s = failed which s
-after_open (Ok code) s = if code == 255 then unknown s else at_part s (part.Load 256)
+abbrev pub after_load_open : Result ℕ Fault → Cpm → Cpm
+after_load_open (Err which) s = failed which s
+after_load_open (Ok code) s = if code == 0xFF then unknown s else at_part s (part.Load program_address)
 
 -- the program's file is opened: function 15
-unfoldable pub load_begun : Disk → Fcb → Session → Session
+unfoldable pub load_begun : Disk → Fcb → Cpm → Cpm
 load_begun system file s =
-    let c = open_file s.disks system file own_record in after_open c.answer (with_call s c)
+    let c = open_file s.disks system file own_record in after_load_open c.answer (with_call s c)
 
 -- section 5: the first two names of the tail at 005Ch and 006Ch, each by 16 bytes of its file control block
 unfoldable pub name_bytes : Fcb → List ℕ
@@ -41,32 +42,32 @@ default_files tail = name_bytes (fcb_named tail) ++ (name_bytes (fcb_named (rest
 -- the tail with its length at 0080h; own: a 0 behind it, and E406h at EBFEh, where a program returns to
 unfoldable pub memory_started : List ℕ → Contents → Contents
 memory_started tail m =
-    after_run (after_run (after_run (after_run m 92 (default_files tail)) 128 (length tail ∷ [])) 129 (tail ++ (0 ∷ []))) 60414 (6 ∷ 228 ∷ [])
+    after_run (after_run (after_run (after_run m default_fcbs_address (default_files tail)) default_buffer_address (length tail ∷ [])) (default_buffer_address + 1) (tail ++ (0 ∷ []))) stack_address (word_bytes command_processor_address)
 
 -- the program begins at 0100h, with SP at EBFEh; other registers are kept
-abbrev pub started : Session → Contents → Did
+abbrev pub started : Cpm → Contents → Did
 started s m =
-    did (record s { regs = record s.regs { sp = 60414; pc = 256 }; buffer = 128; mode = Program }) (memory_started (tail_of (line_of s)) m) Returned
+    did (record s { regs = record s.regs { sp = stack_address; pc = program_address }; buffer = default_buffer_address; mode = Program }) (memory_started (tail_of (line_of s)) m) Returned
 
 -- own: a record is read before it is judged; one that would reach E400h ends the command
-abbrev pub loaded : ℕ → List ℕ → Session → Contents → Did
+abbrev pub loaded : ℕ → List ℕ → Cpm → Contents → Did
 loaded next bytes s m =
-    if nat_lt 58240 next then did (told s BadLoad) m Returned
+    if nat_lt 0xE380 next then did (told s BadLoad) m Returned
     else did (at_part s (part.Load (next + 128))) (after_run m next bytes) GoesOn
 
-abbrev pub after_read : Result ℕ Fault → ℕ → List ℕ → Session → Contents → Did
-after_read (Err which) next bytes s m = faulted s m which (drive_of s)
-after_read (Ok code) next bytes s m = if code == 0 then loaded next bytes s m else started s m
+abbrev pub after_load_read : Result ℕ Fault → ℕ → List ℕ → Cpm → Contents → Did
+after_load_read (Err which) next bytes s m = faulted s m which (drive_of s)
+after_load_read (Ok code) next bytes s m = if code == 0 then loaded next bytes s m else started s m
 
 -- function 20
-unfoldable pub load_record : Disk → ℕ → Session → Contents → Did
+unfoldable pub load_record : Disk → ℕ → Cpm → Contents → Did
 load_record system next s m =
-    let c = read_next_record s.disks system s.file own_record in after_read c.answer next (record_of c) (with_call s c) m
+    let c = read_next s.disks system s.file own_record in after_load_read c.answer next (record_of c) (with_call s c) m
 
 -- a step of the loader, where a program is loaded
-abbrev pub load_in : Mode → Disk → Session → Contents → Did
+abbrev pub load_in : Mode → Disk → Cpm → Contents → Did
 load_in (Command (part.Load next)) system s m = load_record system next s m
 load_in _ system s m = did s m GoesOn
 
-abbrev pub load : Disk → Session → Contents → Did
+abbrev pub load : Disk → Cpm → Contents → Did
 load system s m = load_in s.mode system s m

@@ -11,7 +11,7 @@ is_blank file = bytes_eq file.extent.name (codes "           ")
 
 -- a question mark in the low seven bits, as where names are compared
 abbrev pub is_wildcard : ℕ → Bool
-is_wildcard c = c % 128 == 63
+is_wildcard c = c % 128 == 0x3F
 
 -- the name of every file
 unfoldable pub is_every : Fcb → Bool
@@ -23,7 +23,7 @@ is_command_name file =
     not (bytes_eq (take 8 file.extent.name) (codes "        ")) && (bytes_eq (drop 8 file.extent.name) (codes "   ") && not (has_wildcard file.extent.name))
 
 unfoldable pub all_of : Fcb → Fcb
-all_of file = record file { extent = record file.extent { name = replicate 11 63 } }
+all_of file = record file { extent = record file.extent { name = replicate 11 0x3F } }
 
 -- CP/M 2.2 Operating System Manual, section 1.6, Transient Commands: programs are files of type COM
 unfoldable pub program_file : Fcb → Fcb

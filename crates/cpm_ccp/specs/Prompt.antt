@@ -1,25 +1,23 @@
 -- The prompt, the line behind it, and the commands that leave it another drive or user.
 -- CP/M 2.2 Operating System Manual, section 1.4, Built-in Commands; own: the user and the drive lie at 0004h, each in four bits.
-use Rattle.std.specs.Prelude.{ℕ, ◌+◌, ◌*◌, ◌/◌, ◌%◌, List, [], ◌∷◌, Option, Some, None, if◌then◌else◌}
+use Rattle.std.specs.Prelude.{ℕ, ◌+◌, ◌*◌, ◌/◌, ◌%◌, List, [], ◌∷◌, if◌then◌else◌}
 use Rattle.cpm_geom.specs.Disk.{Disk}
 use Rattle.cpm_files.specs.declared.answer.Fault.TheVariants.{Select}
-use Rattle.cpm_console.specs.Terminal.{key_read}
-use Rattle.cpm_console.specs.Editing.{Edited, key_into_line}
 use Rattle.cpm_console.specs.declared.line.Progress.{Progress}
 use Rattle.cpm_console.specs.declared.line.Progress.TheVariants as line
 use Rattle.cpm_memory.specs.Contents.{Contents, byte_at, after_change}
+use Rattle.cpm_memory.specs.Layout.{default_buffer_address, user_and_drive_address}
 use Rattle.cpm_disks.specs.declared.disks.Disks.{Disks}
 use Rattle.cpm_disks.specs.Disks.{is_there}
 use Rattle.cpm_disks.specs.Selecting.{used}
 use Rattle.cpm_bdos.specs.Did.{Did, did, rebooted}
 use Rattle.cpm_bdos.specs.Faults.{faulted}
-use Rattle.cpm_bdos.specs.Keys.{first_key}
-use Rattle.cpm_bdos.specs.ReadLine.{is_open, with_edited}
-use Rattle.cpm_bdos.specs.declared.session.Session.{Session}
-use Rattle.cpm_bdos.specs.declared.session.CommandPart.{CommandPart}
-use Rattle.cpm_bdos.specs.declared.session.CommandPart.TheVariants as part
-use Rattle.cpm_bdos.specs.declared.session.Went.TheVariants.{Returned, Waits, GoesOn}
-use Rattle.cpm_ccp.specs.Parts.{at_part, finished, says, says_below, reads_line}
+use Rattle.cpm_bdos.specs.ReadLine.{line_step}
+use Rattle.cpm_bdos.specs.declared.cpm.Cpm.{Cpm}
+use Rattle.cpm_bdos.specs.declared.cpm.CommandPart.{CommandPart}
+use Rattle.cpm_bdos.specs.declared.cpm.CommandPart.TheVariants as part
+use Rattle.cpm_bdos.specs.declared.cpm.Went.TheVariants.{Returned, GoesOn}
+use Rattle.cpm_ccp.specs.Parts.{at_part, finished, says_below, reads_line}
 
 -- ---- the prompt
 
@@ -34,30 +32,22 @@ chosen disks system byte =
 
 -- a fresh line, the drive's letter and >; own: the buffer is again at 0080h
 abbrev pub prompt_text : ℕ → List ℕ
-prompt_text drive = (65 + drive) ∷ 62 ∷ []
+prompt_text drive = (0x41 + drive) ∷ 0x3E ∷ []
 
-unfoldable pub prompted : Disk → ℕ → Session → Session
+unfoldable pub prompted : Disk → ℕ → Cpm → Cpm
 prompted system byte s =
-    reads_line (says_below (record s { disks = chosen s.disks system byte; buffer = 128 }) (prompt_text (drive_asked s.disks byte))) part.Line
+    reads_line (says_below (record s { disks = chosen s.disks system byte; buffer = default_buffer_address }) (prompt_text (drive_asked s.disks byte))) part.Line
 
 -- ---- a line, and the part that comes after it
 
-abbrev pub after_key : CommandPart → Progress → Session → Contents → Did
+abbrev pub after_key : CommandPart → Progress → Cpm → Contents → Did
 after_key next line.GoesOn s m = did s m GoesOn
 after_key next line.Ended s m = did (at_part s next) m GoesOn
 after_key next line.Interrupted s m = rebooted s m
 
-abbrev pub edited_with : CommandPart → Session → Contents → Edited → Did
-edited_with next s m e = after_key next e.progress (with_edited s e) m
-
-abbrev pub take_key : CommandPart → Option ℕ → Session → Contents → Did
-take_key next None s m = did s m Waits
-take_key next (Some key) s m = edited_with next s m (key_into_line (key_read s.console) s.line key)
-
--- a key of the line, as by function 10 of the BDOS
-abbrev pub edit_line : CommandPart → Session → Contents → Did
-edit_line next s m =
-    if is_open s.line then take_key next (first_key s) s m else did (at_part (says s (13 ∷ [])) next) m GoesOn
+-- a step of the line, as by function 10 of the BDOS
+abbrev pub edit_line : CommandPart → Cpm → Contents → Did
+edit_line next s m = line_step (after_key next) s.line s m
 
 -- ---- a drive's letter, and USER
 
@@ -69,11 +59,11 @@ abbrev pub with_user : ℕ → ℕ → ℕ
 with_user user byte = 16 * user + byte % 16
 
 -- section 1, d: a drive that is not there is a fault
-abbrev pub drive_selected : ℕ → Session → Contents → Did
+abbrev pub drive_selected : ℕ → Cpm → Contents → Did
 drive_selected drive s m =
-    if is_there s.disks drive then did (finished s) (after_change m 4 (with_drive drive (byte_at m 4))) Returned else faulted s m Select drive
+    if is_there s.disks drive then did (finished s) (after_change m user_and_drive_address (with_drive drive (byte_at m user_and_drive_address))) Returned else faulted s m Select drive
 
 -- section 1, USER
-abbrev pub user_selected : ℕ → Session → Contents → Did
+abbrev pub user_selected : ℕ → Cpm → Contents → Did
 user_selected user s m =
-    did (finished s) (after_change m 4 (with_user user (byte_at m 4))) Returned
+    did (finished s) (after_change m user_and_drive_address (with_user user (byte_at m user_and_drive_address))) Returned

@@ -6,7 +6,7 @@ use Rattle.std.specs.Str.Parse.{digits_value}
 use Rattle.cpm_directory.specs.CommandLine.{after_spaces, is_drive}
 
 abbrev pub is_space : ℕ → Bool
-is_space c = c == 32
+is_space c = c == 0x20
 
 -- CP/M 2.2 Operating System Manual, section 1.4, Built-in Commands; own: spaces in front are skipped, and a space alone ends the word
 unfoldable pub first_word : List ℕ → List ℕ

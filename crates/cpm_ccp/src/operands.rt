@@ -36,7 +36,7 @@ pub(crate) fn erase_of(tail: &[u8]) -> Command
 }
 
 /// REN: the new name, `=` and the old one.
-#[tactic(auto, unfolding(crate::specs::Command::rename_of, crate::specs::Command::renamed))]
+#[tactic(auto, unfolding(crate::specs::Command::rename_of, crate::specs::Command::rename_command))]
 pub(crate) fn rename_of(current: u8, tail: &[u8]) -> Command
     ensures { result ≡ rename_of current tail.now }
 {
@@ -84,7 +84,7 @@ fn effective_drive(current: u8, file: &Fcb) -> u8
 }
 
 /// SAVE: the number of pages and the file.
-#[tactic(auto, unfolding(crate::specs::Command::save_of, crate::specs::Command::saved))]
+#[tactic(auto, unfolding(crate::specs::Command::save_of, crate::specs::Command::save_command))]
 pub(crate) fn save_of(tail: &[u8]) -> Command
     ensures { result ≡ save_of tail.now }
 {

@@ -4,22 +4,16 @@ ghost use Rattle.std.specs.Prelude.{◌≡◌, ◌<◌, ◌≤◌, length};
 ghost use Rattle.cpm_memory.specs.Contents.{byte_at};
 ghost use Rattle.cpm_memory.specs.Room.{HasRoom};
 ghost use Rattle.cpm_bdos.specs.Did.{did};
-ghost use Rattle.cpm_console.specs.Editing.{key_into_line};
-ghost use Rattle.cpm_ccp.specs.Prompt.{drive_asked, prompted, edited_with, edit_line, with_drive, with_user, drive_selected, user_selected};
+ghost use Rattle.cpm_ccp.specs.Prompt.{drive_asked, prompted, edit_line, with_drive, with_user, drive_selected, user_selected};
 
 use crate::parts::{finish, go_to, read_line, say_below};
-use cpm_bdos::{CommandPart, Session, Went, is_open};
+use cpm_bdos::{CommandPart, Cpm, Went};
 use cpm_console::Progress;
 use cpm_disks::Disks;
 use cpm_files::Fault;
 use cpm_geom::Image;
+use cpm_memory::layout::{DEFAULT_BUFFER, USER_AND_DRIVE};
 use cpm_memory::{Memory, change_byte};
-
-/// Where the user and the current drive lie, the user in the high four bits.
-pub(crate) const USER_AND_DRIVE: u16 = 0x0004;
-
-/// Where the buffer of a record lies unless a program moves it.
-pub(crate) const BUFFER: u16 = 0x0080;
 
 /// The drive in a byte, or A where that one isn't there.
 fn drive_asked(disks: &Disks, byte: u8) -> u8
@@ -32,85 +26,66 @@ fn drive_asked(disks: &Disks, byte: u8) -> u8
 
 /// Shows the prompt of the drive and the user in a byte, and begins a line.
 #[tactic(auto, unfolding(crate::specs::Prompt::prompted))]
-pub(crate) fn prompt(session: &mut Session, system: &Image, byte: u8)
-    requires screen { length session.old.console.screen ≤ 4096 }
-    requires printer { length session.old.console.printer ≤ 4096 }
-    ensures { session.new ≡ prompted system.now byte session.old }
+pub(crate) fn prompt(cpm: &mut Cpm, system: &Image, byte: u8)
+    requires screen { length cpm.old.console.screen ≤ 4096 }
+    requires printer { length cpm.old.console.printer ≤ 4096 }
+    ensures { cpm.new ≡ prompted system.now byte cpm.old }
 {
-    let drive = drive_asked(&session.disks, byte);
-    session.disks.use_drive(system, drive);
-    session.disks.current = drive;
-    session.disks.user = byte / 16;
-    session.buffer = BUFFER;
-    say_below(session, &[b'A' + drive, b'>']);
-    read_line(session, CommandPart::Line);
+    let drive = drive_asked(&cpm.disks, byte);
+    cpm.disks.use_drive(system, drive);
+    cpm.disks.current = drive;
+    cpm.disks.user = byte / 16;
+    cpm.buffer = DEFAULT_BUFFER;
+    say_below(cpm, &[b'A' + drive, b'>']);
+    read_line(cpm, CommandPart::Line);
 }
 
-/// A key of the line, after which a part comes.
-pub(crate) fn edit_line<M: Memory>(session: &mut Session, memory: &mut M, next: CommandPart) -> Went
-    requires screen { length session.old.console.screen ≤ 4096 }
-    requires printer { length session.old.console.printer ≤ 4096 }
+/// A step of the line, after which a part comes.
+pub(crate) fn edit_line<M: Memory>(cpm: &mut Cpm, memory: &mut M, next: CommandPart) -> Went
+    requires screen { length cpm.old.console.screen ≤ 4096 }
+    requires printer { length cpm.old.console.printer ≤ 4096 }
     requires room { HasRoom (M.contents memory.old) }
-    ensures step { did session.new (M.contents memory.new) result ≡ edit_line next session.old (M.contents memory.old) }
+    ensures step { did cpm.new (M.contents memory.new) result ≡ edit_line next cpm.old (M.contents memory.old) }
     ensures leads { M.Leads memory.old memory.new }
 {
-    if !is_open(&session.line) {
-        session.console.say(b'\r');
-        go_to(session, next);
-        return Went::GoesOn;
-    }
-    match session.console.next_key() {
-        Some(key) => edit_with(session, memory, next, key),
+    match cpm.step_line() {
+        Some(Progress::GoesOn) => Went::GoesOn,
+        Some(Progress::Ended) => {
+            go_to(cpm, next);
+            Went::GoesOn
+        }
+        Some(Progress::Interrupted) => cpm.reboot(memory),
         None => Went::Waits,
     }
 }
 
-/// Puts a key into the line.
-fn edit_with<M: Memory>(session: &mut Session, memory: &mut M, next: CommandPart, key: u8) -> Went
-    requires screen { length session.old.console.screen ≤ 4096 }
-    requires printer { length session.old.console.printer ≤ 4096 }
-    requires room { HasRoom (M.contents memory.old) }
-    requires open { length session.old.line.characters < session.old.line.limit }
-    ensures step { did session.new (M.contents memory.new) result ≡ edited_with next session.old (M.contents memory.old) (key_into_line session.old.console session.old.line key) }
-    ensures leads { M.Leads memory.old memory.new }
-{
-    match session.line.key_into_line(&mut session.console, key) {
-        Progress::GoesOn => Went::GoesOn,
-        Progress::Ended => {
-            go_to(session, next);
-            Went::GoesOn
-        }
-        Progress::Interrupted => session.reboot(memory),
-    }
-}
-
 /// Makes another drive the one that the prompt takes.
-pub(crate) fn select_drive<M: Memory>(session: &mut Session, memory: &mut M, drive: u8) -> Went
-    requires screen { length session.old.console.screen ≤ 4096 }
+pub(crate) fn select_drive<M: Memory>(cpm: &mut Cpm, memory: &mut M, drive: u8) -> Went
+    requires screen { length cpm.old.console.screen ≤ 4096 }
     requires room { HasRoom (M.contents memory.old) }
     requires drive { drive < 16 }
-    ensures step { did session.new (M.contents memory.new) result ≡ drive_selected drive session.old (M.contents memory.old) }
+    ensures step { did cpm.new (M.contents memory.new) result ≡ drive_selected drive cpm.old (M.contents memory.old) }
     ensures leads { M.Leads memory.old memory.new }
 {
-    if !session.disks.is_there(drive) {
-        return session.fault(Fault::Select, drive);
+    if !cpm.disks.is_there(drive) {
+        return cpm.fault(Fault::Select, drive);
     }
     let byte = with_drive(memory.get(USER_AND_DRIVE), drive);
     change_byte(memory, USER_AND_DRIVE, byte);
-    finish(session);
+    finish(cpm);
     Went::Returned
 }
 
 /// Makes another user the one that the prompt takes.
-pub(crate) fn select_user<M: Memory>(session: &mut Session, memory: &mut M, user: u8) -> Went
+pub(crate) fn select_user<M: Memory>(cpm: &mut Cpm, memory: &mut M, user: u8) -> Went
     requires room { HasRoom (M.contents memory.old) }
     requires user { user < 16 }
-    ensures step { did session.new (M.contents memory.new) result ≡ user_selected user session.old (M.contents memory.old) }
+    ensures step { did cpm.new (M.contents memory.new) result ≡ user_selected user cpm.old (M.contents memory.old) }
     ensures leads { M.Leads memory.old memory.new }
 {
     let byte = with_user(memory.get(USER_AND_DRIVE), user);
     change_byte(memory, USER_AND_DRIVE, byte);
-    finish(session);
+    finish(cpm);
     Went::Returned
 }
 

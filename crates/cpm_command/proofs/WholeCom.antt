@@ -38,9 +38,6 @@ run_built = leaf run_app.top
 abbrev debug_built : Shape
 debug_built = leaf debug_app.top
 
-all_subs : host_built.subs ≡ com_built ∷ asm_built ∷ list_built ∷ run_built ∷ debug_built ∷ []
-all_subs = refl
-
 com_plain : IsPlain com_built.rules
 com_plain = plain_by_ids com_built.rules refl (
   record { action = inl refl; values = inl refl },

@@ -5,7 +5,7 @@ use Rattle.std.specs.List.{prefix_len, suffix_len}
 
 -- own: a question mark (63) stands for a control character
 abbrev pub shown_character : ℕ → ℕ
-shown_character c = if is_control c then 63 else c
+shown_character c = if is_control c then 0x3F else c
 
 -- own: behind these bytes at least 8 of 200 are left
 abbrev pub has_room : List ℕ → Bool
@@ -23,7 +23,7 @@ shown_of characters = shown_after [] characters
 
 -- own: a tab (9) stands as a blank (32)
 abbrev pub untabbed : ℕ → ℕ
-untabbed byte = if byte == 9 then 32 else byte
+untabbed byte = if byte == 0x09 then 0x20 else byte
 
 -- own: a line without the ASCII blanks at its ends
 abbrev pub trimmed : List ℕ → List ℕ

@@ -55,11 +55,3 @@ good-config c none =
 -- a number of 64 bits that is between these is itself after a conversion
 pub passed : (high : ℕ) (z : ℤ) → SFits w64 z → is_between 0 high z ≡ true → is_between 0 high (to_z w64 (of_z w64 z)) ≡ true
 passed high z fits within = ap (is_between 0 high) (to_z-of_z w64 z fits) ∙ within
-
--- the first session is good, and those after it are
-pub good-first : (n : ℕ) (s : SessionEntries) (ss : List SessionEntries) → sessions_fault n (s ∷ ss) ≡ None → (session_fault s ≡ None) × (sessions_fault (n + 1) ss ≡ None)
-good-first n s ss none = by_fault (session_fault s) none
-  where
-    by_fault : (fault : Option Field) → fault_or n fault (sessions_fault (n + 1) ss) ≡ None → (fault ≡ None) × (sessions_fault (n + 1) ss ≡ None)
-    by_fault None none = (refl, none)
-    by_fault (Some f) none = absurd (cc)

@@ -30,7 +30,7 @@ is_byte_within low high b = nat_le low b && nat_le b high
 
 -- a letter, a digit, - or _
 abbrev pub is_name_byte : ℕ → Bool
-is_name_byte b = is_byte_within 65 90 b || is_byte_within 97 122 b || is_byte_within 48 57 b || (b == 45) || (b == 95)
+is_name_byte b = is_byte_within 0x41 0x5A b || is_byte_within 0x61 0x7A b || is_byte_within 0x30 0x39 b || (b == 0x2D) || (b == 0x5F)
 
 abbrev pub is_name : Text → Bool
 is_name t = is_length_between 1 16 t && list_all is_name_byte t

@@ -12,23 +12,23 @@ use Rattle.cpm_console.specs.Draft.{Draft}
 -- key is a character of the line. ^J and return both end it.
 unfoldable pub keystroke : Bool → ℕ → Keystroke
 keystroke is_empty key =
-    if (key == 3) && is_empty then Interrupt  -- ^C
-    else (if key == 5 then NewLine  -- ^E
-    else (if key == 8 then Erase  -- ^H
-    else (if key == 127 then Repeat  -- rubout
-    else (if (key == 10) || (key == 13) then End  -- ^J, return
+    if (key == 0x03) && is_empty then Interrupt  -- ^C
+    else (if key == 0x05 then NewLine  -- ^E
+    else (if key == 0x08 then Erase  -- ^H
+    else (if key == 0x7F then Repeat  -- rubout
+    else (if (key == 0x0A) || (key == 0x0D) then End  -- ^J, return
     else (if key == 16 then ListEcho  -- ^P
-    else (if key == 18 then Retype  -- ^R
-    else (if key == 21 then Restart  -- ^U
-    else (if key == 24 then EraseAll  -- ^X
+    else (if key == 0x12 then Retype  -- ^R
+    else (if key == 0x15 then Restart  -- ^U
+    else (if key == 0x18 then EraseAll  -- ^X
     else Character))))))))
 
 -- own: the echo of a character that is typed at a column. A tab is the spaces up to the next multiple of eight (CP/M 2.2
 -- Operating System Manual, section 5.2, function 2), a control character and rubout `^` and a letter or sign, any other itself.
 unfoldable pub echo_at : ℕ → ℕ → List ℕ
 echo_at column character =
-    if character == 9 then replicate (8 - column % 8) 32
-    else (if nat_lt character 32 || (character == 127) then 94 ∷ bit_xor character 64 ∷ [] else character ∷ [])
+    if character == 0x09 then replicate (8 - column % 8) 0x20
+    else (if nat_lt character 0x20 || (character == 0x7F) then 0x5E ∷ bit_xor character 0x40 ∷ [] else character ∷ [])
 
 -- own: the column count after a character. It rises by the columns of the echo, up to 255.
 unfoldable pub next_column : ℕ → ℕ → ℕ
@@ -46,12 +46,12 @@ echo column (c ∷ cs) = echo_at column c ++ echo (next_column column c) cs
 -- own: what blanks columns to the left of the cursor, back, a space and back for each
 abbrev pub erasure : ℕ → List ℕ
 erasure zero = []
-erasure (suc n) = 8 ∷ 32 ∷ 8 ∷ erasure n
+erasure (suc n) = 0x08 ∷ 0x20 ∷ 0x08 ∷ erasure n
 
 -- CP/M 2.2 Operating System Manual, section 5.2, function 10: the line that is given up is left, and the next begins at
 -- the same column, below a prompt's end; own: `#` closes it
 abbrev pub fresh_line : Draft → List ℕ
-fresh_line l = 35 ∷ 13 ∷ 10 ∷ replicate l.start 32
+fresh_line l = 0x23 ∷ 0x0D ∷ 0x0A ∷ replicate l.start 0x20
 
 -- a line with no character yet
 abbrev pub begun : ℕ → ℕ → Draft
@@ -89,17 +89,17 @@ edited t l p = record { terminal = t; line = l; progress = p }
 -- own: in the same step, and as by return
 abbrev pub put_in : Terminal → Draft → ℕ → Edited
 put_in t l c =
-    if length l.characters + 1 == l.limit then edited (said t (typed_echo l c ++ 13 ∷ [])) (with_character l c) Ended
+    if length l.characters + 1 == l.limit then edited (said t (typed_echo l c ++ 0x0D ∷ [])) (with_character l c) Ended
     else edited (said t (typed_echo l c)) (with_character l c) GoesOn
 
 -- CP/M 2.2 Operating System Manual, section 1.5, Line Editing and Output Control, and section 5.2, function 10: what each key shows and leaves. The bytes that
 -- it shows, and that ^E keeps the column where the line began, are own.
 abbrev pub edit : Keystroke → Terminal → Draft → ℕ → Edited
-edit Interrupt t l key = edited (said t (94 ∷ 67 ∷ [])) l Interrupted  -- `^C`
-edit NewLine t l key = edited (said t (13 ∷ 10 ∷ [])) l GoesOn
+edit Interrupt t l key = edited (said t (0x5E ∷ 0x43 ∷ [])) l Interrupted  -- `^C`
+edit NewLine t l key = edited (said t (0x0D ∷ 0x0A ∷ [])) l GoesOn
 edit Erase t l key = edited (said t (erasure (length (last_echo l)))) (without_last l) GoesOn
 edit Repeat t l key = edited (said t (last_echo l)) (without_last l) GoesOn
-edit End t l key = edited (said t (13 ∷ [])) l Ended
+edit End t l key = edited (said t (0x0D ∷ [])) l Ended
 edit ListEcho t l key = edited (record t { list_echo = not t.list_echo }) l GoesOn
 edit Retype t l key = edited (said t (fresh_line l ++ echo l.start l.characters)) l GoesOn
 edit Restart t l key = edited (said t (fresh_line l)) (emptied l) GoesOn

@@ -12,7 +12,7 @@ pub record IsErasedAsTyped (t : Terminal) (l : Draft) (c : ℕ) : Type 0 where
   -- and blanks as many columns as its echo took
   pub echo : last_echo (with_character l c) ≡ typed_echo l c
   -- ^X does as ^H for it and then ^X for the rest
-  pub in_turn : edit EraseAll t (with_character l c) 24 ≡ edit EraseAll (edit Erase t (with_character l c) 8).terminal l 24
+  pub in_turn : edit EraseAll t (with_character l c) 0x18 ≡ edit EraseAll (edit Erase t (with_character l c) 8).terminal l 0x18
 
 abbrev pub ErasingLaw : Type 0
 ErasingLaw = (t : Terminal) (l : Draft) (c : ℕ) → IsErasedAsTyped t l c

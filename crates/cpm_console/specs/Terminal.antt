@@ -33,14 +33,14 @@ has_room t = nat_le (length t.screen) 4096 && nat_le (length t.printer) 4096
 
 -- own: a byte that takes a column is 20h to 7Eh or 80h to FFh
 abbrev pub is_printing : ℕ → Bool
-is_printing byte = nat_le 32 byte && not (byte == 127)
+is_printing byte = nat_le 0x20 byte && not (byte == 0x7F)
 
 -- own: the column after a byte. A backspace goes back by one, down to 0, a carriage return to 0, and what takes a column
 -- goes one on, up to 255; a line feed and all others stay.
 unfoldable pub column_after : ℕ → ℕ → ℕ
 column_after column byte =
-    if byte == 8 then column - 1
-    else (if byte == 13 then 0
+    if byte == 0x08 then column - 1
+    else (if byte == 0x0D then 0
     else (if is_printing byte then min 255 (column + 1) else column))
 
 -- own: the column after a text
@@ -64,7 +64,7 @@ said t bytes =
 -- CP/M 2.2 Operating System Manual, section 5.2, function 2 (Console Output): a tab is shown as spaces up to the next multiple
 -- of eight columns
 unfoldable pub expanded : ℕ → ℕ → List ℕ
-expanded column byte = if byte == 9 then replicate (8 - column % 8) 32 else byte ∷ []
+expanded column byte = if byte == 0x09 then replicate (8 - column % 8) 0x20 else byte ∷ []
 
 -- own: at most n bytes more wait on each device
 pub record IsWithin (n : ℕ) (old new : Terminal) : Type 0 where

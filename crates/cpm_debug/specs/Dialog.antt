@@ -25,7 +25,7 @@ pub record Reply : Type 0 where
 
 -- a text and the newline that ends it
 abbrev pub line_of : List ℕ → List ℕ
-line_of text = text ++ 10 ∷ []
+line_of text = text ++ 0x0A ∷ []
 
 -- ---- grants
 
@@ -70,7 +70,7 @@ pressed _ s = record { accepted = false; state = s }
 
 abbrev pub without_text : MachineState → MachineState
 without_text s =
-    record s { session = record s.session { console = record s.session.console { screen = [] } } }
+    record s { cpm = record s.cpm { console = record s.cpm.console { screen = [] } } }
 
 -- ---- answers
 
@@ -87,9 +87,9 @@ answer system cpu (Grant steps) s = reply (line_of (grant_line (granted system s
 answer system cpu (GrantUntil pc steps) s = reply (line_of (grant_line (granted_until system pc steps s))) (after system (executed_until system pc steps s) s)
 answer system cpu (Dump address) s = reply (line_of (dump_line address (bytes_from s.memory address 16))) s
 answer system cpu (ListAt address) s = reply (line_of (list_line address (bytes_from s.memory address 3))) s
-answer system cpu Registers s = reply (line_of (regs_line cpu s.session.regs s.count)) s
+answer system cpu Registers s = reply (line_of (regs_line cpu s.cpm.regs s.count)) s
 answer system cpu (Press keys) s = reply (if (press keys s).accepted then [] else unknown_line) (press keys s).state
-answer system cpu Output s = reply (line_of s.session.console.screen) (without_text s)
+answer system cpu Output s = reply (line_of s.cpm.console.screen) (without_text s)
 answer system cpu Quit s = reply [] s
 answer system cpu Unknown s = reply unknown_line s
 

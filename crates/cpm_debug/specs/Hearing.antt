@@ -19,7 +19,7 @@ onto_first b (part ∷ parts) = (b ∷ part) ∷ parts
 -- the lines of a text, each with the newline that ends it; the last may have none
 abbrev pub ended_lines : List ℕ → List (List ℕ)
 ended_lines [] = []
-ended_lines (b ∷ bs) = if b == 10 then (b ∷ []) ∷ ended_lines bs else onto_first b (ended_lines bs)
+ended_lines (b ∷ bs) = if b == 0x0A then (b ∷ []) ∷ ended_lines bs else onto_first b (ended_lines bs)
 
 -- those that end within so many bytes
 abbrev pub ending_within : ℕ → List (List ℕ) → List (List ℕ)
@@ -28,7 +28,7 @@ ending_within room (part ∷ parts) = if nat_le (length part) room then part ∷
 
 -- a line without its newline, and without the carriage return before it
 abbrev pub without_end : List ℕ → List ℕ
-without_end part = if ends_with_byte 10 part then strip_carriage_return (take (length part - 1) part) else part
+without_end part = if ends_with_byte 0x0A part then strip_carriage_return (take (length part - 1) part) else part
 
 abbrev pub lines_within : ℕ → List ℕ → List (List ℕ)
 lines_within room text = map without_end (ending_within room (ended_lines text))

@@ -20,8 +20,8 @@ pub data Request : Type 0 where
 
 -- a hexadecimal digit: 0 to 9, A to F, a to f
 abbrev pub digit_of : ℕ → Option ℕ
-digit_of c = if is_within 48 57 c then Some (c - 48)
-    else (if is_within 65 70 c then Some (c - 55) else (if is_within 97 102 c then Some (c - 87) else None))
+digit_of c = if is_within 0x30 0x39 c then Some (c - 0x30)
+    else (if is_within 0x41 0x46 c then Some (c - 55) else (if is_within 0x61 0x66 c then Some (c - 87) else None))
 
 -- two numbers as one, the first of which counts so much
 abbrev pub joined : ℕ → Option ℕ → Option ℕ → Option ℕ
@@ -52,7 +52,7 @@ grant_until_of (Some pc) None = Unknown
 grant_until_of None steps = Unknown
 
 abbrev pub addressed_grant : List ℕ → Request
-addressed_grant (a ∷ b ∷ c ∷ d ∷ e ∷ count) = if e == 32 then grant_until_of (word_of a b c d) (count_of count) else Unknown
+addressed_grant (a ∷ b ∷ c ∷ d ∷ e ∷ count) = if e == 0x20 then grant_until_of (word_of a b c d) (count_of count) else Unknown
 addressed_grant _ = Unknown
 
 -- D and an address
@@ -75,21 +75,21 @@ press_of None = Unknown
 
 -- an order of a letter: R, O, Q
 abbrev pub letter_request : ℕ → Request
-letter_request c = if c == 82 then Registers else (if c == 79 then Output else (if c == 81 then Quit else Unknown))
+letter_request c = if c == 0x52 then Registers else (if c == 0x4F then Output else (if c == 0x51 then Quit else Unknown))
 
 -- an order of a letter, a space and a text: S, G, D, L, K
 abbrev pub text_request : ℕ → List ℕ → Request
-text_request c text = if c == 83 then grant_of (count_of text)
-    else (if c == 71 then addressed_grant text
-    else (if c == 68 then dump_of (address_of text)
-    else (if c == 76 then list_of (address_of text)
-    else (if c == 75 then press_of (keys_of text) else Unknown))))
+text_request c text = if c == 0x53 then grant_of (count_of text)
+    else (if c == 0x47 then addressed_grant text
+    else (if c == 0x44 then dump_of (address_of text)
+    else (if c == 0x4C then list_of (address_of text)
+    else (if c == 0x4B then press_of (keys_of text) else Unknown))))
 
 -- what a line asks for; a line of no other form is unknown
 abbrev pub request_of : List ℕ → Request
 request_of [] = Unknown
 request_of (c ∷ []) = letter_request c
-request_of (c ∷ space ∷ text) = if space == 32 then text_request c text else Unknown
+request_of (c ∷ space ∷ text) = if space == 0x20 then text_request c text else Unknown
 
 -- what an order that was read asks for
 abbrev pub asked : Order → Request

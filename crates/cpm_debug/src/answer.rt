@@ -72,7 +72,7 @@ fn list_at<W: Write>(address: u16, machine: &Machine, out: &mut W) -> io::Result
 #[tactic(auto, unfolding(cpm_slots::specs::Serve::look_of))]
 fn registers<W: Write>(cpu: Cpu, machine: &Machine, out: &mut W) -> io::Result<()>
     ensures { OnOk result (Appends (W.contents out.old) (W.contents out.new)
-        (line_of (regs_line cpu machine.now.session.regs machine.now.count))) }
+        (line_of (regs_line cpu machine.now.cpm.regs machine.now.count))) }
 {
     let look = machine.look();
     let line = regs_line(cpu, &look.regs, look.count);

@@ -24,7 +24,7 @@ pub(crate) fn write_line<W: Write>(out: &mut W, line: &str) -> io::Result<()>
 fn move_text<W: Write>(machine: &mut Machine, out: &mut W) -> io::Result<()>
     ensures state { OnOk result (machine.new ≡ without_text machine.old) }
     ensures text { OnOk result (Appends (W.contents out.old) (W.contents out.new)
-        machine.old.session.console.screen) }
+        machine.old.cpm.console.screen) }
 {
     let mut chunk = [0u8; CHUNK];
     loop {
@@ -40,7 +40,7 @@ fn move_text<W: Write>(machine: &mut Machine, out: &mut W) -> io::Result<()>
 pub(crate) fn write_text<W: Write>(machine: &mut Machine, out: &mut W) -> io::Result<()>
     ensures state { OnOk result (machine.new ≡ without_text machine.old) }
     ensures text { OnOk result (Appends (W.contents out.old) (W.contents out.new)
-        (line_of machine.old.session.console.screen)) }
+        (line_of machine.old.cpm.console.screen)) }
 {
     move_text(machine, out)?;
     write_line(out, "")

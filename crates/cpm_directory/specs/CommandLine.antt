@@ -6,16 +6,16 @@ use Rattle.cpm_files.specs.declared.fcb.Fcb.{Fcb}
 -- CP/M 2.2 Operating System Manual, File References: some characters end a name or a type; own: they are a space and = _ . : ; < > and all below 20h
 abbrev pub is_delimiter : ℕ → Bool
 is_delimiter c =
-    nat_lt c 32 || (c == 32) || (c == 61) || (c == 95) || (c == 46) || (c == 58) || (c == 59) || (c == 60) || (c == 62)
+    nat_lt c 0x20 || (c == 0x20) || (c == 0x3D) || (c == 0x5F) || (c == 0x2E) || (c == 0x3A) || (c == 0x3B) || (c == 0x3C) || (c == 0x3E)
 
 -- the text behind the spaces in front
 unfoldable pub after_spaces : List ℕ → List ℕ
-after_spaces text = drop (position_or_len (λ c. not (c == 32)) text) text
+after_spaces text = drop (position_or_len (λ c. not (c == 0x20)) text) text
 
 -- CP/M 2.2 Operating System Manual, File References: a letter and a colon name a drive; own: A to P
 unfoldable pub is_drive : List ℕ → Bool
 is_drive text =
-    (slice_index text 1 == 58) && (nat_le 65 (slice_index text 0) && nat_le (slice_index text 0) 80)
+    (slice_index text 1 == 0x3A) && (nat_le 0x41 (slice_index text 0) && nat_le (slice_index text 0) 0x50)
 
 -- 1 for A and so on, 0 where no drive is named
 unfoldable pub drive_of : List ℕ → ℕ
@@ -33,16 +33,16 @@ after_word text = drop (position_or_len is_delimiter text) text
 
 -- the type behind a period, and the text behind it
 unfoldable pub type_of : List ℕ → List ℕ
-type_of text = if slice_index text 0 == 46 then word_of (drop 1 text) else []
+type_of text = if slice_index text 0 == 0x2E then word_of (drop 1 text) else []
 
 unfoldable pub after_type : List ℕ → List ℕ
-after_type text = if slice_index text 0 == 46 then after_word (drop 1 text) else text
+after_type text = if slice_index text 0 == 0x2E then after_word (drop 1 text) else text
 
 -- CP/M 2.2 Operating System Manual, File References: * stands for question marks up to the field's end; else spaces follow the characters
 unfoldable pub character_of : List ℕ → ℕ → ℕ
 character_of word place =
-    let star = position_or_len (λ c. c == 42) word in
-    if nat_lt place star then slice_index word place else (if nat_lt star (length word) then 63 else 32)
+    let star = position_or_len (λ c. c == 0x2A) word in
+    if nat_lt place star then slice_index word place else (if nat_lt star (length word) then 0x3F else 0x20)
 
 abbrev pub field : ℕ → List ℕ → List ℕ
 field size word = map (character_of word) (range_with_len 0 size)

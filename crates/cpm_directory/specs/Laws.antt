@@ -11,13 +11,15 @@ use Rattle.cpm_directory.specs.Login.{reserved_at_login}
 -- a record that is written outside the directory leaves the entries
 abbrev pub OutsideLaw : Type 0
 OutsideLaw =
-    (disk : Disk) (n : ℕ) (bytes : List ℕ) → IsDisk disk → IsRecord disk.format n → directory_records (dpb_of disk.format) ≤ n → entries_of (with_sector disk (record_index disk.format n) bytes) ≡ entries_of disk
+    (disk : Disk) (n : ℕ) (bytes : List ℕ) → IsDisk disk → IsRecord disk.format n → directory_records (dpb_of disk.format) ≤ n
+    → entries_of (with_sector disk (record_index disk.format n) bytes) ≡ entries_of disk
 
 -- a drive that is logged in has reserved the directory's blocks and those in its entries, and no others
 pub record ReservesAtLogin (d : Dpb) (es : List Entry) : Type 0 where
   pub directory : (b : ℕ) → b * (d.block_mask + 1) < directory_records d → is_reserved (reserved_at_login d es) b ≡ true
   pub numbers : (i s : ℕ) → InUse es i → block_number (entry_at es i).extent s ≢ 0 → is_reserved (reserved_at_login d es) (block_number (entry_at es i).extent s) ≡ true
-  pub others : (b : ℕ) → b ≤ d.last_block → is_reserved (reserved_at_login d es) b ≡ true → (b * (d.block_mask + 1) < directory_records d) ⊎ ((i : ℕ) × (s : ℕ) × InUse es i × (block_number (entry_at es i).extent s ≡ b))
+  pub others : (b : ℕ) → b ≤ d.last_block → is_reserved (reserved_at_login d es) b ≡ true
+      → (b * (d.block_mask + 1) < directory_records d) ⊎ ((i : ℕ) × (s : ℕ) × InUse es i × (block_number (entry_at es i).extent s ≡ b))
 
 abbrev pub LoginLaw : Type 0
 LoginLaw = (d : Dpb) (es : List Entry) → IsFormat d → ReservesAtLogin d es

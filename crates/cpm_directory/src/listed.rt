@@ -36,7 +36,7 @@ impl ListedImage {
     pub fn new(image: Image) -> ListedImage
         ensures { result ≡ image }
     {
-        let entries = listed(&image);
+        let entries = entries_in(&image);
         ListedImage { image, entries }
     }
 
@@ -106,7 +106,7 @@ impl ListedImage {
         let dpb = self.image.format().dpb();
         self.image.put_record(number, data)?;
         if number <= dpb.last_entry / 4 {
-            self.entries = listed(&self.image);
+            self.entries = entries_in(&self.image);
         }
         Ok(())
     }
@@ -120,14 +120,14 @@ impl ListedImage {
         let dpb = self.image.format().dpb();
         self.image.put_sector(track, sector, data)?;
         if track == dpb.track_offset {
-            self.entries = listed(&self.image);
+            self.entries = entries_in(&self.image);
         }
         Ok(())
     }
 }
 
 /// The entries of an image.
-fn listed(image: &Image) -> [Entry; 64]
+fn entries_in(image: &Image) -> [Entry; 64]
     ensures { result ≡ entries_of image.now }
 {
     let mut entries = [directory::entry(image, 0); 64];

@@ -1,5 +1,5 @@
 -- A session's own drives and the system drive, and the drives once one is used.
-use Rattle.std.proofs.Common.{◌≡◌, inl, inr, ◌<◌, ◌≤◌, ◌∙◌, ℕ, Bool, true, false, Option, Some, None, is_some, length, get_or, slice_set, sym, ap, refl}
+use Rattle.std.proofs.Common.{◌≡◌, inl, inr, ◌<◌, ◌∙◌, ℕ, Bool, true, false, Option, Some, None, is_some, length, get_or, slice_set, sym, ap, refl}
 use Rattle.std.proofs.lemmas.List.{get_or_past, get_or_default, get_or-set_same, set-set, set-get_or}
 use Rattle.std.proofs.lemmas.Bool.{cases_lt}
 use Rattle.cpm_geom.specs.Disk.{Disk}
@@ -22,10 +22,6 @@ is_own_drive disks i n d o e h is = rw (← e) (get_or_default disks.drives i No
 pub is_no_drive : (disks : Disks) (i n : ℕ) (o : Option Drive) → i ≡ n → i < length disks.drives → get_or disks.drives i o ≡ None → own_drive disks n ≡ None
 unfolding own_drive
 is_no_drive disks i n o e h is = rw (← e) (get_or_default disks.drives i None o h ∙ is)
-
-pub is_past : (disks : Disks) (n : ℕ) → length disks.drives ≤ n → own_drive disks n ≡ None
-unfolding own_drive
-is_past disks n h = get_or_past disks.drives n None h
 
 -- the drive of a number, and the drives with another there
 pub drive_at-own : (disks : Disks) (system : Disk) (n : ℕ) (d : Drive) → own_drive disks n ≡ Some d → drive_at disks system n ≡ d
@@ -88,6 +84,9 @@ system_protected disks system none =
 pub own_at : (disks : Disks) (i n : ℕ) (o : Option Drive) → i ≡ n → i < length disks.drives → own_drive disks n ≡ get_or disks.drives i o
 unfolding own_drive
 own_at disks i n o e h = rw (← e) (get_or_default disks.drives i None o h)
+
+pub own_is_some : (disks : Disks) (i n : ℕ) (o : Option Drive) → i ≡ n → i < length disks.drives → is_some (own_drive disks n) ≡ true → is_some (get_or disks.drives i o) ≡ true
+own_is_some disks i n o e h own = rw (own_at disks i n o e h) at own
 
 -- a drive that is used is the one that is there then
 none_some : (d : Drive) → None ≡ Some d → ⊥
@@ -161,9 +160,10 @@ used_protected_by disks now system n e none (Some d) was =
 pub used_protected : (disks now : Disks) (system : Disk) (n : ℕ) → now ≡ used disks system n → own_drive now n ≡ None → drive_at now system n ≡ lent_drive system now.system
 used_protected disks now system n e none = used_protected_by disks now system n e none (own_drive disks n) refl
 
-pub system_is_protected : (disks now : Disks) (system : Disk) (n : ℕ) → now ≡ used disks system n → own_drive now n ≡ None → now.system.is_protected ≡ true
+pub system_is_protected : (disks now : Disks) (system : Disk) (n : ℕ) → now ≡ used disks system n → is_some (own_drive now n) ≡ false → now.system.is_protected ≡ true
 unfolding system_drive
-system_is_protected disks now system n e none =
+system_is_protected disks now system n e other =
+    let none = not_own now n other in
     ap (λ (m : Marks). m.is_protected) (ap (λ (d : Drive). d.marks) (sym (used_protected disks now system n e none) ∙ drive_at-system now system n none))
 
 -- putting back what is there changes nothing

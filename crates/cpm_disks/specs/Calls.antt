@@ -1,5 +1,5 @@
 -- What a call on a file leaves, on a drive and in a session.
-use Rattle.std.specs.Prelude.{ℕ, ◌-◌, ◌==◌, List, Option, Some, None, Result, Ok, Err, if◌then◌else◌}
+use Rattle.std.specs.Prelude.{◌≡◌, ℕ, ◌-◌, ◌<◌, ◌==◌, true, List, is_some, Option, Some, None, Result, Ok, Err, if◌then◌else◌}
 use Rattle.cpm_geom.specs.Disk.{Disk}
 use Rattle.cpm_files.specs.declared.fcb.Fcb.{Fcb}
 use Rattle.cpm_files.specs.declared.answer.Fault.{Fault}
@@ -9,8 +9,8 @@ use Rattle.cpm_files.specs.declared.answer.Answer.TheVariants as answer
 use Rattle.cpm_files.specs.Names.{is_read_only}
 use Rattle.cpm_drive.specs.declared.drive.Drive.{Drive}
 use Rattle.cpm_disks.specs.declared.disks.Disks.{Disks}
-use Rattle.cpm_disks.specs.Disks.{is_there, drive_at, with_drive}
-use Rattle.cpm_disks.specs.Selecting.{ready}
+use Rattle.cpm_disks.specs.Disks.{own_drive, is_there, drive_at, with_drive}
+use Rattle.cpm_disks.specs.Selecting.{ready, used}
 
 -- CP/M 2.2 Operating System Manual, section 5.2, Operating System Call Conventions: the code of a record's call; own: where the manual leaves them open
 abbrev pub code_of_answer : Answer → Result ℕ Fault
@@ -24,7 +24,7 @@ code_of_answer (answer.Fault which) = Err which
 
 -- a directory code, FFh for none
 abbrev pub code_or_none : Option ℕ → Result ℕ Fault
-code_or_none None = Ok 255
+code_or_none None = Ok 0xFF
 code_or_none (Some code) = Ok code
 
 abbrev pub code_or_fault : Result (Option ℕ) Fault → Result ℕ Fault
@@ -69,3 +69,16 @@ on_named_drive call disks system fcb buffer =
     let n = drive_named disks fcb.drive in
     let c = call (ready (drive_at disks system n)) in
     if is_there disks n then file_call c.answer (with_drive disks n c.drive) c.fcb c.buffer else file_call (Err Select) disks fcb buffer
+
+-- a call that a protected drive refuses
+abbrev pub RefusesProtected : (Drive → OnDrive) → Fcb → List ℕ → Type 0
+RefusesProtected call fcb buffer =
+    (drive : Drive) → drive.marks.is_protected ≡ true → on_drive (Err ReadOnly) drive fcb buffer ≡ call drive
+
+-- the number of the drive that the file control block names, which is there, once it is used
+abbrev pub IsNamed : Disks → Disks → Disk → Fcb → ℕ → Type 0
+IsNamed disks now system fcb n = (n ≡ drive_named disks fcb.drive) × (is_there disks n ≡ true) × (now ≡ used disks system n)
+
+-- the same of an own drive, whose number is its place among A to D
+abbrev pub IsOwnPlace : Disks → Disks → Disk → Fcb → ℕ → Type 0
+IsOwnPlace disks now system fcb n = IsNamed disks now system fcb n × (is_some (own_drive now n) ≡ true) × (n < 4)

@@ -1,11 +1,9 @@
 -- The drives of a session.
-use Rattle.std.specs.Prelude.{ℕ, ◌+◌, ◌==◌, ◌||◌, Bool, true, false, List, [], ◌∷◌, Option, Some, None, is_some, if◌then◌else◌, map, replicate, slice_get, slice_index_or, slice_set}
+use Rattle.std.specs.Prelude.{ℕ, ◌==◌, ◌||◌, Bool, true, false, List, [], ◌∷◌, Option, Some, None, is_some, if◌then◌else◌, map, slice_get, slice_index_or, slice_set}
 use Rattle.cpm_geom.specs.Disk.{Disk}
-use Rattle.cpm_geom.specs.Geometry.{dpb_of}
-use Rattle.cpm_geom.specs.declared.format.Format.{Format}
 use Rattle.cpm_geom.specs.declared.format.Format.TheVariants.{Ibm3740}
 use Rattle.cpm_drive.specs.declared.drive.Drive.{Drive}
-use Rattle.cpm_drive.specs.declared.drive.Marks.{Marks}
+use Rattle.cpm_drive.specs.Drive.{new_marks}
 use Rattle.cpm_drive.specs.Reads.{lent_drive}
 use Rattle.cpm_disks.specs.declared.disks.Disks.{Disks}
 
@@ -34,19 +32,16 @@ with_drive disks n drive =
     if is_some (own_drive disks n) then record disks { drives = slice_set disks.drives n (Some drive) } else record disks { system = drive.marks }
 
 -- own: at opening no drive was used, and no block is reserved
-abbrev pub new_marks : Format → Marks
-new_marks format = record { reserved = replicate ((dpb_of format).last_block + 1) false; is_logged_in = false; is_protected = false }
-
 abbrev pub new_drive : Option Disk → Option Drive
 new_drive None = None
-new_drive (Some image) = Some (record { image = image; marks = new_marks image.format })
+new_drive (Some image) = Some (record { image = image; marks = new_marks image.format false })
 
 -- the first four images are the drives A to D
 unfoldable pub opened_disks : List Disk → Disks
 opened_disks images =
     record {
       drives = map (λ n. new_drive (slice_get images n)) (0 ∷ 1 ∷ 2 ∷ 3 ∷ []);
-      system = new_marks Ibm3740;
+      system = new_marks Ibm3740 false;
       current = 0;
       user = 0;
       sought = None;

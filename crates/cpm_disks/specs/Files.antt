@@ -8,8 +8,9 @@ use Rattle.cpm_files.specs.declared.answer.Fault.TheVariants.{FileReadOnly, Sele
 use Rattle.cpm_files.specs.declared.answer.Answer.{Answer}
 use Rattle.cpm_files.specs.declared.answer.Answer.TheVariants as answer
 use Rattle.cpm_files.specs.Files.{extent_number, first_free}
-use Rattle.cpm_files.specs.Operations.{close_function, open_function, make_function, read_next, read_at, write_next, write_at, write_at_cleared}
-use Rattle.cpm_files.specs.Names.{Named, none_named, file_read_only, named, erase_function, rename_function, attributes_function, file_size}
+use Rattle.cpm_files.specs.Operations as operations
+use Rattle.cpm_files.specs.Names.{Named, none_named, file_read_only, named}
+use Rattle.cpm_files.specs.Names as names
 use Rattle.cpm_directory.specs.Directory.{entries_of}
 use Rattle.cpm_drive.specs.declared.drive.Drive.{Drive}
 use Rattle.cpm_drive.specs.Drive.{volume_of, drive_after, Called, after_call}
@@ -21,64 +22,64 @@ use Rattle.cpm_disks.specs.Calls.{code_of_answer, code_or_none, code_or_fault, O
 
 -- ---- on a drive
 
-abbrev pub opened_on : Drive → List ℕ → Option ℕ × Fcb → OnDrive
-opened_on drive buffer o = on_drive (code_or_none o.0) drive o.1 buffer
+abbrev pub by_open : Drive → List ℕ → Option ℕ × Fcb → OnDrive
+by_open drive buffer o = on_drive (code_or_none o.0) drive o.1 buffer
 
 -- OPEN FILE
-unfoldable pub open_on : ℕ → Fcb → List ℕ → Drive → OnDrive
-open_on user fcb buffer drive =
-    opened_on drive buffer (after_open fcb (open_index (dpb_of drive.image.format) (entries_of drive.image) user fcb.extent) (open_function (dpb_of drive.image.format) (entries_of drive.image) user fcb.extent))
+unfoldable pub open_file_on : ℕ → Fcb → List ℕ → Drive → OnDrive
+open_file_on user fcb buffer drive =
+    by_open drive buffer (after_open fcb (open_index (dpb_of drive.image.format) (entries_of drive.image) user fcb.extent) (operations.open_file (dpb_of drive.image.format) (entries_of drive.image) user fcb.extent))
 
-abbrev pub closed_on : List ℕ → ClosedFile → OnDrive
-closed_on buffer c = on_drive (code_or_fault c.code) c.drive c.fcb buffer
+abbrev pub by_close : List ℕ → ClosedFile → OnDrive
+by_close buffer c = on_drive (code_or_fault c.code) c.drive c.fcb buffer
 
 -- CLOSE FILE
-unfoldable pub close_on : ℕ → Fcb → List ℕ → Drive → OnDrive
-close_on user fcb buffer drive =
-    closed_on buffer (after_close drive fcb (close_function (dpb_of drive.image.format) drive.marks.is_protected (entries_of drive.image) user fcb.extent))
+unfoldable pub close_file_on : ℕ → Fcb → List ℕ → Drive → OnDrive
+close_file_on user fcb buffer drive =
+    by_close buffer (after_close drive fcb (operations.close_file (dpb_of drive.image.format) drive.marks.is_protected (entries_of drive.image) user fcb.extent))
 
-abbrev pub made_on : List ℕ → MadeFile → OnDrive
-made_on buffer m = on_drive (code_or_none m.code) m.drive m.fcb buffer
+abbrev pub by_make : List ℕ → MadeFile → OnDrive
+by_make buffer m = on_drive (code_or_none m.code) m.drive m.fcb buffer
 
 -- MAKE FILE
-unfoldable pub make_on : ℕ → Fcb → List ℕ → Drive → OnDrive
-make_on user fcb buffer drive =
-    unless_protected drive fcb buffer (made_on buffer (after_make drive fcb (first_free (entries_of drive.image)) (make_function (entries_of drive.image) user fcb.extent)))
+unfoldable pub make_file_on : ℕ → Fcb → List ℕ → Drive → OnDrive
+make_file_on user fcb buffer drive =
+    unless_protected drive fcb buffer (by_make buffer (after_make drive fcb (first_free (entries_of drive.image)) (operations.make_file (entries_of drive.image) user fcb.extent)))
 
 -- a call on all entries of a name
-abbrev pub named_on : Drive → Fcb → List ℕ → Named → OnDrive
-named_on drive fcb buffer none_named = on_drive (Ok 255) drive fcb buffer
-named_on drive fcb buffer file_read_only = on_drive (Err FileReadOnly) drive fcb buffer
-named_on drive fcb buffer (named first volume) = on_drive (Ok (first % 4)) (drive_after drive volume) fcb buffer
+abbrev pub by_named : Drive → Fcb → List ℕ → Named → OnDrive
+by_named drive fcb buffer none_named = on_drive (Ok 0xFF) drive fcb buffer
+by_named drive fcb buffer file_read_only = on_drive (Err FileReadOnly) drive fcb buffer
+by_named drive fcb buffer (named first volume) = on_drive (Ok (first % 4)) (drive_after drive volume) fcb buffer
 
 -- DELETE FILE
-unfoldable pub erase_on : ℕ → Fcb → List ℕ → Drive → OnDrive
-erase_on user fcb buffer drive =
-    unless_protected drive fcb buffer (named_on drive fcb buffer (erase_function (dpb_of drive.image.format) (volume_of drive.image drive.marks.reserved) user fcb.extent.name))
+unfoldable pub erase_files_on : ℕ → Fcb → List ℕ → Drive → OnDrive
+erase_files_on user fcb buffer drive =
+    unless_protected drive fcb buffer (by_named drive fcb buffer (names.erase_files (dpb_of drive.image.format) (volume_of drive.image drive.marks.reserved) user fcb.extent.name))
 
 -- RENAME FILE
-unfoldable pub rename_on : List ℕ → ℕ → Fcb → List ℕ → Drive → OnDrive
-rename_on new_name user fcb buffer drive =
-    unless_protected drive fcb buffer (named_on drive fcb buffer (rename_function (volume_of drive.image drive.marks.reserved) user fcb.extent.name new_name))
+unfoldable pub rename_files_on : List ℕ → ℕ → Fcb → List ℕ → Drive → OnDrive
+rename_files_on new_name user fcb buffer drive =
+    unless_protected drive fcb buffer (by_named drive fcb buffer (names.rename_files (volume_of drive.image drive.marks.reserved) user fcb.extent.name new_name))
 
 -- SET FILE ATTRIBUTES
-unfoldable pub attributes_on : ℕ → Fcb → List ℕ → Drive → OnDrive
-attributes_on user fcb buffer drive =
-    unless_protected drive fcb buffer (named_on drive fcb buffer (attributes_function (volume_of drive.image drive.marks.reserved) user fcb.extent.name))
+unfoldable pub set_attributes_on : ℕ → Fcb → List ℕ → Drive → OnDrive
+set_attributes_on user fcb buffer drive =
+    unless_protected drive fcb buffer (by_named drive fcb buffer (names.set_attributes (volume_of drive.image drive.marks.reserved) user fcb.extent.name))
 
 -- a call on a record
-abbrev pub record_on : Called → OnDrive
-record_on c = on_drive (code_of_answer c.answer) c.drive c.fcb c.buffer
+abbrev pub by_record : Called → OnDrive
+by_record c = on_drive (code_of_answer c.answer) c.drive c.fcb c.buffer
 
 -- READ SEQUENTIAL
 unfoldable pub read_next_on : ℕ → Fcb → List ℕ → Drive → OnDrive
 read_next_on user fcb buffer drive =
-    record_on (after_call drive fcb buffer (read_next (dpb_of drive.image.format) drive.marks.is_protected (volume_of drive.image drive.marks.reserved) user fcb.extent fcb.current_record))
+    by_record (after_call drive fcb buffer (operations.read_next (dpb_of drive.image.format) drive.marks.is_protected (volume_of drive.image drive.marks.reserved) user fcb.extent fcb.current_record))
 
 -- WRITE SEQUENTIAL
 unfoldable pub write_next_on : ℕ → Fcb → List ℕ → Drive → OnDrive
 write_next_on user fcb buffer drive =
-    unless_protected drive fcb buffer (unless_read_only drive fcb buffer (record_on (after_call drive fcb buffer (write_next (dpb_of drive.image.format) (volume_of drive.image drive.marks.reserved) user fcb.extent fcb.current_record buffer))))
+    unless_protected drive fcb buffer (unless_read_only drive fcb buffer (by_record (after_call drive fcb buffer (operations.write_next (dpb_of drive.image.format) (volume_of drive.image drive.marks.reserved) user fcb.extent fcb.current_record buffer))))
 
 -- the random record's number, of r0 and r1
 unfoldable pub random_number : Fcb → ℕ
@@ -89,19 +90,19 @@ abbrev pub unless_past : Drive → Fcb → List ℕ → OnDrive → OnDrive
 unless_past drive fcb buffer call = if slice_index fcb.random_record 2 == 0 then call else on_drive (Ok 6) drive fcb buffer
 
 -- READ RANDOM
-unfoldable pub read_at_on : ℕ → Fcb → List ℕ → Drive → OnDrive
-read_at_on user fcb buffer drive =
-    unless_past drive fcb buffer (record_on (after_call drive fcb buffer (read_at (dpb_of drive.image.format) drive.marks.is_protected (volume_of drive.image drive.marks.reserved) user fcb.extent fcb.current_record (random_number fcb))))
+unfoldable pub read_random_on : ℕ → Fcb → List ℕ → Drive → OnDrive
+read_random_on user fcb buffer drive =
+    unless_past drive fcb buffer (by_record (after_call drive fcb buffer (operations.read_random (dpb_of drive.image.format) drive.marks.is_protected (volume_of drive.image drive.marks.reserved) user fcb.extent fcb.current_record (random_number fcb))))
 
 -- WRITE RANDOM
-unfoldable pub write_at_on : ℕ → Fcb → List ℕ → Drive → OnDrive
-write_at_on user fcb buffer drive =
-    unless_protected drive fcb buffer (unless_read_only drive fcb buffer (unless_past drive fcb buffer (record_on (after_call drive fcb buffer (write_at (dpb_of drive.image.format) (volume_of drive.image drive.marks.reserved) user fcb.extent fcb.current_record (random_number fcb) buffer)))))
+unfoldable pub write_random_on : ℕ → Fcb → List ℕ → Drive → OnDrive
+write_random_on user fcb buffer drive =
+    unless_protected drive fcb buffer (unless_read_only drive fcb buffer (unless_past drive fcb buffer (by_record (after_call drive fcb buffer (operations.write_random (dpb_of drive.image.format) (volume_of drive.image drive.marks.reserved) user fcb.extent fcb.current_record (random_number fcb) buffer)))))
 
 -- WRITE RANDOM WITH ZERO FILL
-unfoldable pub write_at_cleared_on : ℕ → Fcb → List ℕ → Drive → OnDrive
-write_at_cleared_on user fcb buffer drive =
-    unless_protected drive fcb buffer (unless_read_only drive fcb buffer (unless_past drive fcb buffer (record_on (after_call drive fcb buffer (write_at_cleared (dpb_of drive.image.format) (volume_of drive.image drive.marks.reserved) user fcb.extent fcb.current_record (random_number fcb) buffer)))))
+unfoldable pub write_random_cleared_on : ℕ → Fcb → List ℕ → Drive → OnDrive
+write_random_cleared_on user fcb buffer drive =
+    unless_protected drive fcb buffer (unless_read_only drive fcb buffer (unless_past drive fcb buffer (by_record (after_call drive fcb buffer (operations.write_random_cleared (dpb_of drive.image.format) (volume_of drive.image drive.marks.reserved) user fcb.extent fcb.current_record (random_number fcb) buffer)))))
 
 -- the random record of a number, low byte first
 unfoldable pub with_random : Fcb → ℕ → Fcb
@@ -109,14 +110,14 @@ with_random fcb n =
     record fcb { random_record = n % 256 ∷ n / 256 % 256 ∷ n / 65536 ∷ [] }
 
 -- COMPUTE FILE SIZE; own: 0 and the code FFh where there is no such file
-unfoldable pub size_on : ℕ → Fcb → List ℕ → Drive → OnDrive
-size_on user fcb buffer drive =
-    let size = file_size (entries_of drive.image) user fcb.extent.name in
-    on_drive (Ok (if is_some size then 0 else 255)) drive (with_random fcb (unwrap_or size 0)) buffer
+unfoldable pub compute_size_on : ℕ → Fcb → List ℕ → Drive → OnDrive
+compute_size_on user fcb buffer drive =
+    let size = names.compute_size (entries_of drive.image) user fcb.extent.name in
+    on_drive (Ok (if is_some size then 0 else 0xFF)) drive (with_random fcb (unwrap_or size 0)) buffer
 
 -- SET RANDOM RECORD: the record that the file control block stands at
-unfoldable pub position_on : Fcb → List ℕ → Drive → OnDrive
-position_on fcb buffer drive =
+unfoldable pub set_random_record_on : Fcb → List ℕ → Drive → OnDrive
+set_random_record_on fcb buffer drive =
     on_drive (Ok 0) drive (with_random fcb (128 * extent_number fcb.extent + fcb.current_record)) buffer
 
 -- ---- in a session
@@ -132,40 +133,40 @@ next_ahead disks system fcb =
     if is_there disks n then ahead (marked_drive disks system n) disks.user fcb else Err (answer.Fault Select)
 
 unfoldable pub open_file : Disks → Disk → Fcb → List ℕ → FileCall
-open_file disks system fcb buffer = on_named_drive (open_on disks.user fcb buffer) disks system fcb buffer
+open_file disks system fcb buffer = on_named_drive (open_file_on disks.user fcb buffer) disks system fcb buffer
 
 unfoldable pub close_file : Disks → Disk → Fcb → List ℕ → FileCall
-close_file disks system fcb buffer = on_named_drive (close_on disks.user fcb buffer) disks system fcb buffer
+close_file disks system fcb buffer = on_named_drive (close_file_on disks.user fcb buffer) disks system fcb buffer
 
 unfoldable pub make_file : Disks → Disk → Fcb → List ℕ → FileCall
-make_file disks system fcb buffer = on_named_drive (make_on disks.user fcb buffer) disks system fcb buffer
+make_file disks system fcb buffer = on_named_drive (make_file_on disks.user fcb buffer) disks system fcb buffer
 
 unfoldable pub erase_files : Disks → Disk → Fcb → List ℕ → FileCall
-erase_files disks system fcb buffer = on_named_drive (erase_on disks.user fcb buffer) disks system fcb buffer
+erase_files disks system fcb buffer = on_named_drive (erase_files_on disks.user fcb buffer) disks system fcb buffer
 
 unfoldable pub rename_files : List ℕ → Disks → Disk → Fcb → List ℕ → FileCall
-rename_files new_name disks system fcb buffer = on_named_drive (rename_on new_name disks.user fcb buffer) disks system fcb buffer
+rename_files new_name disks system fcb buffer = on_named_drive (rename_files_on new_name disks.user fcb buffer) disks system fcb buffer
 
 unfoldable pub set_attributes : Disks → Disk → Fcb → List ℕ → FileCall
-set_attributes disks system fcb buffer = on_named_drive (attributes_on disks.user fcb buffer) disks system fcb buffer
+set_attributes disks system fcb buffer = on_named_drive (set_attributes_on disks.user fcb buffer) disks system fcb buffer
 
-unfoldable pub read_next_record : Disks → Disk → Fcb → List ℕ → FileCall
-read_next_record disks system fcb buffer = on_named_drive (read_next_on disks.user fcb buffer) disks system fcb buffer
+unfoldable pub read_next : Disks → Disk → Fcb → List ℕ → FileCall
+read_next disks system fcb buffer = on_named_drive (read_next_on disks.user fcb buffer) disks system fcb buffer
 
-unfoldable pub write_next_record : Disks → Disk → Fcb → List ℕ → FileCall
-write_next_record disks system fcb buffer = on_named_drive (write_next_on disks.user fcb buffer) disks system fcb buffer
+unfoldable pub write_next : Disks → Disk → Fcb → List ℕ → FileCall
+write_next disks system fcb buffer = on_named_drive (write_next_on disks.user fcb buffer) disks system fcb buffer
 
 unfoldable pub read_random : Disks → Disk → Fcb → List ℕ → FileCall
-read_random disks system fcb buffer = on_named_drive (read_at_on disks.user fcb buffer) disks system fcb buffer
+read_random disks system fcb buffer = on_named_drive (read_random_on disks.user fcb buffer) disks system fcb buffer
 
 unfoldable pub write_random : Disks → Disk → Fcb → List ℕ → FileCall
-write_random disks system fcb buffer = on_named_drive (write_at_on disks.user fcb buffer) disks system fcb buffer
+write_random disks system fcb buffer = on_named_drive (write_random_on disks.user fcb buffer) disks system fcb buffer
 
 unfoldable pub write_random_cleared : Disks → Disk → Fcb → List ℕ → FileCall
-write_random_cleared disks system fcb buffer = on_named_drive (write_at_cleared_on disks.user fcb buffer) disks system fcb buffer
+write_random_cleared disks system fcb buffer = on_named_drive (write_random_cleared_on disks.user fcb buffer) disks system fcb buffer
 
 unfoldable pub compute_size : Disks → Disk → Fcb → List ℕ → FileCall
-compute_size disks system fcb buffer = on_named_drive (size_on disks.user fcb buffer) disks system fcb buffer
+compute_size disks system fcb buffer = on_named_drive (compute_size_on disks.user fcb buffer) disks system fcb buffer
 
 unfoldable pub set_random_record : Disks → Disk → Fcb → List ℕ → FileCall
-set_random_record disks system fcb buffer = on_named_drive (position_on fcb buffer) disks system fcb buffer
+set_random_record disks system fcb buffer = on_named_drive (set_random_record_on fcb buffer) disks system fcb buffer

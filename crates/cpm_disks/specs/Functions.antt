@@ -8,9 +8,9 @@ use Rattle.cpm_files.specs.declared.answer.Fault.{Fault}
 use Rattle.cpm_files.specs.Encoding.{fcb_of, fcb_bytes}
 use Rattle.cpm_disks.specs.declared.disks.Disks.{Disks}
 use Rattle.cpm_disks.specs.declared.function.FileFunction.{FileFunction}
-use Rattle.cpm_disks.specs.declared.function.FileFunction.TheVariants.{OpenFile, CloseFile, SearchFirst, SearchNext, DeleteFile, ReadSequential, WriteSequential, MakeFile, RenameFile, SetAttributes, ReadRandom, WriteRandom, FileSize, SetRandomRecord, WriteRandomZeroFill}
+use Rattle.cpm_disks.specs.declared.function.FileFunction.TheVariants.{OpenFile, CloseFile, SearchFirst, SearchNext, EraseFiles, ReadNext, WriteNext, MakeFile, RenameFiles, SetAttributes, ReadRandom, WriteRandom, ComputeSize, SetRandomRecord, WriteRandomCleared}
 use Rattle.cpm_disks.specs.Calls.{FileCall}
-use Rattle.cpm_disks.specs.Files.{open_file, close_file, make_file, erase_files, rename_files, set_attributes, read_next_record, write_next_record, read_random, write_random, write_random_cleared, compute_size, set_random_record}
+use Rattle.cpm_disks.specs.Files.{open_file, close_file, make_file, erase_files, rename_files, set_attributes, read_next, write_next, read_random, write_random, write_random_cleared, compute_size, set_random_record}
 use Rattle.cpm_disks.specs.Search.{search_first, search_next}
 
 -- own: a file control block in memory has the block numbers of the standard disk, bytes
@@ -25,22 +25,22 @@ abbrev pub new_name : List ℕ → List ℕ
 new_name bytes = slice_range bytes 17 28
 
 -- CP/M 2.2 Operating System Manual, section 5.2, Operating System Call Conventions: each function, over the 36 bytes of a file control block
-unfoldable pub function_on : FileFunction → List ℕ → Disks → Disk → Fcb → List ℕ → FileCall
-function_on OpenFile bytes = open_file
-function_on CloseFile bytes = close_file
-function_on SearchFirst bytes = search_first
-function_on SearchNext bytes = search_next
-function_on DeleteFile bytes = erase_files
-function_on ReadSequential bytes = read_next_record
-function_on WriteSequential bytes = write_next_record
-function_on MakeFile bytes = make_file
-function_on RenameFile bytes = rename_files (new_name bytes)
-function_on SetAttributes bytes = set_attributes
-function_on ReadRandom bytes = read_random
-function_on WriteRandom bytes = write_random
-function_on FileSize bytes = compute_size
-function_on SetRandomRecord bytes = set_random_record
-function_on WriteRandomZeroFill bytes = write_random_cleared
+unfoldable pub file_function : FileFunction → List ℕ → Disks → Disk → Fcb → List ℕ → FileCall
+file_function OpenFile bytes = open_file
+file_function CloseFile bytes = close_file
+file_function SearchFirst bytes = search_first
+file_function SearchNext bytes = search_next
+file_function EraseFiles bytes = erase_files
+file_function ReadNext bytes = read_next
+file_function WriteNext bytes = write_next
+file_function MakeFile bytes = make_file
+file_function RenameFiles bytes = rename_files (new_name bytes)
+file_function SetAttributes bytes = set_attributes
+file_function ReadRandom bytes = read_random
+file_function WriteRandom bytes = write_random
+file_function ComputeSize bytes = compute_size
+file_function SetRandomRecord bytes = set_random_record
+file_function WriteRandomCleared bytes = write_random_cleared
 
 -- what it leaves: its code or its fault, the drives, the bytes of the file control block, and the buffer of a record
 pub record BytesCall : Type 0 where
@@ -55,5 +55,5 @@ bytes_call answer disks bytes buffer = record { answer = answer; disks = disks; 
 abbrev pub in_bytes : FileCall → BytesCall
 in_bytes c = bytes_call c.answer c.disks (bytes_in_memory c.fcb) c.buffer
 
-unfoldable pub function_call : FileFunction → Disks → Disk → List ℕ → List ℕ → BytesCall
-function_call f disks system bytes buffer = in_bytes (function_on f bytes disks system (fcb_in_memory bytes) buffer)
+unfoldable pub file_function_bytes : FileFunction → Disks → Disk → List ℕ → List ℕ → BytesCall
+file_function_bytes f disks system bytes buffer = in_bytes (file_function f bytes disks system (fcb_in_memory bytes) buffer)

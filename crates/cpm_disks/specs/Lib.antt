@@ -6,3 +6,4 @@ pub mod Search
 pub mod Functions
 pub mod Vectors
 pub mod Sectors
+pub mod Lending

@@ -21,7 +21,7 @@ use Rattle.cpm_disks.specs.Calls.{FileCall, file_call, drive_named}
 
 -- a `?` as the extent: any extent, else that extent's group; own: with S2 as 0
 abbrev pub group_sought : Dpb → ℕ → Option ℕ
-group_sought d ex = if ex == 63 then None else Some (group_of d (ex % 32))
+group_sought d ex = if ex == 0x3F then None else Some (group_of d (ex % 32))
 
 -- what a search looks for: every entry of the drive, or the user's that match
 unfoldable pub pattern_of : Dpb → Search → ℕ → Pattern
@@ -33,7 +33,7 @@ abbrev pub search_left : Search → ℕ → Disks → Fcb → Option ℕ → Lis
 search_left sought count disks fcb (Some index) buffer =
     file_call (Ok (directory_code index)) (record disks { sought = Some (record sought { next = index + 1 }) }) fcb buffer
 search_left sought count disks fcb None buffer =
-    file_call (Ok 255) (record disks { sought = Some (record sought { next = count }) }) fcb buffer
+    file_call (Ok 0xFF) (record disks { sought = Some (record sought { next = count }) }) fcb buffer
 
 -- it goes on from its place on a drive
 unfoldable pub search_from : Drive → Search → Disks → Fcb → List ℕ → FileCall
@@ -50,8 +50,8 @@ search_on sought disks system fcb buffer =
 unfoldable pub search_of : Disks → Fcb → Search
 search_of disks fcb =
     record {
-      drive = if fcb.drive == 63 then disks.current else drive_named disks fcb.drive;
-      is_every = fcb.drive == 63;
+      drive = if fcb.drive == 0x3F then disks.current else drive_named disks fcb.drive;
+      is_every = fcb.drive == 0x3F;
       name = fcb.extent.name;
       ex = fcb.extent.ex;
       next = 0;
@@ -63,7 +63,7 @@ search_first disks system fcb buffer =
 
 -- SEARCH FOR NEXT: own: FFh without a search; the user is the current one
 abbrev pub search_next_from : Option Search → Disks → Disk → Fcb → List ℕ → FileCall
-search_next_from None disks system fcb buffer = file_call (Ok 255) disks fcb buffer
+search_next_from None disks system fcb buffer = file_call (Ok 0xFF) disks fcb buffer
 search_next_from (Some sought) disks system fcb buffer = search_on sought disks system fcb buffer
 
 unfoldable pub search_next : Disks → Disk → Fcb → List ℕ → FileCall

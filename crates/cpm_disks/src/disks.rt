@@ -1,7 +1,9 @@
 //! The drives of a session.
 
-ghost use Rattle.std.specs.Prelude.{◌≡◌, ◌<◌, IsTrue, None, is_some, slice_index_or, drop};
+ghost use Rattle.std.specs.Prelude.{◌≡◌, ◌<◌, IsTrue, None, Some, true, is_some, slice_index_or, drop};
 ghost use Rattle.std.specs.List.{slice_get};
+ghost use Rattle.std.specs.Borrow.{sem};
+ghost use Rattle.cpm_disks.specs.Lending.{LendsDrive};
 ghost use Rattle.cpm_disks.specs.Disks.{new_drive, opened_disks, image_of, images_of};
 
 use crate::search::Search;
@@ -74,4 +76,16 @@ pub(crate) fn is_in(drives: &[Option<Drive>; 4], number: u8) -> bool
     ensures within { IsTrue result → number < 4 }
 {
     number < 4 && drives[usize::from(number)].is_some()
+}
+
+/// The drive in a place that has one, to be changed.
+pub(crate) fn drive_in(place: &mut Option<Drive>) -> &mut Drive
+    requires { is_some place.old ≡ true }
+    ensures* writes_back { sem 𝓛 (LendsDrive place.entry result) }
+    ensures value { place.old ≡ Some result.now }
+{
+    match place {
+        Some(drive) => drive,
+        None => unreachable!(),
+    }
 }

@@ -3,14 +3,15 @@
 
 ghost use Rattle.std.specs.Prelude.{◌≡◌, ℕ, List, MatchResult, Ok, Err};
 ghost use Rattle.cpm_drive.specs.Reads.{ahead};
-ghost use Rattle.cpm_disks.specs.Calls.{file_call};
-ghost use Rattle.cpm_disks.specs.Files.{marked_drive, next_ahead, open_file, close_file, make_file, erase_files, rename_files, set_attributes, read_next_record, write_next_record, read_random, write_random, write_random_cleared, compute_size, set_random_record};
+ghost use Rattle.cpm_drive.specs.declared.drive.Drive.{Drive};
+ghost use Rattle.cpm_disks.specs.Calls.{OnDrive, file_call, on_named_drive, RefusesProtected, IsOwnPlace};
+ghost use Rattle.cpm_disks.specs.Files.{marked_drive, next_ahead, open_file, close_file, make_file, erase_files, rename_files, set_attributes, read_next, write_next, read_random, write_random, write_random_cleared, compute_size, set_random_record};
 
 use crate::codes::{NONE, code_or_none, put_random};
-use crate::disks::Disks;
+use crate::disks::{Disks, drive_in};
 use crate::{lent, own};
 use cpm_directory::LentImage;
-use cpm_drive::{file_size, open_lent, peek_next};
+use cpm_drive::{compute_size, open_file_lent, peek_next};
 use cpm_files::{Answer, Fault, Fcb};
 use cpm_geom::Image;
 
@@ -21,7 +22,7 @@ impl Disks {
     {
         let number = self.use_named(system, fcb.drive)?;
         let image = self.lent_at(system, number);
-        Ok(code_or_none(open_lent(&image, self.user, fcb)))
+        Ok(code_or_none(open_file_lent(&image, self.user, fcb)))
     }
 
     /// CLOSE FILE: a directory code, or FFh where the entry is not there or has other blocks.
@@ -30,40 +31,26 @@ impl Disks {
     {
         let number = self.use_named(system, fcb.drive)?;
         if !self.is_own(number) {
-            return lent::close(system, &self.system, self.user, fcb);
+            return lent::close_file(system, &self.system, self.user, fcb);
         }
-        let Some(drive) = &mut self.drives[usize::from(number)] else {
-            unreachable!()
-        };
-        own::close(drive, self.user, fcb)
+        let drive = drive_in(&mut self.drives[usize::from(number)]);
+        own::close_file(drive, self.user, fcb)
     }
 
     /// MAKE FILE: a directory code, or FFh where no entry is free.
     pub fn make_file(&mut self, system: &Image, fcb: &mut Fcb) -> Result<u8, Fault>
         ensures { (buffer : List ℕ) → file_call result self.new fcb.new buffer ≡ make_file self.old system.now fcb.old buffer }
     {
-        let number = self.use_named(system, fcb.drive)?;
-        if !self.is_own(number) {
-            return Err(Fault::ReadOnly);
-        }
-        let Some(drive) = &mut self.drives[usize::from(number)] else {
-            unreachable!()
-        };
-        own::make(drive, self.user, fcb)
+        let place = self.place_to_write(system, fcb)?;
+        own::make_file(drive_in(&mut self.drives[place]), self.user, fcb)
     }
 
     /// DELETE FILE: every entry of the name, with `?` for any character. The first one's directory code, or FFh.
     pub fn erase_files(&mut self, system: &Image, fcb: &Fcb) -> Result<u8, Fault>
         ensures { (buffer : List ℕ) → file_call result self.new fcb.now buffer ≡ erase_files self.old system.now fcb.now buffer }
     {
-        let number = self.use_named(system, fcb.drive)?;
-        if !self.is_own(number) {
-            return Err(Fault::ReadOnly);
-        }
-        let Some(drive) = &mut self.drives[usize::from(number)] else {
-            unreachable!()
-        };
-        own::erase(drive, self.user, fcb)
+        let place = self.place_to_write(system, fcb)?;
+        own::erase_files(drive_in(&mut self.drives[place]), self.user, fcb)
     }
 
     /// RENAME FILE: every entry of the name gets the new one. The first one's directory code, or FFh.
@@ -75,14 +62,8 @@ impl Disks {
     ) -> Result<u8, Fault>
         ensures { (buffer : List ℕ) → file_call result self.new fcb.now buffer ≡ rename_files new_name.now self.old system.now fcb.now buffer }
     {
-        let number = self.use_named(system, fcb.drive)?;
-        if !self.is_own(number) {
-            return Err(Fault::ReadOnly);
-        }
-        let Some(drive) = &mut self.drives[usize::from(number)] else {
-            unreachable!()
-        };
-        own::rename(drive, self.user, fcb, new_name)
+        let place = self.place_to_write(system, fcb)?;
+        own::rename_files(drive_in(&mut self.drives[place]), self.user, fcb, new_name)
     }
 
     /// SET FILE ATTRIBUTES: every entry of the name gets the high bits of the name. The first one's directory code, or
@@ -90,14 +71,8 @@ impl Disks {
     pub fn set_attributes(&mut self, system: &Image, fcb: &Fcb) -> Result<u8, Fault>
         ensures { (buffer : List ℕ) → file_call result self.new fcb.now buffer ≡ set_attributes self.old system.now fcb.now buffer }
     {
-        let number = self.use_named(system, fcb.drive)?;
-        if !self.is_own(number) {
-            return Err(Fault::ReadOnly);
-        }
-        let Some(drive) = &mut self.drives[usize::from(number)] else {
-            unreachable!()
-        };
-        own::set_attributes(drive, self.user, fcb)
+        let place = self.place_to_write(system, fcb)?;
+        own::set_attributes(drive_in(&mut self.drives[place]), self.user, fcb)
     }
 
     /// READ SEQUENTIAL: 0, or 1 where there is no record.
@@ -107,15 +82,13 @@ impl Disks {
         fcb: &mut Fcb,
         buffer: &mut [u8; 128],
     ) -> Result<u8, Fault>
-        ensures { file_call result self.new fcb.new buffer.new ≡ read_next_record self.old system.now fcb.old buffer.old }
+        ensures { file_call result self.new fcb.new buffer.new ≡ read_next self.old system.now fcb.old buffer.old }
     {
         let number = self.use_named(system, fcb.drive)?;
         if !self.is_own(number) {
             return lent::read_next(system, &self.system, self.user, fcb, buffer);
         }
-        let Some(drive) = &mut self.drives[usize::from(number)] else {
-            unreachable!()
-        };
+        let drive = drive_in(&mut self.drives[usize::from(number)]);
         own::read_next(drive, self.user, fcb, buffer)
     }
 
@@ -156,16 +129,10 @@ impl Disks {
         fcb: &mut Fcb,
         buffer: &[u8; 128],
     ) -> Result<u8, Fault>
-        ensures { file_call result self.new fcb.new buffer.now ≡ write_next_record self.old system.now fcb.old buffer.now }
+        ensures { file_call result self.new fcb.new buffer.now ≡ write_next self.old system.now fcb.old buffer.now }
     {
-        let number = self.use_named(system, fcb.drive)?;
-        if !self.is_own(number) {
-            return Err(Fault::ReadOnly);
-        }
-        let Some(drive) = &mut self.drives[usize::from(number)] else {
-            unreachable!()
-        };
-        own::write_next(drive, self.user, fcb, buffer)
+        let place = self.place_to_write(system, fcb)?;
+        own::write_next(drive_in(&mut self.drives[place]), self.user, fcb, buffer)
     }
 
     /// READ RANDOM: 0, 1 where there is no record, 3 where the extent can't be closed, 4 where there is no other, 6 past
@@ -180,12 +147,10 @@ impl Disks {
     {
         let number = self.use_named(system, fcb.drive)?;
         if !self.is_own(number) {
-            return lent::read_at(system, &self.system, self.user, fcb, buffer);
+            return lent::read_random(system, &self.system, self.user, fcb, buffer);
         }
-        let Some(drive) = &mut self.drives[usize::from(number)] else {
-            unreachable!()
-        };
-        own::read_at(drive, self.user, fcb, buffer)
+        let drive = drive_in(&mut self.drives[usize::from(number)]);
+        own::read_random(drive, self.user, fcb, buffer)
     }
 
     /// WRITE RANDOM: 0, 2 where no block is free, 3 where the extent can't be closed, 5 where no other can be had, 6 past
@@ -198,14 +163,8 @@ impl Disks {
     ) -> Result<u8, Fault>
         ensures { file_call result self.new fcb.new buffer.now ≡ write_random self.old system.now fcb.old buffer.now }
     {
-        let number = self.use_named(system, fcb.drive)?;
-        if !self.is_own(number) {
-            return Err(Fault::ReadOnly);
-        }
-        let Some(drive) = &mut self.drives[usize::from(number)] else {
-            unreachable!()
-        };
-        own::write_at(drive, self.user, fcb, buffer)
+        let place = self.place_to_write(system, fcb)?;
+        own::write_random(drive_in(&mut self.drives[place]), self.user, fcb, buffer)
     }
 
     /// WRITE RANDOM WITH ZERO FILL: as WRITE RANDOM, but a block that it takes is cleared first.
@@ -217,14 +176,8 @@ impl Disks {
     ) -> Result<u8, Fault>
         ensures { file_call result self.new fcb.new buffer.now ≡ write_random_cleared self.old system.now fcb.old buffer.now }
     {
-        let number = self.use_named(system, fcb.drive)?;
-        if !self.is_own(number) {
-            return Err(Fault::ReadOnly);
-        }
-        let Some(drive) = &mut self.drives[usize::from(number)] else {
-            unreachable!()
-        };
-        own::write_at_cleared(drive, self.user, fcb, buffer)
+        let place = self.place_to_write(system, fcb)?;
+        own::write_random_cleared(drive_in(&mut self.drives[place]), self.user, fcb, buffer)
     }
 
     /// COMPUTE FILE SIZE: the random record becomes the number of records. 0, or FFh where there is no such file.
@@ -233,7 +186,7 @@ impl Disks {
     {
         let number = self.use_named(system, fcb.drive)?;
         let image = self.lent_at(system, number);
-        match file_size(&image, self.user, &fcb.extent.name) {
+        match compute_size(&image, self.user, &fcb.extent.name) {
             Some(records) => {
                 put_random(fcb, records);
                 Ok(0)
@@ -253,5 +206,19 @@ impl Disks {
         let extent = 128 * u32::from(fcb.extent.number());
         put_random(fcb, extent + u32::from(fcb.current_record));
         Ok(0)
+    }
+
+    /// Uses the drive that a file control block names, for a call that writes. The place of an own drive, or the fault:
+    /// there is no such drive, or it is the system drive, which is always protected.
+    fn place_to_write(&mut self, system: &Image, fcb: &Fcb) -> Result<usize, Fault>
+        ensures { MatchResult result
+            (λ place. IsOwnPlace self.old self.new system.now fcb.now place)
+            (λ e. (call : Drive → OnDrive) (buffer : List ℕ) → RefusesProtected call fcb.now buffer → file_call (Err e) self.new fcb.now buffer ≡ on_named_drive call self.old system.now fcb.now buffer) }
+    {
+        let number = self.use_named(system, fcb.drive)?;
+        if !self.is_own(number) {
+            return Err(Fault::ReadOnly);
+        }
+        Ok(usize::from(number))
     }
 }

@@ -2,7 +2,7 @@
 
 ghost use Rattle.std.specs.Prelude.{◌≡◌};
 ghost use Rattle.cpm_disks.specs.Calls.{file_call};
-ghost use Rattle.cpm_disks.specs.Functions.{new_name, function_on, function_call, bytes_call};
+ghost use Rattle.cpm_disks.specs.Functions.{new_name, file_function, file_function_bytes, bytes_call};
 
 use crate::disks::Disks;
 use cpm_files::{Fault, Fcb};
@@ -15,17 +15,17 @@ pub enum FileFunction {
     CloseFile,
     SearchFirst,
     SearchNext,
-    DeleteFile,
-    ReadSequential,
-    WriteSequential,
+    EraseFiles,
+    ReadNext,
+    WriteNext,
     MakeFile,
-    RenameFile,
+    RenameFiles,
     SetAttributes,
     ReadRandom,
     WriteRandom,
-    FileSize,
+    ComputeSize,
     SetRandomRecord,
-    WriteRandomZeroFill,
+    WriteRandomCleared,
 }
 
 impl Disks {
@@ -38,16 +38,16 @@ impl Disks {
         bytes: &mut [u8; 36],
         buffer: &mut [u8; 128],
     ) -> Result<u8, Fault>
-        ensures { bytes_call result self.new bytes.new buffer.new ≡ function_call function self.old system.now bytes.old buffer.old }
+        ensures { bytes_call result self.new bytes.new buffer.new ≡ file_function_bytes function self.old system.now bytes.old buffer.old }
     {
         let dpb = Format::Ibm3740.dpb();
         let mut fcb = Fcb::from_bytes(&dpb, bytes);
-        let answer = self.call_on(system, function, bytes, &mut fcb, buffer);
+        let answer = self.file_function(system, function, bytes, &mut fcb, buffer);
         *bytes = fcb.to_bytes(&dpb);
         answer
     }
 
-    fn call_on(
+    fn file_function(
         &mut self,
         system: &Image,
         function: FileFunction,
@@ -55,24 +55,24 @@ impl Disks {
         fcb: &mut Fcb,
         buffer: &mut [u8; 128],
     ) -> Result<u8, Fault>
-        ensures { file_call result self.new fcb.new buffer.new ≡ function_on function bytes.now self.old system.now fcb.old buffer.old }
+        ensures { file_call result self.new fcb.new buffer.new ≡ file_function function bytes.now self.old system.now fcb.old buffer.old }
     {
         match function {
             FileFunction::OpenFile => self.open_file(system, fcb),
             FileFunction::CloseFile => self.close_file(system, fcb),
             FileFunction::SearchFirst => self.search_first(system, fcb, buffer),
             FileFunction::SearchNext => Ok(self.search_next(system, buffer)),
-            FileFunction::DeleteFile => self.erase_files(system, fcb),
-            FileFunction::ReadSequential => self.read_next(system, fcb, buffer),
-            FileFunction::WriteSequential => self.write_next(system, fcb, buffer),
+            FileFunction::EraseFiles => self.erase_files(system, fcb),
+            FileFunction::ReadNext => self.read_next(system, fcb, buffer),
+            FileFunction::WriteNext => self.write_next(system, fcb, buffer),
             FileFunction::MakeFile => self.make_file(system, fcb),
-            FileFunction::RenameFile => self.rename_files(system, fcb, &new_name(bytes)),
+            FileFunction::RenameFiles => self.rename_files(system, fcb, &new_name(bytes)),
             FileFunction::SetAttributes => self.set_attributes(system, fcb),
             FileFunction::ReadRandom => self.read_random(system, fcb, buffer),
             FileFunction::WriteRandom => self.write_random(system, fcb, buffer),
-            FileFunction::FileSize => self.compute_size(system, fcb),
+            FileFunction::ComputeSize => self.compute_size(system, fcb),
             FileFunction::SetRandomRecord => self.set_random_record(system, fcb),
-            FileFunction::WriteRandomZeroFill => self.write_random_cleared(system, fcb, buffer),
+            FileFunction::WriteRandomCleared => self.write_random_cleared(system, fcb, buffer),
         }
     }
 }

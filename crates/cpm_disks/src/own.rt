@@ -1,57 +1,50 @@
 //! The calls on files of a session's own drive, which is logged in.
 
-ghost use Rattle.std.specs.Prelude.{◌≡◌, ℕ, List, Ok};
-ghost use Rattle.cpm_disks.specs.Calls.{code_of_answer, code_or_none, code_or_fault, on_drive};
-ghost use Rattle.cpm_disks.specs.Files.{close_on, make_on, erase_on, rename_on, attributes_on, read_next_on, write_next_on, random_number, read_at_on, write_at_on, write_at_cleared_on};
+ghost use Rattle.std.specs.Prelude.{◌≡◌, ℕ, List, MatchResult, Ok, Err, true, false};
+ghost use Rattle.cpm_files.specs.Names.{is_read_only};
+ghost use Rattle.cpm_disks.specs.Calls.{code_of_answer, code_or_none, code_or_fault, OnDrive, on_drive, unless_protected, unless_read_only};
+ghost use Rattle.cpm_disks.specs.Files.{close_file_on, make_file_on, erase_files_on, rename_files_on, set_attributes_on, read_next_on, write_next_on, random_number, read_random_on, write_random_on, write_random_cleared_on};
 
 use crate::codes::{PAST_ANY_DISK, code_of, code_or_fault, code_or_none, random_number};
 use cpm_drive::Drive;
 use cpm_files::{Fault, Fcb};
 
-pub(crate) fn close(drive: &mut Drive, user: u8, fcb: &mut Fcb) -> Result<u8, Fault>
-    ensures { (buffer : List ℕ) → on_drive result drive.new fcb.new buffer ≡ close_on user fcb.old buffer drive.old }
+pub(crate) fn close_file(drive: &mut Drive, user: u8, fcb: &mut Fcb) -> Result<u8, Fault>
+    ensures { (buffer : List ℕ) → on_drive result drive.new fcb.new buffer ≡ close_file_on user fcb.old buffer drive.old }
 {
     code_or_fault(drive.close_file(user, fcb))
 }
 
-pub(crate) fn make(drive: &mut Drive, user: u8, fcb: &mut Fcb) -> Result<u8, Fault>
-    ensures { (buffer : List ℕ) → on_drive result drive.new fcb.new buffer ≡ make_on user fcb.old buffer drive.old }
+pub(crate) fn make_file(drive: &mut Drive, user: u8, fcb: &mut Fcb) -> Result<u8, Fault>
+    ensures { (buffer : List ℕ) → on_drive result drive.new fcb.new buffer ≡ make_file_on user fcb.old buffer drive.old }
 {
-    if drive.marks.is_protected {
-        return Err(Fault::ReadOnly);
-    }
+    may_write(drive)?;
     Ok(code_or_none(drive.make_file(user, fcb)))
 }
 
-pub(crate) fn erase(drive: &mut Drive, user: u8, fcb: &Fcb) -> Result<u8, Fault>
-    ensures { (buffer : List ℕ) → on_drive result drive.new fcb.now buffer ≡ erase_on user fcb.now buffer drive.old }
+pub(crate) fn erase_files(drive: &mut Drive, user: u8, fcb: &Fcb) -> Result<u8, Fault>
+    ensures { (buffer : List ℕ) → on_drive result drive.new fcb.now buffer ≡ erase_files_on user fcb.now buffer drive.old }
 {
-    if drive.marks.is_protected {
-        return Err(Fault::ReadOnly);
-    }
+    may_write(drive)?;
     code_or_fault(drive.erase_files(user, &fcb.extent.name))
 }
 
-pub(crate) fn rename(
+pub(crate) fn rename_files(
     drive: &mut Drive,
     user: u8,
     fcb: &Fcb,
     new_name: &[u8; 11],
 ) -> Result<u8, Fault>
-    ensures { (buffer : List ℕ) → on_drive result drive.new fcb.now buffer ≡ rename_on new_name.now user fcb.now buffer drive.old }
+    ensures { (buffer : List ℕ) → on_drive result drive.new fcb.now buffer ≡ rename_files_on new_name.now user fcb.now buffer drive.old }
 {
-    if drive.marks.is_protected {
-        return Err(Fault::ReadOnly);
-    }
+    may_write(drive)?;
     code_or_fault(drive.rename_files(user, &fcb.extent.name, new_name))
 }
 
 pub(crate) fn set_attributes(drive: &mut Drive, user: u8, fcb: &Fcb) -> Result<u8, Fault>
-    ensures { (buffer : List ℕ) → on_drive result drive.new fcb.now buffer ≡ attributes_on user fcb.now buffer drive.old }
+    ensures { (buffer : List ℕ) → on_drive result drive.new fcb.now buffer ≡ set_attributes_on user fcb.now buffer drive.old }
 {
-    if drive.marks.is_protected {
-        return Err(Fault::ReadOnly);
-    }
+    may_write(drive)?;
     Ok(code_or_none(drive.set_attributes(user, &fcb.extent.name)))
 }
 
@@ -74,65 +67,75 @@ pub(crate) fn write_next(
 ) -> Result<u8, Fault>
     ensures { on_drive result drive.new fcb.new buffer.now ≡ write_next_on user fcb.old buffer.now drive.old }
 {
-    if drive.marks.is_protected {
-        return Err(Fault::ReadOnly);
-    }
-    if fcb.extent.is_read_only() {
-        return Err(Fault::FileReadOnly);
-    }
+    may_write_file(drive, fcb)?;
     code_of(drive.write_next(user, fcb, buffer))
 }
 
-pub(crate) fn read_at(
+pub(crate) fn read_random(
     drive: &mut Drive,
     user: u8,
     fcb: &mut Fcb,
     buffer: &mut [u8; 128],
 ) -> Result<u8, Fault>
-    ensures { on_drive result drive.new fcb.new buffer.new ≡ read_at_on user fcb.old buffer.old drive.old }
+    ensures { on_drive result drive.new fcb.new buffer.new ≡ read_random_on user fcb.old buffer.old drive.old }
 {
     if fcb.random_record[2] != 0 {
         return Ok(PAST_ANY_DISK);
     }
-    code_of(drive.read_at(user, random_number(fcb), fcb, buffer))
+    code_of(drive.read_random(user, random_number(fcb), fcb, buffer))
 }
 
-pub(crate) fn write_at(
+pub(crate) fn write_random(
     drive: &mut Drive,
     user: u8,
     fcb: &mut Fcb,
     buffer: &[u8; 128],
 ) -> Result<u8, Fault>
-    ensures { on_drive result drive.new fcb.new buffer.now ≡ write_at_on user fcb.old buffer.now drive.old }
+    ensures { on_drive result drive.new fcb.new buffer.now ≡ write_random_on user fcb.old buffer.now drive.old }
 {
-    if drive.marks.is_protected {
-        return Err(Fault::ReadOnly);
-    }
-    if fcb.extent.is_read_only() {
-        return Err(Fault::FileReadOnly);
-    }
+    may_write_file(drive, fcb)?;
     if fcb.random_record[2] != 0 {
         return Ok(PAST_ANY_DISK);
     }
-    code_of(drive.write_at(user, random_number(fcb), fcb, buffer))
+    code_of(drive.write_random(user, random_number(fcb), fcb, buffer))
 }
 
-pub(crate) fn write_at_cleared(
+pub(crate) fn write_random_cleared(
     drive: &mut Drive,
     user: u8,
     fcb: &mut Fcb,
     buffer: &[u8; 128],
 ) -> Result<u8, Fault>
-    ensures { on_drive result drive.new fcb.new buffer.now ≡ write_at_cleared_on user fcb.old buffer.now drive.old }
+    ensures { on_drive result drive.new fcb.new buffer.now ≡ write_random_cleared_on user fcb.old buffer.now drive.old }
+{
+    may_write_file(drive, fcb)?;
+    if fcb.random_record[2] != 0 {
+        return Ok(PAST_ANY_DISK);
+    }
+    code_of(drive.write_random_cleared(user, random_number(fcb), fcb, buffer))
+}
+
+/// A call that writes is refused by a protected drive.
+fn may_write(drive: &Drive) -> Result<(), Fault>
+    ensures { MatchResult result
+        (λ _. drive.now.marks.is_protected ≡ false)
+        (λ e. (e ≡ Fault.ReadOnly) × (drive.now.marks.is_protected ≡ true)) }
 {
     if drive.marks.is_protected {
         return Err(Fault::ReadOnly);
     }
+    Ok(())
+}
+
+/// A call that writes to a file is refused by a protected drive, and after that by a read-only file.
+fn may_write_file(drive: &Drive, fcb: &Fcb) -> Result<(), Fault>
+    ensures { MatchResult result
+        (λ _. (drive.now.marks.is_protected ≡ false) × (is_read_only fcb.now.extent.name ≡ false))
+        (λ e. (buffer : List ℕ) (call : OnDrive) → on_drive (Err e) drive.now fcb.now buffer ≡ unless_protected drive.now fcb.now buffer (unless_read_only drive.now fcb.now buffer call)) }
+{
+    may_write(drive)?;
     if fcb.extent.is_read_only() {
         return Err(Fault::FileReadOnly);
     }
-    if fcb.random_record[2] != 0 {
-        return Ok(PAST_ANY_DISK);
-    }
-    code_of(drive.write_at_cleared(user, random_number(fcb), fcb, buffer))
+    Ok(())
 }

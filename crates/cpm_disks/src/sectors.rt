@@ -3,7 +3,7 @@
 ghost use Rattle.std.specs.Prelude.{◌≡◌, unwrap_or, is_some, if◌then◌else◌};
 ghost use Rattle.cpm_disks.specs.Sectors.{has_sector, drive_with_sector, sector_read, sector_written};
 
-use crate::disks::Disks;
+use crate::disks::{Disks, drive_in};
 use cpm_drive::Drive;
 use cpm_geom::Image;
 
@@ -37,9 +37,7 @@ impl Disks {
         if !self.is_own(drive) {
             return false;
         }
-        let Some(own) = &mut self.drives[usize::from(drive)] else {
-            unreachable!()
-        };
+        let own = drive_in(&mut self.drives[usize::from(drive)]);
         put_sector(own, track, sector, bytes)
     }
 }

@@ -6,7 +6,7 @@ ghost use Rattle.cpm_disks.specs.Calls.{drive_named};
 ghost use Rattle.cpm_disks.specs.Disks.{own_drive, is_there, drive_at};
 ghost use Rattle.cpm_disks.specs.Selecting.{ready, used, select, choice, unmarked, drive_unmarked, has_bit, reset_from, reset, rebooted_disks, drives_reset, protect};
 
-use crate::disks::{Disks, is_in};
+use crate::disks::{Disks, drive_in, is_in};
 use cpm_directory::LentImage;
 use cpm_drive::{Drive, Marks};
 use cpm_files::Fault;
@@ -65,10 +65,7 @@ impl Disks {
             make_lent_ready(system, &mut self.system);
             return;
         }
-        let Some(own) = &mut self.drives[usize::from(drive)] else {
-            unreachable!()
-        };
-        make_ready(own);
+        make_ready(drive_in(&mut self.drives[usize::from(drive)]));
     }
 
     /// Uses the drive that a file control block names. Its number, or the fault that there is no such drive.
@@ -143,9 +140,7 @@ impl Disks {
             self.system.is_protected = true;
             return;
         }
-        let Some(own) = &mut self.drives[usize::from(self.current)] else {
-            unreachable!()
-        };
+        let own = drive_in(&mut self.drives[usize::from(self.current)]);
         own.marks.is_protected = true;
     }
 }

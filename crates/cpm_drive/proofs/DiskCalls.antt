@@ -18,7 +18,7 @@ use Rattle.cpm_files.specs.declared.answer.Answer.TheVariants.{NoRecord as no_re
 use Rattle.cpm_files.specs.Reserved.{is_reserved, least_free}
 use Rattle.cpm_files.specs.Files.{extent_number, group_of, place_of, block_number, deleted, entry_at, first_match, first_free, directory_records, Volume, Write, record_put, IsSound}
 use Rattle.cpm_files.specs.Encoding.{AreBytes}
-use Rattle.cpm_files.specs.Operations.{Outcome, ends, gives, with_entry, merged, agree, has_bad_block, closed_entry, is_unchanged, Close, refused, close_fault, closed, close_extent, opened, open_extent, open_to_read, made, make_extent, close_function, make_function, Purpose, reading, writing, Target, Place, stopped, standing, opened_in, made_in, opened_or_made, have_extent, closed_in, cross, next_target, target_of, next_place, place_at, record_in_block, get_record, Found, no_such_block, none_free, old_block, new_block, block_to_write, with_block, taken_writes, put_found, put_record, read_in, write_in, read_next, write_next, read_at, write_at, write_at_cleared}
+use Rattle.cpm_files.specs.Operations.{Outcome, ends, gives, with_entry, merged, agree, has_bad_block, closed_entry, is_unchanged, Close, refused, close_fault, closed, close_extent, opened, open_extent, open_to_read, made, make_extent, close_file, make_file, Purpose, reading, writing, Target, Place, stopped, standing, opened_in, made_in, opened_or_made, have_extent, closed_in, cross, next_target, target_of, next_place, place_at, record_in_block, get_record, Found, no_such_block, none_free, old_block, new_block, block_to_write, with_block, taken_writes, put_found, put_record, read_in, write_in, read_next, write_next, read_random, write_random, write_random_cleared}
 use Rattle.cpm_files.proofs.Closing.{closed_user}
 use Rattle.cpm_files.proofs.Moving.{closed_volume, closes_free, goes_on, number_below}
 use Rattle.cpm_drive.specs.Laws.{IsOfBytes, Fits, AllFit}
@@ -313,8 +313,8 @@ module _ (f : Format) where
     unfolding read_next
     read_next_fits current = reads_in current 1 (next_place (dpb_of f) reading false v user x current) (at_next reading v user x current user_fits fit extent)
 
-    pub read_at_fits : (current n : ℕ) → n < 65536 → OutcomeFits (read_at (dpb_of f) false v user x current n)
-    unfolding read_at
+    pub read_at_fits : (current n : ℕ) → n < 65536 → OutcomeFits (read_random (dpb_of f) false v user x current n)
+    unfolding read_random
     read_at_fits current n high = reads_in current 0 (place_at (dpb_of f) reading false v user x (target_of no_extent n)) (at_any reading v user x no_extent n user_fits high fit extent)
 
     pub write_next_fits : (current : ℕ) (bytes : List ℕ) → user ≢ deleted → IsSound (dpb_of f) v user x → AreBytes 128 bytes → OutcomeFits (write_next (dpb_of f) v user x current bytes)
@@ -322,24 +322,24 @@ module _ (f : Format) where
     write_next_fits current bytes ok sound are =
         writes_in false current 1 bytes user (next_place (dpb_of f) writing false v user x current) are (at_next writing v user x current user_fits fit extent) (next_sound v user x current ok sound)
 
-    pub write_at_fits : (current n : ℕ) (bytes : List ℕ) → user ≢ deleted → IsSound (dpb_of f) v user x → n < 65536 → AreBytes 128 bytes → OutcomeFits (write_at (dpb_of f) v user x current n bytes)
-    unfolding write_at
+    pub write_at_fits : (current n : ℕ) (bytes : List ℕ) → user ≢ deleted → IsSound (dpb_of f) v user x → n < 65536 → AreBytes 128 bytes → OutcomeFits (write_random (dpb_of f) v user x current n bytes)
+    unfolding write_random
     write_at_fits current n bytes ok sound high are =
         writes_in false current 0 bytes user (place_at (dpb_of f) writing false v user x (target_of no_entry_free n)) are (at_any writing v user x no_entry_free n user_fits high fit extent) (any_sound v user x no_entry_free n ok sound high)
 
-    pub write_at_cleared_fits : (current n : ℕ) (bytes : List ℕ) → user ≢ deleted → IsSound (dpb_of f) v user x → n < 65536 → AreBytes 128 bytes → OutcomeFits (write_at_cleared (dpb_of f) v user x current n bytes)
-    unfolding write_at_cleared
+    pub write_at_cleared_fits : (current n : ℕ) (bytes : List ℕ) → user ≢ deleted → IsSound (dpb_of f) v user x → n < 65536 → AreBytes 128 bytes → OutcomeFits (write_random_cleared (dpb_of f) v user x current n bytes)
+    unfolding write_random_cleared
     write_at_cleared_fits current n bytes ok sound high are =
         writes_in true current 0 bytes user (place_at (dpb_of f) writing false v user x (target_of no_entry_free n)) are (at_any writing v user x no_entry_free n user_fits high fit extent) (any_sound v user x no_entry_free n ok sound high)
 
-    pub close_fits : (index : ℕ) (after : List Entry) (x' : Extent) → close_function (dpb_of f) false v.entries user x ≡ closed index after x' → VolumeFits f (with_entry v index after) × IsOfBytes (dpb_of f) x'
-    unfolding close_function ClosesFit
+    pub close_fits : (index : ℕ) (after : List Entry) (x' : Extent) → close_file (dpb_of f) false v.entries user x ≡ closed index after x' → VolumeFits f (with_entry v index after) × IsOfBytes (dpb_of f) x'
+    unfolding close_file ClosesFit
     close_fits index after x' h =
         let there = closes false v user x fit extent in
         rw h at there
 
-    pub make_fits : (after : List Entry) (x' : Extent) → make_function v.entries user x ≡ Some (after, x') → VolumeFits f (with_entry v (first_free v.entries) after) × IsOfBytes (dpb_of f) x'
-    unfolding make_function MakesFit
+    pub make_fits : (after : List Entry) (x' : Extent) → make_file v.entries user x ≡ Some (after, x') → VolumeFits f (with_entry v (first_free v.entries) after) × IsOfBytes (dpb_of f) x'
+    unfolding make_file MakesFit
     make_fits after x' h =
         let there = makes v user x (x.ex % 32) user_fits (omega arith) fit extent in
         rw h at there

@@ -5,7 +5,7 @@ use Rattle.cpm_geom.specs.declared.dpb.Dpb.{Dpb}
 use Rattle.cpm_geom.specs.Geometry.{dpb_of}
 use Rattle.cpm_geom.specs.Disk.{Disk, records_of}
 use Rattle.cpm_files.specs.declared.extent.Extent.{Extent}
-use Rattle.cpm_files.specs.Files.{deleted, directory_records, drive_record, record_in, directory_file, open_file, Volume, IsSound, IsSoundDrive}
+use Rattle.cpm_files.specs.Files.{deleted, directory_records, drive_record, record_in, file_record, open_file_record, Volume, IsSound, IsSoundDrive}
 use Rattle.cpm_files.proofs.Writing.{file_entry, open_stored}
 use Rattle.cpm_directory.specs.Directory.{entries_of}
 use Rattle.cpm_drive.specs.Drive.{volume_of}
@@ -38,13 +38,13 @@ module _ (disk : Disk) (v : Volume) (holds : Holds disk v) where
     map = sound.map;
   }
 
-  opened : (user : ℕ) (x : Extent) (m : ℕ) → user ≢ deleted → IsSound (dpb_of disk.format) v user x → open_file (dpb_of disk.format) (entries_of disk) (records_of disk) user x m ≡ open_file (dpb_of disk.format) v.entries v.records user x m
-  unfolding open_file
+  opened : (user : ℕ) (x : Extent) (m : ℕ) → user ≢ deleted → IsSound (dpb_of disk.format) v user x → open_file_record (dpb_of disk.format) (entries_of disk) (records_of disk) user x m ≡ open_file_record (dpb_of disk.format) v.entries v.records user x m
+  unfolding open_file_record
   opened user x m ok sound =
       rw holds.entries (same_in (dpb_of disk.format) (records_of disk) v.records _ m holds.records (λ h. (open_stored (dpb_of disk.format) v.entries v.reserved user x ok sound.well_formed sound.kept m h).outside))
 
-  listed : (user : ℕ) (name : List ℕ) (m : ℕ) → user ≢ deleted → IsSoundDrive (dpb_of disk.format) v → directory_file (dpb_of disk.format) (entries_of disk) (records_of disk) user name m ≡ directory_file (dpb_of disk.format) v.entries v.records user name m
-  unfolding directory_file
+  listed : (user : ℕ) (name : List ℕ) (m : ℕ) → user ≢ deleted → IsSoundDrive (dpb_of disk.format) v → file_record (dpb_of disk.format) (entries_of disk) (records_of disk) user name m ≡ file_record (dpb_of disk.format) v.entries v.records user name m
+  unfolding file_record
   listed user name m ok sound =
       rw holds.entries (same_in (dpb_of disk.format) (records_of disk) v.records _ m holds.records (λ h.
       let entry = file_entry (dpb_of disk.format) v.entries user name m ok h in

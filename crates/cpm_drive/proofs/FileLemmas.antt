@@ -6,7 +6,7 @@ use Rattle.cpm_files.specs.declared.extent.Entry.{Entry}
 use Rattle.cpm_files.specs.declared.fcb.Fcb.{Fcb}
 use Rattle.cpm_files.specs.declared.answer.Fault.{Fault as FileFault}
 use Rattle.cpm_files.specs.Files.{extent_number, entry_at, first_match, group_of, first_free}
-use Rattle.cpm_files.specs.Operations.{with_entry, Close, opened, open_function, make_extent, make_function}
+use Rattle.cpm_files.specs.Operations.{with_entry, Close, opened, open_file, make_extent, make_file}
 use Rattle.cpm_geom.specs.Geometry.{dpb_of}
 use Rattle.cpm_directory.specs.Directory.{entries_of}
 use Rattle.cpm_directory.proofs.DriveLemmas.{entries_length}
@@ -44,24 +44,24 @@ closes drive new fcb fcb' closing close result is within written answers =
     rw (← is, ← answers, ← drive_closes drive closing within) (ap (λ drive. closed_file result drive fcb') written)
 
 module _ (drive : Drive) (fcb : Fcb) (user : ℕ) where
-  pub make_refused : None ≡ make_extent (entries_of drive.image) user fcb.extent (fcb.extent.ex % 32) → made_file None drive fcb ≡ after_make drive fcb (first_free (entries_of drive.image)) (make_function (entries_of drive.image) user fcb.extent)
-  unfolding make_function after_make
+  pub make_refused : None ≡ make_extent (entries_of drive.image) user fcb.extent (fcb.extent.ex % 32) → made_file None drive fcb ≡ after_make drive fcb (first_free (entries_of drive.image)) (make_file (entries_of drive.image) user fcb.extent)
+  unfolding make_file after_make
   make_refused h = rw (← h) refl
 
-  pub make_writes : (c : Change) → Some (set (entries_of drive.image) c.index c.entry, c.entry.extent) ≡ make_extent (entries_of drive.image) user fcb.extent (fcb.extent.ex % 32) → c.index ≡ first_free (entries_of drive.image) → c.index < length (entries_of drive.image) → made_file (Some (directory_code c.index)) (drive_after drive (with_change (volume_of drive.image drive.marks.reserved) (Some c))) (record fcb { extent = c.entry.extent }) ≡ after_make drive fcb (first_free (entries_of drive.image)) (make_function (entries_of drive.image) user fcb.extent)
-  unfolding make_function after_make
+  pub make_writes : (c : Change) → Some (set (entries_of drive.image) c.index c.entry, c.entry.extent) ≡ make_extent (entries_of drive.image) user fcb.extent (fcb.extent.ex % 32) → c.index ≡ first_free (entries_of drive.image) → c.index < length (entries_of drive.image) → made_file (Some (directory_code c.index)) (drive_after drive (with_change (volume_of drive.image drive.marks.reserved) (Some c))) (record fcb { extent = c.entry.extent }) ≡ after_make drive fcb (first_free (entries_of drive.image)) (make_file (entries_of drive.image) user fcb.extent)
+  unfolding make_file after_make
   make_writes c h is below = rw (← h, ← is, written_is drive c below) refl
 
 module _ (d : Dpb) (es : List Entry) (user : ℕ) (fcb : Fcb) where
-  pub open_missing : length es ≤ first_match d es user fcb.extent.name (group_of d (fcb.extent.ex % 32)) → (None, fcb) ≡ after_open fcb (open_index d es user fcb.extent) (open_function d es user fcb.extent)
-  unfolding open_function after_open
+  pub open_missing : length es ≤ first_match d es user fcb.extent.name (group_of d (fcb.extent.ex % 32)) → (None, fcb) ≡ after_open fcb (open_index d es user fcb.extent) (open_file d es user fcb.extent)
+  unfolding open_file after_open
   open_missing h = rw (read_none d es user fcb.extent.name (fcb.extent.ex % 32) h) refl
 
   module _ (i : ℕ) (is : i ≡ first_match d es user fcb.extent.name (group_of d (fcb.extent.ex % 32))) (h : i < length es) where
-    pub open_lesser : None ≡ cond (ltb (extent_number (entry_at es i).extent) (fcb.extent.ex % 32)) None (Some (opened (entry_at es i).extent (fcb.extent.ex % 32))) → (None, fcb) ≡ after_open fcb (open_index d es user fcb.extent) (open_function d es user fcb.extent)
-    unfolding open_function after_open
+    pub open_lesser : None ≡ cond (ltb (extent_number (entry_at es i).extent) (fcb.extent.ex % 32)) None (Some (opened (entry_at es i).extent (fcb.extent.ex % 32))) → (None, fcb) ≡ after_open fcb (open_index d es user fcb.extent) (open_file d es user fcb.extent)
+    unfolding open_file after_open
     open_lesser k = rw (read_found d es user fcb.extent.name (fcb.extent.ex % 32) i is h, ← k) refl
 
-    pub opens : (y : Extent) → Some y ≡ cond (ltb (extent_number (entry_at es i).extent) (fcb.extent.ex % 32)) None (Some (opened (entry_at es i).extent (fcb.extent.ex % 32))) → (Some (directory_code i), record fcb { extent = y }) ≡ after_open fcb (open_index d es user fcb.extent) (open_function d es user fcb.extent)
-    unfolding open_function after_open open_index
+    pub opens : (y : Extent) → Some y ≡ cond (ltb (extent_number (entry_at es i).extent) (fcb.extent.ex % 32)) None (Some (opened (entry_at es i).extent (fcb.extent.ex % 32))) → (Some (directory_code i), record fcb { extent = y }) ≡ after_open fcb (open_index d es user fcb.extent) (open_file d es user fcb.extent)
+    unfolding open_file after_open open_index
     opens y k = rw (read_found d es user fcb.extent.name (fcb.extent.ex % 32) i is h, ← k, ← is) refl

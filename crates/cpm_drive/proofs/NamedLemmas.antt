@@ -10,7 +10,7 @@ use Rattle.cpm_geom.specs.declared.dpb.Dpb.{Dpb}
 use Rattle.cpm_files.specs.declared.extent.Entry.{Entry}
 use Rattle.cpm_files.specs.declared.answer.Fault.TheVariants.{FileReadOnly}
 use Rattle.cpm_files.specs.Files.{name_matches, entry_at, no_entry, Write, entry_put, Volume}
-use Rattle.cpm_files.specs.Names.{is_named, first_named, with_attributes, records_to, file_size, protects, change_named, named_writes, deletion, renaming, marking, reserved_after, erase_function, rename_function, attributes_function}
+use Rattle.cpm_files.specs.Names.{is_named, first_named, with_attributes, records_to, compute_size, protects, change_named, named_writes, deletion, renaming, marking, reserved_after, erase_files, rename_files, set_attributes}
 use Rattle.cpm_geom.specs.Geometry.{dpb_of}
 use Rattle.cpm_geom.specs.Disk.{Disk, records_of}
 use Rattle.cpm_directory.specs.Directory.{entries_of, PutsEntry}
@@ -73,13 +73,13 @@ size_more r n [] h = ap Some h
 size_more r n (x ∷ xs) h = ap Some (h ∙ sym (fold-append max x xs (n ∷ [])))
 
 module _ (es : List Entry) (user : ℕ) (name : List ℕ) (i : ℕ) (d : Entry) (h : i < length es) where
-  pub size_named : (size : Option ℕ) (r : ℕ) → size ≡ file_size (take i es) user name → is_named user name (get_or es i d) ≡ true → MatchOption size (r ≡ records_to (get_or es i d)) (λ s. r ≡ max s (records_to (get_or es i d))) → Some r ≡ file_size (take (i + 1) es) user name
-  unfolding file_size
+  pub size_named : (size : Option ℕ) (r : ℕ) → size ≡ compute_size (take i es) user name → is_named user name (get_or es i d) ≡ true → MatchOption size (r ≡ records_to (get_or es i d)) (λ s. r ≡ max s (records_to (get_or es i d))) → Some r ≡ compute_size (take (i + 1) es) user name
+  unfolding compute_size
   size_named size r is named greater =
       rw (filter_more (is_named user name) es i d h, named, map-append) (size_more r (records_to (get_or es i d)) (map records_to (filter (is_named user name) (take i es))) (rw is at greater))
 
-  pub size_other : is_named user name (get_or es i d) ≡ false → file_size (take i es) user name ≡ file_size (take (i + 1) es) user name
-  unfolding file_size
+  pub size_other : is_named user name (get_or es i d) ≡ false → compute_size (take i es) user name ≡ compute_size (take (i + 1) es) user name
+  unfolding compute_size
   size_other other = rw (filter_more (is_named user name) es i d h, other, append-nil) refl
 
 -- ---- the entries of a name that are still to be written
@@ -113,35 +113,35 @@ module _ (drive : Drive) (user : ℕ) (name : List ℕ) where
   unfolding drive_after
   named_after v free = rw free refl
 
-  pub attributes_none : length (entries_of drive.image) ≤ first_named (entries_of drive.image) user name → (Ok None, drive) ≡ after_named drive (attributes_function (volume_of drive.image drive.marks.reserved) user name)
-  unfolding attributes_function volume_of after_named
+  pub attributes_none : length (entries_of drive.image) ≤ first_named (entries_of drive.image) user name → (Ok None, drive) ≡ after_named drive (set_attributes (volume_of drive.image drive.marks.reserved) user name)
+  unfolding set_attributes volume_of after_named
   attributes_none h = rw (le-ltb _ _ h) refl
 
-  pub erase_none : length (entries_of drive.image) ≤ first_named (entries_of drive.image) user name → (Ok None, drive) ≡ after_named drive (erase_function (dpb_of drive.image.format) (volume_of drive.image drive.marks.reserved) user name)
-  unfolding erase_function volume_of after_named
+  pub erase_none : length (entries_of drive.image) ≤ first_named (entries_of drive.image) user name → (Ok None, drive) ≡ after_named drive (erase_files (dpb_of drive.image.format) (volume_of drive.image drive.marks.reserved) user name)
+  unfolding erase_files volume_of after_named
   erase_none h = rw (le-ltb _ _ h) refl
 
-  pub rename_none : (new : List ℕ) → length (entries_of drive.image) ≤ first_named (entries_of drive.image) user name → (Ok None, drive) ≡ after_named drive (rename_function (volume_of drive.image drive.marks.reserved) user name new)
-  unfolding rename_function volume_of after_named
+  pub rename_none : (new : List ℕ) → length (entries_of drive.image) ≤ first_named (entries_of drive.image) user name → (Ok None, drive) ≡ after_named drive (rename_files (volume_of drive.image drive.marks.reserved) user name new)
+  unfolding rename_files volume_of after_named
   rename_none new h = rw (le-ltb _ _ h) refl
 
   module _ (i : ℕ) (is : i ≡ first_named (entries_of drive.image) user name) (h : i < length (entries_of drive.image)) where
-    pub erase_refused : list_any (protects user name) (entries_of drive.image) ≡ true → (Err FileReadOnly, drive) ≡ after_named drive (erase_function (dpb_of drive.image.format) (volume_of drive.image drive.marks.reserved) user name)
-    unfolding erase_function volume_of after_named
+    pub erase_refused : list_any (protects user name) (entries_of drive.image) ≡ true → (Err FileReadOnly, drive) ≡ after_named drive (erase_files (dpb_of drive.image.format) (volume_of drive.image drive.marks.reserved) user name)
+    unfolding erase_files volume_of after_named
     erase_refused stays = rw (← is, lt-ltb _ _ h, stays) refl
 
-    pub rename_refused : (new : List ℕ) → list_any (protects user name) (entries_of drive.image) ≡ true → (Err FileReadOnly, drive) ≡ after_named drive (rename_function (volume_of drive.image drive.marks.reserved) user name new)
-    unfolding rename_function volume_of after_named
+    pub rename_refused : (new : List ℕ) → list_any (protects user name) (entries_of drive.image) ≡ true → (Err FileReadOnly, drive) ≡ after_named drive (rename_files (volume_of drive.image drive.marks.reserved) user name new)
+    unfolding rename_files volume_of after_named
     rename_refused new stays = rw (← is, lt-ltb _ _ h, stays) refl
 
-    pub erases : drive.marks.is_protected ≡ false → list_any (protects user name) (entries_of drive.image) ≡ false → (Ok (Some (directory_code i)), drive_written (record drive { marks = record drive.marks { reserved = reserved_after (dpb_of drive.image.format) user name (entries_of drive.image) drive.marks.reserved } }) (named_writes user name 0 (entries_of drive.image) (change_named user name deletion (entries_of drive.image)))) ≡ after_named drive (erase_function (dpb_of drive.image.format) (volume_of drive.image drive.marks.reserved) user name)
-    unfolding erase_function volume_of after_named
+    pub erases : drive.marks.is_protected ≡ false → list_any (protects user name) (entries_of drive.image) ≡ false → (Ok (Some (directory_code i)), drive_written (record drive { marks = record drive.marks { reserved = reserved_after (dpb_of drive.image.format) user name (entries_of drive.image) drive.marks.reserved } }) (named_writes user name 0 (entries_of drive.image) (change_named user name deletion (entries_of drive.image)))) ≡ after_named drive (erase_files (dpb_of drive.image.format) (volume_of drive.image drive.marks.reserved) user name)
+    unfolding erase_files volume_of after_named
     erases free goes = rw (← is, lt-ltb _ _ h, goes) (ap (λ it. (Ok (Some (directory_code i)), it)) (named_after _ free))
 
-    pub renames : (new : List ℕ) → drive.marks.is_protected ≡ false → list_any (protects user name) (entries_of drive.image) ≡ false → (Ok (Some (directory_code i)), drive_written drive (named_writes user name 0 (entries_of drive.image) (change_named user name (renaming new) (entries_of drive.image)))) ≡ after_named drive (rename_function (volume_of drive.image drive.marks.reserved) user name new)
-    unfolding rename_function volume_of after_named
+    pub renames : (new : List ℕ) → drive.marks.is_protected ≡ false → list_any (protects user name) (entries_of drive.image) ≡ false → (Ok (Some (directory_code i)), drive_written drive (named_writes user name 0 (entries_of drive.image) (change_named user name (renaming new) (entries_of drive.image)))) ≡ after_named drive (rename_files (volume_of drive.image drive.marks.reserved) user name new)
+    unfolding rename_files volume_of after_named
     renames new free goes = rw (← is, lt-ltb _ _ h, goes) (ap (λ it. (Ok (Some (directory_code i)), it)) (named_after _ free))
 
-    pub marks : drive.marks.is_protected ≡ false → (Ok (Some (directory_code i)), drive_written drive (named_writes user name 0 (entries_of drive.image) (change_named user name (marking name) (entries_of drive.image)))) ≡ after_named drive (attributes_function (volume_of drive.image drive.marks.reserved) user name)
-    unfolding attributes_function volume_of after_named
+    pub marks : drive.marks.is_protected ≡ false → (Ok (Some (directory_code i)), drive_written drive (named_writes user name 0 (entries_of drive.image) (change_named user name (marking name) (entries_of drive.image)))) ≡ after_named drive (set_attributes (volume_of drive.image drive.marks.reserved) user name)
+    unfolding set_attributes volume_of after_named
     marks free = rw (← is, lt-ltb _ _ h) (ap (λ it. (Ok (Some (directory_code i)), it)) (named_after _ free))

@@ -11,11 +11,11 @@ use Rattle.cpm_files.specs.declared.fcb.Fcb.{Fcb}
 use Rattle.cpm_files.specs.declared.answer.Answer.{Answer}
 use Rattle.cpm_files.specs.declared.answer.Answer.TheVariants.{Fault as fault, NoRecord as no_record, NoExtent as no_extent, Done as done}
 use Rattle.cpm_files.specs.declared.answer.Fault.{Fault}
-use Rattle.cpm_files.specs.Files.{Volume, block_number, place_of, directory_records, open_file}
+use Rattle.cpm_files.specs.Files.{Volume, block_number, place_of, directory_records, open_file_record}
 use Rattle.cpm_files.specs.Laws.{position, HasRead}
 use Rattle.cpm_files.proofs.Reading.{reads_next, reads_at}
 use Rattle.cpm_directory.specs.Directory.{entries_of}
-use Rattle.cpm_files.specs.Operations.{Outcome, ends, gives, get_record, read_in, read_next, read_at, record_in_block}
+use Rattle.cpm_files.specs.Operations.{Outcome, ends, gives, get_record, read_in, read_next, read_random, record_in_block}
 use Rattle.cpm_drive.specs.Drive.{volume_of, drive_after, Called, called, after_call, buffer_after}
 use Rattle.cpm_drive.specs.declared.drive.Drive.{Drive}
 use Rattle.cpm_drive.specs.declared.change.Change.{Change}
@@ -143,7 +143,7 @@ KeepsFiles old new =
     (n : ℕ) → directory_records (dpb_of old.image.format) ≤ n → get_or (records_of new.image) n [] ≡ get_or (records_of old.image) n []
 
 module _ (old new : Drive) (user : ℕ) (fcb fcb' : Fcb) (before after : List ℕ) (answer : Answer) (keeps : KeepsFiles old new) where
-  has_read : (n : ℕ) (o : Outcome) → called answer new fcb' after ≡ after_call old fcb before o → HasRead (dpb_of old.image.format) user (volume_of old.image old.marks.reserved) fcb.extent n o → open_file (dpb_of old.image.format) (entries_of old.image) (records_of old.image) user fcb.extent n ≡ Some after
+  has_read : (n : ℕ) (o : Outcome) → called answer new fcb' after ≡ after_call old fcb before o → HasRead (dpb_of old.image.format) user (volume_of old.image old.marks.reserved) fcb.extent n o → open_file_record (dpb_of old.image.format) (entries_of old.image) (records_of old.image) user fcb.extent n ≡ Some after
   unfolding volume_of
   has_read n o value r =
       r.there ∙ ap Some (sym (done_gives old new fcb fcb' before after answer o r.number value r.given (keeps r.number r.outside)))
@@ -159,7 +159,7 @@ module _ (old new : Drive) (user : ℕ) (fcb fcb' : Fcb) (before after : List �
         ]
       ]
 
-  pub at_gives : (n : ℕ) → n < 65536 → called answer new fcb' after ≡ after_call old fcb before (read_at (dpb_of old.image.format) old.marks.is_protected (volume_of old.image old.marks.reserved) user fcb.extent fcb.current_record n) → GivesRecord old user fcb n answer after
+  pub at_gives : (n : ℕ) → n < 65536 → called answer new fcb' after ≡ after_call old fcb before (read_random (dpb_of old.image.format) old.marks.is_protected (volume_of old.image old.marks.reserved) user fcb.extent fcb.current_record n) → GivesRecord old user fcb n answer after
   at_gives n h value user_ok sound small is_done =
       let is = sym (call_answer old new fcb fcb' before after answer _ value) ∙ is_done in
       elim (reads_at (dpb_of old.image.format) user old.marks.is_protected (volume_of old.image old.marks.reserved) fcb.extent fcb.current_record n user_ok sound small h).2 [

@@ -17,8 +17,8 @@ abbrev pub directory_code : ℕ → ℕ
 directory_code index = index % 4
 
 -- own: before the first login no block is reserved
-abbrev pub fresh_marks : Format → Bool → Marks
-fresh_marks f protected =
+abbrev pub new_marks : Format → Bool → Marks
+new_marks f protected =
     record { reserved = replicate ((dpb_of f).last_block + 1) false; is_logged_in = false; is_protected = protected }
 
 -- what lies on a disk, by its directory, its records and the blocks that are reserved

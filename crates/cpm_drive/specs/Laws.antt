@@ -6,10 +6,10 @@ use Rattle.cpm_geom.specs.Geometry.{dpb_of}
 use Rattle.cpm_geom.specs.Disk.{Disk, IsDisk, record_count, records_of, sector_at}
 use Rattle.cpm_files.specs.declared.extent.Extent.{Extent}
 use Rattle.cpm_files.specs.declared.extent.Entry.{Entry}
-use Rattle.cpm_files.specs.Files.{deleted, directory_records, directory_file, open_file, Volume, Write, entry_put, record_put, first_free, IsVolume, IsSound, IsSoundDrive}
+use Rattle.cpm_files.specs.Files.{deleted, directory_records, file_record, open_file_record, Volume, Write, entry_put, record_put, first_free, IsVolume, IsSound, IsSoundDrive}
 use Rattle.cpm_files.specs.Encoding.{IsStorable, AreBytes}
-use Rattle.cpm_files.specs.Operations.{Outcome, with_entry, closed, close_function, make_function, read_next, read_at, write_next, write_at, write_at_cleared}
-use Rattle.cpm_files.specs.Names.{named, erase_function, rename_function, attributes_function}
+use Rattle.cpm_files.specs.Operations.{Outcome, with_entry, closed, close_file, make_file, read_next, read_random, write_next, write_random, write_random_cleared}
+use Rattle.cpm_files.specs.Names.{named, erase_files, rename_files, set_attributes}
 use Rattle.cpm_files.specs.LogLaws.{logged_all}
 use Rattle.cpm_directory.specs.Directory.{entries_of}
 use Rattle.cpm_drive.specs.declared.drive.Drive.{Drive}
@@ -84,23 +84,24 @@ pub record OutcomeReaches (drive : Drive) (o : Outcome) : Type 0 where
 -- own: what a call on a file leaves of the drive's volume is what the disk holds then: a read, a close and a make on any drive, a write on one that agrees with the file control block
 pub record CallsReach (drive : Drive) (d : Dpb) (v : Volume) (user : ℕ) (x : Extent) : Type 0 where
   pub sequential_read : (current : ℕ) → OutcomeReaches drive (read_next d false v user x current)
-  pub random_read : (current n : ℕ) → n < 65536 → OutcomeReaches drive (read_at d false v user x current n)
+  pub random_read : (current n : ℕ) → n < 65536 → OutcomeReaches drive (read_random d false v user x current n)
   pub sequential_write : (current : ℕ) (bytes : List ℕ) → user ≢ deleted → IsSound d v user x → AreBytes 128 bytes → OutcomeReaches drive (write_next d v user x current bytes)
-  pub random_write : (current n : ℕ) (bytes : List ℕ) → user ≢ deleted → IsSound d v user x → n < 65536 → AreBytes 128 bytes → OutcomeReaches drive (write_at d v user x current n bytes)
-  pub clearing_write : (current n : ℕ) (bytes : List ℕ) → user ≢ deleted → IsSound d v user x → n < 65536 → AreBytes 128 bytes → OutcomeReaches drive (write_at_cleared d v user x current n bytes)
-  pub close : (index : ℕ) (after : List Entry) (x' : Extent) → close_function d false v.entries user x ≡ closed index after x' → Reaches drive (with_entry v index after) × IsOfBytes d x'
-  pub make : (after : List Entry) (x' : Extent) → make_function v.entries user x ≡ Some (after, x') → Reaches drive (with_entry v (first_free v.entries) after) × IsOfBytes d x'
+  pub random_write : (current n : ℕ) (bytes : List ℕ) → user ≢ deleted → IsSound d v user x → n < 65536 → AreBytes 128 bytes → OutcomeReaches drive (write_random d v user x current n bytes)
+  pub clearing_write : (current n : ℕ) (bytes : List ℕ) → user ≢ deleted → IsSound d v user x → n < 65536 → AreBytes 128 bytes → OutcomeReaches drive (write_random_cleared d v user x current n bytes)
+  pub close : (index : ℕ) (after : List Entry) (x' : Extent) → close_file d false v.entries user x ≡ closed index after x' → Reaches drive (with_entry v index after) × IsOfBytes d x'
+  pub make : (after : List Entry) (x' : Extent) → make_file v.entries user x ≡ Some (after, x') → Reaches drive (with_entry v (first_free v.entries) after) × IsOfBytes d x'
 
 -- own: so is what a call on all entries of a name leaves
 pub record NamedCallsReach (drive : Drive) (d : Dpb) (v : Volume) (user : ℕ) (pattern : List ℕ) : Type 0 where
-  pub erase : (first : ℕ) (v' : Volume) → erase_function d v user pattern ≡ named first v' → Reaches drive v'
-  pub rename : (name : List ℕ) (first : ℕ) (v' : Volume) → AreBytes 11 name → rename_function v user pattern name ≡ named first v' → Reaches drive v'
-  pub attributes : (first : ℕ) (v' : Volume) → AreBytes 11 pattern → attributes_function v user pattern ≡ named first v' → Reaches drive v'
+  pub erase : (first : ℕ) (v' : Volume) → erase_files d v user pattern ≡ named first v' → Reaches drive v'
+  pub rename : (name : List ℕ) (first : ℕ) (v' : Volume) → AreBytes 11 name → rename_files v user pattern name ≡ named first v' → Reaches drive v'
+  pub attributes : (first : ℕ) (v' : Volume) → AreBytes 11 pattern → set_attributes v user pattern ≡ named first v' → Reaches drive v'
 
 -- own: over all drives that may be written, file control blocks and patterns
 abbrev pub CallsLaw : Type 0
 CallsLaw =
-    (drive : Drive) → IsWritable drive → ((user : ℕ) (x : Extent) → user < 256 → IsOfBytes (dpb_of drive.image.format) x → CallsReach drive (dpb_of drive.image.format) (volume_of drive.image drive.marks.reserved) user x) × ((user : ℕ) (pattern : List ℕ) → NamedCallsReach drive (dpb_of drive.image.format) (volume_of drive.image drive.marks.reserved) user pattern)
+    (drive : Drive) → IsWritable drive
+    → ((user : ℕ) (x : Extent) → user < 256 → IsOfBytes (dpb_of drive.image.format) x → CallsReach drive (dpb_of drive.image.format) (volume_of drive.image drive.marks.reserved) user x) × ((user : ℕ) (pattern : List ℕ) → NamedCallsReach drive (dpb_of drive.image.format) (volume_of drive.image drive.marks.reserved) user pattern)
 
 -- ---- the volume that a disk holds and the disk's own
 
@@ -108,8 +109,10 @@ CallsLaw =
 pub record ReadsTheSame (disk : Disk) (d : Dpb) (v : Volume) : Type 0 where
   pub sound : (user : ℕ) (x : Extent) → IsSound d v user x → IsSound d (volume_of disk v.reserved) user x
   pub sound_drive : IsSoundDrive d v → IsSoundDrive d (volume_of disk v.reserved)
-  pub by_control_block : (user : ℕ) (x : Extent) (m : ℕ) → user ≢ deleted → IsSound d v user x → open_file d (entries_of disk) (records_of disk) user x m ≡ open_file d v.entries v.records user x m
-  pub by_directory : (user : ℕ) (name : List ℕ) (m : ℕ) → user ≢ deleted → IsSoundDrive d v → directory_file d (entries_of disk) (records_of disk) user name m ≡ directory_file d v.entries v.records user name m
+  pub by_control_block : (user : ℕ) (x : Extent) (m : ℕ) → user ≢ deleted → IsSound d v user x
+      → open_file_record d (entries_of disk) (records_of disk) user x m ≡ open_file_record d v.entries v.records user x m
+  pub by_directory : (user : ℕ) (name : List ℕ) (m : ℕ) → user ≢ deleted → IsSoundDrive d v
+      → file_record d (entries_of disk) (records_of disk) user name m ≡ file_record d v.entries v.records user name m
 
 abbrev pub HoldsLaw : Type 0
 HoldsLaw = (disk : Disk) (v : Volume) → Holds disk v → ReadsTheSame disk (dpb_of disk.format) v

@@ -5,7 +5,7 @@ use Rattle.cpm_geom.specs.Disk.{Disk, records_of}
 use Rattle.cpm_files.specs.declared.fcb.Fcb.{Fcb}
 use Rattle.cpm_files.specs.declared.answer.Answer.{Answer}
 use Rattle.cpm_files.specs.declared.answer.Answer.TheVariants.{Done as done}
-use Rattle.cpm_files.specs.Files.{deleted, IsSound, open_file}
+use Rattle.cpm_files.specs.Files.{deleted, IsSound, open_file_record}
 use Rattle.cpm_files.specs.Operations.{Outcome, read_next}
 use Rattle.cpm_directory.specs.Directory.{entries_of}
 use Rattle.cpm_drive.specs.declared.drive.Drive.{Drive}
@@ -17,7 +17,8 @@ use Rattle.cpm_drive.specs.Judged.{with_change}
 -- a read that is done on a drive and a file control block that agree with each other gives record n of the file
 abbrev pub GivesRecord : Drive → ℕ → Fcb → ℕ → Answer → List ℕ → Type 0
 GivesRecord drive user fcb n answer buffer =
-    user ≢ deleted → IsSound (dpb_of drive.image.format) (volume_of drive.image drive.marks.reserved) user fcb.extent → fcb.current_record ≤ 128 → answer ≡ done → open_file (dpb_of drive.image.format) (entries_of drive.image) (records_of drive.image) user fcb.extent n ≡ Some buffer
+    user ≢ deleted → IsSound (dpb_of drive.image.format) (volume_of drive.image drive.marks.reserved) user fcb.extent → fcb.current_record ≤ 128
+    → answer ≡ done → open_file_record (dpb_of drive.image.format) (entries_of drive.image) (records_of drive.image) user fcb.extent n ≡ Some buffer
 
 -- what a read comes to beside the drive: its answer, the file control block and the number of its record
 pub record RecordRead : Type 0 where

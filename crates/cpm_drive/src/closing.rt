@@ -4,7 +4,7 @@ ghost use Rattle.std.specs.Prelude.{◌≡◌, ◌==◌, ◌&&◌, not, nat_lt, 
 ghost use Rattle.std.specs.List.{list_any, list_all, zip};
 ghost use Rattle.cpm_geom.specs.Geometry.{dpb_of};
 ghost use Rattle.cpm_files.specs.Files.{group_of};
-ghost use Rattle.cpm_files.specs.Operations.{close_extent, close_function, merged, agree, has_bad_block, closed_entry, is_unchanged, same_numbers};
+ghost use Rattle.cpm_files.specs.Operations.{close_extent, close_file, merged, agree, has_bad_block, closed_entry, is_unchanged, same_numbers};
 ghost use Rattle.cpm_directory.specs.Directory.{entries_of};
 ghost use Rattle.cpm_drive.specs.Calls.{closed_file, close_answer, after_close};
 ghost use Rattle.cpm_drive.specs.Judged.{close_of, change_of, IsWithin, agreeing};
@@ -53,8 +53,8 @@ impl Closing {
 }
 
 /// CLOSE FILE on a protected image that is lent: as `Drive::close_file`.
-pub fn close_lent(image: &Image, user: u8, fcb: &mut Fcb) -> Result<Option<u8>, Fault>
-    ensures { (result, fcb.new) ≡ close_answer fcb.old (close_function (dpb_of image.now.format) true (entries_of image.now) user fcb.old.extent) }
+pub fn close_file_lent(image: &Image, user: u8, fcb: &mut Fcb) -> Result<Option<u8>, Fault>
+    ensures { (result, fcb.new) ≡ close_answer fcb.old (close_file (dpb_of image.now.format) true (entries_of image.now) user fcb.old.extent) }
 {
     judge_close(&LentImage::new(image), true, user, &fcb.extent).answer(fcb)
 }
@@ -64,7 +64,7 @@ impl Drive {
     /// entry is of the extent or a place has two different numbers. A block number above the last block is a fault, and
     /// so is a close that would change a protected drive.
     pub fn close_file(&mut self, user: u8, fcb: &mut Fcb) -> Result<Option<u8>, Fault>
-        ensures { closed_file result self.new fcb.new ≡ after_close self.old fcb.old (close_function (dpb_of self.old.image.format) self.old.marks.is_protected (entries_of self.old.image) user fcb.old.extent) }
+        ensures { closed_file result self.new fcb.new ≡ after_close self.old fcb.old (close_file (dpb_of self.old.image.format) self.old.marks.is_protected (entries_of self.old.image) user fcb.old.extent) }
     {
         let closing = judge_close(
             &self.image.lent(),

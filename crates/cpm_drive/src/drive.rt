@@ -5,7 +5,7 @@ ghost use Rattle.cpm_geom.specs.Geometry.{dpb_of};
 ghost use Rattle.cpm_geom.specs.Disk.{records_of};
 ghost use Rattle.cpm_files.specs.Files.{directory_records};
 ghost use Rattle.cpm_drive.specs.Calls.{logged_in_marks, logged_in};
-ghost use Rattle.cpm_drive.specs.Drive.{directory_code, fresh_marks, volume_of, drive_after};
+ghost use Rattle.cpm_drive.specs.Drive.{directory_code, new_marks, volume_of, drive_after};
 ghost use Rattle.cpm_drive.specs.Judged.{with_change, IsWithin};
 ghost use Rattle.cpm_drive.specs.Reads.{lent_drive};
 
@@ -40,7 +40,7 @@ pub fn directory_code(index: u16) -> u8
 impl Marks {
     /// The marks of a drive that was never logged in.
     pub fn new(format: Format, is_protected: bool) -> Marks
-        ensures { result ≡ fresh_marks format is_protected }
+        ensures { result ≡ new_marks format is_protected }
     {
         Marks {
             reserved: Reserved::none(format),
@@ -61,7 +61,7 @@ impl Marks {
 impl Drive {
     /// A drive that was never logged in and may be written.
     pub fn new(image: Image) -> Drive
-        ensures { result ≡ lent_drive image (fresh_marks image.format false) }
+        ensures { result ≡ lent_drive image (new_marks image.format false) }
     {
         let marks = Marks::new(image.format(), false);
         let image = ListedImage::new(image);

@@ -14,8 +14,8 @@ pub mod searching;
 pub mod writing;
 
 pub use change::Change;
-pub use closing::{Closing, close_lent};
+pub use closing::{Closing, close_file_lent};
 pub use drive::{Drive, Marks, directory_code};
-pub use opening::open_lent;
-pub use reading::{peek_next, read_at_protected, read_next_protected};
-pub use searching::{file_size, search};
+pub use opening::open_file_lent;
+pub use reading::{peek_next, read_next_protected, read_random_protected};
+pub use searching::{compute_size, search};

@@ -3,7 +3,7 @@
 ghost use Rattle.std.specs.Prelude.{◌≡◌, ◌<◌, IfSome, Some, None, if◌then◌else◌, nat_lt};
 ghost use Rattle.cpm_geom.specs.Geometry.{dpb_of};
 ghost use Rattle.cpm_files.specs.Files.{record_count_of, extent_number, first_free};
-ghost use Rattle.cpm_files.specs.Operations.{opened, open_extent, open_to_read, open_function, made, make_extent, make_function};
+ghost use Rattle.cpm_files.specs.Operations.{opened, open_extent, open_to_read, open_file, made, make_extent, make_file};
 ghost use Rattle.cpm_directory.specs.Directory.{entries_of};
 ghost use Rattle.cpm_drive.specs.Calls.{after_open, open_index, made_file, after_make};
 ghost use Rattle.cpm_drive.specs.Judged.{entries_after, make_of, IsWithin};
@@ -15,8 +15,8 @@ use cpm_directory::LentImage;
 use cpm_files::{Entry, Extent, Fcb};
 
 /// OPEN FILE on an image that is lent: as `Drive::open_file`.
-pub fn open_lent(image: &LentImage<'_>, user: u8, fcb: &mut Fcb) -> Option<u8>
-    ensures { (result, fcb.new) ≡ after_open fcb.old (open_index (dpb_of image.now.format) (entries_of image.now) user fcb.old.extent) (open_function (dpb_of image.now.format) (entries_of image.now) user fcb.old.extent) }
+pub fn open_file_lent(image: &LentImage<'_>, user: u8, fcb: &mut Fcb) -> Option<u8>
+    ensures { (result, fcb.new) ≡ after_open fcb.old (open_index (dpb_of image.now.format) (entries_of image.now) user fcb.old.extent) (open_file (dpb_of image.now.format) (entries_of image.now) user fcb.old.extent) }
 {
     let number = u16::from(fcb.extent.ex % 32);
     let group = group_of(&image.format().dpb(), number);
@@ -37,15 +37,15 @@ impl Drive {
     /// OPEN FILE: the file control block takes the extent of its EX, with S2 as 0. The directory code, or none where no
     /// entry is of the extent or the first has a lesser number.
     pub fn open_file(&self, user: u8, fcb: &mut Fcb) -> Option<u8>
-        ensures { (result, fcb.new) ≡ after_open fcb.old (open_index (dpb_of self.now.image.format) (entries_of self.now.image) user fcb.old.extent) (open_function (dpb_of self.now.image.format) (entries_of self.now.image) user fcb.old.extent) }
+        ensures { (result, fcb.new) ≡ after_open fcb.old (open_index (dpb_of self.now.image.format) (entries_of self.now.image) user fcb.old.extent) (open_file (dpb_of self.now.image.format) (entries_of self.now.image) user fcb.old.extent) }
     {
-        open_lent(&self.image.lent(), user, fcb)
+        open_file_lent(&self.image.lent(), user, fcb)
     }
 
     /// MAKE FILE: the first entry that is not in use and the file control block become a new extent of its EX, with S2
     /// as 0. The directory code, or none where no entry is free. A protected drive is not written.
     pub fn make_file(&mut self, user: u8, fcb: &mut Fcb) -> Option<u8>
-        ensures { made_file result self.new fcb.new ≡ after_make self.old fcb.old (first_free (entries_of self.old.image)) (make_function (entries_of self.old.image) user fcb.old.extent) }
+        ensures { made_file result self.new fcb.new ≡ after_make self.old fcb.old (first_free (entries_of self.old.image)) (make_file (entries_of self.old.image) user fcb.old.extent) }
     {
         let number = u16::from(fcb.extent.ex % 32);
         match make_extent(&self.image.lent(), None, user, &fcb.extent, number) {

@@ -4,7 +4,7 @@ ghost use Rattle.std.specs.Prelude.{◌≡◌, ◌+◌, ◌<◌, ◌≤◌, ℕ,
 ghost use Rattle.cpm_geom.specs.Geometry.{dpb_of, IsRecord};
 ghost use Rattle.cpm_files.specs.Files.{Volume};
 ghost use Rattle.cpm_files.specs.Laws.{position};
-ghost use Rattle.cpm_files.specs.Operations.{get_record, read_in, read_next, read_at, record_in_block};
+ghost use Rattle.cpm_files.specs.Operations.{get_record, read_in, read_next, read_random, record_in_block};
 ghost use Rattle.cpm_drive.specs.Drive.{volume_of, called, after_call, buffer_after};
 ghost use Rattle.cpm_drive.specs.Judged.{IsWithin, place_of_arrival};
 ghost use Rattle.cpm_drive.specs.Reads.{record_found, ahead, answer_of, read_of, after_record, after_reading, lent_drive, GivesRecord};
@@ -103,14 +103,14 @@ fn judge_read_next(image: &LentImage<'_>, marks: &Marks, user: u8, fcb: &mut Fcb
 }
 
 /// What READ RANDOM comes to. Nothing is written.
-fn judge_read_at(
+fn judge_read_random(
     image: &LentImage<'_>,
     marks: &Marks,
     user: u8,
     number: u16,
     fcb: &mut Fcb,
 ) -> Reading
-    ensures value { (buffer : List ℕ) → after_reading (lent_drive image.now marks.now) result fcb.new buffer ≡ after_call (lent_drive image.now marks.now) fcb.old buffer (read_at (dpb_of image.now.format) marks.now.is_protected (volume_of image.now marks.now.reserved) user fcb.old.extent fcb.old.current_record number) }
+    ensures value { (buffer : List ℕ) → after_reading (lent_drive image.now marks.now) result fcb.new buffer ≡ after_call (lent_drive image.now marks.now) fcb.old buffer (read_random (dpb_of image.now.format) marks.now.is_protected (volume_of image.now marks.now.reserved) user fcb.old.extent fcb.old.current_record number) }
     ensures within { IsWithin (dpb_of image.now.format) result.closed }
     ensures there { IfOk result.found (λ number. IsRecord image.now.format number) }
 {
@@ -164,8 +164,8 @@ pub fn read_next_protected(
     take_record(image, reading.found, buffer)
 }
 
-/// READ RANDOM on a protected image that is lent: as `Drive::read_at`.
-pub fn read_at_protected(
+/// READ RANDOM on a protected image that is lent: as `Drive::read_random`.
+pub fn read_random_protected(
     image: &Image,
     marks: &Marks,
     user: u8,
@@ -174,10 +174,10 @@ pub fn read_at_protected(
     buffer: &mut [u8; 128],
 ) -> Answer
     requires { marks.now.is_protected ≡ true }
-    ensures value { called result (lent_drive image.now marks.now) fcb.new buffer.new ≡ after_call (lent_drive image.now marks.now) fcb.old buffer.old (read_at (dpb_of image.now.format) true (volume_of image.now marks.now.reserved) user fcb.old.extent fcb.old.current_record number) }
+    ensures value { called result (lent_drive image.now marks.now) fcb.new buffer.new ≡ after_call (lent_drive image.now marks.now) fcb.old buffer.old (read_random (dpb_of image.now.format) true (volume_of image.now marks.now.reserved) user fcb.old.extent fcb.old.current_record number) }
     ensures file { GivesRecord (lent_drive image.now marks.now) user fcb.old number result buffer.new }
 {
-    let reading = judge_read_at(&LentImage::new(image), marks, user, number, fcb);
+    let reading = judge_read_random(&LentImage::new(image), marks, user, number, fcb);
     take_record(image, reading.found, buffer)
 }
 
@@ -195,17 +195,17 @@ impl Drive {
 
     /// READ RANDOM: record `number` of the file, for which the extent may be closed and another one opened. The answer
     /// says whether the buffer has it, as it is on the disk once the entry is closed.
-    pub fn read_at(
+    pub fn read_random(
         &mut self,
         user: u8,
         number: u16,
         fcb: &mut Fcb,
         buffer: &mut [u8; 128],
     ) -> Answer
-        ensures value { called result self.new fcb.new buffer.new ≡ after_call self.old fcb.old buffer.old (read_at (dpb_of self.old.image.format) self.old.marks.is_protected (volume_of self.old.image self.old.marks.reserved) user fcb.old.extent fcb.old.current_record number) }
+        ensures value { called result self.new fcb.new buffer.new ≡ after_call self.old fcb.old buffer.old (read_random (dpb_of self.old.image.format) self.old.marks.is_protected (volume_of self.old.image self.old.marks.reserved) user fcb.old.extent fcb.old.current_record number) }
         ensures file { GivesRecord self.old user fcb.old number result buffer.new }
     {
-        let reading = judge_read_at(&self.image.lent(), &self.marks, user, number, fcb);
+        let reading = judge_read_random(&self.image.lent(), &self.marks, user, number, fcb);
         self.write_change(reading.closed);
         take_record(self.image.image(), reading.found, buffer)
     }

@@ -3,7 +3,7 @@
 ghost use Rattle.std.specs.Prelude.{◌≡◌, ◌+◌, ◌<◌, ◌≤◌, IfOk, false, true, [], ◌∷◌};
 ghost use Rattle.cpm_geom.specs.Geometry.{dpb_of};
 ghost use Rattle.cpm_files.specs.Files.{place_of, record_put};
-ghost use Rattle.cpm_files.specs.Operations.{writing, place_at, target_of, put_record, taken_writes, record_in_block, with_block, write_in, write_next, write_at, write_at_cleared, counting};
+ghost use Rattle.cpm_files.specs.Operations.{writing, place_at, target_of, put_record, taken_writes, record_in_block, with_block, write_in, write_next, write_random, write_random_cleared, counting};
 ghost use Rattle.cpm_drive.specs.Drive.{volume_of, called, after_call};
 ghost use Rattle.cpm_drive.specs.Judged.{IsArrival, place_of_arrival};
 ghost use Rattle.cpm_drive.specs.Writes.{drive_written, stood_on};
@@ -155,7 +155,7 @@ impl Drive {
     }
 
     /// Writes record `number` of the file, and clears a block that is taken if it is asked for.
-    fn write_random(
+    fn write_numbered(
         &mut self,
         clears: bool,
         user: u8,
@@ -179,17 +179,8 @@ impl Drive {
     }
 
     /// WRITE RANDOM: record `number` of the file, for which the extent may be closed and another one opened or made.
-    #[tactic(auto, unfolding(cpm_files::specs::Operations::write_at))]
-    pub fn write_at(&mut self, user: u8, number: u16, fcb: &mut Fcb, bytes: &[u8; 128]) -> Answer
-        requires { self.old.marks.is_protected ≡ false }
-        ensures { called result self.new fcb.new bytes.now ≡ after_call self.old fcb.old bytes.now (write_at (dpb_of self.old.image.format) (volume_of self.old.image self.old.marks.reserved) user fcb.old.extent fcb.old.current_record number bytes.now) }
-    {
-        self.write_random(false, user, number, fcb, bytes)
-    }
-
-    /// WRITE RANDOM WITH ZERO FILL: as `write_at`, but a block that is taken is cleared first.
-    #[tactic(auto, unfolding(cpm_files::specs::Operations::write_at_cleared))]
-    pub fn write_at_cleared(
+    #[tactic(auto, unfolding(cpm_files::specs::Operations::write_random))]
+    pub fn write_random(
         &mut self,
         user: u8,
         number: u16,
@@ -197,8 +188,23 @@ impl Drive {
         bytes: &[u8; 128],
     ) -> Answer
         requires { self.old.marks.is_protected ≡ false }
-        ensures { called result self.new fcb.new bytes.now ≡ after_call self.old fcb.old bytes.now (write_at_cleared (dpb_of self.old.image.format) (volume_of self.old.image self.old.marks.reserved) user fcb.old.extent fcb.old.current_record number bytes.now) }
+        ensures { called result self.new fcb.new bytes.now ≡ after_call self.old fcb.old bytes.now (write_random (dpb_of self.old.image.format) (volume_of self.old.image self.old.marks.reserved) user fcb.old.extent fcb.old.current_record number bytes.now) }
     {
-        self.write_random(true, user, number, fcb, bytes)
+        self.write_numbered(false, user, number, fcb, bytes)
+    }
+
+    /// WRITE RANDOM WITH ZERO FILL: as `write_random`, but a block that is taken is cleared first.
+    #[tactic(auto, unfolding(cpm_files::specs::Operations::write_random_cleared))]
+    pub fn write_random_cleared(
+        &mut self,
+        user: u8,
+        number: u16,
+        fcb: &mut Fcb,
+        bytes: &[u8; 128],
+    ) -> Answer
+        requires { self.old.marks.is_protected ≡ false }
+        ensures { called result self.new fcb.new bytes.now ≡ after_call self.old fcb.old bytes.now (write_random_cleared (dpb_of self.old.image.format) (volume_of self.old.image self.old.marks.reserved) user fcb.old.extent fcb.old.current_record number bytes.now) }
+    {
+        self.write_numbered(true, user, number, fcb, bytes)
     }
 }

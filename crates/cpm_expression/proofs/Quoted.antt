@@ -43,9 +43,6 @@ pub characters-push : (front rest after : List ℕ) (b : ℕ) → character rest
     → behind_all (front ++ b ∷ []) (characters after) ≡ behind_all front (characters rest)
 characters-push front rest after b is = push front b (characters after) ∙ ap (behind_all front) (sym (characters-next rest ∙ ap from_character is))
 
-pub characters-open : (front rest : List ℕ) → character rest ≡ Missing → behind_all front (characters rest) ≡ None
-characters-open front rest is = ap (behind_all front) (characters-next rest ∙ ap from_character is)
-
 over : (n : ℕ) (p : List ℕ × List ℕ) → n ≡ length p.0 → 64 < n → (if nat_lt 0 (length p.0) && nat_le (length p.0) 64 then Some p else None) ≡ None
 over n p is h = grind (arith, nat_tests)
 
@@ -66,20 +63,6 @@ too_long front b (Some p) full = over (length (front ++ b ∷ p.0)) (front ++ b 
 -- a character behind the 64th is one too many
 pub characters-full : (front rest after : List ℕ) (b : ℕ) → character rest ≡ Of b after → length front ≡ 64 → sized_text (behind_all front (characters rest)) ≡ None
 characters-full front rest after b is full = ap (λ r. sized_text (behind_all front r)) (characters-next rest ∙ ap from_character is) ∙ too_long front b (characters after) full
-
-shorter_one : (q : Bool) (c : ℕ) (after : List ℕ) (b : ℕ) → (if q then Last [] else Of c []) ≡ Of b after → length after < 1
-shorter_one true c after b is = absurd (cc)
-shorter_one false c after b is = let e : after ≡ [] = cc in omega (arith, ap length e)
-
-shorter_two : (q r : Bool) (c d : ℕ) (rest after : List ℕ) (b : ℕ) → (if q then (if r then Of c rest else Last (d ∷ rest)) else Of c (d ∷ rest)) ≡ Of b after → length after < length rest + 2
-shorter_two true true c d rest after b is = let e : after ≡ rest = cc in omega (arith, ap length e)
-shorter_two true false c d rest after b is = absurd (cc)
-shorter_two false r c d rest after b is = let e : after ≡ d ∷ rest = cc in omega (arith, ap length e)
-
-pub character-shorter : (text after : List ℕ) (b : ℕ) → character text ≡ Of b after → length after < length text
-character-shorter [] after b is = absurd (cc)
-character-shorter (c ∷ []) after b is = omega (arith, shorter_one (is_quote c) c after b is)
-character-shorter (c ∷ d ∷ rest) after b is = omega (arith, shorter_two (is_quote c) (is_quote d) c d rest after b is)
 
 pub not_empty : (xs : List ℕ) → false ≡ (length xs == 0) → 0 < length xs
 not_empty [] e = absurd (cc)

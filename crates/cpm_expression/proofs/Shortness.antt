@@ -11,7 +11,3 @@ over xs n is h = grind (arith, nat_tests)
 
 pub short-fits : (xs : List ℕ) → length xs ≤ 16 → short xs ≡ Some xs
 short-fits xs h = fits xs (length xs) refl h
-
--- a character behind the sixteenth is one too many
-pub short-over : (front : List ℕ) (b : ℕ) (bs : List ℕ) → length front ≡ 16 → short (front ++ b ∷ bs) ≡ None
-short-over front b bs h = over (front ++ b ∷ bs) (length (front ++ b ∷ bs)) refl (omega (arith, length-append front (b ∷ bs)))

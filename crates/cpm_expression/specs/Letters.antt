@@ -7,14 +7,14 @@ use Rattle.std.specs.List.{prefix_len}
 
 -- a space or a tab
 abbrev pub is_blank : ℕ → Bool
-is_blank b = b == 32 || b == 9
+is_blank b = b == 0x20 || b == 0x09
 
 -- a letter, @ or ?
 abbrev pub begins_name : ℕ → Bool
-begins_name b = is_ascii_alphabetic b || b == 64 || b == 63
+begins_name b = is_ascii_alphabetic b || b == 0x40 || b == 0x3F
 
 abbrev pub is_dollar : ℕ → Bool
-is_dollar b = b == 36
+is_dollar b = b == 0x24
 
 -- what a word or a number goes on with: these, digits and dollar signs
 abbrev pub goes_on : ℕ → Bool

@@ -8,10 +8,10 @@ use Rattle.cpm_expression.specs.Letters.{is_dollar}
 -- B is binary, O and Q octal, D decimal, H hexadecimal
 abbrev pub base_of_capital : ℕ → Option ℕ
 base_of_capital c =
-    if c == 66 then Some 2
-    else if c == 79 || c == 81 then Some 8
-    else if c == 68 then Some 10
-    else if c == 72 then Some 16
+    if c == 0x42 then Some 2
+    else if c == 0x4F || c == 0x51 then Some 8
+    else if c == 0x44 then Some 10
+    else if c == 0x48 then Some 16
     else None
 
 abbrev pub base_of : ℕ → Option ℕ
@@ -19,8 +19,8 @@ base_of c = base_of_capital (to_ascii_uppercase c)
 
 abbrev pub digit_of_capital : ℕ → Option ℕ
 digit_of_capital c =
-    if nat_le 48 c && nat_le c 57 then Some (c - 48)
-    else if nat_le 65 c && nat_le c 70 then Some (c - 55)
+    if nat_le 0x30 c && nat_le c 0x39 then Some (c - 0x30)
+    else if nat_le 0x41 c && nat_le c 0x46 then Some (c - 55)
     else None
 
 abbrev pub digit_of : ℕ → Option ℕ

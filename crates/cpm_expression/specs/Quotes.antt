@@ -6,7 +6,7 @@ use Rattle.cpm_expression.specs.declared.quotes.Next.TheVariants as next
 
 -- the apostrophe
 abbrev pub is_quote : ℕ → Bool
-is_quote b = b == 39
+is_quote b = b == 0x27
 
 -- what stands next in a text behind its first quote: a character, the last quote, or nothing
 pub data Character : Type 0 where

@@ -28,13 +28,13 @@ word_token word = option_and_then (λ letters. meaning letters (keyword_of lette
 -- + - * / ( ) $
 abbrev pub sign_token : ℕ → Option Token
 sign_token b =
-    if b == 43 then Some (tokens.Operator operators.Add)
-    else if b == 45 then Some (tokens.Operator operators.Subtract)
-    else if b == 42 then Some (tokens.Operator operators.Multiply)
-    else if b == 47 then Some (tokens.Operator operators.Divide)
-    else if b == 40 then Some tokens.Open
-    else if b == 41 then Some tokens.Close
-    else if b == 36 then Some (tokens.Atom atoms.Here)
+    if b == 0x2B then Some (tokens.Operator operators.Add)
+    else if b == 0x2D then Some (tokens.Operator operators.Subtract)
+    else if b == 0x2A then Some (tokens.Operator operators.Multiply)
+    else if b == 0x2F then Some (tokens.Operator operators.Divide)
+    else if b == 0x28 then Some tokens.Open
+    else if b == 0x29 then Some tokens.Close
+    else if b == 0x24 then Some (tokens.Atom atoms.Here)
     else None
 
 abbrev pub with_rest : {X : Type 0} → Option X → List ℕ → Option (X × List ℕ)

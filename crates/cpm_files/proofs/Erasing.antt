@@ -8,8 +8,8 @@ use Rattle.std.proofs.lemmas.List.Sums.{fails_before_first}
 use Rattle.std.proofs.lemmas.Bool.{false≢true, eqb-true, eq-eqb, ne_eqb, and_parts, and_from, and_left, or_left, or_right, cases_Bool, cases_lt, lt-ltb, le-ltb, false_from_ne_true}
 use Rattle.cpm_geom.specs.declared.dpb.Dpb.{Dpb}
 use Rattle.cpm_files.specs.declared.extent.Entry.{Entry}
-use Rattle.cpm_files.specs.Files.{extent_number, group_of, same_name, name_matches, deleted, no_entry, entry_at, InUse, is_of, first_of, block_number, file_block, is_reserved, is_directory_block, IsStored, IsFormat, record_in, directory_file, Volume, IsSoundDrive}
-use Rattle.cpm_files.specs.Names.{is_named, first_named, is_read_only, change_named, named, protects, deletion, is_erased, reserved_after, named_writes, erase_function}
+use Rattle.cpm_files.specs.Files.{extent_number, group_of, same_name, name_matches, deleted, no_entry, entry_at, InUse, is_of, first_of, block_number, file_block, is_reserved, is_directory_block, IsStored, IsFormat, record_in, file_record, Volume, IsSoundDrive}
+use Rattle.cpm_files.specs.Names.{is_named, first_named, is_read_only, change_named, named, protects, deletion, is_erased, reserved_after, named_writes, erase_files}
 use Rattle.cpm_files.specs.NameLaws.{ErasesFiles, EraseLaw}
 use Rattle.cpm_files.proofs.Entries.{in_use_within, is_of_parts, first_of_passes, any_index}
 use Rattle.cpm_files.proofs.Making.{none_block}
@@ -217,8 +217,8 @@ module _ (d : Dpb) (user : ℕ) (v : Volume) (pattern : List ℕ) (user_ok : use
             false≢true (sym f ∙ named_from user pattern (entry_at v.entries j) old.0 (sym (same_matches pattern name (entry_at v.entries j).extent.name old.1) ∙ matches))
       ])
 
-  gone : (name : List ℕ) (m : ℕ) → name_matches pattern name ≡ true → directory_file d volume_after.entries volume_after.records user name m ≡ None
-  unfolding directory_file record_in volume_after
+  gone : (name : List ℕ) (m : ℕ) → name_matches pattern name ≡ true → file_record d volume_after.entries volume_after.records user name m ≡ None
+  unfolding file_record record_in volume_after
   gone name m matches =
       rw (none_block d after user name m (λ j. gone_entry name (group_of d (m / 128)) j matches)) refl
 
@@ -256,8 +256,8 @@ module _ (d : Dpb) (user : ℕ) (v : Volume) (pattern : List ℕ) (user_ok : use
     unfolding file_block
     same_block m = rw (same_place (group_of d (m / 128)), same_entry (group_of d (m / 128))) refl
 
-    same_file : (m : ℕ) → directory_file d volume_after.entries volume_after.records other name m ≡ directory_file d v.entries v.records other name m
-    unfolding directory_file volume_after
+    same_file : (m : ℕ) → file_record d volume_after.entries volume_after.records other name m ≡ file_record d v.entries v.records other name m
+    unfolding file_record volume_after
     same_file m = rw (same_block m) refl
 
   erases_files : ErasesFiles d user v pattern volume_after
@@ -285,12 +285,12 @@ module _ (d : Dpb) (user : ℕ) (v : Volume) (pattern : List ℕ) (user_ok : use
       let parts = and_parts (is_named user pattern (get_or v.entries found.0 no_entry)) _ found.2 in
       (found.0, parts.0, parts.1)
 
-  erased_answer : first_named v.entries user pattern < length v.entries → list_any (protects user pattern) v.entries ≡ false → erase_function d v user pattern ≡ named (first_named v.entries user pattern) volume_after
-  unfolding erase_function volume_after after freed_list
+  erased_answer : first_named v.entries user pattern < length v.entries → list_any (protects user pattern) v.entries ≡ false → erase_files d v user pattern ≡ named (first_named v.entries user pattern) volume_after
+  unfolding erase_files volume_after after freed_list
   erased_answer there free = rw (lt-ltb _ _ there, free) refl
 
 pub erases : EraseLaw
-unfolding erase_function
+unfolding erase_files
 erases d user v pattern user_ok format drive =
     elim (cases_lt (first_named v.entries user pattern) (length v.entries)) [
       | inr past ↦ inl (rw (le-ltb _ _ past) refl, none_answer d user v pattern user_ok format drive past)

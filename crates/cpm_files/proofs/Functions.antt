@@ -4,8 +4,8 @@ use Rattle.std.proofs.lemmas.Bool.{false≢true, cases_lt, lt-ltb, le-ltb}
 use Rattle.std.proofs.lemmas.List.{length-replicate}
 use Rattle.cpm_geom.specs.declared.dpb.Dpb.{Dpb}
 use Rattle.cpm_files.specs.declared.extent.Extent.{Extent}
-use Rattle.cpm_files.specs.Files.{extent_number, group_of, has_wildcard, deleted, entry_at, is_of, first_of, first_free, directory_file, open_file, Volume, IsSoundDrive}
-use Rattle.cpm_files.specs.Operations.{with_entry, opened, made, open_to_read, make_extent, open_function, make_function}
+use Rattle.cpm_files.specs.Files.{extent_number, group_of, has_wildcard, deleted, entry_at, is_of, first_of, first_free, file_record, open_file_record, Volume, IsSoundDrive}
+use Rattle.cpm_files.specs.Operations.{with_entry, opened, made, open_to_read, make_extent, open_file, make_file}
 use Rattle.cpm_files.specs.Laws.{KnowsFile, HasNoFile, OpensFile, MakesFile}
 use Rattle.cpm_files.proofs.Entries.{is_of_parts, is_of_from, first_of_passes}
 use Rattle.cpm_files.proofs.NameLemmas.{first_match_plain, same_name-trans, same_name-sym, same_name-refl}
@@ -37,17 +37,17 @@ module _ (d : Dpb) (user : ℕ) (v : Volume) (x : Extent) (user_ok : user ≢ de
     unfolding it
     number_it = opening.opened_number (entry_at v.entries index).extent (x.ex % 32) small
 
-    lesser : extent_number (entry_at v.entries index).extent < x.ex % 32 → open_function d v.entries user x ≡ None
-    unfolding open_function open_to_read index
+    lesser : extent_number (entry_at v.entries index).extent < x.ex % 32 → open_file d v.entries user x ≡ None
+    unfolding open_file open_to_read index
     lesser l = rw (first_match_plain d v.entries user x.name (group_of d (x.ex % 32)) plain, lt-ltb _ _ there, lt-ltb _ _ l) refl
 
     module _ (greater : x.ex % 32 ≤ extent_number (entry_at v.entries index).extent) where
-      opens : open_function d v.entries user x ≡ Some it
-      unfolding open_function open_to_read it index
+      opens : open_file d v.entries user x ≡ Some it
+      unfolding open_file open_to_read it index
       opens = rw (first_match_plain d v.entries user x.name (group_of d (x.ex % 32)) plain, lt-ltb _ _ there, le-ltb _ _ greater) refl
 
       knows : KnowsFile d user x.name v v it
-      unfolding it open_file directory_file
+      unfolding it open_file_record file_record
       knows = record {
         name_is = opening.opened_name_same d v.entries v.reserved user x.name (x.ex % 32) index user_ok plain small drive.well_formed matched;
         file = λ m. rw (opening.open_same d v.entries v.reserved user x.name (x.ex % 32) index user_ok plain small drive.well_formed matched greater m) refl;
@@ -75,8 +75,8 @@ module _ (d : Dpb) (user : ℕ) (v : Volume) (x : Extent) (user_ok : user ≢ de
     lesser = λ i own. absurd (false≢true (sym (none_of d v.entries user x.name (group_of d (x.ex % 32)) user_ok h i) ∙ own));
   }
 
-  past : length v.entries ≤ first_of d v.entries user x.name (group_of d (x.ex % 32)) → open_function d v.entries user x ≡ None
-  unfolding open_function open_to_read
+  past : length v.entries ≤ first_of d v.entries user x.name (group_of d (x.ex % 32)) → open_file d v.entries user x ≡ None
+  unfolding open_file open_to_read
   past h = rw (first_match_plain d v.entries user x.name (group_of d (x.ex % 32)) plain, le-ltb _ _ h) refl
 
   pub opens_file : OpensFile d user v x
@@ -91,21 +91,21 @@ module _ (d : Dpb) (user : ℕ) (v : Volume) (x : Extent) (user_ok : user ≢ de
 
   -- ---- with no entry of the group
   module _ (none : (j : ℕ) → is_of d user x.name (group_of d (x.ex % 32)) (entry_at v.entries j) ≡ false) where
-    no_room : length v.entries ≤ first_free v.entries → make_function v.entries user x ≡ None
-    unfolding make_function make_extent
+    no_room : length v.entries ≤ first_free v.entries → make_file v.entries user x ≡ None
+    unfolding make_file make_extent
     no_room h = rw (le-ltb _ _ h) refl
 
     module _ (free : first_free v.entries < length v.entries) where
-      makes : make_function v.entries user x ≡ Some (making.after d v.entries v.reserved user x (x.ex % 32) user_ok plain small drive.well_formed none free, made x (x.ex % 32))
-      unfolding make_function
+      makes : make_file v.entries user x ≡ Some (making.after d v.entries v.reserved user x (x.ex % 32) user_ok plain small drive.well_formed none free, made x (x.ex % 32))
+      unfolding make_file
       makes = making.make_answer d v.entries v.reserved user x (x.ex % 32) user_ok plain small drive.well_formed none free
 
-      stays : (other : ℕ) (name : List ℕ) (m : ℕ) → other ≢ deleted → directory_file d (making.after d v.entries v.reserved user x (x.ex % 32) user_ok plain small drive.well_formed none free) v.records other name m ≡ directory_file d v.entries v.records other name m
-      unfolding directory_file
+      stays : (other : ℕ) (name : List ℕ) (m : ℕ) → other ≢ deleted → file_record d (making.after d v.entries v.reserved user x (x.ex % 32) user_ok plain small drive.well_formed none free) v.records other name m ≡ file_record d v.entries v.records other name m
+      unfolding file_record
       stays other name m ok = rw (making.make_files d v.entries v.reserved user x (x.ex % 32) user_ok plain small drive.well_formed none free other name m ok) refl
 
       knows_made : KnowsFile d user x.name v (with_entry v (first_free v.entries) (making.after d v.entries v.reserved user x (x.ex % 32) user_ok plain small drive.well_formed none free)) (made x (x.ex % 32))
-      unfolding open_file directory_file with_entry
+      unfolding open_file_record file_record with_entry
       knows_made = record {
         name_is = rw (making.made_name x (x.ex % 32)) (same_name-refl x.name);
         file = λ m. rw (making.make_file d v.entries v.reserved user x (x.ex % 32) user_ok plain small drive.well_formed none free m) refl;

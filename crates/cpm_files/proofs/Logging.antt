@@ -10,8 +10,8 @@ use Rattle.cpm_geom.specs.declared.dpb.Dpb.{Dpb}
 use Rattle.cpm_files.specs.declared.extent.Extent.{Extent}
 use Rattle.cpm_files.specs.declared.extent.Entry.{Entry}
 use Rattle.cpm_files.specs.Files.{extent_number, group_of, place_of, block_number, entry_at, first_match, first_free, Volume, Write, entry_put, record_put}
-use Rattle.cpm_files.specs.Operations.{Answer, no_record, no_extent, no_entry_free, fault, bad_sector, read_only, Outcome, ends, gives, with_entry, merged, agree, has_bad_block, closed_entry, is_unchanged, Close, refused, close_fault, closed, close_extent, open_extent, open_to_read, made, make_extent, close_function, make_function, Purpose, reading, writing, Target, Place, stopped, standing, opened_in, made_in, opened_or_made, have_extent, closed_in, cross, next_target, target_of, next_place, place_at, record_in_block, get_record, Found, no_such_block, none_free, old_block, new_block, block_to_write, cleared, taken_records, taken_writes, put_found, put_record, read_in, write_in, read_next, write_next, read_at, write_at, write_at_cleared}
-use Rattle.cpm_files.specs.Names.{is_named, first_named, change_named, named_writes, Named, none_named, file_read_only, named, protects, deletion, renaming, marking, reserved_after, erase_function, rename_function, attributes_function}
+use Rattle.cpm_files.specs.Operations.{Answer, no_record, no_extent, no_entry_free, fault, bad_sector, read_only, Outcome, ends, gives, with_entry, merged, agree, has_bad_block, closed_entry, is_unchanged, Close, refused, close_fault, closed, close_extent, open_extent, open_to_read, made, make_extent, close_file, make_file, Purpose, reading, writing, Target, Place, stopped, standing, opened_in, made_in, opened_or_made, have_extent, closed_in, cross, next_target, target_of, next_place, place_at, record_in_block, get_record, Found, no_such_block, none_free, old_block, new_block, block_to_write, cleared, taken_records, taken_writes, put_found, put_record, read_in, write_in, read_next, write_next, read_random, write_random, write_random_cleared}
+use Rattle.cpm_files.specs.Names.{is_named, first_named, change_named, named_writes, Named, none_named, file_read_only, named, protects, deletion, renaming, marking, reserved_after, erase_files, rename_files, set_attributes}
 use Rattle.cpm_files.specs.LogLaws.{logged, logged_all, IsLogged, CallsLog, NamedCallsLog}
 use Rattle.cpm_files.proofs.Entries.{entry_at-set_same}
 
@@ -232,7 +232,7 @@ writes_in d clears current step bytes v (stopped answer v' x) log = log
 writes_in d clears current step bytes v (standing v' x here) log = puts d clears v v' x here (here + step) bytes log
 
 pub calls_log : (d : Dpb) (v : Volume) (user : ℕ) (x : Extent) → CallsLog d v user x
-unfolding OutcomeLogged ClosesLogged MakesLogged close_function make_function read_next read_at write_next write_at write_at_cleared
+unfolding OutcomeLogged ClosesLogged MakesLogged close_file make_file read_next read_random write_next write_random write_random_cleared
 calls_log d v user x = record {
   sequential_read = λ protected current. reads_in d current 1 v (next_place d reading protected v user x current) (at_next d reading protected v user x current);
   random_read = λ protected current n. reads_in d current 0 v (place_at d reading protected v user x (target_of no_extent n)) (at_any d reading protected v user x (target_of no_extent n));
@@ -280,24 +280,24 @@ NamedLogged v none_named = ⊤
 NamedLogged v file_read_only = ⊤
 NamedLogged v (named first v') = IsLogged v v'
 
-erases : (d : Dpb) (v : Volume) (user : ℕ) (pattern : List ℕ) → NamedLogged v (erase_function d v user pattern)
-unfolding erase_function NamedLogged
+erases : (d : Dpb) (v : Volume) (user : ℕ) (pattern : List ℕ) → NamedLogged v (erase_files d v user pattern)
+unfolding erase_files NamedLogged
 erases d v user pattern =
     let after : Volume = record v { entries = change_named user pattern deletion v.entries; reserved = reserved_after d user pattern v.entries v.reserved; written = v.written ++ named_writes user pattern 0 v.entries (change_named user pattern deletion v.entries) } in
     cond_both (not (ltb (first_named v.entries user pattern) (length v.entries))) none_named _ (NamedLogged v) (λ _. tt) (λ _.
     cond_both (list_any (protects user pattern) v.entries) file_read_only (named (first_named v.entries user pattern) after) (NamedLogged v) (λ _. tt) (λ _.
     log_named user pattern deletion v after refl refl refl))
 
-renames : (v : Volume) (user : ℕ) (pattern name : List ℕ) → NamedLogged v (rename_function v user pattern name)
-unfolding rename_function NamedLogged
+renames : (v : Volume) (user : ℕ) (pattern name : List ℕ) → NamedLogged v (rename_files v user pattern name)
+unfolding rename_files NamedLogged
 renames v user pattern name =
     let after : Volume = record v { entries = change_named user pattern (renaming name) v.entries; written = v.written ++ named_writes user pattern 0 v.entries (change_named user pattern (renaming name) v.entries) } in
     cond_both (not (ltb (first_named v.entries user pattern) (length v.entries))) none_named _ (NamedLogged v) (λ _. tt) (λ _.
     cond_both (list_any (protects user pattern) v.entries) file_read_only (named (first_named v.entries user pattern) after) (NamedLogged v) (λ _. tt) (λ _.
     log_named user pattern (renaming name) v after refl refl refl))
 
-marks : (v : Volume) (user : ℕ) (pattern : List ℕ) → NamedLogged v (attributes_function v user pattern)
-unfolding attributes_function NamedLogged
+marks : (v : Volume) (user : ℕ) (pattern : List ℕ) → NamedLogged v (set_attributes v user pattern)
+unfolding set_attributes NamedLogged
 marks v user pattern =
     let after : Volume = record v { entries = change_named user pattern (marking pattern) v.entries; written = v.written ++ named_writes user pattern 0 v.entries (change_named user pattern (marking pattern) v.entries) } in
     cond_both (not (ltb (first_named v.entries user pattern) (length v.entries))) none_named (named (first_named v.entries user pattern) after) (NamedLogged v) (λ _. tt) (λ _.

@@ -6,7 +6,7 @@ use Rattle.std.proofs.lemmas.Bool.{false≢true, eq-eqb, cases_lt, le-ltb}
 use Rattle.cpm_geom.specs.declared.dpb.Dpb.{Dpb}
 use Rattle.cpm_files.specs.declared.extent.Extent.{Extent}
 use Rattle.cpm_files.specs.declared.extent.Entry.{Entry}
-use Rattle.cpm_files.specs.Files.{extent_number, group_of, same_name, has_wildcard, deleted, no_entry, entry_at, InUse, is_of, first_of, first_free, file_block, open_file_block, record_in, directory_file, open_file, Volume, IsSound}
+use Rattle.cpm_files.specs.Files.{extent_number, group_of, same_name, has_wildcard, deleted, no_entry, entry_at, InUse, is_of, first_of, first_free, file_block, open_file_block, record_in, file_record, open_file_record, Volume, IsSound}
 use Rattle.cpm_files.specs.Operations.{read_only, fault, with_entry, opened, made, open_extent, make_extent, Purpose, writing, Target, stopped, standing, made_in, opened_or_made, have_extent, closed_in, cross}
 use Rattle.cpm_files.specs.Laws.{OthersStay, FileStays, IsFull}
 use Rattle.cpm_files.proofs.Entries.{no_entry_is_of, is_of_parts, first_of_passes}
@@ -33,7 +33,7 @@ pub record LacksExtent (d : Dpb) (user : ℕ) (v : Volume) (x : Extent) (number 
   pub reserved : v'.reserved ≡ v.reserved
   pub others : OthersStay d user x.name v v'
   pub file : FileStays d user v x v' x
-  pub none : (n : ℕ) → n / 128 ≡ number → open_file d v.entries v.records user x n ≡ None
+  pub none : (n : ℕ) → n / 128 ≡ number → open_file_record d v.entries v.records user x n ≡ None
 
 -- two extents in one group are one, where an entry has one extent
 alone_in_group : (d : Dpb) (a b : ℕ) → d.extent_mask ≡ 0 → group_of d a ≡ group_of d b → a ≡ b
@@ -53,8 +53,8 @@ stays_there d user v x number sound e = record {
   sound = sound;
 }
 
-pub no_file : (d : Dpb) (v : Volume) (user : ℕ) (x : Extent) (n : ℕ) → open_file_block d v.entries user x n ≡ 0 → open_file d v.entries v.records user x n ≡ None
-unfolding open_file record_in
+pub no_file : (d : Dpb) (v : Volume) (user : ℕ) (x : Extent) (n : ℕ) → open_file_block d v.entries user x n ≡ 0 → open_file_record d v.entries v.records user x n ≡ None
+unfolding open_file_record record_in
 no_file d v user x n h = rw h refl
 
 -- where the first is past the end there is none
@@ -134,11 +134,11 @@ module _ (d : Dpb) (user : ℕ) (v : Volume) (x : Extent) (user_ok : user ≢ de
   plain = sound.kept.plain
 
   pub others_closed : OthersStay d user x.name v closed_volume
-  unfolding directory_file
+  unfolding file_record
   others_closed = record { stay = λ other name m ok apart. rw (same_others other name m apart, same_records) refl }
 
   pub file_closed : FileStays d user v x closed_volume x
-  unfolding open_file
+  unfolding open_file_record
   file_closed = record { stay = λ m. rw (same_open m, same_records) refl }
 
   -- what the close leads to
@@ -160,7 +160,7 @@ module _ (d : Dpb) (user : ℕ) (v : Volume) (x : Extent) (user_ok : user ≢ de
       none : (j : ℕ) → is_of d user x.name (group_of d t.number) (entry_at closed_volume.entries j) ≡ false
       none = none_of d closed_volume.entries user x.name (group_of d t.number) user_ok past
 
-      pub no_record_there : (n : ℕ) → n / 128 ≡ t.number → open_file d v.entries v.records user x n ≡ None
+      pub no_record_there : (n : ℕ) → n / 128 ≡ t.number → open_file_record d v.entries v.records user x n ≡ None
       no_record_there n h =
           no_file d v user x n (sym (same_file n) ∙ none_block d closed_volume.entries user x.name n (rw h none))
 

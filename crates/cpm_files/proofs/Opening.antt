@@ -26,10 +26,6 @@ pub opened_map : (e : Extent) (number : ℕ) → (opened e number).blocks ≡ e.
 unfolding opened
 opened_map e number = refl
 
-pub opened_name : (e : Extent) (number : ℕ) → (opened e number).name ≡ e.name
-unfolding opened
-opened_name e number = refl
-
 -- the count of an extent that was opened, at an entry whose number is no less
 open_count_same : (number k : ℕ) → (x stored : Extent) → extent_number x ≡ number → x.record_count ≡ record_count_of number (extent_number stored) stored.record_count → number ≤ extent_number stored → open_record_count k x stored ≡ record_count_of k (extent_number stored) stored.record_count
 unfolding open_record_count record_count_of

@@ -5,9 +5,9 @@ use Rattle.std.proofs.lemmas.Bool.Decides.{nat_tests}
 use Rattle.cpm_geom.specs.declared.dpb.Dpb.{Dpb}
 use Rattle.cpm_files.specs.declared.extent.Extent.{Extent}
 use Rattle.cpm_files.specs.declared.extent.Entry.{Entry}
-use Rattle.cpm_files.specs.Files.{extent_number, group_of, map_place, deleted, entry_at, is_of, first_of, record_count_of, block_number, block_if, open_record_count, open_block, entry_block, file_block, open_file_block, directory_records, drive_record, record_in, open_file, Volume, IsSound}
-use Rattle.cpm_files.specs.Operations.{Answer, done, no_record, no_extent, read_only, fault, Outcome, ends, gives, opened, open_to_read, reading, Target, stopped, standing, opened_in, have_extent, cross, next_target, target_of, next_place, place_at, get_record, read_in, read_next, read_at}
-use Rattle.cpm_files.specs.Laws.{OthersStay, FileStays, position, StaysSound, HasRead, HasNone, IsProtected, ReadsNext, ReadsAt}
+use Rattle.cpm_files.specs.Files.{extent_number, group_of, map_place, deleted, entry_at, is_of, first_of, record_count_of, block_number, block_if, open_record_count, open_block, entry_block, file_block, open_file_block, directory_records, drive_record, record_in, open_file_record, Volume, IsSound}
+use Rattle.cpm_files.specs.Operations.{Answer, done, no_record, no_extent, read_only, fault, Outcome, ends, gives, opened, open_to_read, reading, Target, stopped, standing, opened_in, have_extent, cross, next_target, target_of, next_place, place_at, get_record, read_in, read_next, read_random}
+use Rattle.cpm_files.specs.Laws.{OthersStay, FileStays, position, StaysSound, HasRead, HasNone, IsProtected, ReadsNext, ReadsRandom}
 use Rattle.cpm_files.proofs.Entries.{first_of_passes}
 use Rattle.cpm_files.proofs.NameLemmas.{first_match_plain}
 use Rattle.cpm_files.proofs.Records.{place_back, record_back}
@@ -60,14 +60,14 @@ past_file d es user x n h =
 -- ---- the record of the extent
 abbrev ReadsRecord : Dpb → ℕ → Volume → Extent → ℕ → ℕ → Type 0
 ReadsRecord d user v x n next =
-    ((get_record d v x (n % 128) next ≡ ends no_record v x (n % 128)) × (open_file d v.entries v.records user x n ≡ None)) ⊎ ((number : ℕ) × (get_record d v x (n % 128) next ≡ gives v x next number) × (open_file d v.entries v.records user x n ≡ Some (get_or v.records number [])) × (directory_records d ≤ number))
+    ((get_record d v x (n % 128) next ≡ ends no_record v x (n % 128)) × (open_file_record d v.entries v.records user x n ≡ None)) ⊎ ((number : ℕ) × (get_record d v x (n % 128) next ≡ gives v x next number) × (open_file_record d v.entries v.records user x n ≡ Some (get_or v.records number [])) × (directory_records d ≤ number))
 
 past_records : (d : Dpb) (b n : ℕ) → directory_records d ≤ b * (d.block_mask + 1) → directory_records d ≤ drive_record d b n
 unfolding drive_record
 past_records d b n h = omega (arith, h)
 
 reads_record : (d : Dpb) (user : ℕ) (v : Volume) (x : Extent) (n next : ℕ) → IsSound d v user x → n / 128 ≡ extent_number x → ReadsRecord d user v x n next
-unfolding get_record open_file record_in block_if
+unfolding get_record open_file_record record_in block_if
 reads_record d user v x n next sound h =
     rw (own_block d v.entries user x n h, place_back d x n h, record_back d (block_number x (map_place d n)) n) (elim (cases_lt (n % 128) x.record_count) [
       | inr ge ↦ inl (rw (le-ltb _ _ ge) refl, rw (le-ltb _ _ ge) refl)
@@ -103,7 +103,7 @@ abbrev Reads : Dpb → ℕ → Volume → Extent → ℕ → ℕ → Outcome →
 Reads d user v x n after o =
     StaysSound d user v x o × FileStays d user v x o.volume o.extent × (((o.answer ≡ done) × HasRead d user v x n o × (position o.extent o.current ≡ after)) ⊎ ((o.answer ≡ no_record) × HasNone d user v x n o × (position o.extent o.current ≡ n)))
 
-gives_there : (d : Dpb) (user : ℕ) (v : Volume) (x : Extent) (n next after : ℕ) (v1 : Volume) (x1 : Extent) (number : ℕ) → SameFile d user v x (n / 128) v1 x1 → next ≤ 128 → 128 * (n / 128) + next ≡ after → open_file d v1.entries v1.records user x1 n ≡ Some (get_or v1.records number []) → directory_records d ≤ number → Reads d user v x n after (gives v1 x1 next number)
+gives_there : (d : Dpb) (user : ℕ) (v : Volume) (x : Extent) (n next after : ℕ) (v1 : Volume) (x1 : Extent) (number : ℕ) → SameFile d user v x (n / 128) v1 x1 → next ≤ 128 → 128 * (n / 128) + next ≡ after → open_file_record d v1.entries v1.records user x1 n ≡ Some (get_or v1.records number []) → directory_records d ≤ number → Reads d user v x n after (gives v1 x1 next number)
 unfolding gives position
 gives_there d user v x n next after v1 x1 number same small last there outside = (
   record { sound = same.sound; current = small; reserved = λ b h. rw same.reserved h; others = same.others },
@@ -111,7 +111,7 @@ gives_there d user v x n next after v1 x1 number same small last there outside =
   inl (refl, record { number = number; given = refl; there = sym (same.file.stay n) ∙ (there ∙ ap (λ records. Some (get_or records number [])) same.records); outside = outside }, rw same.number_is last),
 )
 
-ends_there : (d : Dpb) (user : ℕ) (v : Volume) (x : Extent) (n after : ℕ) (v1 : Volume) (x1 : Extent) → SameFile d user v x (n / 128) v1 x1 → open_file d v1.entries v1.records user x1 n ≡ None → Reads d user v x n after (ends no_record v1 x1 (n % 128))
+ends_there : (d : Dpb) (user : ℕ) (v : Volume) (x : Extent) (n after : ℕ) (v1 : Volume) (x1 : Extent) → SameFile d user v x (n / 128) v1 x1 → open_file_record d v1.entries v1.records user x1 n ≡ None → Reads d user v x n after (ends no_record v1 x1 (n % 128))
 unfolding ends position
 ends_there d user v x n after v1 x1 same none = (
   record { sound = same.sound; current = omega arith; reserved = λ b h. rw same.reserved h; others = same.others },
@@ -207,8 +207,8 @@ module _ (d : Dpb) (user : ℕ) (v : Volume) (x : Extent) (user_ok : user ≢ de
         map = rw (opening.opened_map (entry_at v1.entries index).extent t.number) (s1.volume.maps index (opening.there_used d v1.entries v1.reserved user x.name t.number index user_ok sound.kept.plain small s1.well_formed matched));
       }
 
-      same_next : (m : ℕ) → open_file d v1.entries v1.records user next m ≡ open_file d v.entries v.records user x m
-      unfolding open_file next
+      same_next : (m : ℕ) → open_file_record d v1.entries v1.records user next m ≡ open_file_record d v.entries v.records user x m
+      unfolding open_file_record next
       same_next m =
           rw (opening.open_same d v1.entries v1.reserved user x.name t.number index user_ok sound.kept.plain small s1.well_formed matched greater m ∙ file1 m, records1) refl
 
@@ -279,18 +279,18 @@ refuses d user protected v x current small sound is_protected =
     (record { sound = sound; current = small; reserved = λ b h. h; others = record { stay = λ other name m ok apart. refl } }, record { stay = λ m. refl }, record { answer = refl; protected_is = is_protected; untouched = record { volume = refl; extent = refl; current_is = refl; read = refl } })
 
 -- ---- a random read
-at_from : (d : Dpb) (user : ℕ) (protected : Bool) (v : Volume) (x : Extent) (current n : ℕ) (o : Outcome) → Reads d user v x n n o → ReadsAt d user protected v x current n o
+at_from : (d : Dpb) (user : ℕ) (protected : Bool) (v : Volume) (x : Extent) (current n : ℕ) (o : Outcome) → Reads d user v x n n o → ReadsRandom d user protected v x current n o
 at_from d user protected v x current n o r =
     elim r.2 [ inl h ↦ (r.0, r.1, inl h) | inr h ↦ (r.0, r.1, inr (inl h)) ]
 
-at_miss : (d : Dpb) (user : ℕ) (protected : Bool) (v : Volume) (x : Extent) (current n : ℕ) (o : Outcome) → Misses d user v x current n no_extent o → ReadsAt d user protected v x current n o
+at_miss : (d : Dpb) (user : ℕ) (protected : Bool) (v : Volume) (x : Extent) (current n : ℕ) (o : Outcome) → Misses d user v x current n no_extent o → ReadsRandom d user protected v x current n o
 at_miss d user protected v x current n o m = (m.0, m.1, inr (inr (inl (m.2, m.3, m.4, m.5))))
 
-at_refused : (d : Dpb) (user : ℕ) (protected : Bool) (v : Volume) (x : Extent) (current n : ℕ) (o : Outcome) → Refuses d user protected v x current o → ReadsAt d user protected v x current n o
+at_refused : (d : Dpb) (user : ℕ) (protected : Bool) (v : Volume) (x : Extent) (current n : ℕ) (o : Outcome) → Refuses d user protected v x current o → ReadsRandom d user protected v x current n o
 at_refused d user protected v x current n o r = (r.0, r.1, inr (inr (inr r.2)))
 
-pub reads_at : (d : Dpb) (user : ℕ) (protected : Bool) (v : Volume) (x : Extent) (current n : ℕ) → user ≢ deleted → IsSound d v user x → current ≤ 128 → n < 65536 → ReadsAt d user protected v x current n (read_at d protected v user x current n)
-unfolding read_at read_in place_at target_of
+pub reads_at : (d : Dpb) (user : ℕ) (protected : Bool) (v : Volume) (x : Extent) (current n : ℕ) → user ≢ deleted → IsSound d v user x → current ≤ 128 → n < 65536 → ReadsRandom d user protected v x current n (read_random d protected v user x current n)
+unfolding read_random read_in place_at target_of
 reads_at d user protected v x current n user_ok sound small h =
     elim (cases_eq (n / 128) (extent_number x)) [
       | inl same ↦ rw (eq-eqb _ _ same) (at_from d user protected v x current n _ (reads_there d user v x n (n % 128) (n % 128 + 0) n v x (same_there d user v x (n / 128) sound (sym same)) refl (omega arith) (omega arith)))

@@ -6,7 +6,7 @@ use Rattle.std.proofs.lemmas.Nat.{mod_below, div_below, mul-add-lt}
 use Rattle.std.proofs.lemmas.Bool.{false≢true, ne_eqb, not-false, cases_eq, cases_lt, le-ltb}
 use Rattle.cpm_geom.specs.declared.dpb.Dpb.{Dpb}
 use Rattle.cpm_files.specs.declared.extent.Extent.{Extent}
-use Rattle.cpm_files.specs.Files.{extent_number, place_of, map_place, block_offset, deleted, block_number, file_block, open_file_block, is_reserved, IsStored, IsFormat, least_free, drive_record, record_in, directory_file, open_file, Volume, record_put, IsSound}
+use Rattle.cpm_files.specs.Files.{extent_number, place_of, map_place, block_offset, deleted, block_number, file_block, open_file_block, is_reserved, IsStored, IsFormat, least_free, drive_record, record_in, file_record, open_file_record, Volume, record_put, IsSound}
 use Rattle.cpm_files.specs.Operations.{done, no_block, ends, with_block, block_to_write, new_block, counting, record_in_block, put_found, put_record, cleared, taken_records, taken_writes}
 use Rattle.cpm_files.specs.Laws.{HasCleared, OthersStay}
 use Rattle.cpm_files.proofs.Taking as taking
@@ -15,8 +15,8 @@ use Rattle.cpm_files.proofs.Clearing.{length-taken, taken_other, cleared_inside}
 
 -- record n has these bytes; each other that the file had is as it was
 pub record Written (d : Dpb) (user : ℕ) (v : Volume) (x : Extent) (n : ℕ) (bytes : List ℕ) (v' : Volume) (x' : Extent) : Type 0 where
-  pub there : open_file d v'.entries v'.records user x' n ≡ Some bytes
-  pub others : (m : ℕ) → m ≢ n → open_file_block d v.entries user x m ≢ 0 → open_file d v'.entries v'.records user x' m ≡ open_file d v.entries v.records user x m
+  pub there : open_file_record d v'.entries v'.records user x' n ≡ Some bytes
+  pub others : (m : ℕ) → m ≢ n → open_file_block d v.entries user x m ≢ 0 → open_file_record d v'.entries v'.records user x' m ≡ open_file_record d v.entries v.records user x m
 
 -- record n is written
 pub record Puts (d : Dpb) (user : ℕ) (v : Volume) (x : Extent) (n : ℕ) (bytes : List ℕ) (clears : Bool) (next : ℕ) (v' : Volume) (x' : Extent) : Type 0 where
@@ -218,8 +218,8 @@ module _ (d : Dpb) (user : ℕ) (v : Volume) (x : Extent) (n : ℕ) (bytes : Lis
   stored_block : (m : ℕ) → open_file_block d v.entries user x m ≢ 0 → IsStored d v.reserved (open_file_block d v.entries user x m)
   stored_block = writing.open_stored d v.entries v.reserved user x user_ok sound.well_formed sound.kept
 
-  old_record : (m : ℕ) → open_file_block d v.entries user x m ≢ 0 → open_file d v.entries ready user with_new m ≡ open_file d v.entries v.records user x m
-  unfolding open_file ready
+  old_record : (m : ℕ) → open_file_block d v.entries user x m ≢ 0 → open_file_record d v.entries ready user with_new m ≡ open_file_record d v.entries v.records user x m
+  unfolding open_file_record ready
   old_record m h =
       rw (kept_block m h) (taken_other d clears v.records (least_free v.reserved) (open_file_block d v.entries user x m) m (not_fresh _ (stored_block m h)))
 
@@ -232,8 +232,8 @@ module _ (d : Dpb) (user : ℕ) (v : Volume) (x : Extent) (n : ℕ) (bytes : Lis
         others = λ m other h. w.others m other (λ z. h (sym (kept_block m h) ∙ z)) ∙ old_record m h;
       }
 
-  old_directory : (o : ℕ) (nm : List ℕ) (m : ℕ) → o ≢ deleted → directory_file d v.entries ready o nm m ≡ directory_file d v.entries v.records o nm m
-  unfolding directory_file ready
+  old_directory : (o : ℕ) (nm : List ℕ) (m : ℕ) → o ≢ deleted → file_record d v.entries ready o nm m ≡ file_record d v.entries v.records o nm m
+  unfolding file_record ready
   old_directory o nm m ok =
       elim (cases_eq (file_block d v.entries o nm m) 0) [
         | inl z ↦ rw z (empty_record d ready v.records m)
@@ -273,8 +273,8 @@ module _ (d : Dpb) (user : ℕ) (v : Volume) (x : Extent) (n : ℕ) (bytes : Lis
   cleared_ready e = rw e refl
 
   -- the other records in the new block are zeros
-  zero_at : clears ≡ true → (m : ℕ) → m ≢ n → open_file_block d volume_last.entries user counted m ≡ least_free v.reserved → open_file d volume_last.entries volume_last.records user counted m ≡ Some (replicate 128 0)
-  unfolding open_file record_in volume_last volume_after volume_new drive_record block_offset
+  zero_at : clears ≡ true → (m : ℕ) → m ≢ n → open_file_block d volume_last.entries user counted m ≡ least_free v.reserved → open_file_record d volume_last.entries volume_last.records user counted m ≡ Some (replicate 128 0)
+  unfolding open_file_record record_in volume_last volume_after volume_new drive_record block_offset
   zero_at clear m other h =
       let apart = writing.distinct d volume_last.entries volume_last.reserved user counted n user_ok format new_sound.well_formed new_sound.kept (inside ∙ sym counted_number) (λ z. fresh_there (sym counted_block ∙ z)) m (λ z. fresh_there (sym h ∙ z)) other in
       let o : m % 128 % (d.block_mask + 1) < d.block_mask + 1 = mod_below _ _ (omega arith) in

@@ -3,9 +3,9 @@ use Rattle.std.proofs.Common.{◌≡◌, ◌≢◌, ◌⊎◌, ℕ, ◌/◌, ◌
 use Rattle.std.proofs.lemmas.Bool.{false≢true, eq-eqb, ne_eqb, cases_eq, cases_lt, lt-ltb, le-ltb}
 use Rattle.cpm_geom.specs.declared.dpb.Dpb.{Dpb}
 use Rattle.cpm_files.specs.declared.extent.Extent.{Extent}
-use Rattle.cpm_files.specs.Files.{extent_number, same_name, deleted, open_file_block, open_file, directory_file, IsFormat, Volume, IsSound}
-use Rattle.cpm_files.specs.Operations.{Answer, done, no_block, no_record, cannot_close, no_extent, no_entry_free, fault, Outcome, ends, writing, next_target, target_of, next_place, place_at, put_record, write_in, write_next, write_at, write_at_cleared}
-use Rattle.cpm_files.specs.Laws.{OthersStay, FileStays, LosesNone, HasWritten, HasCleared, position, StaysSound, IsFull, HasNoExtent, HasNoBlock, HasDone, WritesNext, WritesAt, ClearsBlock}
+use Rattle.cpm_files.specs.Files.{extent_number, same_name, deleted, open_file_block, open_file_record, file_record, IsFormat, Volume, IsSound}
+use Rattle.cpm_files.specs.Operations.{Answer, done, no_block, no_record, cannot_close, no_extent, no_entry_free, fault, Outcome, ends, writing, next_target, target_of, next_place, place_at, put_record, write_in, write_next, write_random, write_random_cleared}
+use Rattle.cpm_files.specs.Laws.{OthersStay, FileStays, LosesNone, HasWritten, HasCleared, position, StaysSound, IsFull, HasNoExtent, HasNoBlock, HasDone, WritesNext, WritesRandom, ClearsBlock}
 use Rattle.cpm_files.proofs.NameLemmas.{same_name-trans, same_name-sym}
 use Rattle.cpm_files.proofs.Records.{Written, Puts, LacksBlock, puts}
 use Rattle.cpm_files.proofs.Moving.{MovesOn, LacksExtent, stays_there, no_file, closed_volume, closes_free, goes_on, number_below}
@@ -13,24 +13,24 @@ use Rattle.cpm_files.proofs.Making.{no_blocks}
 use Rattle.cpm_files.proofs.Reading.{own_block, past_file}
 
 -- a file has a record where it has a block for it
-has_block : (d : Dpb) (v : Volume) (user : ℕ) (x : Extent) (n : ℕ) → open_file d v.entries v.records user x n ≢ None → open_file_block d v.entries user x n ≢ 0
+has_block : (d : Dpb) (v : Volume) (user : ℕ) (x : Extent) (n : ℕ) → open_file_record d v.entries v.records user x n ≢ None → open_file_block d v.entries user x n ≢ 0
 has_block d v user x n h z = h (no_file d v user x n z)
 
 -- ---- the write in the extent that was moved to
 module _ (d : Dpb) (user : ℕ) (v : Volume) (x : Extent) (number : ℕ) (v1 : Volume) (x1 : Extent) (move : MovesOn d user v x number v1 x1) where
-  same_bytes : (m : ℕ) → open_file_block d v.entries user x m ≢ 0 → open_file d v1.entries v1.records user x1 m ≡ open_file d v.entries v.records user x m
-  unfolding open_file
+  same_bytes : (m : ℕ) → open_file_block d v.entries user x m ≢ 0 → open_file_record d v1.entries v1.records user x1 m ≡ open_file_record d v.entries v.records user x m
+  unfolding open_file_record
   same_bytes m h = rw (move.file m h, move.records) refl
 
   exact_file : d.extent_mask ≡ 0 → FileStays d user v x v1 x1
-  unfolding open_file
+  unfolding open_file_record
   exact_file e = record { stay = λ m. rw (move.exact e m, move.records) refl }
 
   loses_none : LosesNone d user v x v1 x1
   loses_none = record { stay = λ m h. same_bytes m (has_block d v user x m h) }
 
-  same_directory : (other : ℕ) (name : List ℕ) (m : ℕ) → other ≢ deleted → (other ≡ user → same_name name x.name ≡ true → ⊥) → directory_file d v1.entries v1.records other name m ≡ directory_file d v.entries v.records other name m
-  unfolding directory_file
+  same_directory : (other : ℕ) (name : List ℕ) (m : ℕ) → other ≢ deleted → (other ≡ user → same_name name x.name ≡ true → ⊥) → file_record d v1.entries v1.records other name m ≡ file_record d v.entries v.records other name m
+  unfolding file_record
   same_directory other name m ok apart = rw (move.others other name m ok apart, move.records) refl
 
   others_moved : OthersStay d user x.name v v1
@@ -127,9 +127,9 @@ random : Dpb → Bool → Volume → ℕ → Extent → ℕ → ℕ → List ℕ
 random d clears v user x current n bytes =
     write_in d clears current 0 bytes (place_at d writing false v user x (target_of no_entry_free n))
 
-abbrev WritesRandom : Dpb → Bool → ℕ → Volume → Extent → ℕ → ℕ → List ℕ → Outcome → Type 0
-WritesRandom d clears user v x current n bytes o =
-    WritesAt d user v x current n bytes o × (clears ≡ true → ClearsBlock d user v n o)
+abbrev WritesAtPlace : Dpb → Bool → ℕ → Volume → Extent → ℕ → ℕ → List ℕ → Outcome → Type 0
+WritesAtPlace d clears user v x current n bytes o =
+    WritesRandom d user v x current n bytes o × (clears ≡ true → ClearsBlock d user v n o)
 
 is_done : Answer → Bool
 is_done done = true
@@ -140,7 +140,7 @@ is_done no_extent = false
 is_done no_entry_free = false
 is_done (fault which) = false
 
-from_there : (d : Dpb) (clears : Bool) (user : ℕ) (v : Volume) (x : Extent) (current n : ℕ) (bytes : List ℕ) (o : Outcome) → Writes d user v x n bytes clears n o → WritesRandom d clears user v x current n bytes o
+from_there : (d : Dpb) (clears : Bool) (user : ℕ) (v : Volume) (x : Extent) (current n : ℕ) (bytes : List ℕ) (o : Outcome) → Writes d user v x n bytes clears n o → WritesAtPlace d clears user v x current n bytes o
 unfolding is_done
 from_there d clears user v x current n bytes o w =
     elim w.1 [
@@ -148,12 +148,12 @@ from_there d clears user v x current n bytes o w =
       | inr h ↦ ((w.0, inr (inr h)), λ clear e. absurd (false≢true (ap is_done (sym h.0 ∙ e))))
     ]
 
-from_miss : (d : Dpb) (clears : Bool) (user : ℕ) (v : Volume) (x : Extent) (current n : ℕ) (bytes : List ℕ) (o : Outcome) → IsFull v.entries → Misses d user v x current n no_entry_free o → WritesRandom d clears user v x current n bytes o
+from_miss : (d : Dpb) (clears : Bool) (user : ℕ) (v : Volume) (x : Extent) (current n : ℕ) (bytes : List ℕ) (o : Outcome) → IsFull v.entries → Misses d user v x current n no_entry_free o → WritesAtPlace d clears user v x current n bytes o
 unfolding is_done
 from_miss d clears user v x current n bytes o full m =
     ((m.0, inr (inl (m.1, m.2, full))), λ clear e. absurd (false≢true (ap is_done (sym m.1 ∙ e))))
 
-writes_random : (d : Dpb) (clears : Bool) (user : ℕ) (v : Volume) (x : Extent) (current n : ℕ) (bytes : List ℕ) → user ≢ deleted → IsFormat d → IsSound d v user x → current ≤ 128 → n < 65536 → WritesRandom d clears user v x current n bytes (random d clears v user x current n bytes)
+writes_random : (d : Dpb) (clears : Bool) (user : ℕ) (v : Volume) (x : Extent) (current n : ℕ) (bytes : List ℕ) → user ≢ deleted → IsFormat d → IsSound d v user x → current ≤ 128 → n < 65536 → WritesAtPlace d clears user v x current n bytes (random d clears v user x current n bytes)
 unfolding random write_in place_at target_of
 writes_random d clears user v x current n bytes user_ok format sound small h =
     elim (cases_eq (n / 128) (extent_number x)) [
@@ -167,13 +167,13 @@ writes_random d clears user v x current n bytes user_ok format sound small h =
           ]
     ]
 
-pub writes_at : (d : Dpb) (user : ℕ) (v : Volume) (x : Extent) (current n : ℕ) (bytes : List ℕ) → user ≢ deleted → IsFormat d → IsSound d v user x → current ≤ 128 → n < 65536 → WritesAt d user v x current n bytes (write_at d v user x current n bytes)
-unfolding write_at random
+pub writes_at : (d : Dpb) (user : ℕ) (v : Volume) (x : Extent) (current n : ℕ) (bytes : List ℕ) → user ≢ deleted → IsFormat d → IsSound d v user x → current ≤ 128 → n < 65536 → WritesRandom d user v x current n bytes (write_random d v user x current n bytes)
+unfolding write_random random
 writes_at d user v x current n bytes user_ok format sound small h =
     (writes_random d false user v x current n bytes user_ok format sound small h).0
 
-pub writes_at_cleared : (d : Dpb) (user : ℕ) (v : Volume) (x : Extent) (current n : ℕ) (bytes : List ℕ) → user ≢ deleted → IsFormat d → IsSound d v user x → current ≤ 128 → n < 65536 → WritesAt d user v x current n bytes (write_at_cleared d v user x current n bytes) × ClearsBlock d user v n (write_at_cleared d v user x current n bytes)
-unfolding write_at_cleared random
+pub writes_at_cleared : (d : Dpb) (user : ℕ) (v : Volume) (x : Extent) (current n : ℕ) (bytes : List ℕ) → user ≢ deleted → IsFormat d → IsSound d v user x → current ≤ 128 → n < 65536 → WritesRandom d user v x current n bytes (write_random_cleared d v user x current n bytes) × ClearsBlock d user v n (write_random_cleared d v user x current n bytes)
+unfolding write_random_cleared random
 writes_at_cleared d user v x current n bytes user_ok format sound small h =
     let w = writes_random d true user v x current n bytes user_ok format sound small h in (w.0, w.1 refl)
 

@@ -135,10 +135,6 @@ module _ (d : Dpb) (es : List Entry) (reserved : List Bool) (user : ℕ) (x : Ex
     agrees = taken_agrees;
   }
 
-  taken_counts : (number : ℕ) (stored : Extent) → open_record_count number taken stored ≡ open_record_count number x stored
-  unfolding taken with_block open_record_count extent_number
-  taken_counts number stored = refl
-
   by_count : (count m : ℕ) → (block_if count (m % 128) taken (map_place d m) ≡ block_if count (m % 128) x (map_place d m)) ⊎ ((block_if count (m % 128) x (map_place d m) ≡ 0) × (block_if count (m % 128) taken (map_place d m) ≡ least_free reserved))
   unfolding block_if
   by_count count m =

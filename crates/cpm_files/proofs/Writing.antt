@@ -6,7 +6,7 @@ use Rattle.std.proofs.lemmas.Bool.Decides.{nat_tests}
 use Rattle.cpm_geom.specs.declared.dpb.Dpb.{Dpb}
 use Rattle.cpm_files.specs.declared.extent.Extent.{Extent}
 use Rattle.cpm_files.specs.declared.extent.Entry.{Entry}
-use Rattle.cpm_files.specs.Files.{extent_number, group_of, map_place, same_name, deleted, no_entry, entry_at, InUse, is_of, first_of, open_record_count, block_number, block_if, entry_block, file_block, open_block, open_file_block, IsStored, IsWellFormed, IsKept, IsFormat, directory_records, drive_record, record_in, directory_file, open_file}
+use Rattle.cpm_files.specs.Files.{extent_number, group_of, map_place, same_name, deleted, no_entry, entry_at, InUse, is_of, first_of, open_record_count, block_number, block_if, entry_block, file_block, open_block, open_file_block, IsStored, IsWellFormed, IsKept, IsFormat, directory_records, drive_record, record_in, file_record, open_file_record}
 use Rattle.cpm_files.specs.Operations.{counting}
 use Rattle.cpm_files.proofs.Entries.{is_of_parts, first_of_passes}
 use Rattle.cpm_files.proofs.NameLemmas.{same_name-trans}
@@ -160,18 +160,18 @@ module _ (d : Dpb) (es : List Entry) (reserved : List Bool) (user : ℕ) (x : Ex
   outside_directory = let h = (kept.stored (map_place d n) there).outside in omega arith
 
   -- ---- with the record's bytes on the drive
-  pub written_record : (records : List (List ℕ)) (bytes : List ℕ) → drive_record d (block_number x (map_place d n)) n < length records → open_file d es (set records (drive_record d (block_number x (map_place d n)) n) bytes) user (counting x (n % 128)) n ≡ Some bytes
-  unfolding open_file record_in
+  pub written_record : (records : List (List ℕ)) (bytes : List ℕ) → drive_record d (block_number x (map_place d n)) n < length records → open_file_record d es (set records (drive_record d (block_number x (map_place d n)) n) bytes) user (counting x (n % 128)) n ≡ Some bytes
+  unfolding open_file_record record_in
   written_record records bytes h =
       rw (written_block, ne_eqb _ _ there) (ap Some (get_or-set_same records _ bytes [] h))
 
-  pub other_records : (records : List (List ℕ)) (bytes : List ℕ) (m : ℕ) → m ≢ n → open_file_block d es user x m ≢ 0 → open_file d es (set records (drive_record d (block_number x (map_place d n)) n) bytes) user (counting x (n % 128)) m ≡ open_file d es records user x m
-  unfolding open_file record_in
+  pub other_records : (records : List (List ℕ)) (bytes : List ℕ) (m : ℕ) → m ≢ n → open_file_block d es user x m ≢ 0 → open_file_record d es (set records (drive_record d (block_number x (map_place d n)) n) bytes) user (counting x (n % 128)) m ≡ open_file_record d es records user x m
+  unfolding open_file_record record_in
   other_records records bytes m other h =
       rw (other_blocks m h, ne_eqb _ _ h) (ap Some (get_or-set_other records _ _ bytes [] (distinct m h other)))
 
-  pub other_files : (records : List (List ℕ)) (bytes : List ℕ) (v : ℕ) (name : List ℕ) (m : ℕ) → v ≢ deleted → (v ≡ user → same_name name x.name ≡ true → ⊥) → directory_file d es (set records (drive_record d (block_number x (map_place d n)) n) bytes) v name m ≡ directory_file d es records v name m
-  unfolding directory_file record_in
+  pub other_files : (records : List (List ℕ)) (bytes : List ℕ) (v : ℕ) (name : List ℕ) (m : ℕ) → v ≢ deleted → (v ≡ user → same_name name x.name ≡ true → ⊥) → file_record d es (set records (drive_record d (block_number x (map_place d n)) n) bytes) v name m ≡ file_record d es records v name m
+  unfolding file_record record_in
   other_files records bytes v name m ok other =
       elim (cases_eq (file_block d es v name m) 0) [
         | inl z ↦ rw z refl

@@ -44,16 +44,16 @@ unfoldable pub name_matches : List ℕ → List ℕ → Bool
 name_matches [] [] = true
 name_matches [] (b ∷ bs) = false
 name_matches (a ∷ cs) [] = false
-name_matches (a ∷ cs) (b ∷ bs) = ((a % 128 == 63) || (a % 128 == b % 128)) && name_matches cs bs
+name_matches (a ∷ cs) (b ∷ bs) = ((a % 128 == 0x3F) || (a % 128 == b % 128)) && name_matches cs bs
 
 -- the test of one character of a pattern and of a name
 abbrev pub wildcard_or_same : ℕ × ℕ → Bool
-wildcard_or_same p = (p.0 % 128 == 63) || (p.0 % 128 == p.1 % 128)
+wildcard_or_same p = (p.0 % 128 == 0x3F) || (p.0 % 128 == p.1 % 128)
 
 -- a name with a `?`
 unfoldable pub has_wildcard : List ℕ → Bool
 has_wildcard [] = false
-has_wildcard (a ∷ cs) = (a % 128 == 63) || has_wildcard cs
+has_wildcard (a ∷ cs) = (a % 128 == 0x3F) || has_wildcard cs
 
 -- the mark of an entry that is not in use
 abbrev pub deleted : ℕ
@@ -175,12 +175,12 @@ record_in d records b n =
     if b == 0 then None else Some (slice_index_or records (drive_record d b n) [])
 
 -- record n of the file in the directory, if it is there
-unfoldable pub directory_file : Dpb → List Entry → List (List ℕ) → ℕ → List ℕ → ℕ → Option (List ℕ)
-directory_file d es records user name n = record_in d records (file_block d es user name n) n
+unfoldable pub file_record : Dpb → List Entry → List (List ℕ) → ℕ → List ℕ → ℕ → Option (List ℕ)
+file_record d es records user name n = record_in d records (file_block d es user name n) n
 
 -- record n of the file as an open file control block knows it, if it is there
-unfoldable pub open_file : Dpb → List Entry → List (List ℕ) → ℕ → Extent → ℕ → Option (List ℕ)
-open_file d es records user x n = record_in d records (open_file_block d es user x n) n
+unfoldable pub open_file_record : Dpb → List Entry → List (List ℕ) → ℕ → Extent → ℕ → Option (List ℕ)
+open_file_record d es records user x n = record_in d records (open_file_block d es user x n) n
 
 -- what is written to a disk: an entry of the directory, or a record
 pub data Write : Type 0 where

@@ -4,8 +4,8 @@ use Rattle.cpm_geom.specs.declared.dpb.Dpb.{Dpb}
 use Rattle.cpm_files.specs.declared.extent.Extent.{Extent}
 use Rattle.cpm_files.specs.declared.extent.Entry.{Entry}
 use Rattle.cpm_files.specs.Files.{Volume, Write, entry_put, record_put, first_free}
-use Rattle.cpm_files.specs.Operations.{with_entry, closed, close_function, make_function, read_next, read_at, write_next, write_at, write_at_cleared}
-use Rattle.cpm_files.specs.Names.{named, erase_function, rename_function, attributes_function}
+use Rattle.cpm_files.specs.Operations.{with_entry, closed, close_file, make_file, read_next, read_random, write_next, write_random, write_random_cleared}
+use Rattle.cpm_files.specs.Names.{named, erase_files, rename_files, set_attributes}
 
 -- own: one thing that is written, in the entries and the records of a volume
 unfoldable pub logged : Write → Volume → Volume
@@ -27,18 +27,18 @@ pub record IsLogged (v v' : Volume) : Type 0 where
 -- own: each call on a file logs what it changes
 pub record CallsLog (d : Dpb) (v : Volume) (user : ℕ) (x : Extent) : Type 0 where
   pub sequential_read : (protected : Bool) (current : ℕ) → IsLogged v (read_next d protected v user x current).volume
-  pub random_read : (protected : Bool) (current n : ℕ) → IsLogged v (read_at d protected v user x current n).volume
+  pub random_read : (protected : Bool) (current n : ℕ) → IsLogged v (read_random d protected v user x current n).volume
   pub sequential_write : (current : ℕ) (bytes : List ℕ) → IsLogged v (write_next d v user x current bytes).volume
-  pub random_write : (current n : ℕ) (bytes : List ℕ) → IsLogged v (write_at d v user x current n bytes).volume
-  pub clearing_write : (current n : ℕ) (bytes : List ℕ) → IsLogged v (write_at_cleared d v user x current n bytes).volume
-  pub close : (protected : Bool) (index : ℕ) (after : List Entry) (x' : Extent) → close_function d protected v.entries user x ≡ closed index after x' → IsLogged v (with_entry v index after)
-  pub make : (after : List Entry) (x' : Extent) → make_function v.entries user x ≡ Some (after, x') → IsLogged v (with_entry v (first_free v.entries) after)
+  pub random_write : (current n : ℕ) (bytes : List ℕ) → IsLogged v (write_random d v user x current n bytes).volume
+  pub clearing_write : (current n : ℕ) (bytes : List ℕ) → IsLogged v (write_random_cleared d v user x current n bytes).volume
+  pub close : (protected : Bool) (index : ℕ) (after : List Entry) (x' : Extent) → close_file d protected v.entries user x ≡ closed index after x' → IsLogged v (with_entry v index after)
+  pub make : (after : List Entry) (x' : Extent) → make_file v.entries user x ≡ Some (after, x') → IsLogged v (with_entry v (first_free v.entries) after)
 
 -- own: so does each call on all entries of a name
 pub record NamedCallsLog (d : Dpb) (v : Volume) (user : ℕ) (pattern : List ℕ) : Type 0 where
-  pub erase : (first : ℕ) (v' : Volume) → erase_function d v user pattern ≡ named first v' → IsLogged v v'
-  pub rename : (name : List ℕ) (first : ℕ) (v' : Volume) → rename_function v user pattern name ≡ named first v' → IsLogged v v'
-  pub attributes : (first : ℕ) (v' : Volume) → attributes_function v user pattern ≡ named first v' → IsLogged v v'
+  pub erase : (first : ℕ) (v' : Volume) → erase_files d v user pattern ≡ named first v' → IsLogged v v'
+  pub rename : (name : List ℕ) (first : ℕ) (v' : Volume) → rename_files v user pattern name ≡ named first v' → IsLogged v v'
+  pub attributes : (first : ℕ) (v' : Volume) → set_attributes v user pattern ≡ named first v' → IsLogged v v'
 
 abbrev pub LogLaw : Type 0
 LogLaw =

@@ -53,8 +53,8 @@ reserved_after d user pattern es reserved =
     map (λ b. is_reserved reserved b && (is_directory_block d b || not (is_erased user pattern es b))) (range_with_len 0 (length reserved))
 
 -- DELETE FILE, on a drive that is not protected
-unfoldable pub erase_function : Dpb → Volume → ℕ → List ℕ → Named
-erase_function d v user pattern =
+unfoldable pub erase_files : Dpb → Volume → ℕ → List ℕ → Named
+erase_files d v user pattern =
     if not (nat_lt (first_named v.entries user pattern) (length v.entries)) then none_named
     else (if list_any (protects user pattern) v.entries then file_read_only
     else named (first_named v.entries user pattern) (record v { entries = change_named user pattern deletion v.entries; reserved = reserved_after d user pattern v.entries v.reserved; written = v.written ++ named_writes user pattern 0 v.entries (change_named user pattern deletion v.entries) }))
@@ -63,8 +63,8 @@ unfoldable pub renaming : List ℕ → Entry → Entry
 renaming name e = record e { extent = record e.extent { name = name } }
 
 -- RENAME FILE, on a drive that is not protected: the eleven bytes as they are
-unfoldable pub rename_function : Volume → ℕ → List ℕ → List ℕ → Named
-rename_function v user pattern name =
+unfoldable pub rename_files : Volume → ℕ → List ℕ → List ℕ → Named
+rename_files v user pattern name =
     if not (nat_lt (first_named v.entries user pattern) (length v.entries)) then none_named
     else (if list_any (protects user pattern) v.entries then file_read_only
     else named (first_named v.entries user pattern) (record v { entries = change_named user pattern (renaming name) v.entries; written = v.written ++ named_writes user pattern 0 v.entries (change_named user pattern (renaming name) v.entries) }))
@@ -80,8 +80,8 @@ marking pattern e =
     record e { extent = record e.extent { name = with_attributes e.extent.name pattern } }
 
 -- SET FILE ATTRIBUTES, on a drive that is not protected: own: all eleven, and no attribute refuses it
-unfoldable pub attributes_function : Volume → ℕ → List ℕ → Named
-attributes_function v user pattern =
+unfoldable pub set_attributes : Volume → ℕ → List ℕ → Named
+set_attributes v user pattern =
     if not (nat_lt (first_named v.entries user pattern) (length v.entries)) then none_named
     else named (first_named v.entries user pattern) (record v { entries = change_named user pattern (marking pattern) v.entries; written = v.written ++ named_writes user pattern 0 v.entries (change_named user pattern (marking pattern) v.entries) })
 
@@ -90,5 +90,5 @@ unfoldable pub records_to : Entry → ℕ
 records_to e = 128 * extent_number e.extent + e.extent.record_count
 
 -- COMPUTE FILE SIZE: own: the greatest of these over the entries of the name, none where there is no such entry
-unfoldable pub file_size : List Entry → ℕ → List ℕ → Option ℕ
-file_size es user pattern = reduce max (map records_to (filter (is_named user pattern) es))
+unfoldable pub compute_size : List Entry → ℕ → List ℕ → Option ℕ
+compute_size es user pattern = reduce max (map records_to (filter (is_named user pattern) es))

@@ -134,16 +134,16 @@ make_extent es user x number =
     else None
 
 -- OPEN FILE: own: S2 is taken as 0, and an entry of a lesser number counts as none
-unfoldable pub open_function : Dpb → List Entry → ℕ → Extent → Option Extent
-open_function d es user x = open_to_read d es user x.name (x.ex % 32)
+unfoldable pub open_file : Dpb → List Entry → ℕ → Extent → Option Extent
+open_file d es user x = open_to_read d es user x.name (x.ex % 32)
 
 -- CLOSE FILE
-unfoldable pub close_function : Dpb → Bool → List Entry → ℕ → Extent → Close
-close_function d protected es user x = close_extent d protected es user x
+unfoldable pub close_file : Dpb → Bool → List Entry → ℕ → Extent → Close
+close_file d protected es user x = close_extent d protected es user x
 
 -- MAKE FILE: own: S2 is taken as 0
-unfoldable pub make_function : List Entry → ℕ → Extent → Option (List Entry × Extent)
-make_function es user x = make_extent es user x (x.ex % 32)
+unfoldable pub make_file : List Entry → ℕ → Extent → Option (List Entry × Extent)
+make_file es user x = make_extent es user x (x.ex % 32)
 
 -- ---- the extent of a record
 
@@ -302,16 +302,16 @@ write_next d v user x current bytes =
     write_in d false current 1 bytes (next_place d writing false v user x current)
 
 -- READ RANDOM, record n
-unfoldable pub read_at : Dpb → Bool → Volume → ℕ → Extent → ℕ → ℕ → Outcome
-read_at d protected v user x current n =
+unfoldable pub read_random : Dpb → Bool → Volume → ℕ → Extent → ℕ → ℕ → Outcome
+read_random d protected v user x current n =
     read_in d current 0 (place_at d reading protected v user x (target_of no_extent n))
 
 -- WRITE RANDOM, record n, to a drive that is not protected
-unfoldable pub write_at : Dpb → Volume → ℕ → Extent → ℕ → ℕ → List ℕ → Outcome
-write_at d v user x current n bytes =
+unfoldable pub write_random : Dpb → Volume → ℕ → Extent → ℕ → ℕ → List ℕ → Outcome
+write_random d v user x current n bytes =
     write_in d false current 0 bytes (place_at d writing false v user x (target_of no_entry_free n))
 
 -- WRITE RANDOM WITH ZERO FILL, record n, to a drive that is not protected
-unfoldable pub write_at_cleared : Dpb → Volume → ℕ → Extent → ℕ → ℕ → List ℕ → Outcome
-write_at_cleared d v user x current n bytes =
+unfoldable pub write_random_cleared : Dpb → Volume → ℕ → Extent → ℕ → ℕ → List ℕ → Outcome
+write_random_cleared d v user x current n bytes =
     write_in d true current 0 bytes (place_at d writing false v user x (target_of no_entry_free n))

@@ -8,7 +8,7 @@ use Rattle.cpm_geom.specs.Geometry.{dpb_of}
 use Rattle.cpm_files.specs.declared.extent.Extent.{Extent}
 use Rattle.cpm_files.specs.declared.extent.Entry.{Entry}
 use Rattle.cpm_files.specs.Files.{Volume, no_entry}
-use Rattle.cpm_files.specs.Operations.{Answer, done, no_record, no_block, no_extent, no_entry_free, fault, bad_sector, read_only, Outcome, ends, Close, refused, close_fault, closed, close_function, open_function, make_function, read_next, write_next, read_at, write_at, write_at_cleared}
+use Rattle.cpm_files.specs.Operations.{Answer, done, no_record, no_block, no_extent, no_entry_free, fault, bad_sector, read_only, Outcome, ends, Close, refused, close_fault, closed, close_file, open_file, make_file, read_next, write_next, read_random, write_random, write_random_cleared}
 
 -- the standard 8-inch disk
 unfoldable pub standard : Dpb
@@ -46,7 +46,7 @@ from_make v (Some made) =
     ends done (record v { entries = made.0 }) made.1 0
 
 unfoldable pub made_on : Volume → Outcome
-made_on v = from_make v (make_function v.entries 0 t_dat)
+made_on v = from_make v (make_file v.entries 0 t_dat)
 
 -- a sequential write after a call that was done
 unfoldable pub more : Dpb → Outcome → Answer → Outcome
@@ -68,9 +68,9 @@ entries_after refused = []
 entries_after (close_fault which) = []
 
 -- the first entries after a close
-unfoldable pub listed : Dpb → ℕ → Outcome → List (List ℕ)
-listed d count o =
-    take count (map seen (entries_after (close_function d false o.volume.entries 0 o.extent)))
+unfoldable pub directory_bytes : Dpb → ℕ → Outcome → List (List ℕ)
+directory_bytes d count o =
+    take count (map seen (entries_after (close_file d false o.volume.entries 0 o.extent)))
 
 -- 129 records, by sequential writes
 unfoldable pub file_of_129 : Outcome
@@ -79,17 +79,20 @@ file_of_129 = writes standard 129 (made_on (blank 64 241 []))
 -- they fill one entry, blocks 02h to 11h, and begin another, block 12h
 abbrev pub Row129 : Type 0
 Row129 =
-    listed standard 3 file_of_129 ≡ (0 ∷ 0 ∷ 0x80 ∷ 0x02 ∷ 0x03 ∷ 0x04 ∷ 0x05 ∷ 0x06 ∷ 0x07 ∷ 0x08 ∷ 0x09 ∷ 0x0A ∷ 0x0B ∷ 0x0C ∷ 0x0D ∷ 0x0E ∷ 0x0F ∷ 0x10 ∷ 0x11 ∷ []) ∷ (0 ∷ 1 ∷ 0x01 ∷ 0x12 ∷ replicate 15 0) ∷ seen no_entry ∷ []
+    directory_bytes standard 3 file_of_129 ≡ (0 ∷ 0 ∷ 0x80 ∷ 0x02 ∷ 0x03 ∷ 0x04 ∷ 0x05 ∷ 0x06 ∷ 0x07 ∷ 0x08 ∷ 0x09 ∷ 0x0A ∷ 0x0B ∷ 0x0C ∷ 0x0D ∷ 0x0E ∷ 0x0F ∷ 0x10 ∷ 0x11 ∷ [])
+    ∷ (0 ∷ 1 ∷ 0x01 ∷ 0x12 ∷ replicate 15 0) ∷ seen no_entry ∷ []
 
 -- 300 records on the larger disk: two extents to an entry
 abbrev pub Row300 : Type 0
 Row300 =
-    listed large 3 (writes large 300 (made_on (blank 256 510 []))) ≡ (0 ∷ 1 ∷ 0x80 ∷ 2 ∷ 3 ∷ 4 ∷ 5 ∷ 6 ∷ 7 ∷ 8 ∷ 9 ∷ replicate 8 0) ∷ (0 ∷ 2 ∷ 0x2C ∷ 10 ∷ 11 ∷ replicate 14 0) ∷ seen no_entry ∷ []
+    directory_bytes large 3 (writes large 300 (made_on (blank 256 510 []))) ≡ (0 ∷ 1 ∷ 0x80 ∷ 2 ∷ 3 ∷ 4 ∷ 5 ∷ 6 ∷ 7 ∷ 8 ∷ 9 ∷ replicate 8 0)
+    ∷ (0 ∷ 2 ∷ 0x2C ∷ 10 ∷ 11 ∷ replicate 14 0) ∷ seen no_entry ∷ []
 
 -- a file of 300 records there
 unfoldable pub shared : List Entry
 shared =
-    record { user = 0; extent = record t_dat { ex = 1; record_count = 0x80; blocks = 2 ∷ 3 ∷ 4 ∷ 5 ∷ 6 ∷ 7 ∷ 8 ∷ 9 ∷ replicate 8 0 } } ∷ record { user = 0; extent = record t_dat { ex = 2; record_count = 0x2C; blocks = 10 ∷ 11 ∷ replicate 14 0 } } ∷ no_entry ∷ []
+    record { user = 0; extent = record t_dat { ex = 1; record_count = 0x80; blocks = 2 ∷ 3 ∷ 4 ∷ 5 ∷ 6 ∷ 7 ∷ 8 ∷ 9 ∷ replicate 8 0 } }
+    ∷ record { user = 0; extent = record t_dat { ex = 2; record_count = 0x2C; blocks = 10 ∷ 11 ∷ replicate 14 0 } } ∷ no_entry ∷ []
 
 unfoldable pub entry_opened : Option Extent → List ℕ
 entry_opened None = []
@@ -98,7 +101,7 @@ entry_opened (Some it) = it.ex ∷ it.s2 ∷ it.record_count ∷ it.blocks
 -- opened with EX 0 its first extent has 128 records, with EX 3 there is none
 abbrev pub RowShared : Type 0
 RowShared =
-    (entry_opened (open_function large shared 0 t_dat) ≡ 0 ∷ 0 ∷ 0x80 ∷ 2 ∷ 3 ∷ 4 ∷ 5 ∷ 6 ∷ 7 ∷ 8 ∷ 9 ∷ replicate 8 0) × (entry_opened (open_function large shared 0 (record t_dat { ex = 3 })) ≡ [])
+    (entry_opened (open_file large shared 0 t_dat) ≡ 0 ∷ 0 ∷ 0x80 ∷ 2 ∷ 3 ∷ 4 ∷ 5 ∷ 6 ∷ 7 ∷ 8 ∷ 9 ∷ replicate 8 0) × (entry_opened (open_file large shared 0 (record t_dat { ex = 3 })) ≡ [])
 
 -- 1,928 records fit one file, and no more
 abbrev pub Row1928 : Type 0
@@ -112,7 +115,7 @@ Row16320 =
 
 unfoldable pub one_more : ℕ → Option (List Entry × Extent) → Option (List Entry × Extent)
 one_more count None = None
-one_more count (Some made) = make_function made.0 0 (record t_dat { name = count ∷ [] })
+one_more count (Some made) = make_file made.0 0 (record t_dat { name = count ∷ [] })
 
 -- so many files made, up to the first that finds no entry
 unfoldable pub makes : ℕ → Option (List Entry × Extent) → Option (List Entry × Extent)
@@ -139,17 +142,21 @@ second_extent count b = record t_dat { ex = 1; record_count = count; blocks = b 
 
 unfoldable pub two_extents : List Entry
 two_extents =
-    record { user = 0; extent = record t_dat { record_count = 0x80; blocks = 0x02 ∷ 0x03 ∷ 0x04 ∷ 0x05 ∷ 0x06 ∷ 0x07 ∷ 0x08 ∷ 0x09 ∷ 0x0A ∷ 0x0B ∷ 0x0C ∷ 0x0D ∷ 0x0E ∷ 0x0F ∷ 0x10 ∷ 0x11 ∷ [] } } ∷ record { user = 0; extent = second_extent 1 0x12 } ∷ no_entry ∷ no_entry ∷ []
+    record { user = 0; extent = record t_dat { record_count = 0x80; blocks = 0x02 ∷ 0x03 ∷ 0x04 ∷ 0x05 ∷ 0x06 ∷ 0x07 ∷ 0x08 ∷ 0x09 ∷ 0x0A ∷ 0x0B ∷ 0x0C ∷ 0x0D ∷ 0x0E ∷ 0x0F ∷ 0x10 ∷ 0x11 ∷ [] } }
+    ∷ record { user = 0; extent = second_extent 1 0x12 } ∷ no_entry ∷ no_entry ∷ []
 
 -- a close gives back a block number that the file control block lost, and refuses another one and one above the last
 abbrev pub RowMerge : Type 0
 RowMerge =
-    (close_function standard false two_extents 0 (second_extent 1 0) ≡ closed 1 two_extents (second_extent 1 0x12)) × (close_function standard false two_extents 0 (second_extent 1 0x05) ≡ refused) × (close_function standard false two_extents 0 (second_extent 1 0xF3) ≡ close_fault bad_sector)
+    (close_file standard false two_extents 0 (second_extent 1 0) ≡ closed 1 two_extents (second_extent 1 0x12))
+    × (close_file standard false two_extents 0 (second_extent 1 0x05) ≡ refused)
+    × (close_file standard false two_extents 0 (second_extent 1 0xF3) ≡ close_fault bad_sector)
 
 -- on a protected drive a close that changes nothing goes through, another does not
 abbrev pub RowProtected : Type 0
 RowProtected =
-    (close_function standard true two_extents 0 (second_extent 1 0) ≡ closed 1 two_extents (second_extent 1 0x12)) × (close_function standard true two_extents 0 (second_extent 2 0x12) ≡ close_fault read_only)
+    (close_file standard true two_extents 0 (second_extent 1 0) ≡ closed 1 two_extents (second_extent 1 0x12))
+    × (close_file standard true two_extents 0 (second_extent 2 0x12) ≡ close_fault read_only)
 
 -- with one entry alone 129 records do not fit: the first extent was closed, and the file control block stays at its end
 unfoldable pub crowded : Outcome
@@ -157,14 +164,16 @@ crowded = writes standard 129 (made_on (blank 1 241 []))
 
 abbrev pub RowCrowded : Type 0
 RowCrowded =
-    (crowded.answer ≡ no_record) × (crowded.current ≡ 128) × (crowded.extent.ex ≡ 0) × (map seen crowded.volume.entries ≡ (0 ∷ 0 ∷ 0x80 ∷ 0x02 ∷ 0x03 ∷ 0x04 ∷ 0x05 ∷ 0x06 ∷ 0x07 ∷ 0x08 ∷ 0x09 ∷ 0x0A ∷ 0x0B ∷ 0x0C ∷ 0x0D ∷ 0x0E ∷ 0x0F ∷ 0x10 ∷ 0x11 ∷ []) ∷ [])
+    (crowded.answer ≡ no_record) × (crowded.current ≡ 128) × (crowded.extent.ex ≡ 0)
+    × (map seen crowded.volume.entries ≡ (0 ∷ 0 ∷ 0x80 ∷ 0x02 ∷ 0x03 ∷ 0x04 ∷ 0x05 ∷ 0x06 ∷ 0x07 ∷ 0x08 ∷ 0x09 ∷ 0x0A ∷ 0x0B ∷ 0x0C ∷ 0x0D ∷ 0x0E ∷ 0x0F ∷ 0x10 ∷ 0x11 ∷ [])
+    ∷ [])
 
 -- record 3 written into a new block of records of E5h
 unfoldable pub written : Outcome → Outcome
-written o = write_at standard o.volume 0 o.extent 0 3 (0x41 ∷ [])
+written o = write_random standard o.volume 0 o.extent 0 3 (0x41 ∷ [])
 
 unfoldable pub written_cleared : Outcome → Outcome
-written_cleared o = write_at_cleared standard o.volume 0 o.extent 0 3 (0x41 ∷ [])
+written_cleared o = write_random_cleared standard o.volume 0 o.extent 0 3 (0x41 ∷ [])
 
 unfoldable pub new_file : Outcome
 new_file = made_on (blank 64 241 (replicate 25 (0xE5 ∷ [])))
@@ -172,12 +181,14 @@ new_file = made_on (blank 64 241 (replicate 25 (0xE5 ∷ [])))
 -- a random write leaves the block's other records, one with zero fill clears them
 abbrev pub RowFill : Type 0
 RowFill =
-    ((written new_file).volume.records ≡ replicate 19 (0xE5 ∷ []) ++ ((0x41 ∷ []) ∷ replicate 5 (0xE5 ∷ []))) × ((written new_file).current ≡ 3) × ((written new_file).extent.record_count ≡ 4) × ((written_cleared new_file).volume.records ≡ replicate 16 (0xE5 ∷ []) ++ (replicate 3 (replicate 128 0) ++ ((0x41 ∷ []) ∷ (replicate 4 (replicate 128 0) ++ ((0xE5 ∷ []) ∷ [])))))
+    ((written new_file).volume.records ≡ replicate 19 (0xE5 ∷ []) ++ ((0x41 ∷ []) ∷ replicate 5 (0xE5 ∷ []))) × ((written new_file).current ≡ 3)
+    × ((written new_file).extent.record_count ≡ 4)
+    × ((written_cleared new_file).volume.records ≡ replicate 16 (0xE5 ∷ []) ++ (replicate 3 (replicate 128 0) ++ ((0x41 ∷ []) ∷ (replicate 4 (replicate 128 0) ++ ((0xE5 ∷ []) ∷ [])))))
 
 -- after that a write with zero fill into the same block leaves its other records
 abbrev pub RowFilledBefore : Type 0
 RowFilledBefore =
-    (write_at_cleared standard (written new_file).volume 0 (written new_file).extent 0 5 (0x42 ∷ [])).volume.records ≡ replicate 19 (0xE5 ∷ []) ++ ((0x41 ∷ []) ∷ (0xE5 ∷ []) ∷ (0x42 ∷ []) ∷ replicate 3 (0xE5 ∷ []))
+    (write_random_cleared standard (written new_file).volume 0 (written new_file).extent 0 5 (0x42 ∷ [])).volume.records ≡ replicate 19 (0xE5 ∷ []) ++ ((0x41 ∷ []) ∷ (0xE5 ∷ []) ∷ (0x42 ∷ []) ∷ replicate 3 (0xE5 ∷ []))
 
 -- a file of two records in block 2
 unfoldable pub two_records : Volume
@@ -194,13 +205,13 @@ opened_on v None = ends no_extent v t_dat 0
 opened_on v (Some it) = ends done v it 0
 
 unfoldable pub two_opened : Outcome
-two_opened = opened_on two_records (open_function standard two_records.entries 0 t_dat)
+two_opened = opened_on two_records (open_file standard two_records.entries 0 t_dat)
 
 unfoldable pub next_read : Outcome → Outcome
 next_read o = read_next standard false o.volume 0 o.extent o.current
 
 unfoldable pub any_read : ℕ → Outcome
-any_read n = read_at standard false two_opened.volume 0 two_opened.extent 0 n
+any_read n = read_random standard false two_opened.volume 0 two_opened.extent 0 n
 
 -- the bytes that were read
 abbrev pub bytes_read : Outcome → Option (List ℕ)
@@ -209,7 +220,9 @@ bytes_read o = option_map (λ n. slice_index_or o.volume.records n []) o.read
 -- sequential reads give both records and then none; random reads give record 1, no record 2, and no extent for record 256
 abbrev pub RowReads : Type 0
 RowReads =
-    (bytes_read (next_read two_opened) ≡ Some (0x41 ∷ [])) × (bytes_read (next_read (next_read two_opened)) ≡ Some (0x42 ∷ [])) × ((next_read (next_read (next_read two_opened))).answer ≡ no_record) × (bytes_read (any_read 1) ≡ Some (0x42 ∷ [])) × ((any_read 1).current ≡ 1) × ((any_read 2).answer ≡ no_record) × ((any_read 2).current ≡ 2) × ((any_read 256).answer ≡ no_extent) × ((any_read 256).current ≡ 0)
+    (bytes_read (next_read two_opened) ≡ Some (0x41 ∷ [])) × (bytes_read (next_read (next_read two_opened)) ≡ Some (0x42 ∷ []))
+    × ((next_read (next_read (next_read two_opened))).answer ≡ no_record) × (bytes_read (any_read 1) ≡ Some (0x42 ∷ [])) × ((any_read 1).current ≡ 1)
+    × ((any_read 2).answer ≡ no_record) × ((any_read 2).current ≡ 2) × ((any_read 256).answer ≡ no_extent) × ((any_read 256).current ≡ 0)
 
 -- a block number above the last is a Bad Sector
 abbrev pub RowBadSector : Type 0

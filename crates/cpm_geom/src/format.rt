@@ -88,12 +88,12 @@ impl Format {
     }
 
     /// The sector of a track's record.
-    fn sector_of(self, place: u16) -> u16
+    pub fn sector_of(self, place: u16) -> u8
         requires { place < sectors_per_track self }
         ensures { result ≡ sector_of self place }
     {
         match self {
-            Format::Ibm3740 => u16::from(SKEW[usize::from(place)]),
+            Format::Ibm3740 => SKEW[usize::from(place)],
         }
     }
 
@@ -138,7 +138,7 @@ impl Format {
         ensures within { result < sector_count self }
     {
         let track = self.track_of(number) as u16;
-        let sector = self.sector_of(number % self.sectors_per_track());
+        let sector = u16::from(self.sector_of(number % self.sectors_per_track()));
         self.index_of_sector(track, sector)
     }
 }

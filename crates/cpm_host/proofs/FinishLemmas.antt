@@ -8,17 +8,17 @@ use Rattle.cpm_batch.specs.declared.output.SessionFiles.{SessionFiles}
 use Rattle.cpm_config.specs.declared.config.Session.{Session}
 use Rattle.cpm_disks.specs.Disks.{images_of}
 use Rattle.cpm_geom.specs.Disk.{Disk}
-use Rattle.cpm_sessions.specs.Host.{Host, Slot, slot_at}
+use Rattle.cpm_sessions.specs.Host.{Host, SlotState, slot_at}
 use Rattle.cpm_slots.specs.MachineState.{MachineState}
 use Rattle.cpm_slots.specs.Serve.{look_of}
 use Rattle.cpm_slots.specs.declared.reply.Closed.{Closed}
 use Rattle.cpm_slots.specs.declared.reply.End.{End}
 use Rattle.cpm_slots.specs.declared.reply.Look.{Look}
-use Rattle.cpm_turns.specs.Players.{AllDiffer, AllPlayed, IsNoPlayer}
+use Rattle.cpm_turns.specs.ScriptedSlots.{AllDiffer, AllPlayed, IsNoSlot}
 use Rattle.cpm_turns.specs.Playing.{IsPlayed}
-use Rattle.cpm_turns.specs.declared.player.Player.{Player}
+use Rattle.cpm_turns.specs.declared.scripted_slot.ScriptedSlot.{ScriptedSlot}
 use Rattle.cpm_host.proofs.PlayLemmas.{all_ended}
-use Rattle.cpm_host.specs.Playing.{AllEnded, AllSeated, AreFinished, IsClosed, files_by, report_by}
+use Rattle.cpm_host.specs.Playing.{AllEnded, HaveSlots, AreFinished, IsClosed, files_by, report_by}
 use Rattle.cpm_host.specs.Run.{Reported, files_left, left_of, report_view, reported_of, reports_of, run_of, start_of}
 use Rattle.cpm_host.specs.declared.report.SessionReport.{SessionReport}
 
@@ -27,7 +27,7 @@ use Rattle.cpm_host.specs.declared.report.SessionReport.{SessionReport}
 abbrev reported : Session → End → ℕ → ℕ → Reported
 reported s ended count bytes = record { name = string_bytes s.name; ended = ended; count = count; bytes = bytes }
 
-report_is : (system : Disk) (i : SessionInput) (s : Session) (p : Player) (closed : Closed) (last : MachineState) → i.session ≡ s → closed.look ≡ look_of last
+report_is : (system : Disk) (i : SessionInput) (s : Session) (p : ScriptedSlot) (closed : Closed) (last : MachineState) → i.session ≡ s → closed.look ≡ look_of last
     → IsPlayed system i.keys i.session.steps (start_of i) last p.console.items p.list.items → report_by s p closed ≡ reported_of i.session (run_of system i)
 unfolding look_of run_of
 report_is system i s p closed last same look played =
@@ -41,14 +41,14 @@ report_is system i s p closed last same look played =
 abbrev output : Session → List ℕ → List ℕ → List (Option Disk) → SessionOutput
 output s console list drives = record { session = s; console = console; list = list; drives = drives }
 
-files_is : (system : Disk) (i : SessionInput) (s : Session) (p : Player) (closed : Closed) (last : MachineState) → i.session ≡ s → closed.drives ≡ images_of last.session.disks
+files_is : (system : Disk) (i : SessionInput) (s : Session) (p : ScriptedSlot) (closed : Closed) (last : MachineState) → i.session ≡ s → closed.drives ≡ images_of last.cpm.disks
     → IsPlayed system i.keys i.session.steps (start_of i) last p.console.items p.list.items → files_by s p closed ≡ left_of i.session (run_of system i)
 unfolding run_of
 files_is system i s p closed last same drives played =
     ap (λ (t : Session). output t p.console.items p.list.items closed.drives) (sym same)
     ∙ ap (λ (xs : List ℕ). output i.session xs p.list.items closed.drives) played.screen
-    ∙ ap (λ (xs : List ℕ). output i.session (run_of system i).session.console.screen xs closed.drives) played.printer
-    ∙ ap (λ (ds : List (Option Disk)). output i.session (run_of system i).session.console.screen (run_of system i).session.console.printer ds) (drives ∙ ap images_of played.disks)
+    ∙ ap (λ (xs : List ℕ). output i.session (run_of system i).cpm.console.screen xs closed.drives) played.printer
+    ∙ ap (λ (ds : List (Option Disk)). output i.session (run_of system i).cpm.console.screen (run_of system i).cpm.console.printer ds) (drives ∙ ap images_of played.disks)
 
 -- ---- one after another
 
@@ -73,24 +73,24 @@ is_at is sessions k s same below found =
     let next : suc k ≡ k + 1 = omega arith in
     subst (λ (n : ℕ). IsAt is k n s) next (there is sessions k s same below found)
 
--- the player and what is left of its slot
-who_of : Player → Option (Player × Closed) → Player
+-- the scripted slot and what is left of its slot
+who_of : ScriptedSlot → Option (ScriptedSlot × Closed) → ScriptedSlot
 who_of p None = p
 who_of p (Some x) = x.0
 
-what_of : Closed → Option (Player × Closed) → Closed
+what_of : Closed → Option (ScriptedSlot × Closed) → Closed
 what_of c None = c
 what_of c (Some x) = x.1
 
-not_both : (x : Player × Closed) → None ≡ Some x → ⊥
+not_both : (x : ScriptedSlot × Closed) → None ≡ Some x → ⊥
 not_both x same = cc
 
-pub none_there : (r : Option (Player × Closed)) → ((x : Player × Closed) → r ≡ Some x → ⊥) → r ≡ None
+pub none_there : (r : Option (ScriptedSlot × Closed)) → ((x : ScriptedSlot × Closed) → r ≡ Some x → ⊥) → r ≡ None
 none_there None none = refl
 none_there (Some x) none = absurd (none x refl)
 
 -- the other slots stay as they were
-ended_kept : (system : Disk) (p : Player) (old new : List Slot) (is : List SessionInput) (ps : List Player) → ((id : ℕ) → id ≢ p.id.0 → slot_at id new ≡ slot_at id old) → IsNoPlayer p.id.0 ps
+ended_kept : (system : Disk) (p : ScriptedSlot) (old new : List SlotState) (is : List SessionInput) (ps : List ScriptedSlot) → ((id : ℕ) → id ≢ p.id.0 → slot_at id new ≡ slot_at id old) → IsNoSlot p.id.0 ps
     → AllEnded system old is ps → AllEnded system new is ps
 ended_kept system p old new [] [] others apart all = tt
 ended_kept system p old new [] (q ∷ ps) others apart all = absurd all
@@ -99,22 +99,22 @@ ended_kept system p old new (i ∷ is) (q ∷ ps) others apart all =
     (record { last = all.0.last; stands = others q.id.0 apart.0 ∙ all.0.stands; played = all.0.played }, ended_kept system p old new is ps others apart.1 all.1)
 
 -- the first of the sessions are reported, and the rest have ended
-pub record IsFinishedTo (system : Disk) (is : List SessionInput) (k : ℕ) (now : List Slot) (rest : List Player) (reports : List SessionReport) (files : List SessionFiles) : Type 0 where
+pub record IsFinishedTo (system : Disk) (is : List SessionInput) (k : ℕ) (now : List SlotState) (rest : List ScriptedSlot) (reports : List SessionReport) (files : List SessionFiles) : Type 0 where
   pub differ : AllDiffer rest
   pub ended : AllEnded system now (drop k is) rest
   pub rows : map report_view reports ≡ reports_of system (take k is)
   pub outputs : map left_by files ≡ files_left system (take k is)
 
-abbrev pub IsFinishing : List Session → ℕ → List Slot → List Slot → List Player → List Player → List SessionReport → List SessionFiles → Type 0
-IsFinishing sessions k start now players rest reports files = (system : Disk) (is : List SessionInput) → map (λ i. i.session) is ≡ sessions → AllEnded system start is players
+abbrev pub IsFinishing : List Session → ℕ → List SlotState → List SlotState → List ScriptedSlot → List ScriptedSlot → List SessionReport → List SessionFiles → Type 0
+IsFinishing sessions k start now scripted rest reports files = (system : Disk) (is : List SessionInput) → map (λ i. i.session) is ≡ sessions → AllEnded system start is scripted
     → IsFinishedTo system is k now rest reports files
 
--- what closing the next player's slot says
-abbrev pub Closing : Host → Host → List Player → Option (Player × Closed) → List Player → Type 0
-Closing old new rest r left = (p : Player) (ps : List Player) (s : MachineState) → rest ≡ p ∷ ps → slot_at p.id.0 old.slots ≡ Some s → IsClosed p ps s old new r left
+-- what closing the next slot says
+abbrev pub Closing : Host → Host → List ScriptedSlot → Option (ScriptedSlot × Closed) → List ScriptedSlot → Type 0
+Closing old new rest r left = (p : ScriptedSlot) (ps : List ScriptedSlot) (s : MachineState) → rest ≡ p ∷ ps → slot_at p.id.0 old.slots ≡ Some s → IsClosed p ps s old new r left
 
-module _ (sessions : List Session) (k : ℕ) (s : Session) (start : List Slot) (old new : Host) (players : List Player) (r : Option (Player × Closed)) (left : List Player) (below : k < length sessions) (at : s ≡ get_or sessions k s) where
-  finish_one : (q : Player) (closed : Closed) (rest : List Player) (reports : List SessionReport) (files : List SessionFiles) (report : SessionReport) (file : SessionFiles) (system : Disk) (is : List SessionInput)
+module _ (sessions : List Session) (k : ℕ) (s : Session) (start : List SlotState) (old new : Host) (scripted : List ScriptedSlot) (r : Option (ScriptedSlot × Closed)) (left : List ScriptedSlot) (below : k < length sessions) (at : s ≡ get_or sessions k s) where
+  finish_one : (q : ScriptedSlot) (closed : Closed) (rest : List ScriptedSlot) (reports : List SessionReport) (files : List SessionFiles) (report : SessionReport) (file : SessionFiles) (system : Disk) (is : List SessionInput)
       → map (λ i. i.session) is ≡ sessions → IsFinishedTo system is k old.slots rest reports files → Closing old new rest r left → r ≡ Some (q, closed) → report_view report ≡ report_by s q closed
       → left_by file ≡ files_by s q closed → IsFinishedTo system is (k + 1) new.slots left (reports ++ report ∷ []) (files ++ file ∷ [])
   unfolding who_of what_of
@@ -122,7 +122,7 @@ module _ (sessions : List Session) (k : ℕ) (s : Session) (start : List Slot) (
       let a = is_at is sessions k s same below at in
       go a rest h.differ (subst (λ (xs : List SessionInput). AllEnded system old.slots xs rest) a.first h.ended) closing
     where
-      go : (a : IsAt is k (k + 1) s) (now : List Player) → AllDiffer now → AllEnded system old.slots (a.input ∷ drop (k + 1) is) now → Closing old new now r left
+      go : (a : IsAt is k (k + 1) s) (now : List ScriptedSlot) → AllDiffer now → AllEnded system old.slots (a.input ∷ drop (k + 1) is) now → Closing old new now r left
           → IsFinishedTo system is (k + 1) new.slots left (reports ++ report ∷ []) (files ++ file ∷ [])
       go a [] differ all close = absurd all
       go a (p ∷ ps) differ all close =
@@ -131,80 +131,70 @@ module _ (sessions : List Session) (k : ℕ) (s : Session) (start : List Slot) (
           let who : q ≡ p = ap (who_of q) pair in
           let what : closed ≡ c.closed = ap (what_of closed) pair in
           let row : report_view report ≡ reported_of a.input.session (run_of system a.input) =
-          one ∙ ap (λ (x : Player). report_by s x closed) who ∙ ap (λ (x : Closed). report_by s p x) what ∙ report_is system a.input s p c.closed all.0.last a.session c.look all.0.played in
+          one ∙ ap (λ (x : ScriptedSlot). report_by s x closed) who ∙ ap (λ (x : Closed). report_by s p x) what ∙ report_is system a.input s p c.closed all.0.last a.session c.look all.0.played in
           let out : left_by file ≡ left_of a.input.session (run_of system a.input) =
-          other ∙ ap (λ (x : Player). files_by s x closed) who ∙ ap (λ (x : Closed). files_by s p x) what ∙ files_is system a.input s p c.closed all.0.last a.session c.drives all.0.played in
+          other ∙ ap (λ (x : ScriptedSlot). files_by s x closed) who ∙ ap (λ (x : Closed). files_by s p x) what ∙ files_is system a.input s p c.closed all.0.last a.session c.drives all.0.played in
           record {
-            differ = subst (λ (xs : List Player). AllDiffer xs) (sym c.left) differ.1;
-            ended = subst (λ (xs : List Player). AllEnded system new.slots (drop (k + 1) is) xs) (sym c.left) (ended_kept system p old.slots new.slots (drop (k + 1) is) ps c.others differ.0 all.1);
+            differ = subst (λ (xs : List ScriptedSlot). AllDiffer xs) (sym c.left) differ.1;
+            ended = subst (λ (xs : List ScriptedSlot). AllEnded system new.slots (drop (k + 1) is) xs) (sym c.left) (ended_kept system p old.slots new.slots (drop (k + 1) is) ps c.others differ.0 all.1);
             rows = map-append report_view reports (report ∷ []) ∙ ap (λ xs. xs ++ report_view report ∷ []) h.rows ∙ ap (λ x. reports_of system (take k is) ++ x ∷ []) row
                 ∙ sym (map-append (λ i. reported_of i.session (run_of system i)) (take k is) (a.input ∷ [])) ∙ ap (reports_of system) (sym a.more);
             outputs = map-append left_by files (file ∷ []) ∙ ap (λ xs. xs ++ left_by file ∷ []) h.outputs ∙ ap (λ x. files_left system (take k is) ++ x ∷ []) out
                 ∙ sym (map-append (λ i. left_of i.session (run_of system i)) (take k is) (a.input ∷ [])) ∙ ap (files_left system) (sym a.more);
           }
 
-  pub finishing_more : (q : Player) (closed : Closed) (rest : List Player) (reports more : List SessionReport) (files others : List SessionFiles) (report : SessionReport) (file : SessionFiles)
-      → IsFinishing sessions k start old.slots players rest reports files → Closing old new rest r left → r ≡ Some (q, closed) → report_view report ≡ report_by s q closed → left_by file ≡ files_by s q closed
-      → more ≡ reports ++ report ∷ [] → others ≡ files ++ file ∷ [] → IsFinishing sessions (k + 1) start new.slots players left more others
+  pub finishing_more : (q : ScriptedSlot) (closed : Closed) (rest : List ScriptedSlot) (reports more : List SessionReport) (files others : List SessionFiles) (report : SessionReport) (file : SessionFiles)
+      → IsFinishing sessions k start old.slots scripted rest reports files → Closing old new rest r left → r ≡ Some (q, closed) → report_view report ≡ report_by s q closed → left_by file ≡ files_by s q closed
+      → more ≡ reports ++ report ∷ [] → others ≡ files ++ file ∷ [] → IsFinishing sessions (k + 1) start new.slots scripted left more others
   finishing_more q closed rest reports more files others report file h closing got one other pushed added = λ system is same all.
       subst (λ (xs : List SessionReport). IsFinishedTo system is (k + 1) new.slots left xs others) (sym pushed)
       (subst (λ (xs : List SessionFiles). IsFinishedTo system is (k + 1) new.slots left (reports ++ report ∷ []) xs) (sym added)
       (finish_one q closed rest reports files report file system is same (h system is same all) closing got one other))
 
-  -- where a session is left, its player is there, and its slot is closed
-  pub finished_early : (rest : List Player) (reports : List SessionReport) (files : List SessionFiles) → IsFinishing sessions k start old.slots players rest reports files → Closing old new rest r left → r ≡ None
-      → AreFinished sessions start players reports files
+  -- where a session is left, its scripted slot is there, and its slot is closed
+  pub finished_early : (rest : List ScriptedSlot) (reports : List SessionReport) (files : List SessionFiles) → IsFinishing sessions k start old.slots scripted rest reports files → Closing old new rest r left → r ≡ None
+      → AreFinished sessions start scripted reports files
   finished_early rest reports files h closing none = λ system is same all.
       let f = h system is same all in
       let a = is_at is sessions k s same below at in
       absurd (go system is a rest (subst (λ (xs : List SessionInput). AllEnded system old.slots xs rest) a.first f.ended) closing)
     where
-      go : (system : Disk) (is : List SessionInput) (a : IsAt is k (k + 1) s) (now : List Player) → AllEnded system old.slots (a.input ∷ drop (k + 1) is) now → Closing old new now r left → ⊥
+      go : (system : Disk) (is : List SessionInput) (a : IsAt is k (k + 1) s) (now : List ScriptedSlot) → AllEnded system old.slots (a.input ∷ drop (k + 1) is) now → Closing old new now r left → ⊥
       go system is a [] all close = all
       go system is a (p ∷ ps) all close =
           let c = close p ps all.0.last refl all.0.stands in
           not_both (p, c.closed) (sym none ∙ c.result)
 
-pub finished : (sessions : List Session) (k : ℕ) (start now : List Slot) (players rest : List Player) (reports : List SessionReport) (files : List SessionFiles) → length sessions ≤ k
-    → IsFinishing sessions k start now players rest reports files → AreFinished sessions start players reports files
-finished sessions k start now players rest reports files all h = λ system is same ended.
+pub finished : (sessions : List Session) (k : ℕ) (start now : List SlotState) (scripted rest : List ScriptedSlot) (reports : List SessionReport) (files : List SessionFiles) → length sessions ≤ k
+    → IsFinishing sessions k start now scripted rest reports files → AreFinished sessions start scripted reports files
+finished sessions k start now scripted rest reports files all h = λ system is same ended.
     let f = h system is same ended in
     let long : length is ≤ k = let m = length-map is (λ i. i.session) in let e = ap length same in omega (arith, all, m, e) in
     let whole : take k is ≡ is = take_all k is long in
     (f.rows ∙ ap (reports_of system) whole, f.outputs ∙ ap (files_left system) whole)
 
-pub finishing_start : (sessions : List Session) (start : List Slot) (players rest : List Player) (reports : List SessionReport) (files : List SessionFiles) → rest ≡ players → reports ≡ [] → files ≡ []
-    → AllDiffer players → IsFinishing sessions 0 start start players rest reports files
-finishing_start sessions start players rest reports files same no_reports no_files differ = λ system is inputs all.
-    record {
-      differ = subst (λ (xs : List Player). AllDiffer xs) (sym same) differ;
-      ended = subst (λ (xs : List Player). AllEnded system start is xs) (sym same) all;
-      rows = ap (map report_view) no_reports;
-      outputs = ap (map left_by) no_files;
-    }
-
 -- ---- all of it
 
-lengths : (system : Disk) (before now : List Slot) (ps qs : List Player) → AllPlayed system before now ps qs → length qs ≡ length ps
+lengths : (system : Disk) (before now : List SlotState) (ps qs : List ScriptedSlot) → AllPlayed system before now ps qs → length qs ≡ length ps
 lengths system before now [] [] h = refl
 lengths system before now [] (q ∷ qs) h = absurd h
 lengths system before now (p ∷ ps) [] h = absurd h
 lengths system before now (p ∷ ps) (q ∷ qs) h = ap suc (lengths system before now ps qs h.1)
 
--- the players that played, in the vector that they came from
-pub written_back : (system : Disk) (before now : List Slot) (n : ℕ) (ps begun qs : List Player) → n ≡ length ps → begun ≡ ps → AllPlayed system before now begun qs
+-- the scripted slots that played, in the vector that they came from
+pub written_back : (system : Disk) (before now : List SlotState) (n : ℕ) (ps begun qs : List ScriptedSlot) → n ≡ length ps → begun ≡ ps → AllPlayed system before now begun qs
     → take n (qs ++ drop (length qs) ps) ≡ qs
 written_back system before now n ps begun qs whole first h =
     let same : length qs ≡ length ps = lengths system before now begun qs h ∙ ap length first in
     let none : drop (length qs) ps ≡ [] = drop_all (length qs) ps (omega (arith, same)) in
-    ap (λ (xs : List Player). take n (qs ++ xs)) none ∙ ap (λ (xs : List Player). take n xs) (append-nil qs) ∙ take_all n qs (omega (arith, whole, same))
+    ap (λ (xs : List ScriptedSlot). take n (qs ++ xs)) none ∙ ap (λ (xs : List ScriptedSlot). take n xs) (append-nil qs) ∙ take_all n qs (omega (arith, whole, same))
 
--- sessions that were seated and played are reported, and leave their files, as their machines alone
-pub all_finished : (system other : Disk) (before now : List Slot) (sessions slice : List Session) (is : List SessionInput) (ps begun played qs : List Player) (reports : List SessionReport)
-    (files : List SessionFiles) → other ≡ system → slice ≡ sessions → begun ≡ ps → qs ≡ played → map (λ i. i.session) is ≡ sessions → AllSeated before is ps
+-- sessions that had slots and were played are reported, and leave their files, as their machines alone
+pub all_finished : (system other : Disk) (before now : List SlotState) (sessions slice : List Session) (is : List SessionInput) (ps begun played qs : List ScriptedSlot) (reports : List SessionReport)
+    (files : List SessionFiles) → other ≡ system → slice ≡ sessions → begun ≡ ps → qs ≡ played → map (λ i. i.session) is ≡ sessions → HaveSlots before is ps
     → AllPlayed other before now begun played → AreFinished slice now qs reports files → (map report_view reports ≡ reports_of system is) × (map left_by files ≡ files_left system is)
-all_finished system other before now sessions slice is ps begun played qs reports files drive whole first last inputs seats h all =
-    let from : AllPlayed other before now ps played = subst (λ (xs : List Player). AllPlayed other before now xs played) first h in
-    let to : AllPlayed other before now ps qs = subst (λ (xs : List Player). AllPlayed other before now ps xs) (sym last) from in
+all_finished system other before now sessions slice is ps begun played qs reports files drive whole first last inputs slots h all =
+    let from : AllPlayed other before now ps played = subst (λ (xs : List ScriptedSlot). AllPlayed other before now xs played) first h in
+    let to : AllPlayed other before now ps qs = subst (λ (xs : List ScriptedSlot). AllPlayed other before now ps xs) (sym last) from in
     let here : AllPlayed system before now ps qs = subst (λ (d : Disk). AllPlayed d before now ps qs) drive to in
-    all system is (inputs ∙ sym whole) (all_ended system before now is ps qs seats here)
+    all system is (inputs ∙ sym whole) (all_ended system before now is ps qs slots here)

@@ -5,4 +5,4 @@ pub mod ListLemmas
 pub mod PlayLemmas
 pub mod RunLemmas
 pub mod ScriptLemmas
-pub mod SeatLemmas
+pub mod SlotLemmas

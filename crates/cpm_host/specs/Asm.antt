@@ -8,7 +8,7 @@ use Rattle.cpm_host.specs.declared.error.HostError.TheVariants.{OutOfMemory, Sou
 
 -- own: the lines of a text, each but the last without the newline (10) that ends it
 abbrev pub lines_in : List ℕ → List (List ℕ)
-lines_in text = slice_split (λ b. b == 10) text
+lines_in text = slice_split (λ b. b == 0x0A) text
 
 -- own: the line of this number, from 1 on; nothing where there is none
 abbrev pub line_of : List ℕ → ℕ → List ℕ

@@ -16,10 +16,10 @@ use Rattle.cpm_host.specs.declared.error.HostError.TheVariants.{FileRefused, Out
 
 -- the console bytes of a machine from which none was taken
 abbrev pub text_of : MachineState → List ℕ
-text_of s = s.session.console.screen
+text_of s = s.cpm.console.screen
 
 abbrev pub ending_of : MachineState → Ending
-ending_of s = record { ended = s.ended; count = s.count; pc = s.session.regs.pc }
+ending_of s = record { ended = s.ended; count = s.count; pc = s.cpm.regs.pc }
 
 -- these are the keys of the script, if there is one
 abbrev pub HasScript : Option Script → List Key → Type 0

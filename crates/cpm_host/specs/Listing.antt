@@ -26,7 +26,7 @@ length_at bytes = length_of (decoded8080 (slice_index bytes 0) (slice_index byte
 -- the bytes that it still has are passed over. Addresses go on at 0000h behind FFFFh.
 abbrev pub listing : ℕ → ℕ → List ℕ → List ℕ
 listing place left [] = []
-listing place zero (b ∷ bs) = list_line (place % 65536) (three (b ∷ bs)) ++ 10 ∷ listing (suc place) (length_at (three (b ∷ bs)) - 1) bs
+listing place zero (b ∷ bs) = list_line (place % 65536) (three (b ∷ bs)) ++ 0x0A ∷ listing (suc place) (length_at (three (b ∷ bs)) - 1) bs
 listing place (suc left) (b ∷ bs) = listing (suc place) left bs
 
 -- when a listing is refused: the writer refused it

@@ -6,21 +6,21 @@ use Rattle.cpm_batch.specs.declared.output.SessionFiles.{SessionFiles}
 use Rattle.cpm_config.specs.declared.config.Session.{Session}
 use Rattle.cpm_disks.specs.Disks.{images_of}
 use Rattle.cpm_geom.specs.Disk.{Disk}
-use Rattle.cpm_sessions.specs.Host.{Host, Slot, refusal_of, slot_at, with_opened}
+use Rattle.cpm_sessions.specs.Host.{Host, SlotState, refusal_of, slot_at, with_opened}
 use Rattle.cpm_slots.specs.MachineState.{MachineState}
 use Rattle.cpm_slots.specs.Serve.{look_of}
 use Rattle.cpm_slots.specs.declared.opening.Opening.{Opening}
 use Rattle.cpm_slots.specs.declared.reply.Closed.{Closed}
-use Rattle.cpm_turns.specs.Players.{IsNew, keys_of, steps_of}
+use Rattle.cpm_turns.specs.ScriptedSlots.{IsNew, keys_of, steps_of}
 use Rattle.cpm_turns.specs.Playing.{IsInOrder, IsPlayed}
-use Rattle.cpm_turns.specs.declared.player.Player.{Player}
+use Rattle.cpm_turns.specs.declared.scripted_slot.ScriptedSlot.{ScriptedSlot}
 use Rattle.cpm_host.specs.Run.{IsFirstRefused, IsOpening, Reported, files_left, report_view, reports_of, start_of}
 use Rattle.cpm_host.specs.declared.report.SessionReport.{SessionReport}
 use Rattle.cpm_host.specs.declared.error.HostError.{HostError}
 use Rattle.cpm_host.specs.declared.error.HostError.TheVariants as refusal
 
--- the session's slot was opened, and the player is to play it
-pub record TakesSeat (i : SessionInput) (old new : Host) (p : Player) : Type 0 where
+-- the session's slot was opened, and the scripted slot is to play it
+pub record OpensSlot (i : SessionInput) (old new : Host) (p : ScriptedSlot) : Type 0 where
   pub opening : Opening
   pub opens : IsOpening i opening
   pub accepted : refusal_of old opening ≡ None
@@ -30,27 +30,27 @@ pub record TakesSeat (i : SessionInput) (old new : Host) (p : Player) : Type 0 w
   pub steps : steps_of p ≡ i.session.steps
   pub unplayed : IsNew p
 
--- the player is to play the session, whose slot is at its opening
-pub record IsSeated (slots : List Slot) (i : SessionInput) (p : Player) : Type 0 where
+-- the scripted slot is to play the session, whose slot is at its opening
+pub record HasSlot (slots : List SlotState) (i : SessionInput) (p : ScriptedSlot) : Type 0 where
   pub slot : slot_at p.id.0 slots ≡ Some (start_of i)
   pub keys : keys_of p ≡ i.keys
   pub steps : steps_of p ≡ i.session.steps
   pub unplayed : IsNew p
 
--- the player has played the session, whose slot it left so
-pub record HasEnded (system : Disk) (slots : List Slot) (i : SessionInput) (p : Player) : Type 0 where
+-- the scripted slot has played the session, whose slot it left so
+pub record HasEnded (system : Disk) (slots : List SlotState) (i : SessionInput) (p : ScriptedSlot) : Type 0 where
   pub last : MachineState
   pub stands : slot_at p.id.0 slots ≡ Some last
   pub played : IsPlayed system i.keys i.session.steps (start_of i) last p.console.items p.list.items
 
--- each session with its player
-abbrev pub AllSeated : List Slot → List SessionInput → List Player → Type 0
-AllSeated slots [] [] = ⊤
-AllSeated slots (i ∷ is) (p ∷ ps) = IsSeated slots i p × AllSeated slots is ps
-AllSeated slots [] (p ∷ ps) = ⊥
-AllSeated slots (i ∷ is) [] = ⊥
+-- each session with its scripted slot
+abbrev pub HaveSlots : List SlotState → List SessionInput → List ScriptedSlot → Type 0
+HaveSlots slots [] [] = ⊤
+HaveSlots slots (i ∷ is) (p ∷ ps) = HasSlot slots i p × HaveSlots slots is ps
+HaveSlots slots [] (p ∷ ps) = ⊥
+HaveSlots slots (i ∷ is) [] = ⊥
 
-abbrev pub AllEnded : Disk → List Slot → List SessionInput → List Player → Type 0
+abbrev pub AllEnded : Disk → List SlotState → List SessionInput → List ScriptedSlot → Type 0
 AllEnded system slots [] [] = ⊤
 AllEnded system slots (i ∷ is) (p ∷ ps) = HasEnded system slots i p × AllEnded system slots is ps
 AllEnded system slots [] (p ∷ ps) = ⊥
@@ -62,22 +62,22 @@ ArePressable [] = ⊤
 ArePressable (i ∷ is) = IsInOrder 0 i.keys × (length i.keys ≤ 4096) × ArePressable is
 
 -- how opening sessions one after another is refused
-abbrev pub IsSeatRefusal : Host → List SessionInput → HostError → Type 0
-IsSeatRefusal h is (refusal.SessionRefused name fault) = IsFirstRefused h is fault
-IsSeatRefusal h is refusal.OutOfMemory = ⊤
-IsSeatRefusal h is _ = ⊥
+abbrev pub IsSlotRefusal : Host → List SessionInput → HostError → Type 0
+IsSlotRefusal h is (refusal.SessionRefused name fault) = IsFirstRefused h is fault
+IsSlotRefusal h is refusal.OutOfMemory = ⊤
+IsSlotRefusal h is _ = ⊥
 
--- the first of the players, with what is left of its slot, which was closed
-pub record IsClosed (p : Player) (ps : List Player) (s : MachineState) (old new : Host) (r : Option (Player × Closed)) (rest : List Player) : Type 0 where
+-- the first of the scripted slots, with what is left of its slot, which was closed
+pub record IsClosed (p : ScriptedSlot) (ps : List ScriptedSlot) (s : MachineState) (old new : Host) (r : Option (ScriptedSlot × Closed)) (rest : List ScriptedSlot) : Type 0 where
   pub closed : Closed
   pub result : r ≡ Some (p, closed)
   pub look : closed.look ≡ look_of s
-  pub drives : closed.drives ≡ images_of s.session.disks
+  pub drives : closed.drives ≡ images_of s.cpm.disks
   pub left : rest ≡ ps
   pub others : (id : ℕ) → id ≢ p.id.0 → slot_at id new.slots ≡ slot_at id old.slots
 
 -- what is reported of a session, by what is left of it
-abbrev pub report_by : Session → Player → Closed → Reported
+abbrev pub report_by : Session → ScriptedSlot → Closed → Reported
 report_by session p closed = record {
   name = string_bytes session.name;
   ended = closed.look.ended;
@@ -85,12 +85,12 @@ report_by session p closed = record {
   bytes = length p.console.items;
 }
 
-abbrev pub files_by : Session → Player → Closed → SessionOutput
+abbrev pub files_by : Session → ScriptedSlot → Closed → SessionOutput
 files_by session p closed =
     record { session = session; console = p.console.items; list = p.list.items; drives = closed.drives }
 
 -- each session that ended so is reported, and leaves its files
-abbrev pub AreFinished : List Session → List Slot → List Player → List SessionReport → List SessionFiles → Type 0
-AreFinished sessions slots players reports files = (system : Disk) (is : List SessionInput)
-    → map (λ i. i.session) is ≡ sessions → AllEnded system slots is players
+abbrev pub AreFinished : List Session → List SlotState → List ScriptedSlot → List SessionReport → List SessionFiles → Type 0
+AreFinished sessions slots scripted reports files = (system : Disk) (is : List SessionInput)
+    → map (λ i. i.session) is ≡ sessions → AllEnded system slots is scripted
     → (map report_view reports ≡ reports_of system is) × (map left_by files ≡ files_left system is)

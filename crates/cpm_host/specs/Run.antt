@@ -38,9 +38,9 @@ run_of system i = alone_by system i.keys i.session.steps (start_of i)
 abbrev pub left_of : Session → MachineState → SessionOutput
 left_of session s = record {
   session = session;
-  console = s.session.console.screen;
-  list = s.session.console.printer;
-  drives = images_of s.session.disks;
+  console = s.cpm.console.screen;
+  list = s.cpm.console.printer;
+  drives = images_of s.cpm.disks;
 }
 
 -- what is reported of it: its name, its end, its steps and the number of its console bytes
@@ -55,7 +55,7 @@ reported_of session s = record {
   name = string_bytes session.name;
   ended = s.ended;
   count = s.count;
-  bytes = length s.session.console.screen;
+  bytes = length s.cpm.console.screen;
 }
 
 abbrev pub report_view : SessionReport → Reported

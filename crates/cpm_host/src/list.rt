@@ -38,7 +38,7 @@ fn length_at(bytes: [u8; 3]) -> usize
 
 /// Writes a line and its end.
 fn write_line<W: Write>(out: &mut W, line: &str) -> io::Result<()>
-    ensures { OnOk result (Appends (W.contents out.old) (W.contents out.new) (line.now ++ 10 ∷ [])) }
+    ensures { OnOk result (Appends (W.contents out.old) (W.contents out.new) (line.now ++ 0x0A ∷ [])) }
 {
     out.write_all(line.as_bytes())?;
     out.write_all(b"\n")?;

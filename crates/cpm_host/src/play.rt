@@ -7,9 +7,9 @@ ghost use Rattle.cpm_sessions.specs.Host.{Host as HostValue, new_host, refusal_o
 ghost use Rattle.cpm_slots.specs.MachineState.{MachineState};
 ghost use Rattle.cpm_slots.specs.Opening.{IsRefusal};
 ghost use Rattle.cpm_slots.specs.declared.opening.Opening.{Opening as OpeningValue};
-ghost use Rattle.cpm_turns.specs.Players.{AllDiffer};
-ghost use Rattle.cpm_turns.specs.declared.player.Player.{Player};
-ghost use Rattle.cpm_host.specs.Playing.{AllSeated, AreFinished, ArePressable, IsClosed, IsSeatRefusal, TakesSeat, files_by, report_by};
+ghost use Rattle.cpm_turns.specs.ScriptedSlots.{AllDiffer};
+ghost use Rattle.cpm_turns.specs.declared.scripted_slot.ScriptedSlot.{ScriptedSlot};
+ghost use Rattle.cpm_host.specs.Playing.{HaveSlots, AreFinished, ArePressable, IsClosed, IsSlotRefusal, OpensSlot, files_by, report_by};
 ghost use Rattle.cpm_host.specs.Run.{AllAccepted, IsOpening, files_left, report_view, reports_of};
 
 use crate::error::HostError;
@@ -19,7 +19,7 @@ use cpm_command::shown;
 use cpm_config::{Config, Session};
 use cpm_sessions::Host;
 use cpm_slots::{Closed, OpenError, Opening};
-use cpm_turns::{Player, play};
+use cpm_turns::{ScriptedSlot, play};
 use std::alloc::{AllocError, Global};
 use std::vec::IntoIter;
 
@@ -32,7 +32,7 @@ pub(crate) struct Played<'a> {
 
 /// Why a session has no slot, if its opening is refused so.
 fn refused(session: &Session, fault: OpenError) -> HostError
-    ensures { (h : HostValue) (i : SessionInput) (o : OpeningValue) → IsOpening i o → IsRefusal (refusal_of h o) fault → IsSeatRefusal h (i ∷ []) result }
+    ensures { (h : HostValue) (i : SessionInput) (o : OpeningValue) → IsOpening i o → IsRefusal (refusal_of h o) fault → IsSlotRefusal h (i ∷ []) result }
 {
     match fault {
         OpenError::OutOfMemory => HostError::OutOfMemory,
@@ -43,10 +43,10 @@ fn refused(session: &Session, fault: OpenError) -> HostError
     }
 }
 
-/// Opens a slot for a session, and gives it a player.
-fn seat(alloc: Global, host: &mut Host, input: Input<'_>) -> Result<Player, HostError>
-    ensures seated { IfOk result (TakesSeat (given input.entry) host.old.host host.new.host) }
-    ensures refusal { IfErr result (IsSeatRefusal host.old.host (given input.entry ∷ [])) }
+/// Opens a slot for a session, which is to be played by its script.
+fn open_slot(alloc: Global, host: &mut Host, input: Input<'_>) -> Result<ScriptedSlot, HostError>
+    ensures opened { IfOk result (OpensSlot (given input.entry) host.old.host host.new.host) }
+    ensures refusal { IfErr result (IsSlotRefusal host.old.host (given input.entry ∷ [])) }
     ensures unchanged { OnErr result (host.new.host ≡ host.old.host) }
 {
     let Input {
@@ -60,40 +60,43 @@ fn seat(alloc: Global, host: &mut Host, input: Input<'_>) -> Result<Player, Host
         drives,
     };
     match host.open(alloc, opening) {
-        Ok(id) => Ok(Player::new(alloc, id, keys, session.steps)),
+        Ok(id) => Ok(ScriptedSlot::new(alloc, id, keys, session.steps)),
         Err((_, fault)) => Err(refused(session, fault)),
     }
 }
 
-/// Opens a slot for each session in order, and gives each a player.
-fn seat_all(
+/// Opens a slot for each session in order.
+fn open_slots(
     alloc: Global,
     host: &mut Host,
     inputs: Vec<Input<'_>>,
-) -> Result<Vec<Player>, HostError>
+) -> Result<Vec<ScriptedSlot>, HostError>
     requires { host.old.host.slots ≡ [] }
-    ensures seated { IfOk result (λ players. AllSeated host.new.host.slots (map given inputs.entry.items) players.items) }
+    ensures opened { IfOk result (λ scripted. HaveSlots host.new.host.slots (map given inputs.entry.items) scripted.items) }
     ensures accepted { OnOk result (AllAccepted host.old.host (map given inputs.entry.items)) }
-    ensures differ { IfOk result (λ players. AllDiffer players.items) }
+    ensures differ { IfOk result (λ scripted. AllDiffer scripted.items) }
     ensures system { host.new.host.system ≡ host.old.host.system }
-    ensures refusal { IfErr result (IsSeatRefusal host.old.host (map given inputs.entry.items)) }
+    ensures refusal { IfErr result (IsSlotRefusal host.old.host (map given inputs.entry.items)) }
 {
-    let mut players = Vec::new(alloc);
+    let mut scripted = Vec::new(alloc);
     let mut rest = inputs.into_iter();
     while let Some(input) = rest.next() {
-        players.push(seat(alloc, host, input)?)?;
+        scripted.push(open_slot(alloc, host, input)?)?;
     }
-    Ok(players)
+    Ok(scripted)
 }
 
-/// The next player, with what is left of its slot, which is closed.
-fn next_closed(host: &mut Host, players: &mut IntoIter<Player>) -> Option<(Player, Closed)>
-    ensures { (p : Player) (ps : List Player) (s : MachineState) → into_iter_items players.old ≡ p ∷ ps → slot_at p.id.0 host.old.host.slots ≡ Some s
-        → IsClosed p ps s host.old.host host.new.host result (into_iter_items players.new) }
+/// The next scripted slot, with what is left of its slot, which is closed.
+fn next_closed(
+    host: &mut Host,
+    scripted: &mut IntoIter<ScriptedSlot>,
+) -> Option<(ScriptedSlot, Closed)>
+    ensures { (p : ScriptedSlot) (ps : List ScriptedSlot) (s : MachineState) → into_iter_items scripted.old ≡ p ∷ ps → slot_at p.id.0 host.old.host.slots ≡ Some s
+        → IsClosed p ps s host.old.host host.new.host result (into_iter_items scripted.new) }
 {
-    let player = players.next()?;
-    match host.close(player.id) {
-        Ok(closed) => Some((player, closed)),
+    let slot = scripted.next()?;
+    match host.close(slot.id) {
+        Ok(closed) => Some((slot, closed)),
         Err(_) => None,
     }
 }
@@ -102,15 +105,15 @@ fn next_closed(host: &mut Host, players: &mut IntoIter<Player>) -> Option<(Playe
 fn finish<'a>(
     alloc: Global,
     session: &'a Session,
-    player: Player,
+    slot: ScriptedSlot,
     closed: Closed,
 ) -> Result<(SessionReport, SessionFiles<'a>), AllocError>
-    ensures report { IfOk result (λ r. report_view r.0 ≡ report_by session.entry.now player closed) }
-    ensures files { IfOk result (λ r. left_by r.1 ≡ files_by session.entry.now player closed) }
+    ensures report { IfOk result (λ r. report_view r.0 ≡ report_by session.entry.now slot closed) }
+    ensures files { IfOk result (λ r. left_by r.1 ≡ files_by session.entry.now slot closed) }
 {
     let name = String::from_str(alloc, session.name.as_str())?;
     let Closed { look, drives } = closed;
-    let Player { console, list, .. } = player;
+    let ScriptedSlot { console, list, .. } = slot;
     let report = SessionReport {
         name,
         ended: look.ended,
@@ -126,24 +129,24 @@ fn finish<'a>(
     Ok((report, files))
 }
 
-/// What is reported of all sessions, and what is written, once their players have played them. Their slots are closed.
+/// What is reported of all sessions, and what is written, once their scripted slots have played them. Their slots are closed.
 fn finish_all<'a>(
     alloc: Global,
     host: &mut Host,
     sessions: &'a [Session],
-    players: Vec<Player>,
+    scripted: Vec<ScriptedSlot>,
 ) -> Result<Played<'a>, AllocError>
-    requires { AllDiffer players.items }
-    ensures { IfOk result (λ played. AreFinished sessions.entry.now host.old.host.slots players.items played.reports.items played.files.items) }
+    requires { AllDiffer scripted.items }
+    ensures { IfOk result (λ played. AreFinished sessions.entry.now host.old.host.slots scripted.items played.reports.items played.files.items) }
 {
     let mut reports = Vec::new(alloc);
     let mut files = Vec::new(alloc);
-    let mut rest = players.into_iter();
+    let mut rest = scripted.into_iter();
     for session in sessions {
-        let Some((player, closed)) = next_closed(host, &mut rest) else {
+        let Some((slot, closed)) = next_closed(host, &mut rest) else {
             return Ok(Played { reports, files });
         };
-        let (report, left) = finish(alloc, session, player, closed)?;
+        let (report, left) = finish(alloc, session, slot, closed)?;
         reports.push(report)?;
         files.push(left)?;
     }
@@ -164,15 +167,15 @@ pub(crate) fn play_all<'a>(
     ensures reports { IfOk result (λ p. map report_view p.reports.items ≡ reports_of inputs.entry.system (map given inputs.entry.sessions.items)) }
     ensures files { IfOk result (λ p. map left_by p.files.items ≡ files_left inputs.entry.system (map given inputs.entry.sessions.items)) }
     ensures accepted { OnOk result (AllAccepted (new_host inputs.entry.system config.entry.now.frames) (map given inputs.entry.sessions.items)) }
-    ensures refusal { IfErr result (IsSeatRefusal (new_host inputs.entry.system config.entry.now.frames) (map given inputs.entry.sessions.items)) }
+    ensures refusal { IfErr result (IsSlotRefusal (new_host inputs.entry.system config.entry.now.frames) (map given inputs.entry.sessions.items)) }
 {
     let Inputs { system, sessions } = inputs;
     let mut host = match Host::new(alloc, system, config.frames) {
         Ok(host) => host,
         Err(_) => return Err(HostError::OutOfMemory),
     };
-    let mut players = seat_all(alloc, &mut host, sessions)?;
-    play(&mut host, players.as_mut_slice(), config.quantum)?;
-    let played = finish_all(alloc, &mut host, config.sessions.as_slice(), players)?;
+    let mut scripted = open_slots(alloc, &mut host, sessions)?;
+    play(&mut host, scripted.as_mut_slice(), config.quantum)?;
+    let played = finish_all(alloc, &mut host, config.sessions.as_slice(), scripted)?;
     Ok(played)
 }

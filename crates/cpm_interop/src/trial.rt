@@ -1,7 +1,7 @@
 //! A session that is called from outside, with a memory by itself.
 
 use crate::call::Call;
-use cpm_bdos::Session;
+use cpm_bdos::Cpm;
 use cpm_console::Console;
 use cpm_geom::Image;
 use cpm_memory::{FlatMemory, get_run, has_room, set_byte};
@@ -28,7 +28,7 @@ pub struct Left {
 /// A session and its memory.
 #[derive(Drop)]
 pub struct Trial {
-    session: Session,
+    cpm: Cpm,
     memory: FlatMemory,
 }
 
@@ -36,14 +36,14 @@ impl Trial {
     /// A session at its opening with these images as drives A to D.
     pub fn new(alloc: Global, images: Vec<Image>) -> Result<Trial, AllocError> {
         Ok(Trial {
-            session: Session::new(Console::new(alloc)?, images),
+            cpm: Cpm::new(Console::new(alloc)?, images),
             memory: FlatMemory::new(alloc)?,
         })
     }
 
     /// Does a call. A fault's message is answered with a key, which boots the session anew.
     pub fn call(&mut self, system: &Image, call: &Call) -> Left {
-        let buffer = self.session.buffer;
+        let buffer = self.cpm.buffer;
         if let Some(fcb) = &call.fcb {
             self.store(call.parameter, fcb);
         }
@@ -53,17 +53,17 @@ impl Trial {
         self.come(call.function, call.parameter);
         self.step(system);
         let mut left = Left {
-            result: u16::from(self.session.regs.h) << 8 | u16::from(self.session.regs.l),
+            result: u16::from(self.cpm.regs.h) << 8 | u16::from(self.cpm.regs.l),
             shown: [0; 64],
             count: 0,
             fcb: [0; 36],
             record: [0; 128],
         };
-        left.count = self.session.console.take(&mut left.shown);
+        left.count = self.cpm.console.take(&mut left.shown);
         get_run(&self.memory, call.parameter, &mut left.fcb);
         get_run(&self.memory, buffer, &mut left.record);
         if left.count > 0 {
-            let _ = self.session.console.give(b' ');
+            let _ = self.cpm.console.give(b' ');
             self.step(system);
         }
         left
@@ -71,7 +71,7 @@ impl Trial {
 
     /// The images of the drives afterwards.
     pub fn into_images(self) -> [Option<Image>; 4] {
-        self.session.disks.into_images()
+        self.cpm.disks.into_images()
     }
 
     /// Puts bytes into memory.
@@ -87,7 +87,7 @@ impl Trial {
 
     /// Comes to the BDOS with a function and its parameter; HL is FFFFh.
     fn come(&mut self, function: u8, parameter: u16) {
-        let regs = &mut self.session.regs;
+        let regs = &mut self.cpm.regs;
         regs.sp = STACK;
         regs.c = function;
         regs.d = (parameter >> 8) as u8;
@@ -98,8 +98,8 @@ impl Trial {
 
     /// One step of the BDOS.
     fn step(&mut self, system: &Image) {
-        if self.session.console.has_room() && has_room(&self.memory) {
-            let _went = self.session.bdos_step(&mut self.memory, system);
+        if self.cpm.console.has_room() && has_room(&self.memory) {
+            let _went = self.cpm.bdos_step(&mut self.memory, system);
         }
     }
 }

@@ -3,7 +3,7 @@ use Rattle.std.specs.Prelude.{ℕ, List, [], ◌∷◌, ◌++◌, ◌+◌, ◌-�
 
 -- the digit of a number below 16: 0 to 9, A to F
 abbrev pub hexadecimal : ℕ → ℕ
-hexadecimal n = if nat_lt n 10 then 48 + n else 55 + n
+hexadecimal n = if nat_lt n 10 then 0x30 + n else 55 + n
 
 -- a byte in two digits
 unfoldable pub two_digits : ℕ → List ℕ
@@ -16,7 +16,7 @@ four_digits n = two_digits (n / 256) ++ two_digits (n % 256)
 -- each byte in two digits behind a space
 abbrev pub behind_spaces : List ℕ → List ℕ
 behind_spaces [] = []
-behind_spaces (b ∷ bs) = 32 ∷ two_digits b ++ behind_spaces bs
+behind_spaces (b ∷ bs) = 0x20 ∷ two_digits b ++ behind_spaces bs
 
 -- bytes in two digits each, single spaces between them
 unfoldable pub spaced : List ℕ → List ℕ
@@ -25,4 +25,4 @@ spaced (b ∷ bs) = two_digits b ++ behind_spaces bs
 
 -- a text at the left of so many places, spaces behind it
 unfoldable pub padded : ℕ → List ℕ → List ℕ
-padded places text = text ++ replicate (places - length text) 32
+padded places text = text ++ replicate (places - length text) 0x20

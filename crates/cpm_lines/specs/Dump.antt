@@ -4,7 +4,7 @@ use Rattle.cpm_lines.specs.Digits.{four_digits, spaced}
 
 -- a byte as a character; a full stop stands for what doesn't print, all but 20h to 7Eh
 abbrev pub shown : ℕ → ℕ
-shown b = if nat_lt b 32 then 46 else if nat_lt 126 b then 46 else b
+shown b = if nat_lt b 0x20 then 0x2E else if nat_lt 0x7E b then 0x2E else b
 
 -- the address, the bytes, and their characters
 unfoldable pub dump_line : ℕ → List ℕ → List ℕ

@@ -1,6 +1,6 @@
 //! An instruction of the 8080 on a line.
 ghost use Rattle.std.specs.Prelude.{◌≡◌, ◌≤◌, ◌+◌, ◌++◌, length};
-ghost use Rattle.cpm_lines.specs.Listing.{listed, statement, list_line};
+ghost use Rattle.cpm_lines.specs.Listing.{listing_line, statement, list_line};
 
 use crate::digits::{Line, add_padded, add_spaced, add_text, add_word};
 use crate::mnemonics::mnemonic_of;
@@ -25,12 +25,12 @@ fn add_statement(line: &mut Line, name: &str, operands: &str)
 }
 
 /// An address, its bytes in eight places, and a name with its operands.
-#[tactic(auto, unfolding(crate::specs::Listing::listed))]
-fn listed(address: u16, bytes: &[u8], name: &str, operands: &str) -> Line
+#[tactic(auto, unfolding(crate::specs::Listing::listing_line))]
+fn listing_line(address: u16, bytes: &[u8], name: &str, operands: &str) -> Line
     requires few { length bytes.now ≤ 3 }
     requires short { length name.now ≤ 4 }
     requires room { length operands.now ≤ 9 }
-    ensures { result.bytes ≡ listed address bytes.now (statement name.now operands.now) }
+    ensures { result.bytes ≡ listing_line address bytes.now (statement name.now operands.now) }
 {
     let mut shown: Line = ArrayString::new();
     add_spaced(&mut shown, bytes);
@@ -54,11 +54,11 @@ pub fn list_line(address: u16, bytes: [u8; 3]) -> ArrayString<96>
         Some(Decoded { op, length }) => {
             add_operands(&mut operands, op);
             let shown = &bytes[..usize::from(length)];
-            listed(address, shown, mnemonic_of(op), operands.as_str())
+            listing_line(address, shown, mnemonic_of(op), operands.as_str())
         }
         None => {
             add_byte_number(&mut operands, bytes[0]);
-            listed(address, &bytes[..1], "DB", operands.as_str())
+            listing_line(address, &bytes[..1], "DB", operands.as_str())
         }
     }
 }

@@ -3,7 +3,10 @@ use Rattle.std.proofs.Common.{◌≡◌, ℕ, ◌+◌, ◌*◌, ◌/◌, ◌%◌
 use Rattle.std.specs.List.{range_with_len}
 use Rattle.std.proofs.lemmas.List.FromFn.{get_or-map-range_with_len}
 use Rattle.cpm_memory.specs.Contents.{byte_at, word_at, next}
-use Rattle.cpm_memory.specs.DiskTables.{skew, parameter_block, parameter_header, skew_address, parameter_block_address, header_address}
+use Rattle.cpm_geom.specs.Geometry.{dpb_of, sector_of, skew}
+use Rattle.cpm_geom.specs.declared.format.Format.TheVariants.{Ibm3740}
+use Rattle.cpm_memory.specs.Layout.{skew_address, parameter_block_address}
+use Rattle.cpm_memory.specs.DiskTables.{parameter_block, parameter_header, header_address}
 use Rattle.cpm_memory.specs.Opening.{opening, opening_byte}
 use Rattle.cpm_memory.specs.Opened.{byte_at-opening}
 use Rattle.cpm_memory.specs.Laws.{HasDiskTables}
@@ -18,11 +21,15 @@ abbrev header : ℕ → List ℕ
 header drive = map (header_word drive) (range_with_len 0 8)
 
 skew-bytes : map byte (range_with_len skew_address 26) ≡ skew
-unfolding opening_byte
+unfolding opening_byte sector_of skew
 skew-bytes = refl
 
-parameter_block-bytes : map byte (range_with_len parameter_block_address 15) ≡ parameter_block
-unfolding opening_byte
+sector-skew : (k : ℕ) → get_or skew k 0 ≡ sector_of Ibm3740 k
+unfolding sector_of
+sector-skew k = refl
+
+parameter_block-bytes : map byte (range_with_len parameter_block_address 15) ≡ parameter_block (dpb_of Ibm3740)
+unfolding opening_byte dpb_of
 parameter_block-bytes = refl
 
 header-words : map header (range_with_len 0 5) ≡ map parameter_header (range_with_len 0 5)
@@ -51,7 +58,7 @@ word-at limit drive k ld lk =
 
 pub has-disk-tables : (limit : ℕ) → HasDiskTables limit
 has-disk-tables limit = record {
-  sectors = λ k l. bytes-at limit skew_address 26 k skew skew-bytes (omega arith) l;
-  parameters = λ k l. bytes-at limit parameter_block_address 15 k parameter_block parameter_block-bytes (omega arith) l;
+  sectors = λ k l. bytes-at limit skew_address 26 k skew skew-bytes (omega arith) l ∙ sector-skew k;
+  parameters = λ k l. bytes-at limit parameter_block_address 15 k (parameter_block (dpb_of Ibm3740)) parameter_block-bytes (omega arith) l;
   headers = λ drive k ld lk. word-at limit drive k ld lk;
 }

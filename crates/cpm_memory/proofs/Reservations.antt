@@ -102,10 +102,6 @@ module _ (s : Frames) (t : ℕ) (pages : Option ℕ) (ok : IsSound s) (lt : t < 
 
 -- ---- a page that is made of its boot frame again
 
-one_bit : (b : Bool) → cond {A = ℕ} b 1 0 ≤ 1
-one_bit true = omega arith
-one_bit false = omega arith
-
 module _ (s : Frames) (t page : ℕ) (ok : IsSound s) (lt : t < 64) (lp : page < 256) where
   abbrev cleared : Table
   cleared = with_place (table_at s t) page None

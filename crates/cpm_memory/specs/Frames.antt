@@ -35,7 +35,7 @@ private_at s t page = slice_index_or (table_at s t).places page None
 
 -- which boot frame a page begins with (own)
 abbrev pub boot_of : ℕ → ℕ
-boot_of page = (if page == 0 then 1 else (if page == 250 then 2 else (if page == 252 then 3 else 0)))
+boot_of page = (if page == 0 then 1 else (if page == 0xFA then 2 else (if page == 0xFC then 3 else 0)))
 
 -- the frame that a table's page is made of: its private one, else its boot frame (own)
 abbrev pub place_of : Frames → ℕ → ℕ → ℕ
@@ -157,8 +157,8 @@ pub record AreNewFrames (frames : List (List ℕ)) (private : ℕ) : Type 0 wher
   pub sizes : (f : ℕ) → f < private + 4 → length (slice_index_or frames f []) ≡ 256
   pub zeros : slice_index_or frames private [] ≡ tabulated 256 (opening_byte 1)
   pub base : slice_index_or frames (private + 1) [] ≡ tabulated 256 (opening_byte 0)
-  pub jumps : slice_index_or frames (private + 2) [] ≡ tabulated 256 (opening_byte 250)
-  pub disks : slice_index_or frames (private + 3) [] ≡ tabulated 256 (opening_byte 252)
+  pub jumps : slice_index_or frames (private + 2) [] ≡ tabulated 256 (opening_byte 0xFA)
+  pub disks : slice_index_or frames (private + 3) [] ≡ tabulated 256 (opening_byte 0xFC)
 
 -- how many different private frames the pages of all tables are made of (own)
 abbrev pub used_of : Frames → ℕ

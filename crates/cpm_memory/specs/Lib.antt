@@ -2,6 +2,7 @@ pub mod Contents
 pub mod Stamps
 pub mod Sets
 pub mod Raised
+pub mod Layout
 pub mod DiskTables
 pub mod Opening
 pub mod Tabulated

@@ -1,40 +1,81 @@
 //! The tables of the BIOS that say how the disks of format 0 are laid out.
 
-ghost use Rattle.std.specs.Prelude.{◌≡◌, ◌<◌, slice_index};
-ghost use Rattle.cpm_memory.specs.DiskTables.{disk_table_byte, parameter_header, word_byte};
+ghost use Rattle.std.specs.Prelude.{◌≡◌, ◌<◌, ◌/◌, ◌%◌, slice_index};
+ghost use Rattle.cpm_geom.specs.Geometry.{sector_of};
+ghost use Rattle.cpm_geom.specs.declared.format.Format.TheVariants as FormatValue;
+ghost use Rattle.cpm_memory.specs.DiskTables.{disk_table_byte, parameter_block, parameter_header, word_byte};
 
-/// The sectors of a track, in the order of its records.
-const SKEW: [u8; 26] = [
-    1, 7, 13, 19, 25, 5, 11, 17, 23, 3, 9, 15, 21, 2, 8, 14, 20, 26, 6, 12, 18, 24, 4, 10, 16, 22,
-];
-
-/// SPT 26, BSH 3, BLM 7, EXM 0, DSM 242, DRM 63, AL0 C0h, AL1 00h, CKS 16 and OFF 2.
-const PARAMETER_BLOCK: [u8; 15] = [26, 0, 3, 7, 0, 242, 0, 63, 0, 0xC0, 0x00, 16, 0, 2, 0];
-
-const SKEW_ADDRESS: u16 = 0xFC00;
-
-const PARAMETER_BLOCK_ADDRESS: u16 = 0xFC20;
-
-const DIRECTORY_BUFFER: u16 = 0xFD00;
-
-const FIRST_CHECK_VECTOR: u16 = 0xFF40;
-
-const FIRST_ALLOCATION_VECTOR: u16 = 0xFE00;
+use crate::layout::{
+    DIRECTORY_BUFFER, FIRST_ALLOCATION_VECTOR, FIRST_CHECK_VECTOR, PARAMETER_BLOCK, SKEW,
+};
+use cpm_geom::{Dpb, Format};
 
 /// The byte at an offset of page FCh at the opening of a memory.
 pub fn disk_table_byte_at(offset: u8) -> u8
     ensures { result ≡ disk_table_byte offset }
 {
     if offset < 26 {
-        return SKEW[offset as usize];
+        return skew_byte_at(offset);
     }
     if 0x20 <= offset && offset < 0x2F {
-        return PARAMETER_BLOCK[offset as usize - 0x20];
+        return parameter_byte_at(&Format::Ibm3740.dpb(), offset - 0x20);
     }
     if 0x40 <= offset && offset < 0xE0 && offset % 32 < 16 {
         return header_byte_at((offset - 0x40) / 32, offset % 32);
     }
     0
+}
+
+/// The bytes of a disk parameter block.
+fn parameter_block(dpb: &Dpb) -> [u8; 15]
+    ensures { result ≡ parameter_block dpb.now }
+{
+    [
+        low(dpb.sectors_per_track),
+        high(dpb.sectors_per_track),
+        dpb.block_shift,
+        dpb.block_mask,
+        dpb.extent_mask,
+        low(dpb.last_block),
+        high(dpb.last_block),
+        low(dpb.last_entry),
+        high(dpb.last_entry),
+        high(dpb.directory_bits),
+        low(dpb.directory_bits),
+        low(dpb.checksum_size),
+        high(dpb.checksum_size),
+        low(dpb.track_offset),
+        high(dpb.track_offset),
+    ]
+}
+
+/// A byte of the sector translation vector.
+#[tactic(auto, unfolding(cpm_geom::specs::Geometry::sectors_per_track, cpm_geom::specs::Geometry::dpb_of))]
+fn skew_byte_at(place: u8) -> u8
+    requires { place < 26 }
+    ensures { result ≡ sector_of FormatValue.Ibm3740 place }
+{
+    Format::Ibm3740.sector_of(u16::from(place))
+}
+
+/// A byte of a disk parameter block.
+fn parameter_byte_at(dpb: &Dpb, place: u8) -> u8
+    requires { place < 15 }
+    ensures { result ≡ slice_index (parameter_block dpb.now) place }
+{
+    parameter_block(dpb)[usize::from(place)]
+}
+
+fn low(word: u16) -> u8
+    ensures { result ≡ word % 256 }
+{
+    (word % 256) as u8
+}
+
+fn high(word: u16) -> u8
+    ensures { result ≡ word / 256 }
+{
+    (word / 256) as u8
 }
 
 /// A byte of the disk parameter header of a drive, of which each word stands low byte first.
@@ -45,9 +86,9 @@ fn header_byte_at(drive: u8, place: u8) -> u8
 {
     let word = header_word(drive, place / 2);
     if place % 2 == 0 {
-        (word % 256) as u8
+        low(word)
     } else {
-        (word / 256) as u8
+        high(word)
     }
 }
 
@@ -58,9 +99,9 @@ fn header_word(drive: u8, number: u8) -> u16
     ensures { result ≡ slice_index (parameter_header drive) number }
 {
     match number {
-        0 => SKEW_ADDRESS,
+        0 => SKEW,
         4 => DIRECTORY_BUFFER,
-        5 => PARAMETER_BLOCK_ADDRESS,
+        5 => PARAMETER_BLOCK,
         6 => FIRST_CHECK_VECTOR + 16 * u16::from(drive),
         7 => FIRST_ALLOCATION_VECTOR + 64 * u16::from(drive),
         _ => 0,

@@ -6,6 +6,7 @@ mod disk_tables;
 pub mod flat;
 mod frames;
 pub mod laws;
+pub mod layout;
 pub mod memory;
 pub mod opening;
 pub mod pages;

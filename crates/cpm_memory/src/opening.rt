@@ -5,6 +5,7 @@ ghost use Rattle.cpm_memory.specs.Opening.{opening_byte, base_byte, jumps_byte};
 
 use crate::disk_tables::disk_table_byte_at;
 
+/// The jump to the warm boot, the I/O and drive bytes, and the jump to the BDOS.
 const BASE_PAGE: [u8; 8] = [0xC3, 0x03, 0xFA, 0, 0, 0xC3, 0x06, 0xEC];
 
 /// The byte at an offset of a page at the opening of a memory.

@@ -12,17 +12,17 @@ is_within low high b = nat_le low b && nat_le b high
 
 -- ^
 abbrev pub caret : ℕ
-caret = 94
+caret = 0x5E
 
 -- a byte that stands for itself: 20h to 7Eh but the caret
 abbrev pub plain_key : ℕ → Option ℕ
-plain_key b = if is_within 32 126 b && not (b == caret) then Some b else None
+plain_key b = if is_within 0x20 0x7E b && not (b == caret) then Some b else None
 
 -- the key that a caret and this byte stand for: for 40h to 5Fh (@ A to Z [ \ ] ^ _) and 61h to 7Ah (a to
 -- z) the low five bits of the byte, for ? 7Fh, for ~ a caret
 abbrev pub control_key : ℕ → Option ℕ
-control_key c = if is_within 64 95 c || is_within 97 122 c then Some (c % 32)
-    else (if c == 63 then Some 127 else (if c == 126 then Some caret else None))
+control_key c = if is_within 0x40 0x5F c || is_within 0x61 0x7A c then Some (c % 0x20)
+    else (if c == 0x3F then Some 0x7F else (if c == 0x7E then Some caret else None))
 
 -- the keys with one more in front, where both are there
 abbrev pub onto : Option ℕ → Option (List ℕ) → Option (List ℕ)

@@ -15,11 +15,11 @@ use Rattle.cpm_script.specs.declared.fault.ScriptError.{ScriptError}
 use Rattle.cpm_script.specs.declared.fault.ScriptError.TheVariants.{Line, OutOfMemory}
 
 abbrev pub is_space : ℕ → Bool
-is_space b = b == 32
+is_space b = b == 0x20
 
 -- a line with nothing but spaces, or one that begins with #
 abbrev pub is_skipped : List ℕ → Bool
-is_skipped line = list_all is_space line || (slice_index line 0 == 35)
+is_skipped line = list_all is_space line || (slice_index line 0 == 0x23)
 
 -- these bytes as keys, all at one count
 abbrev pub keys_at : ℕ → List ℕ → List Key

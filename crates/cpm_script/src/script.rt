@@ -37,7 +37,7 @@ fn is_blank(line: &[u8]) -> bool
 }
 
 fn is_comment(line: &[u8]) -> bool
-    ensures { result ≡ (slice_index line.now 0 == 35) }
+    ensures { result ≡ (slice_index line.now 0 == 0x23) }
 {
     match line.first() {
         Some(first) => *first == b'#',

@@ -5,18 +5,18 @@ use Rattle.cpm_sessions.specs.declared.event.Reply.{Reply}
 use Rattle.cpm_sessions.specs.declared.event.Reply.TheVariants as reply
 use Rattle.cpm_sessions.specs.declared.event.Refusal.TheVariants as refusal
 use Rattle.cpm_sessions.specs.Serving.{Ask, Calls}
-use Rattle.cpm_sessions.specs.Host.{Host, Slot, slot_at, reply_at, after_ask, IsHost}
-use Rattle.cpm_sessions.specs.Housed.{Housed}
-use Rattle.cpm_sessions.specs.Place.{LiesAt, IsServed}
+use Rattle.cpm_sessions.specs.Host.{Host, SlotState, slot_at, reply_at, after_ask, IsHost}
+use Rattle.cpm_sessions.specs.HostWithStore.{HostWithStore}
+use Rattle.cpm_sessions.specs.Index.{IsAtIndex, IsServed}
 use Rattle.cpm_sessions.proofs.OrderLaws.{IsHost-ask}
-use Rattle.cpm_sessions.proofs.PlaceLaws.{refused-reply, refused-slots, served-reply, served-slots}
+use Rattle.cpm_sessions.proofs.IndexLaws.{refused-reply, refused-slots, served-reply, served-slots}
 
 -- the host of what is seen with its store
-pub same-host : {a b : Housed} → a ≡ b → a.host ≡ b.host
-same-host e = ap (λ (x : Housed). x.host) e
+pub same-host : {a b : HostWithStore} → a ≡ b → a.host ≡ b.host
+same-host e = ap (λ (x : HostWithStore). x.host) e
 
 -- a host with these slots
-abbrev pub with_slots : Host → List Slot → Host
+abbrev pub with_slots : Host → List SlotState → Host
 with_slots h slots = record h { slots = slots }
 
 -- what is asked of a slot that is not open is refused, and changes nothing
@@ -28,14 +28,14 @@ no-slot-host h now id ask e none =
     sym e ∙ ap (with_slots h) (refused-slots h.system id ask h.slots none) ∙ ap (λ g. after_ask g id ask) e
 
 -- a call at a place is one to the slot of the number
-pub call-reply : (h now : Host) (id place : ℕ) (call : Call) (r : Reply) (slots : List Slot) → h ≡ now → LiesAt id h.slots place → IsServed h.system call place r h.slots slots → r ≡ reply_at now id (Calls call)
-call-reply h now id place call r slots e l k =
-    served-reply h.system id place call r h.slots slots l k ∙ ap (λ g. reply_at g id (Calls call)) e
+pub call-reply : (h now : Host) (id index : ℕ) (call : Call) (r : Reply) (slots : List SlotState) → h ≡ now → IsAtIndex id h.slots index → IsServed h.system call index r h.slots slots → r ≡ reply_at now id (Calls call)
+call-reply h now id index call r slots e l k =
+    served-reply h.system id index call r h.slots slots l k ∙ ap (λ g. reply_at g id (Calls call)) e
 
-pub call-host : (h now : Host) (id place : ℕ) (call : Call) (r : Reply) (slots : List Slot) → h ≡ now → IsHost h → LiesAt id h.slots place → IsServed h.system call place r h.slots slots → with_slots h slots ≡ after_ask now id (Calls call)
-call-host h now id place call r slots e host l k =
-    ap (with_slots h) (served-slots h.system id place call r h.slots slots host.ordered l k) ∙ ap (λ g. after_ask g id (Calls call)) e
+pub call-host : (h now : Host) (id index : ℕ) (call : Call) (r : Reply) (slots : List SlotState) → h ≡ now → IsHost h → IsAtIndex id h.slots index → IsServed h.system call index r h.slots slots → with_slots h slots ≡ after_ask now id (Calls call)
+call-host h now id index call r slots e host l k =
+    ap (with_slots h) (served-slots h.system id index call r h.slots slots host.ordered l k) ∙ ap (λ g. after_ask g id (Calls call)) e
 
-pub call-keeps : (h : Host) (id place : ℕ) (call : Call) (r : Reply) (slots : List Slot) → IsHost h → LiesAt id h.slots place → IsServed h.system call place r h.slots slots → IsHost (with_slots h slots)
-call-keeps h id place call r slots host l k =
-    subst (λ xs. IsHost (with_slots h xs)) (sym (served-slots h.system id place call r h.slots slots host.ordered l k)) (IsHost-ask h id (Calls call) host)
+pub call-keeps : (h : Host) (id index : ℕ) (call : Call) (r : Reply) (slots : List SlotState) → IsHost h → IsAtIndex id h.slots index → IsServed h.system call index r h.slots slots → IsHost (with_slots h slots)
+call-keeps h id index call r slots host l k =
+    subst (λ xs. IsHost (with_slots h xs)) (sym (served-slots h.system id index call r h.slots slots host.ordered l k)) (IsHost-ask h id (Calls call) host)

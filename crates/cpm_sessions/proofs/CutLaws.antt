@@ -9,7 +9,7 @@ use Rattle.cpm_slots.specs.Calls.{Grant, serve}
 use Rattle.cpm_slots.proofs.GrantLaws.{cut, after-add}
 use Rattle.cpm_sessions.specs.Serving.{Ask, Calls, serve_slot}
 use Rattle.cpm_sessions.specs.Laws.{executed_in}
-use Rattle.cpm_sessions.specs.Host.{Host, Slot, slot_at, with_slot, after_ask, reply_at}
+use Rattle.cpm_sessions.specs.Host.{Host, SlotState, slot_at, with_slot, after_ask, reply_at}
 use Rattle.cpm_sessions.proofs.SlotLaws.{slot_at-same, with_slot-none}
 
 abbrev grant : ℕ → Ask
@@ -29,12 +29,12 @@ cut-executed system a b None = refl
 cut-executed system a b (Some s) = sym (cut system a b s)
 
 -- a slot that is set twice
-with_slot-twice : (id : ℕ) (s t : MachineState) (xs : List Slot) → with_slot id (Some t) (with_slot id (Some s) xs) ≡ with_slot id (Some t) xs
+with_slot-twice : (id : ℕ) (s t : MachineState) (xs : List SlotState) → with_slot id (Some t) (with_slot id (Some s) xs) ≡ with_slot id (Some t) xs
 with_slot-twice id s t [] = refl
 with_slot-twice id s t (x ∷ xs) = grind (arith, nat_tests, with_slot-twice id s t xs)
 
 -- a grant keeps a slot open, and one that is not
-twice : (system : Disk) (a b : ℕ) (id : ℕ) (o : Option MachineState) (xs : List Slot) → slot_at id xs ≡ o → with_slot id (serve_slot system (grant b) (serve_slot system (grant a) o).slot).slot (with_slot id (serve_slot system (grant a) o).slot xs) ≡ with_slot id (serve_slot system (grant b) (serve_slot system (grant a) o).slot).slot xs
+twice : (system : Disk) (a b : ℕ) (id : ℕ) (o : Option MachineState) (xs : List SlotState) → slot_at id xs ≡ o → with_slot id (serve_slot system (grant b) (serve_slot system (grant a) o).slot).slot (with_slot id (serve_slot system (grant a) o).slot xs) ≡ with_slot id (serve_slot system (grant b) (serve_slot system (grant a) o).slot).slot xs
 unfolding serve_slot
 twice system a b id None xs h = ap (with_slot id None) (with_slot-none id xs h)
 twice system a b id (Some s) xs h = with_slot-twice id (serve system (Grant a) s).state (serve system (Grant b) (serve system (Grant a) s).state).state xs

@@ -9,12 +9,12 @@ use Rattle.cpm_memory.specs.Reserved.{room_at, unused_in}
 use Rattle.cpm_memory.specs.Tabulated.{tabulated, tabulated_none, tabulated_more}
 use Rattle.cpm_memory.proofs.Owners.{positives-le}
 use Rattle.cpm_memory.proofs.Totals.{unused_in-tables}
-use Rattle.cpm_sessions.specs.declared.seats.Seat.{Seat}
-use Rattle.cpm_sessions.specs.Host.{Slot}
-use Rattle.cpm_sessions.specs.Housed.{unused_of}
-use Rattle.cpm_sessions.specs.Seating.{contents_at, slot_of, slots_of, AllSeated}
-use Rattle.cpm_sessions.proofs.OpenSeats.{kept-set, slots-kept, AllSeated-kept}
-use Rattle.cpm_sessions.proofs.SeatLaws.{taken-within, some-contents}
+use Rattle.cpm_sessions.specs.declared.slots.Slot.{Slot}
+use Rattle.cpm_sessions.specs.Host.{SlotState}
+use Rattle.cpm_sessions.specs.HostWithStore.{unused_of}
+use Rattle.cpm_sessions.specs.Slots.{contents_at, slot_of, slots_of, AllSound}
+use Rattle.cpm_sessions.proofs.OpenSlots.{kept-set, slots-kept, AllSound-kept}
+use Rattle.cpm_sessions.proofs.TableLaws.{taken-within, some-contents}
 
 -- ---- sums over numbers
 
@@ -101,20 +101,20 @@ used-le s = omega (arith, positives-le (tabulated s.private (owners_of s)), sum-
 
 -- ---- what the slots may still write
 
-abbrev room_in : Slot → ℕ
+abbrev room_in : SlotState → ℕ
 room_in x = room_of x.state.memory
 
-unused-seats : (m : List (Option Contents)) (seats : List Seat) → AllSeated m seats → unused_of (slots_of m seats) ≤ unused_in m
-unused-seats m [] k = let none : unused_of (slots_of m []) ≡ 0 = refl in omega arith
-unused-seats m (x ∷ xs) k =
+unused-slots : (m : List (Option Contents)) (slots : List Slot) → AllSound m slots → unused_of (slots_of m slots) ≤ unused_in m
+unused-slots m [] k = let none : unused_of (slots_of m []) ≡ 0 = refl in omega arith
+unused-slots m (x ∷ xs) k =
     let rest = set m x.table None in
     let kept = kept-set x.table m None in
     let same : unused_of (slots_of rest xs) ≡ unused_of (slots_of m xs) = ap unused_of (slots-kept x.table m rest xs kept k.2) in
-    let fewer : unused_of (slots_of rest xs) ≤ unused_in rest = unused-seats rest xs (AllSeated-kept x.table m rest xs kept k.2 k.3) in
+    let fewer : unused_of (slots_of rest xs) ≤ unused_in rest = unused-slots rest xs (AllSound-kept x.table m rest xs kept k.2 k.3) in
     let own : room_at (get_or m x.table None) ≡ room_of (contents_at m x.table) = ap room_at (some-contents m x.table k.0) in
     let all = sum_by-set room_at m x.table None None (taken-within m x.table k.0) in
     let slots = sum_by-cons room_in (slot_of m x) (slots_of m xs) in
     omega (arith, same, fewer, own, all, slots)
 
-pub free-frames : (s : Frames) (seats : List Seat) → IsSound s → AllSeated (memories s) seats → used_of s + unused_of (slots_of (memories s) seats) ≤ s.private
-free-frames s seats ok k = omega (arith, used-le s, unused_in-tables s ok, ok.reserved, unused-seats (memories s) seats k)
+pub free-frames : (s : Frames) (slots : List Slot) → IsSound s → AllSound (memories s) slots → used_of s + unused_of (slots_of (memories s) slots) ≤ s.private
+free-frames s slots ok k = omega (arith, used-le s, unused_in-tables s ok, ok.reserved, unused-slots (memories s) slots k)

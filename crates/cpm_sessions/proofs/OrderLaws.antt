@@ -15,7 +15,7 @@ use Rattle.cpm_slots.specs.Serve.{executed, takes_key}
 use Rattle.cpm_slots.specs.Until.{executed_until}
 use Rattle.cpm_slots.specs.Calls.{Call, Key, Grant, GrantUntil, Take, TakeList, LookAt, Peek, served_key, serve}
 use Rattle.cpm_sessions.specs.Serving.{Ask, Calls, Closes, serve_slot}
-use Rattle.cpm_sessions.specs.Host.{Host, Slot, Happening, Opens, Asks, opened_slot, place_fault, refusal_of, opened_if, with_opened, slot_at, with_slot, after_ask, after_one, host_after, quotas_of, IsOrdered, IsHost}
+use Rattle.cpm_sessions.specs.Host.{Host, SlotState, Happening, Opens, Asks, opened_slot, room_fault, refusal_of, opened_if, with_opened, slot_at, with_slot, after_ask, after_one, host_after, quotas_of, IsOrdered, IsHost}
 use Rattle.cpm_sessions.proofs.SlotLaws.{AllBelow-with, AllBelow-added, IsOrdered-with, IsOrdered-added, with_slot-below}
 
 -- ---- the quota stays
@@ -48,10 +48,10 @@ quota-serve system (Peek address) s = refl
 
 -- ---- the quotas of all
 
-abbrev quota_of : Slot → ℕ
+abbrev quota_of : SlotState → ℕ
 quota_of x = x.state.quota
 
-quotas-closed : (id : ℕ) (xs : List Slot) → quotas_of (with_slot id None xs) ≤ quotas_of xs
+quotas-closed : (id : ℕ) (xs : List SlotState) → quotas_of (with_slot id None xs) ≤ quotas_of xs
 quotas-closed id [] = omega arith
 quotas-closed id (x ∷ xs) =
     let rest = quotas-closed id xs in
@@ -60,7 +60,7 @@ quotas-closed id (x ∷ xs) =
     elim (x.id == id) as (λ t. quotas_of (cond (not t) (x ∷ with_slot id None xs) (with_slot id None xs)) ≤ quotas_of (x ∷ xs))
     [ true ↦ omega arith | false ↦ omega arith ]
 
-quotas-set : (id n : ℕ) (s t : MachineState) (xs : List Slot) → IsOrdered n xs → slot_at id xs ≡ Some t → s.quota ≡ t.quota → quotas_of (with_slot id (Some s) xs) ≡ quotas_of xs
+quotas-set : (id n : ℕ) (s t : MachineState) (xs : List SlotState) → IsOrdered n xs → slot_at id xs ≡ Some t → s.quota ≡ t.quota → quotas_of (with_slot id (Some s) xs) ≡ quotas_of xs
 quotas-set id n s t [] k h e = refl
 quotas-set id n s t (x ∷ xs) k h e = by_test (x.id == id) refl h (λ g. quotas-set id (x.id + 1) s t xs k.1 g e)
   where
@@ -79,17 +79,17 @@ quotas-set id n s t (x ∷ xs) k h e = by_test (x.id == id) refl h (λ g. quotas
         let old = sum_by-cons quota_of x xs in
         omega arith
 
-quotas-open : (system : Disk) (id : ℕ) (ask : Ask) (t : MachineState) (xs : List Slot) → IsOrdered 0 xs → slot_at id xs ≡ Some t → quotas_of (with_slot id (serve_slot system ask (Some t)).slot xs) ≤ quotas_of xs
+quotas-open : (system : Disk) (id : ℕ) (ask : Ask) (t : MachineState) (xs : List SlotState) → IsOrdered 0 xs → slot_at id xs ≡ Some t → quotas_of (with_slot id (serve_slot system ask (Some t)).slot xs) ≤ quotas_of xs
 unfolding serve_slot
 quotas-open system id (Calls call) t xs k h = let e = quotas-set id 0 (serve system call t).state t xs k h (quota-serve system call t) in omega arith
 quotas-open system id Closes t xs k h = quotas-closed id xs
 
-quotas-asked : (system : Disk) (id : ℕ) (ask : Ask) (o : Option MachineState) (xs : List Slot) → IsOrdered 0 xs → slot_at id xs ≡ o → quotas_of (with_slot id (serve_slot system ask o).slot xs) ≤ quotas_of xs
+quotas-asked : (system : Disk) (id : ℕ) (ask : Ask) (o : Option MachineState) (xs : List SlotState) → IsOrdered 0 xs → slot_at id xs ≡ o → quotas_of (with_slot id (serve_slot system ask o).slot xs) ≤ quotas_of xs
 unfolding serve_slot
 quotas-asked system id ask None xs k h = quotas-closed id xs
 quotas-asked system id ask (Some t) xs k h = quotas-open system id ask t xs k h
 
-length-with : (id : ℕ) (o : Option MachineState) (xs : List Slot) → length (with_slot id o xs) ≤ length xs
+length-with : (id : ℕ) (o : Option MachineState) (xs : List SlotState) → length (with_slot id o xs) ≤ length xs
 length-with id None [] = omega arith
 length-with id None (x ∷ xs) = grind (arith, nat_tests, length-with id None xs)
 length-with id (Some s) [] = omega arith
@@ -119,22 +119,22 @@ second-none : (a b : Option OpenError) → first_fault a b ≡ None → b ≡ No
 second-none None b h = h
 second-none (Some fault) b h = cc
 
-place-tests : (h : Host) (o : Opening) (full last short : Bool) → nat_le 64 (length h.slots) ≡ full → (h.openings == 18446744073709551615) ≡ last → nat_lt h.frames (quotas_of h.slots + o.quota) ≡ short → (if full || last then Some NoSlot else if short then Some NoFrames else None) ≡ None → HasPlace h o
-place-tests h o true last short e f g k = cc
-place-tests h o false true short e f g k = cc
-place-tests h o false false true e f g k = cc
-place-tests h o false false false e f g k = record { room = grind (arith, nat_tests); number = λ at. grind (arith, nat_tests); frames = grind (arith, nat_tests) }
+index-tests : (h : Host) (o : Opening) (full last short : Bool) → nat_le 64 (length h.slots) ≡ full → (h.openings == 18446744073709551615) ≡ last → nat_lt h.frames (quotas_of h.slots + o.quota) ≡ short → (if full || last then Some NoSlot else if short then Some NoFrames else None) ≡ None → HasPlace h o
+index-tests h o true last short e f g k = cc
+index-tests h o false true short e f g k = cc
+index-tests h o false false true e f g k = cc
+index-tests h o false false false e f g k = record { room = grind (arith, nat_tests); number = λ at. grind (arith, nat_tests); frames = grind (arith, nat_tests) }
 
-pub has-place : (h : Host) (o : Opening) → refusal_of h o ≡ None → HasPlace h o
-has-place h o k =
-    place-tests h o (nat_le 64 (length h.slots)) (h.openings == 18446744073709551615) (nat_lt h.frames (quotas_of h.slots + o.quota)) refl refl refl
-    (second-none (opening_fault o) (place_fault h o.quota) k)
+pub has-index : (h : Host) (o : Opening) → refusal_of h o ≡ None → HasPlace h o
+has-index h o k =
+    index-tests h o (nat_le 64 (length h.slots)) (h.openings == 18446744073709551615) (nat_lt h.frames (quotas_of h.slots + o.quota)) refl refl refl
+    (second-none (opening_fault o) (room_fault h o.quota) k)
 
 pub IsHost-opened : (h : Host) (o : Opening) → HasPlace h o → IsHost h → IsHost (with_opened h o)
-IsHost-opened h o place k =
-    let room = place.room in
-    let frames = place.frames in
-    let new : Slot = record { id = h.openings; state = opened_slot o } in
+IsHost-opened h o index k =
+    let room = index.room in
+    let frames = index.frames in
+    let new : SlotState = record { id = h.openings; state = opened_slot o } in
     let all = sum_by-append quota_of h.slots (new ∷ []) in
     let one = sum_by-cons quota_of new [] in
     record {
@@ -145,7 +145,7 @@ IsHost-opened h o place k =
     }
 
 IsHost-open : (h : Host) (o : Opening) (r : Option OpenError) → refusal_of h o ≡ r → IsHost h → IsHost (opened_if r h o)
-IsHost-open h o None e k = IsHost-opened h o (has-place h o e) k
+IsHost-open h o None e k = IsHost-opened h o (has-index h o e) k
 IsHost-open h o (Some fault) e k = k
 
 IsHost-one : (h : Host) (x : Happening) → IsHost h → IsHost (after_one h x)

@@ -16,21 +16,21 @@ use Rattle.cpm_sessions.specs.declared.event.Refusal.{Refusal}
 use Rattle.cpm_sessions.specs.declared.event.Refusal.TheVariants as refusal
 use Rattle.cpm_sessions.specs.Serving.{reply_of}
 use Rattle.cpm_sessions.specs.Host.{key_reply}
-use Rattle.cpm_sessions.specs.Place.{Serves}
+use Rattle.cpm_sessions.specs.Index.{Serves}
 
 -- a key that was pressed
 pub key-result : (system : Disk) (key : ℕ) (s : MachineState) (r : Result ⊤ Refusal) (now : Terminal) →
-    IfOk r (λ _. (takes_key s ≡ true) × (now ≡ pressed s.session.console key)) →
-    IfErr r (λ fault. (fault ≡ refusal.KeysFull) × (takes_key s ≡ false) × (now ≡ s.session.console)) →
-    Serves system (Key key) (key_reply r) s (record s { session = record s.session { console = now } })
+    IfOk r (λ _. (takes_key s ≡ true) × (now ≡ pressed s.cpm.console key)) →
+    IfErr r (λ fault. (fault ≡ refusal.KeysFull) × (takes_key s ≡ false) × (now ≡ s.cpm.console)) →
+    Serves system (Key key) (key_reply r) s (record s { cpm = record s.cpm { console = now } })
 unfolding serve
 key-result system key s (Ok done) now accepted refused = record {
   replied = ap (λ b. reply_of (served_key b key s).answer) (sym accepted.0);
-  state = ap (λ con. record s { session = record s.session { console = con } }) accepted.1 ∙ ap (λ b. (served_key b key s).state) (sym accepted.0);
+  state = ap (λ con. record s { cpm = record s.cpm { console = con } }) accepted.1 ∙ ap (λ b. (served_key b key s).state) (sym accepted.0);
 }
 key-result system key s (Err fault) now accepted refused = record {
   replied = ap (λ (x : Refusal). reply.Refused x) refused.0 ∙ ap (λ b. reply_of (served_key b key s).answer) (sym refused.1);
-  state = ap (λ con. record s { session = record s.session { console = con } }) refused.2 ∙ ap (λ b. (served_key b key s).state) (sym refused.1);
+  state = ap (λ con. record s { cpm = record s.cpm { console = con } }) refused.2 ∙ ap (λ b. (served_key b key s).state) (sym refused.1);
 }
 
 pub taken-front : (n k : ℕ) (xs ys : List ℕ) → k ≡ min n (length xs) → take k (take k xs ++ ys) ≡ take (min n (length xs)) xs
@@ -40,22 +40,22 @@ taken-front n k xs ys h =
     subst P long (take-append_seam (take k xs) ys) ∙ ap (λ m. take m xs) h
 
 -- bytes that were taken into some room
-pub takes-screen : (system : Disk) (room k : ℕ) (out rest : List ℕ) (s : MachineState) (now : Terminal) → k ≡ min room (length s.session.console.screen) → out ≡ take k s.session.console.screen ++ rest → now ≡ record s.session.console { screen = drop k s.session.console.screen } →
-    Serves system (Take room) (reply.Bytes (record { items = take k out })) s (record s { session = record s.session { console = now } })
+pub takes-screen : (system : Disk) (room k : ℕ) (out rest : List ℕ) (s : MachineState) (now : Terminal) → k ≡ min room (length s.cpm.console.screen) → out ≡ take k s.cpm.console.screen ++ rest → now ≡ record s.cpm.console { screen = drop k s.cpm.console.screen } →
+    Serves system (Take room) (reply.Bytes (record { items = take k out })) s (record s { cpm = record s.cpm { console = now } })
 unfolding serve
 takes-screen system room k out rest s now e h is = record {
-  replied = ap (λ bytes. reply.Bytes (record { items = bytes })) (ap (take k) h ∙ taken-front room k s.session.console.screen rest e);
-  state = ap (λ con. record s { session = record s.session { console = con } }) is
-      ∙ ap (λ n. record s { session = record s.session { console = record s.session.console { screen = drop n s.session.console.screen } } }) e;
+  replied = ap (λ bytes. reply.Bytes (record { items = bytes })) (ap (take k) h ∙ taken-front room k s.cpm.console.screen rest e);
+  state = ap (λ con. record s { cpm = record s.cpm { console = con } }) is
+      ∙ ap (λ n. record s { cpm = record s.cpm { console = record s.cpm.console { screen = drop n s.cpm.console.screen } } }) e;
 }
 
-pub takes-printer : (system : Disk) (room k : ℕ) (out rest : List ℕ) (s : MachineState) (now : Terminal) → k ≡ min room (length s.session.console.printer) → out ≡ take k s.session.console.printer ++ rest → now ≡ record s.session.console { printer = drop k s.session.console.printer } →
-    Serves system (TakeList room) (reply.Bytes (record { items = take k out })) s (record s { session = record s.session { console = now } })
+pub takes-printer : (system : Disk) (room k : ℕ) (out rest : List ℕ) (s : MachineState) (now : Terminal) → k ≡ min room (length s.cpm.console.printer) → out ≡ take k s.cpm.console.printer ++ rest → now ≡ record s.cpm.console { printer = drop k s.cpm.console.printer } →
+    Serves system (TakeList room) (reply.Bytes (record { items = take k out })) s (record s { cpm = record s.cpm { console = now } })
 unfolding serve
 takes-printer system room k out rest s now e h is = record {
-  replied = ap (λ bytes. reply.Bytes (record { items = bytes })) (ap (take k) h ∙ taken-front room k s.session.console.printer rest e);
-  state = ap (λ con. record s { session = record s.session { console = con } }) is
-      ∙ ap (λ n. record s { session = record s.session { console = record s.session.console { printer = drop n s.session.console.printer } } }) e;
+  replied = ap (λ bytes. reply.Bytes (record { items = bytes })) (ap (take k) h ∙ taken-front room k s.cpm.console.printer rest e);
+  state = ap (λ con. record s { cpm = record s.cpm { console = con } }) is
+      ∙ ap (λ n. record s { cpm = record s.cpm { console = record s.cpm.console { printer = drop n s.cpm.console.printer } } }) e;
 }
 
 pub grants : (system : Disk) (steps : ℕ) (g : Granted) (s now : MachineState) → g.executed ≡ executed system steps s → now ≡ after system g.executed s → g.why ≡ why steps g.executed now → Serves system (Grant steps) (reply.Granted g) s now

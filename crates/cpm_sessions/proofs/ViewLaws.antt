@@ -12,8 +12,8 @@ use Rattle.cpm_mirror.specs.Mirrored as mirrored
 use Rattle.cpm_mirror.specs.declared.mirrored.MirroredView.{MirroredView}
 use Rattle.cpm_decode.specs.Cache.{IsRightFor}
 use Rattle.cpm_decode.specs.declared.cache.DecodeCache.{DecodeCache}
-use Rattle.cpm_sessions.specs.Seating.{contents_at, ChangesAt}
-use Rattle.cpm_sessions.proofs.SeatLaws.{taken-within, contents-set}
+use Rattle.cpm_sessions.specs.Slots.{contents_at, ChangesAt}
+use Rattle.cpm_sessions.proofs.TableLaws.{taken-within, contents-set}
 
 -- A table of a store was lent, and this is what both are when the loan ends.
 pub record Lent (store s s' : Frames) (table t t' : ℕ) : Type 0 where

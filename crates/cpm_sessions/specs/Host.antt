@@ -16,7 +16,7 @@ use Rattle.cpm_sessions.specs.declared.event.Reply.TheVariants as reply
 use Rattle.cpm_sessions.specs.Serving.{Ask, serve_slot, ask_of}
 
 -- an open slot, under the number of its opening (own)
-pub record Slot : Type 0 where
+pub record SlotState : Type 0 where
   pub id : ℕ
   pub state : MachineState
 
@@ -28,19 +28,19 @@ pub record Host : Type 0 where
   -- how many openings were made
   pub openings : ℕ
   -- the open slots, in the order of their openings
-  pub slots : List Slot
+  pub slots : List SlotState
 
 -- a host just made (own)
 abbrev pub new_host : Disk → ℕ → Host
 new_host system frames = record { system = system; frames = frames; openings = 0; slots = [] }
 
 -- the slot of a number, if it is open (own)
-abbrev pub slot_at : ℕ → List Slot → Option MachineState
+abbrev pub slot_at : ℕ → List SlotState → Option MachineState
 slot_at id [] = None
 slot_at id (x ∷ xs) = if x.id == id then Some x.state else slot_at id xs
 
 -- the slots, of which that of a number is now in this state, or closed (own)
-abbrev pub with_slot : ℕ → Option MachineState → List Slot → List Slot
+abbrev pub with_slot : ℕ → Option MachineState → List SlotState → List SlotState
 with_slot id None xs = filter (λ x. not (x.id == id)) xs
 with_slot id (Some s) xs = map (λ x. if x.id == id then record { id = id; state = s } else x) xs
 
@@ -49,17 +49,17 @@ abbrev pub opened_slot : Opening → MachineState
 opened_slot o = opened_machine o.cpu o.quota o.drives.items
 
 -- the quotas of these slots (own)
-abbrev pub quotas_of : List Slot → ℕ
+abbrev pub quotas_of : List SlotState → ℕ
 quotas_of xs = sum_by (λ x. x.state.quota) xs
 
 -- own: 64 slots may be open, and their quotas may be no more than the frames; the last number is never given
-abbrev pub place_fault : Host → ℕ → Option OpenError
-place_fault h quota =
+abbrev pub room_fault : Host → ℕ → Option OpenError
+room_fault h quota =
     if nat_le 64 (length h.slots) || h.openings == 18446744073709551615 then Some NoSlot else if nat_lt h.frames (quotas_of h.slots + quota) then Some NoFrames else None
 
 -- why an opening is refused, want of memory aside: by its quota, its drives, for want of a slot, or of frames (own)
 abbrev pub refusal_of : Host → Opening → Option OpenError
-refusal_of h o = first_fault (opening_fault o) (place_fault h o.quota)
+refusal_of h o = first_fault (opening_fault o) (room_fault h o.quota)
 
 -- the host with one slot more, under the number of its opening (own)
 abbrev pub with_opened : Host → Opening → Host
@@ -130,12 +130,12 @@ replies_to id (e ∷ es) [] = []
 replies_to id (e ∷ es) (r ∷ rs) = if e.slot.0 == id then r ∷ replies_to id es rs else replies_to id es rs
 
 -- the numbers rise, from at least n on (own)
-abbrev pub IsOrdered : ℕ → List Slot → Type 0
+abbrev pub IsOrdered : ℕ → List SlotState → Type 0
 IsOrdered n [] = ⊤
 IsOrdered n (x ∷ xs) = (n ≤ x.id) × IsOrdered (x.id + 1) xs
 
 -- each is the number of an opening that was made (own)
-abbrev pub AllBelow : ℕ → List Slot → Type 0
+abbrev pub AllBelow : ℕ → List SlotState → Type 0
 AllBelow n [] = ⊤
 AllBelow n (x ∷ xs) = (x.id < n) × AllBelow n xs
 

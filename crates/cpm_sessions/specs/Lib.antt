@@ -1,7 +1,7 @@
 pub mod Serving
 pub mod Host
 pub mod Account
-pub mod Place
-pub mod Seating
-pub mod Housed
+pub mod Index
+pub mod Slots
+pub mod HostWithStore
 pub mod Laws

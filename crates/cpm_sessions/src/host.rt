@@ -18,11 +18,11 @@ ghost use Rattle.cpm_sessions.specs.Host.{opened_slot};
 ghost use Rattle.cpm_sessions.specs.Serving.{Calls, Closes};
 
 use crate::event::{Refusal, SlotId};
-use crate::seats::{
-    Seat, close_at, grant_at, grant_until_at, key_at, look_at, numbers_fit, peek_at, place_of,
+use crate::slots::{
+    Slot, close_at, grant_at, grant_until_at, index_of, key_at, look_at, numbers_fit, peek_at,
     quotas_of, table_at, take_at, take_list_at,
 };
-use cpm_bdos::Session;
+use cpm_bdos::Cpm;
 use cpm_console::Console;
 use cpm_decode::DecodeCache;
 use cpm_geom::Image;
@@ -34,7 +34,7 @@ use std::alloc::{AllocError, Global};
 use std::marker::Model;
 
 /// How many slots may be open.
-pub const PLACES: usize = 64;
+pub const MOST_SLOTS: usize = 64;
 
 /// The fewest frames that a host may have: the least quota of one slot.
 pub const LEAST_FRAMES: u16 = 16;
@@ -49,7 +49,7 @@ pub struct Host {
     frames: u16,
     openings: u64,
     store: FrameStore,
-    seats: Vec<Seat>,
+    slots: Vec<Slot>,
     /// A mirror for the memory that is worked on. What is in it makes no difference to any slot.
     mirror: Mirror,
 }
@@ -58,33 +58,33 @@ impl Model for Host {
     ghost use Rattle.std.specs.Prelude.{◌≡◌};
     ghost use Rattle.cpm_memory.specs.Frames.{memories, IsSound};
     ghost use Rattle.cpm_sessions.specs.Host.{IsHost};
-    ghost use Rattle.cpm_sessions.specs.Housed.{Housed};
-    ghost use Rattle.cpm_sessions.specs.Seating.{housed_of, IsSeated, AllCached};
+    ghost use Rattle.cpm_sessions.specs.HostWithStore.{HostWithStore};
+    ghost use Rattle.cpm_sessions.specs.Slots.{host_with_store, HaveTables, AllCached};
 
-    ghost Value = { Housed };
+    ghost Value = { HostWithStore };
 
-    ghost view = { λ h. housed_of h.system h.frames h.openings h.store h.seats.items };
+    ghost view = { λ h. host_with_store h.system h.frames h.openings h.store h.slots.items };
 
-    ghost invariant = { λ h. IsHost (housed_of h.system h.frames h.openings h.store h.seats.items).host × IsSeated (memories h.store) h.seats.items × (h.store.private ≡ h.frames) × IsSound h.store × AllCached (memories h.store) h.store.stamps h.seats.items };
+    ghost invariant = { λ h. IsHost (host_with_store h.system h.frames h.openings h.store h.slots.items).host × HaveTables (memories h.store) h.slots.items × (h.store.private ≡ h.frames) × IsSound h.store × AllCached (memories h.store) h.store.stamps h.slots.items };
 }
 
 /// What a host takes memory for: its frames, its places and its mirror.
-fn allocate(alloc: Global, frames: u16) -> Result<(FrameStore, Vec<Seat>, Mirror), AllocError>
+fn allocate(alloc: Global, frames: u16) -> Result<(FrameStore, Vec<Slot>, Mirror), AllocError>
     requires { frames ≤ 16384 }
     ensures frames { IfOk result (λ r. r.0.private ≡ frames) }
     ensures sound { IfOk result (λ r. IsSound r.0) }
     ensures memories { IfOk result (λ r. memories r.0 ≡ tabulated 64 (λ _. None)) }
-    ensures seats { IfOk result (λ r. r.1.items ≡ []) }
+    ensures slots { IfOk result (λ r. r.1.items ≡ []) }
 {
     let store = FrameStore::new(alloc, frames)?;
-    let seats = Vec::with_capacity(alloc, PLACES)?;
+    let slots = Vec::with_capacity(alloc, MOST_SLOTS)?;
     let mirror = Mirror::new(alloc)?;
-    Ok((store, seats, mirror))
+    Ok((store, slots, mirror))
 }
 
 impl Host {
     ghost use Rattle.cpm_sessions.specs.Host.{new_host, refusal_of, with_opened, slot_at, reply_at, after_ask, key_reply, grant_reply, take_reply, look_reply, peek_reply, close_reply};
-    ghost use Rattle.cpm_sessions.specs.Housed.{table_of, table_reply, LivesIn, IsHoused};
+    ghost use Rattle.cpm_sessions.specs.HostWithStore.{table_of, table_reply, IsInTable, IsHostWithStore};
 
     /// A host with this system drive and so many frames, and no slot open. Want of memory hands the drive back.
     pub fn new(alloc: Global, system: Image, frames: u16) -> Result<Host, (Image, OpenError)>
@@ -94,12 +94,12 @@ impl Host {
         ensures refused { IfErr result (λ r. (r.0 ≡ system) × (r.1 ≡ OpenError.OutOfMemory)) }
     {
         match allocate(alloc, frames) {
-            Ok((store, seats, mirror)) => Ok(Host {
+            Ok((store, slots, mirror)) => Ok(Host {
                 system,
                 frames,
                 openings: 0,
                 store,
-                seats,
+                slots,
                 mirror,
             }),
             Err(_) => Err((system, OpenError::OutOfMemory)),
@@ -109,14 +109,14 @@ impl Host {
     /// Why an opening is refused, want of memory aside.
     fn refusal(&self, opening: &Opening) -> Option<OpenError>
         ensures refusal { result ≡ refusal_of self.now.host opening.now }
-        ensures room { IfNone result (length self.now.host.slots < PLACES) }
+        ensures room { IfNone result (length self.now.host.slots < MOST_SLOTS) }
     {
         if let Some(fault) = opening.fault() {
             return Some(fault);
         }
-        if self.seats.len() >= PLACES || self.openings == u64::MAX {
+        if self.slots.len() >= MOST_SLOTS || self.openings == u64::MAX {
             Some(OpenError::NoSlot)
-        } else if u64::from(self.frames) < quotas_of(&self.seats) + u64::from(opening.quota) {
+        } else if u64::from(self.frames) < quotas_of(&self.slots) + u64::from(opening.quota) {
             Some(OpenError::NoFrames)
         } else {
             None
@@ -143,7 +143,7 @@ impl Host {
         let Ok(cache) = DecodeCache::new(alloc) else {
             return Err((opening, OpenError::OutOfMemory));
         };
-        if self.seats.try_reserve(1).is_err() {
+        if self.slots.try_reserve(1).is_err() {
             return Err((opening, OpenError::OutOfMemory));
         }
         let Ok(table) = self.store.reserve(opening.quota) else {
@@ -151,7 +151,7 @@ impl Host {
         };
         let id = self.openings;
         let runner = opened(opening, console, cache);
-        self.seats.push_reserved(Seat { id, runner, table });
+        self.slots.push_reserved(Slot { id, runner, table });
         self.openings += 1;
         Ok(SlotId(id))
     }
@@ -161,9 +161,9 @@ impl Host {
         ensures reply { key_reply result ≡ reply_at self.old.host id.0 (Calls (Key key)) }
         ensures host { self.new.host ≡ after_ask self.old.host id.0 (Calls (Key key)) }
     {
-        match place_of(&self.seats, id) {
+        match index_of(&self.slots, id) {
             None => Err(Refusal::NoSuchSlot),
-            Some(place) => key_at(&mut self.seats, place, key),
+            Some(index) => key_at(&mut self.slots, index, key),
         }
     }
 
@@ -172,14 +172,14 @@ impl Host {
         ensures reply { grant_reply result ≡ reply_at self.old.host id.0 (Calls (Grant steps)) }
         ensures host { self.new.host ≡ after_ask self.old.host id.0 (Calls (Grant steps)) }
     {
-        match place_of(&self.seats, id) {
+        match index_of(&self.slots, id) {
             None => Err(Refusal::NoSuchSlot),
-            Some(place) => Ok(grant_at(
-                &mut self.seats,
+            Some(index) => Ok(grant_at(
+                &mut self.slots,
                 &mut self.store,
                 &mut self.mirror,
                 &self.system,
-                place,
+                index,
                 steps,
             )),
         }
@@ -191,13 +191,13 @@ impl Host {
         ensures reply { grant_reply result ≡ reply_at self.old.host id.0 (Calls (GrantUntil steps pc)) }
         ensures host { self.new.host ≡ after_ask self.old.host id.0 (Calls (GrantUntil steps pc)) }
     {
-        match place_of(&self.seats, id) {
+        match index_of(&self.slots, id) {
             None => Err(Refusal::NoSuchSlot),
-            Some(place) => Ok(grant_until_at(
-                &mut self.seats,
+            Some(index) => Ok(grant_until_at(
+                &mut self.slots,
                 &mut self.store,
                 &self.system,
-                place,
+                index,
                 steps,
                 pc,
             )),
@@ -213,9 +213,9 @@ impl Host {
         ensures refused { OnErr result (out.new ≡ out.old) }
         ensures host { self.new.host ≡ after_ask self.old.host id.0 (Calls (Take (length out.old))) }
     {
-        match place_of(&self.seats, id) {
+        match index_of(&self.slots, id) {
             None => Err(Refusal::NoSuchSlot),
-            Some(place) => Ok(take_at(&mut self.seats, place, out)),
+            Some(index) => Ok(take_at(&mut self.slots, index, out)),
         }
     }
 
@@ -228,9 +228,9 @@ impl Host {
         ensures refused { OnErr result (out.new ≡ out.old) }
         ensures host { self.new.host ≡ after_ask self.old.host id.0 (Calls (TakeList (length out.old))) }
     {
-        match place_of(&self.seats, id) {
+        match index_of(&self.slots, id) {
             None => Err(Refusal::NoSuchSlot),
-            Some(place) => Ok(take_list_at(&mut self.seats, place, out)),
+            Some(index) => Ok(take_list_at(&mut self.slots, index, out)),
         }
     }
 
@@ -240,9 +240,9 @@ impl Host {
         ensures host { self.new.host ≡ after_ask self.old.host id.0 (Calls LookAt) }
         ensures unchanged { self.new ≡ self.old }
     {
-        match place_of(&self.seats, id) {
+        match index_of(&self.slots, id) {
             None => Err(Refusal::NoSuchSlot),
-            Some(place) => Ok(look_at(&self.seats, &mut self.store, place)),
+            Some(index) => Ok(look_at(&self.slots, &mut self.store, index)),
         }
     }
 
@@ -251,9 +251,9 @@ impl Host {
         ensures reply { peek_reply result ≡ reply_at self.now.host id.0 (Calls (Peek address)) }
         ensures unchanged { after_ask self.now.host id.0 (Calls (Peek address)) ≡ self.now.host }
     {
-        match place_of(&self.seats, id) {
+        match index_of(&self.slots, id) {
             None => Err(Refusal::NoSuchSlot),
-            Some(place) => Ok(peek_at(&self.seats, &self.store, place, address)),
+            Some(index) => Ok(peek_at(&self.slots, &self.store, index, address)),
         }
     }
 
@@ -261,19 +261,19 @@ impl Host {
     pub fn table(&self, id: SlotId) -> Result<TableId, Refusal>
         ensures table { result ≡ table_reply (table_of id.0 self.now.tables) }
         ensures taken { IfOk result (λ t. IsTaken self.now.store t) }
-        ensures lives { IfOk result (λ t. IfSome (slot_at id.0 self.now.host.slots) (λ s. LivesIn self.now id.0 s t)) }
+        ensures in_table { IfOk result (λ t. IfSome (slot_at id.0 self.now.host.slots) (λ s. IsInTable self.now id.0 s t)) }
         ensures refused { IfErr result (λ fault. slot_at id.0 self.now.host.slots ≡ None) }
     {
-        match place_of(&self.seats, id) {
+        match index_of(&self.slots, id) {
             None => Err(Refusal::NoSuchSlot),
-            Some(place) => Ok(table_at(&self.seats, place)),
+            Some(index) => Ok(table_at(&self.slots, index)),
         }
     }
 
     /// The store of which the memories of all slots are made.
     pub fn store(&self) -> &FrameStore
         ensures store { result.now ≡ self.now.store }
-        ensures frames { IsHoused self.now }
+        ensures frames { IsHostWithStore self.now }
     {
         &self.store
     }
@@ -283,18 +283,18 @@ impl Host {
     pub fn steps_are_bounded(&self)
         ensures { (system : Disk) (id : ℕ) (s : MachineState) → slot_at id self.now.host.slots ≡ Some s → IsBounded s (step system s) }
     {
-        numbers_fit(&self.seats);
+        numbers_fit(&self.slots);
     }
 
     /// Closes a slot, whose number never comes again, and gives what is left of it. Bytes not taken are dropped.
     pub fn close(&mut self, id: SlotId) -> Result<Closed, Refusal>
         ensures reply { close_reply result ≡ reply_at self.old.host id.0 Closes }
-        ensures closed { IfOk result (λ c. IfSome (slot_at id.0 self.old.host.slots) (λ s. (c.look ≡ look_of s) × (c.drives ≡ images_of s.session.disks))) }
+        ensures closed { IfOk result (λ c. IfSome (slot_at id.0 self.old.host.slots) (λ s. (c.look ≡ look_of s) × (c.drives ≡ images_of s.cpm.disks))) }
         ensures host { self.new.host ≡ after_ask self.old.host id.0 Closes }
     {
-        match place_of(&self.seats, id) {
+        match index_of(&self.slots, id) {
             None => Err(Refusal::NoSuchSlot),
-            Some(place) => Ok(close_at(&mut self.seats, &mut self.store, place)),
+            Some(index) => Ok(close_at(&mut self.slots, &mut self.store, index)),
         }
     }
 }
@@ -308,7 +308,7 @@ fn opened(opening: Opening, console: Console, cache: DecodeCache) -> Runner
     let Opening { cpu, quota, drives } = opening;
     Runner {
         cpu,
-        session: Session::new(console, drives),
+        cpm: Cpm::new(console, drives),
         quota,
         count: 0,
         ended: End::Running,

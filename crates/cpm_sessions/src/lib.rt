@@ -5,7 +5,7 @@ pub mod event;
 pub mod host;
 pub mod laws;
 mod run;
-mod seats;
+mod slots;
 
 pub use event::{Event, Refusal, Reply, Request, SlotId};
-pub use host::{Host, LEAST_FRAMES, MOST_FRAMES, PLACES};
+pub use host::{Host, LEAST_FRAMES, MOST_FRAMES, MOST_SLOTS};

@@ -110,8 +110,8 @@ impl Host {
         ensures replies { take (length events.now) replies.new ≡ map (λ t. t.reply) (told (map happening_of events.now) self.old.host) }
         ensures rest { drop (length events.now) replies.new ≡ drop (length events.now) replies.old }
     {
-        for (place, event) in events.iter().enumerate() {
-            replies[place] = self.serve(event);
+        for (index, event) in events.iter().enumerate() {
+            replies[index] = self.serve(event);
         }
     }
 }

@@ -3,17 +3,18 @@ use Rattle.std.specs.Prelude.{ℕ, ◌++◌, Bool, true, false, List}
 use Rattle.cpm_flags.specs.declared.regs.Cpu.{Cpu}
 use Rattle.cpm_geom.specs.Disk.{Disk}
 use Rattle.cpm_memory.specs.Contents.{Contents, Write, run_puts, word_puts, after_sets}
+use Rattle.cpm_memory.specs.Layout.{command_processor_address, program_address, stack_address}
 use Rattle.cpm_memory.specs.Opening.{opening}
 use Rattle.cpm_console.specs.Terminal.{blank}
 use Rattle.cpm_bdos.specs.Step.{opened}
-use Rattle.cpm_bdos.specs.declared.session.Session.{Session}
+use Rattle.cpm_bdos.specs.declared.cpm.Cpm.{Cpm}
 use Rattle.cpm_slots.specs.declared.reply.End.{End}
 use Rattle.cpm_slots.specs.declared.reply.End.TheVariants.{Running}
 
 pub record MachineState : Type 0 where
   pub cpu : Cpu
   -- the registers, the call in progress, and the console with the bytes that wait to be taken
-  pub session : Session
+  pub cpm : Cpm
   -- the bytes, and which pages were written
   pub memory : Contents
   -- how many pages may be written, 256 for all
@@ -26,13 +27,13 @@ pub record MachineState : Type 0 where
 
 -- the stores that make a machine with a program: the program at 0100h, and the address of the command processor on the stack
 abbrev pub program_puts : List ℕ → List Write
-program_puts program = run_puts 256 program ++ word_puts 60414 58374
+program_puts program = run_puts program_address program ++ word_puts stack_address command_processor_address
 
 -- own: a machine at its opening, with this quota and these drives, begins at the command processor, and nothing is written
 abbrev pub opened_machine : Cpu → ℕ → List Disk → MachineState
 opened_machine cpu quota drives = record {
   cpu = cpu;
-  session = opened blank drives;
+  cpm = opened blank drives;
   memory = opening quota;
   quota = quota;
   count = 0;
@@ -44,7 +45,7 @@ opened_machine cpu quota drives = record {
 abbrev pub loaded : List ℕ → MachineState → MachineState
 loaded program s =
     record s {
-      session = record s.session { regs = record s.session.regs { pc = 256 } };
+      cpm = record s.cpm { regs = record s.cpm.regs { pc = program_address } };
       memory = after_sets s.memory (program_puts program);
       with_program = true;
     }

@@ -15,10 +15,11 @@ use crate::opening::{OpenError, Opening};
 use crate::reply::{Closed, End, Granted, KeysFull, Look};
 use crate::steps::{self, Runner};
 use crate::until;
-use cpm_bdos::Session;
+use cpm_bdos::Cpm;
 use cpm_console::Console;
 use cpm_decode::DecodeCache;
 use cpm_geom::Image;
+use cpm_memory::layout::{COMMAND_PROCESSOR, PROGRAM, STACK};
 use cpm_memory::{FlatMemory, Memory, set_run, set_word};
 use std::alloc::{AllocError, Global};
 use std::marker::Model;
@@ -108,7 +109,7 @@ impl Machine {
         } = parts;
         let runner = Runner {
             cpu,
-            session: Session::new(console, drives),
+            cpm: Cpm::new(console, drives),
             quota,
             count: 0,
             ended: End::Running,
@@ -123,10 +124,10 @@ impl Machine {
         requires { self.old.quota ≡ 256 }
         ensures { self.new ≡ loaded program.now self.old }
     {
-        self.runner.session.regs.pc = 0x0100;
+        self.runner.cpm.regs.pc = PROGRAM;
         self.runner.with_program = true;
-        set_run(&mut self.memory, 0x0100, program);
-        set_word(&mut self.memory, 0xEBFE, 0xE406);
+        set_run(&mut self.memory, PROGRAM, program);
+        set_word(&mut self.memory, STACK, COMMAND_PROCESSOR);
     }
 
     /// Executes one step with this system drive, if one can be made: the session runs, and console and list device have room for 4,096
@@ -136,7 +137,7 @@ impl Machine {
         ensures state { self.new ≡ (if result then step system.now self.old else self.old) }
         ensures bounds { IsBounded self.old self.new }
     {
-        self.runner.session.numbers_fit();
+        self.runner.cpm.numbers_fit();
         self.grant(system, 1).executed == 1
     }
 
@@ -166,7 +167,7 @@ impl Machine {
         ensures accepted { IfOk result (λ _. takes_key self.old ≡ true × self.new ≡ keyed key self.old) }
         ensures refused { IfErr result (λ _. takes_key self.old ≡ false × self.new ≡ self.old) }
     {
-        if self.runner.session.console.give(key) {
+        if self.runner.cpm.console.give(key) {
             Ok(())
         } else {
             Err(KeysFull)
@@ -175,20 +176,20 @@ impl Machine {
 
     /// Moves out the first console bytes, as many as fit, and says how many.
     pub fn take(&mut self, out: &mut [u8]) -> usize
-        ensures count { result ≡ min (length out.old) (length self.old.session.console.screen) }
-        ensures bytes { out.new ≡ take result self.old.session.console.screen ++ drop result out.old }
+        ensures count { result ≡ min (length out.old) (length self.old.cpm.console.screen) }
+        ensures bytes { out.new ≡ take result self.old.cpm.console.screen ++ drop result out.old }
         ensures state { self.new ≡ taken (length out.old) self.old }
     {
-        self.runner.session.console.take(out)
+        self.runner.cpm.console.take(out)
     }
 
     /// Moves out the first list bytes, as many as fit, and says how many.
     pub fn take_list(&mut self, out: &mut [u8]) -> usize
-        ensures count { result ≡ min (length out.old) (length self.old.session.console.printer) }
-        ensures bytes { out.new ≡ take result self.old.session.console.printer ++ drop result out.old }
+        ensures count { result ≡ min (length out.old) (length self.old.cpm.console.printer) }
+        ensures bytes { out.new ≡ take result self.old.cpm.console.printer ++ drop result out.old }
         ensures state { self.new ≡ taken_list (length out.old) self.old }
     {
-        self.runner.session.console.take_list(out)
+        self.runner.cpm.console.take_list(out)
     }
 
     /// What is seen of the machine.
@@ -208,12 +209,12 @@ impl Machine {
     /// What is left of the machine. Bytes not taken are dropped.
     pub fn finish(self) -> Closed
         ensures look { result.look ≡ look_of self }
-        ensures drives { result.drives ≡ images_of self.session.disks }
+        ensures drives { result.drives ≡ images_of self.cpm.disks }
     {
         let look = self.look();
         let Machine { runner, .. } = self;
-        let Runner { session, .. } = runner;
-        let Session { disks, .. } = session;
+        let Runner { cpm, .. } = runner;
+        let Cpm { disks, .. } = cpm;
         let drives = disks.into_images();
         Closed { look, drives }
     }

@@ -3,13 +3,7 @@
 ghost use Rattle.std.specs.Prelude.{◌≡◌, is_some};
 ghost use Rattle.cpm_slots.specs.Trap.{trap_at};
 
-const COMMAND_PROCESSOR: u16 = 0xE406;
-
-const BDOS: u16 = 0xEC06;
-
-const FIRST_BIOS: u16 = 0xFB00;
-
-const LAST_BIOS: u16 = 0xFB10;
+use cpm_memory::layout::{BDOS, COMMAND_PROCESSOR, FIRST_BIOS, LAST_BIOS};
 
 /// What is done at a trap address.
 #[derive(Clone, Copy, Debug, PartialEq, Eq)]

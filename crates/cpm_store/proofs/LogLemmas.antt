@@ -49,6 +49,3 @@ unwritten_more does s m t h g = (h.0 ++ g.0, no_writes_more h.0 g.0 h.1 g.1, ran
 
 pub unwritten_one : {S : Type 0} (does : S → Access → S → Type 0) (a : Access) (s t : S) → IsNoWrite a → does s a t → RanBy does AreNoWrites s t
 unwritten_one does a s t is call = (a ∷ [], (is, tt), ran_one does a s t call)
-
-pub unwritten_none : {S : Type 0} (does : S → Access → S → Type 0) (s : S) → RanBy does AreNoWrites s s
-unwritten_none does s = ([], tt, refl)

@@ -1,4 +1,4 @@
--- A player's slot in its host: what is asked of it leaves the other slots.
+-- A slot in its host: what is asked of it leaves the other slots.
 use Rattle.std.proofs.Common.{◌≡◌, ℕ, Some, refl, sym, ap, ◌∙◌}
 use Rattle.cpm_sessions.specs.declared.event.SlotId.{SlotId}
 use Rattle.cpm_sessions.specs.Host.{Host, slot_at, after_ask, reply_at}
@@ -7,8 +7,8 @@ use Rattle.cpm_sessions.proofs.EventLaws.{apart}
 use Rattle.cpm_sessions.proofs.SlotLaws.{slot_at-same}
 use Rattle.cpm_slots.specs.Calls.{Call, serve}
 use Rattle.cpm_slots.specs.MachineState.{MachineState}
-use Rattle.cpm_turns.specs.declared.player.Player.{Player}
-use Rattle.cpm_turns.specs.Players.{keys_of, Moves}
+use Rattle.cpm_turns.specs.declared.scripted_slot.ScriptedSlot.{ScriptedSlot}
+use Rattle.cpm_turns.specs.ScriptedSlots.{keys_of, Moves}
 
 -- ---- a call to an open slot
 
@@ -23,11 +23,8 @@ reply-served h id call s at = ap (λ o. (serve_slot h.system (Calls call) o).rep
 
 -- ---- who moves
 
-pub moves-none : (p : Player) (h : Host) → Moves p p h h
-moves-none p h = record { id = refl; keys = refl; others = record { system = refl; frames = refl; openings = refl; others = λ id other. refl } }
-
--- a player that keeps its slot and its keys, and something asked of its slot
-pub moves-ask : (p q : Player) (old new : Host) (ask : Ask) → q.id ≡ p.id → keys_of q ≡ keys_of p → new ≡ after_ask old p.id.0 ask → Moves p q old new
+-- a scripted slot that keeps its slot and its keys, and something asked of its slot
+pub moves-ask : (p q : ScriptedSlot) (old new : Host) (ask : Ask) → q.id ≡ p.id → keys_of q ≡ keys_of p → new ≡ after_ask old p.id.0 ask → Moves p q old new
 moves-ask p q old new ask id keys is = record {
   id = id;
   keys = keys;
@@ -39,7 +36,7 @@ moves-ask p q old new ask id keys is = record {
   };
 }
 
-pub moves-on : (p q r : Player) (old middle new : Host) → Moves p q old middle → Moves q r middle new → Moves p r old new
+pub moves-on : (p q r : ScriptedSlot) (old middle new : Host) → Moves p q old middle → Moves q r middle new → Moves p r old new
 moves-on p q r old middle new a b = record {
   id = b.id ∙ a.id;
   keys = b.keys ∙ a.keys;

@@ -3,6 +3,6 @@ pub mod TextLemmas
 pub mod OrderLemmas
 pub mod PaceLemmas
 pub mod HostLemmas
-pub mod PlayerLemmas
+pub mod ScriptedSlotLemmas
 pub mod RoundLemmas
 pub mod ScriptLemmas

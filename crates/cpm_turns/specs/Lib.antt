@@ -1,4 +1,4 @@
 pub mod Playing
 pub mod Pacing
-pub mod Players
+pub mod ScriptedSlots
 pub mod Laws

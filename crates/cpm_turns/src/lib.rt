@@ -4,10 +4,10 @@
 pub mod laws;
 mod machine;
 mod pace;
-mod player;
 mod rounds;
+mod scripted_slot;
 mod turn;
 
 pub use machine::play_machine;
-pub use player::Player;
 pub use rounds::play;
+pub use scripted_slot::ScriptedSlot;

@@ -1,47 +1,47 @@
-//! Many players of a host, in turns.
+//! Many scripted slots of a host, in turns.
 
 ghost use Rattle.std.specs.Prelude.{◌≡◌, ◌≤◌, ◌<◌, List, OnOk};
-ghost use Rattle.cpm_sessions.specs.Host.{Slot};
-ghost use Rattle.cpm_turns.specs.declared.player.Player.{Player as Played};
-ghost use Rattle.cpm_turns.specs.Players.{AllDiffer, AllPairs, AllPlayed, AllReady, LeavesOthers, has_steps, ids_of, left_of};
+ghost use Rattle.cpm_sessions.specs.Host.{SlotState};
+ghost use Rattle.cpm_turns.specs.declared.scripted_slot.ScriptedSlot.{ScriptedSlot as Played};
+ghost use Rattle.cpm_turns.specs.ScriptedSlots.{AllDiffer, AllPairs, AllPlayed, AllReady, LeavesOthers, has_steps, ids_of, left_of};
 
-use crate::player::Player;
+use crate::scripted_slot::ScriptedSlot;
 use crate::turn::turn;
 use cpm_sessions::Host;
 use std::alloc::AllocError;
 
-/// Whether one of the players has steps to execute.
-fn goes_on(players: &[Player]) -> bool
-    ensures { result ≡ has_steps players.now }
+/// Whether one of the scripted slots has steps to execute.
+fn goes_on(scripted: &[ScriptedSlot]) -> bool
+    ensures { result ≡ has_steps scripted.now }
 {
-    players.iter().any(|player| player.pace.left() > 0)
+    scripted.iter().any(|slot| slot.pace.left() > 0)
 }
 
-/// Gives each of the players a turn.
-fn round(host: &mut Host, players: &mut [Player], quantum: u64) -> Result<(), AllocError>
+/// Gives each of the scripted slots a turn.
+fn round(host: &mut Host, scripted: &mut [ScriptedSlot], quantum: u64) -> Result<(), AllocError>
     requires { 1 ≤ quantum }
-    ensures pairs { OnOk result ((before : List Slot) (given : List Played) → AllDiffer players.old → AllPairs before host.old.host given players.old → AllPairs before host.new.host given players.new) }
-    ensures others { OnOk result (LeavesOthers (ids_of players.old) host.old.host host.new.host) }
-    ensures ids { OnOk result (ids_of players.new ≡ ids_of players.old) }
-    ensures left { OnOk result (0 < left_of players.old → left_of players.new < left_of players.old) }
+    ensures pairs { OnOk result ((before : List SlotState) (given : List Played) → AllDiffer scripted.old → AllPairs before host.old.host given scripted.old → AllPairs before host.new.host given scripted.new) }
+    ensures others { OnOk result (LeavesOthers (ids_of scripted.old) host.old.host host.new.host) }
+    ensures ids { OnOk result (ids_of scripted.new ≡ ids_of scripted.old) }
+    ensures left { OnOk result (0 < left_of scripted.old → left_of scripted.new < left_of scripted.old) }
 {
-    for player in players.iter_mut() {
-        turn(host, player, quantum)?;
+    for slot in scripted.iter_mut() {
+        turn(host, slot, quantum)?;
     }
     Ok(())
 }
 
-/// Plays sessions of a host. The players have turns in their order, each of at most `quantum` steps and cut at the count of the next key, and
+/// Plays sessions of a host. The scripted slots have turns in their order, each of at most `quantum` steps and cut at the count of the next key, and
 /// all that a session shows is taken after its turn, until each has executed its steps or ended.
-pub fn play(host: &mut Host, players: &mut [Player], quantum: u64) -> Result<(), AllocError>
+pub fn play(host: &mut Host, scripted: &mut [ScriptedSlot], quantum: u64) -> Result<(), AllocError>
     requires quantum { 1 ≤ quantum }
-    requires ready { AllReady host.old.host.slots players.old }
-    requires differ { AllDiffer players.old }
-    ensures played { OnOk result (AllPlayed host.old.host.system host.old.host.slots host.new.host.slots players.old players.new) }
-    ensures others { OnOk result (LeavesOthers (ids_of players.old) host.old.host host.new.host) }
+    requires ready { AllReady host.old.host.slots scripted.old }
+    requires differ { AllDiffer scripted.old }
+    ensures played { OnOk result (AllPlayed host.old.host.system host.old.host.slots host.new.host.slots scripted.old scripted.new) }
+    ensures others { OnOk result (LeavesOthers (ids_of scripted.old) host.old.host host.new.host) }
 {
-    while goes_on(players) {
-        round(host, players, quantum)?;
+    while goes_on(scripted) {
+        round(host, scripted, quantum)?;
     }
     Ok(())
 }

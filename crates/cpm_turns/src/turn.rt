@@ -1,4 +1,4 @@
-//! One turn of a player: its keys that are due, its steps, and what it shows.
+//! One turn of a scripted slot: its keys that are due, its steps, and what it shows.
 
 ghost use Rattle.std.specs.Prelude.{◌≡◌, ◌≢◌, ℕ, ◌-◌, ◌<◌, ◌≤◌, OnOk, None, Some, length, slice_get};
 ghost use Rattle.cpm_sessions.specs.Host.{after_ask, slot_at};
@@ -7,9 +7,9 @@ ghost use Rattle.cpm_slots.specs.Calls.{Grant, Take, TakeList};
 ghost use Rattle.cpm_slots.specs.MachineState.{MachineState};
 ghost use Rattle.cpm_slots.specs.Serve.{executed};
 ghost use Rattle.cpm_turns.specs.Pacing.{due_at};
-ghost use Rattle.cpm_turns.specs.Players.{AreTaken, IsPlaying, IsRead, IsResting, Moves, console_in, keys_of, list_in, steps_of};
+ghost use Rattle.cpm_turns.specs.ScriptedSlots.{AreTaken, IsPlaying, IsRead, IsResting, Moves, console_in, keys_of, list_in, steps_of};
 
-use crate::player::Player;
+use crate::scripted_slot::ScriptedSlot;
 use cpm_sessions::{Host, SlotId};
 use std::alloc::AllocError;
 
@@ -17,22 +17,22 @@ use std::alloc::AllocError;
 const CHUNK: usize = 8192;
 
 /// Presses the keys that are due.
-fn press_due(host: &mut Host, player: &mut Player)
-    ensures playing { (steps : ℕ) (start : MachineState) → IsResting steps start player.old host.old.host → IsResting steps start player.new host.new.host }
-    ensures moves { Moves player.old player.new host.old.host host.new.host }
-    ensures left { steps_of player.new ≡ steps_of player.old }
-    ensures due { due_at player.new.pace.done (slice_get (keys_of player.new) player.new.pace.pressed) ≡ None }
+fn press_due(host: &mut Host, slot: &mut ScriptedSlot)
+    ensures playing { (steps : ℕ) (start : MachineState) → IsResting steps start slot.old host.old.host → IsResting steps start slot.new host.new.host }
+    ensures moves { Moves slot.old slot.new host.old.host host.new.host }
+    ensures left { steps_of slot.new ≡ steps_of slot.old }
+    ensures due { due_at slot.new.pace.done (slice_get (keys_of slot.new) slot.new.pace.pressed) ≡ None }
 {
-    while let Some(key) = player.pace.due(&player.keys) {
+    while let Some(key) = slot.pace.due(&slot.keys) {
         // 4,096 keys at most were given, so that it is not refused.
-        let _ = host.key(player.id, key);
-        player.pace.pressed += 1;
+        let _ = host.key(slot.id, key);
+        slot.pace.pressed += 1;
     }
 }
 
 /// Moves out the first console bytes of a slot, as many as fit, and says how many.
 fn read_console(host: &mut Host, id: SlotId, chunk: &mut [u8]) -> usize
-    ensures bytes { (s : MachineState) → slot_at id.0 host.old.host.slots ≡ Some s → AreTaken result (length chunk.old) chunk.new s.session.console.screen }
+    ensures bytes { (s : MachineState) → slot_at id.0 host.old.host.slots ≡ Some s → AreTaken result (length chunk.old) chunk.new s.cpm.console.screen }
     ensures length { length chunk.new ≡ length chunk.old }
     ensures within { result ≤ length chunk.old }
     ensures fewer { result ≢ 0 → console_in (slot_at id.0 host.new.host.slots) < console_in (slot_at id.0 host.old.host.slots) }
@@ -46,7 +46,7 @@ fn read_console(host: &mut Host, id: SlotId, chunk: &mut [u8]) -> usize
 
 /// Moves out the first list bytes of a slot, as many as fit, and says how many.
 fn read_list(host: &mut Host, id: SlotId, chunk: &mut [u8]) -> usize
-    ensures bytes { (s : MachineState) → slot_at id.0 host.old.host.slots ≡ Some s → AreTaken result (length chunk.old) chunk.new s.session.console.printer }
+    ensures bytes { (s : MachineState) → slot_at id.0 host.old.host.slots ≡ Some s → AreTaken result (length chunk.old) chunk.new s.cpm.console.printer }
     ensures length { length chunk.new ≡ length chunk.old }
     ensures within { result ≤ length chunk.old }
     ensures fewer { result ≢ 0 → list_in (slot_at id.0 host.new.host.slots) < list_in (slot_at id.0 host.old.host.slots) }
@@ -59,34 +59,34 @@ fn read_list(host: &mut Host, id: SlotId, chunk: &mut [u8]) -> usize
 }
 
 /// Takes all console bytes.
-fn take_console(host: &mut Host, player: &mut Player) -> Result<(), AllocError>
-    ensures playing { OnOk result ((steps : ℕ) (start : MachineState) → IsPlaying steps start player.old host.old.host → IsRead steps start player.new host.new.host) }
-    ensures moves { OnOk result (Moves player.old player.new host.old.host host.new.host) }
-    ensures left { steps_of player.new ≡ steps_of player.old }
+fn take_console(host: &mut Host, slot: &mut ScriptedSlot) -> Result<(), AllocError>
+    ensures playing { OnOk result ((steps : ℕ) (start : MachineState) → IsPlaying steps start slot.old host.old.host → IsRead steps start slot.new host.new.host) }
+    ensures moves { OnOk result (Moves slot.old slot.new host.old.host host.new.host) }
+    ensures left { steps_of slot.new ≡ steps_of slot.old }
 {
     let mut chunk = [0u8; CHUNK];
     loop {
-        let count = read_console(host, player.id, &mut chunk);
+        let count = read_console(host, slot.id, &mut chunk);
         if count == 0 {
             return Ok(());
         }
-        player.console.extend_from_slice(&chunk[..count])?;
+        slot.console.extend_from_slice(&chunk[..count])?;
     }
 }
 
 /// Takes all list bytes.
-fn take_list(host: &mut Host, player: &mut Player) -> Result<(), AllocError>
-    ensures playing { OnOk result ((steps : ℕ) (start : MachineState) → IsRead steps start player.old host.old.host → IsResting steps start player.new host.new.host) }
-    ensures moves { OnOk result (Moves player.old player.new host.old.host host.new.host) }
-    ensures left { steps_of player.new ≡ steps_of player.old }
+fn take_list(host: &mut Host, slot: &mut ScriptedSlot) -> Result<(), AllocError>
+    ensures playing { OnOk result ((steps : ℕ) (start : MachineState) → IsRead steps start slot.old host.old.host → IsResting steps start slot.new host.new.host) }
+    ensures moves { OnOk result (Moves slot.old slot.new host.old.host host.new.host) }
+    ensures left { steps_of slot.new ≡ steps_of slot.old }
 {
     let mut chunk = [0u8; CHUNK];
     loop {
-        let count = read_list(host, player.id, &mut chunk);
+        let count = read_list(host, slot.id, &mut chunk);
         if count == 0 {
             return Ok(());
         }
-        player.list.extend_from_slice(&chunk[..count])?;
+        slot.list.extend_from_slice(&chunk[..count])?;
     }
 }
 
@@ -103,29 +103,29 @@ fn grant(host: &mut Host, id: SlotId, most: u64) -> u64
 }
 
 /// Executes the steps of a turn: at most `quantum`, and none past the next key.
-fn execute(host: &mut Host, player: &mut Player, quantum: u64)
+fn execute(host: &mut Host, slot: &mut ScriptedSlot, quantum: u64)
     requires { 1 ≤ quantum }
-    ensures playing { (steps : ℕ) (start : MachineState) → IsResting steps start player.old host.old.host → IsPlaying steps start player.new host.new.host }
-    ensures moves { Moves player.old player.new host.old.host host.new.host }
-    ensures left { steps_of player.new ≤ steps_of player.old - 1 }
+    ensures playing { (steps : ℕ) (start : MachineState) → IsResting steps start slot.old host.old.host → IsPlaying steps start slot.new host.new.host }
+    ensures moves { Moves slot.old slot.new host.old.host host.new.host }
+    ensures left { steps_of slot.new ≤ steps_of slot.old - 1 }
 {
-    press_due(host, player);
-    let most = player.pace.turn(&player.keys, quantum);
-    let executed = grant(host, player.id, most);
-    player.pace.advance(executed);
+    press_due(host, slot);
+    let most = slot.pace.turn(&slot.keys, quantum);
+    let executed = grant(host, slot.id, most);
+    slot.pace.advance(executed);
 }
 
-/// Gives a player a turn of at most `quantum` steps, which ends at the count of its next key, and takes what it shows.
-pub(crate) fn turn(host: &mut Host, player: &mut Player, quantum: u64) -> Result<(), AllocError>
+/// Gives a scripted slot a turn of at most `quantum` steps, which ends at the count of its next key, and takes what it shows.
+pub(crate) fn turn(host: &mut Host, slot: &mut ScriptedSlot, quantum: u64) -> Result<(), AllocError>
     requires { 1 ≤ quantum }
-    ensures playing { OnOk result ((steps : ℕ) (start : MachineState) → IsResting steps start player.old host.old.host → IsResting steps start player.new host.new.host) }
-    ensures moves { OnOk result (Moves player.old player.new host.old.host host.new.host) }
-    ensures left { OnOk result (steps_of player.new ≤ steps_of player.old - 1) }
+    ensures playing { OnOk result ((steps : ℕ) (start : MachineState) → IsResting steps start slot.old host.old.host → IsResting steps start slot.new host.new.host) }
+    ensures moves { OnOk result (Moves slot.old slot.new host.old.host host.new.host) }
+    ensures left { OnOk result (steps_of slot.new ≤ steps_of slot.old - 1) }
 {
-    if player.pace.left() == 0 {
+    if slot.pace.left() == 0 {
         return Ok(());
     }
-    execute(host, player, quantum);
-    take_console(host, player)?;
-    take_list(host, player)
+    execute(host, slot, quantum);
+    take_console(host, slot)?;
+    take_list(host, slot)
 }

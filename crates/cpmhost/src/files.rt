@@ -3,7 +3,8 @@ ghost use Rattle.std.specs.Prelude.{⊤, ◌≡◌, ◌≤◌, None, IfErr, IfOk
 ghost use Rattle.cpm_host.specs.Refusals.{IsFileRefusal, IsOutRefusal};
 ghost use Rattle.cpm_store.specs.Files.{CountsFailure};
 
-use cpm_host::{HostError, Store, StoreError, read_whole, shown};
+use crate::output::Outputs;
+use cpm_host::{Config, HostError, Store, StoreError, read_whole, shown};
 use std::alloc::Global;
 use std::io::ErrorKind;
 use std::rt::Files;
@@ -26,11 +27,54 @@ pub fn read_file(rt: &(impl Files + AllocGlobal), name: &str) -> Result<Vec<u8>,
     whole_file(rt, rt.alloc(), name).map_err(|reason| unreadable(name, reason))
 }
 
-/// Makes a file hold these bytes, which replace all that it held.
-pub fn write_file(rt: &impl Files, name: &str, bytes: &[u8]) -> Result<(), HostError>
+/// Makes a file hold these bytes, which replace all that it held; where it fails it is as it was.
+pub fn write_file(
+    rt: &(impl Files + AllocGlobal),
+    outputs: Outputs,
+    name: &str,
+    bytes: &[u8],
+) -> Result<(), HostError>
     ensures refusal { IfErr result IsOutRefusal }
 {
-    fs::write(rt, name, bytes).map_err(|reason| unwritable(name, reason))
+    outputs
+        .write(rt, name, bytes)
+        .map_err(|reason| unwritable(name, reason))
+}
+
+/// Fails where a file of this name can't be written.
+fn check_file(
+    rt: &(impl Files + AllocGlobal),
+    outputs: Outputs,
+    name: &str,
+) -> Result<(), HostError>
+    ensures refusal { IfErr result IsOutRefusal }
+{
+    outputs
+        .check(rt, name)
+        .map_err(|reason| unwritable(name, reason))
+}
+
+/// Fails where one of the files that a run is to write can't be written, before it reads anything: the first of them, in the order in
+/// which they are written.
+pub fn check_outputs(
+    rt: &(impl Files + AllocGlobal),
+    outputs: Outputs,
+    config: &Config,
+) -> Result<(), HostError>
+    ensures refusal { IfErr result IsOutRefusal }
+{
+    for session in &config.sessions {
+        check_file(rt, outputs, session.console.as_str())?;
+        if let Some(list) = &session.list {
+            check_file(rt, outputs, list.as_str())?;
+        }
+        if let Some(images) = &session.out {
+            for out in images {
+                check_file(rt, outputs, out.as_str())?;
+            }
+        }
+    }
+    Ok(())
 }
 
 /// Why a file was not written.
@@ -59,17 +103,22 @@ fn unreadable(name: &str, reason: io::Error) -> HostError
 
 /// The files of the machine as a store. It doesn't tell what they hold, since others can write them.
 #[derive(Drop)]
-pub struct MachineFiles<'a, R: Files> {
+pub struct MachineFiles<'a, R: Files + AllocGlobal> {
     rt: &'a R,
+    outputs: Outputs,
     failures: u64,
 }
 
-impl<'a, R: Files> MachineFiles<'a, R> {
+impl<'a, R: Files + AllocGlobal> MachineFiles<'a, R> {
     /// The files, of which no call has failed yet.
-    pub fn new(rt: &'a R) -> MachineFiles<'a, R>
+    pub fn new(rt: &'a R, outputs: Outputs) -> MachineFiles<'a, R>
         ensures { result.failures ≡ 0 }
     {
-        MachineFiles { rt, failures: 0 }
+        MachineFiles {
+            rt,
+            outputs,
+            failures: 0,
+        }
     }
 
     /// What a call answers that failed so, which is counted but for want of memory.
@@ -85,7 +134,7 @@ impl<'a, R: Files> MachineFiles<'a, R> {
     }
 }
 
-impl<R: Files> Store for MachineFiles<'_, R> {
+impl<R: Files + AllocGlobal> Store for MachineFiles<'_, R> {
     ghost files = { λ _. None };
 
     ghost failed = { λ s. s.failures };
@@ -101,7 +150,7 @@ impl<R: Files> Store for MachineFiles<'_, R> {
     }
 
     fn write(&mut self, name: &str, bytes: &[u8]) -> Result<(), StoreError> {
-        match fs::write(self.rt, name, bytes) {
+        match self.outputs.write(self.rt, name, bytes) {
             Ok(()) => Ok(()),
             Err(reason) => Err(self.fault(reason)),
         }

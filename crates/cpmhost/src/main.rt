@@ -5,15 +5,17 @@ ghost use Rattle.std.specs.Prelude.{IfErr};
 ghost use Rattle.cpm_host.specs.Refusals.{IsWordRefusal};
 
 mod files;
+mod output;
 
 use cpm_flags::Cpu;
 use cpm_host::{
     Config, HostError, Script, Task, command, help, run_asm, run_com, run_debug, run_host, run_list,
 };
-use files::{MachineFiles, read_file, write_file};
+use files::{MachineFiles, check_outputs, read_file, write_file};
+use output::Outputs;
 use std::env::Env;
 use std::io::{BufReader, BufWriter, ErrorKind};
-use std::process::ExitCode;
+use std::process::{self, ExitCode};
 use std::rt::Files;
 use std::{env, io};
 
@@ -29,10 +31,15 @@ fn arguments(rt: &(impl Env + AllocGlobal)) -> Result<Vec<String>, HostError>
 }
 
 /// Runs the sessions of the configuration in a file, and prints how each ended.
-fn run_sessions(rt: &(impl Files + Print + AllocGlobal), file: &str) -> Result<(), HostError> {
+fn run_sessions(
+    rt: &(impl Files + Print + AllocGlobal),
+    outputs: Outputs,
+    file: &str,
+) -> Result<(), HostError> {
     let text = read_file(rt, file)?;
     let config = Config::read(rt.alloc(), text.as_slice())?;
-    let report = run_host(rt.alloc(), &config, &mut MachineFiles::new(rt))?;
+    check_outputs(rt, outputs, &config)?;
+    let report = run_host(rt.alloc(), &config, &mut MachineFiles::new(rt, outputs))?;
     for session in &report {
         println!(rt; "{session}").map_err(HostError::OutputUnwritable)?;
     }
@@ -85,10 +92,15 @@ fn com(
 }
 
 /// Assembles the source in a file, and writes its image to another.
-fn asm(rt: &(impl Files + AllocGlobal), source: &str, out: &str) -> Result<(), HostError> {
+fn asm(
+    rt: &(impl Files + AllocGlobal),
+    outputs: Outputs,
+    source: &str,
+    out: &str,
+) -> Result<(), HostError> {
     let text = read_file(rt, source)?;
     let image = run_asm(rt.alloc(), text.as_slice())?;
-    write_file(rt, out, image.as_slice())
+    write_file(rt, outputs, out, image.as_slice())
 }
 
 /// Prints the program in a file as instructions of the 8080.
@@ -115,7 +127,10 @@ fn debug(
 }
 
 /// Does what the words of the command line ask for.
-fn run(rt: &(impl Env + Files + Input + Print + Eprint + AllocGlobal)) -> Result<(), HostError> {
+fn run(
+    rt: &(impl Env + Files + Input + Print + Eprint + AllocGlobal),
+    outputs: Outputs,
+) -> Result<(), HostError> {
     let words = arguments(rt)?;
     let mut texts = Vec::new(rt.alloc());
     for word in &words {
@@ -131,15 +146,15 @@ fn run(rt: &(impl Env + Files + Input + Print + Eprint + AllocGlobal)) -> Result
             steps,
             keys,
         } => com(rt, file, cpu, keys, steps),
-        Task::Asm { source, out } => asm(rt, source, out),
+        Task::Asm { source, out } => asm(rt, outputs, source, out),
         Task::List { file } => list(rt, file),
-        Task::Run { config } => run_sessions(rt, config),
+        Task::Run { config } => run_sessions(rt, outputs, config),
         Task::Debug { file, cpu } => debug(rt, file, cpu),
     }
 }
 
 fn main(rt: HostRuntime) -> ExitCode {
-    match run(&rt) {
+    match run(&rt, Outputs::new(process::id(rt.process()))) {
         Ok(()) => ExitCode::SUCCESS,
         Err(error) => {
             let _ = eprintln!(rt; "cpmhost: {error}");

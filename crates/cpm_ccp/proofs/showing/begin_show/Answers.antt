@@ -1,10 +1,10 @@
 use Rattle.std.proofs.Common.{ap, ◌∙◌}
 use Rattle.cpm_disks.specs.Calls.{FileCall}
 use Rattle.cpm_ccp.specs.Parts.{own_record, with_call}
-use Rattle.cpm_ccp.specs.Showing.{show_begun, after_open}
+use Rattle.cpm_ccp.specs.Showing.{show_begun, after_type_open}
 use Rattle.cpm_ccp.proofs.showing.begin_show.Goals as goal
 
 pub returns-in-Err : goal.returns-in-Err
 unfolding show_begun
 returns-in-Err c =
-    c.fail.ensures ∙ ap (λ (k : FileCall). after_open k.answer (with_call c.args.session.now k)) (c.in-Err.ensures own_record)
+    c.fail.ensures ∙ ap (λ (k : FileCall). after_type_open k.answer (with_call c.args.cpm.now k)) (c.in-Err.ensures own_record)

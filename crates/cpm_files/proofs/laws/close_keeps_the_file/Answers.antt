@@ -1,10 +1,10 @@
 use Rattle.std.proofs.Common.{inl, inr}
-use Rattle.cpm_files.specs.Operations.{with_entry, close_function}
+use Rattle.cpm_files.specs.Operations.{with_entry, close_file}
 use Rattle.cpm_files.proofs.Closing as closing
 use Rattle.cpm_files.proofs.laws.close_keeps_the_file.Goals as goal
 
 pub returns : goal.returns
-unfolding close_function with_entry
+unfolding close_file with_entry
 returns c = λ d protected v user x ok wf kept. elim (closing.answer d v.entries v.reserved user x ok wf kept protected) [
   | inl a ↦ inl (record {
     index = kept.index;
@@ -13,7 +13,7 @@ returns c = λ d protected v user x ok wf kept. elim (closing.answer d v.entries
     owner = kept.owner;
     protects = a.1;
     file = closing.same_file d v.entries v.reserved user x ok wf kept;
-    open_file = closing.same_open d v.entries v.reserved user x ok wf kept;
+    open_file_record = closing.same_open d v.entries v.reserved user x ok wf kept;
     others = closing.others d v.entries v.reserved user x ok wf kept;
     well_formed = closing.well_formed_after d v.entries v.reserved user x ok wf kept;
     kept = closing.kept_after d v.entries v.reserved user x ok wf kept;

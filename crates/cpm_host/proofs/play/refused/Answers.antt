@@ -1,4 +1,4 @@
-use Rattle.cpm_host.proofs.SeatLemmas.{first_refused}
+use Rattle.cpm_host.proofs.SlotLemmas.{first_refused}
 use Rattle.cpm_host.proofs.play.refused.Goals as goal
 
 pub returns-in_default : goal.returns-in_default

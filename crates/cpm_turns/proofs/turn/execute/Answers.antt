@@ -4,18 +4,18 @@ use Rattle.cpm_sessions.specs.Host.{after_ask}
 use Rattle.cpm_sessions.specs.Serving.{Calls}
 use Rattle.cpm_slots.specs.Calls.{Grant}
 use Rattle.cpm_slots.specs.Serve.{executed}
-use Rattle.cpm_turns.specs.declared.player.Player.{Player}
+use Rattle.cpm_turns.specs.declared.scripted_slot.ScriptedSlot.{ScriptedSlot}
 use Rattle.cpm_turns.specs.Pacing.{turn_of}
-use Rattle.cpm_turns.specs.Players.{keys_of}
+use Rattle.cpm_turns.specs.ScriptedSlots.{keys_of}
 use Rattle.cpm_turns.proofs.HostLemmas.{moves-ask, moves-on}
-use Rattle.cpm_turns.proofs.PlayerLemmas.{playing-turn}
+use Rattle.cpm_turns.proofs.ScriptedSlotLemmas.{playing-turn}
 use Rattle.cpm_turns.proofs.turn.execute.Goals as goal
 
 pub returns-clause-playing : goal.returns-clause-playing
 returns-clause-playing c = λ steps start r.
-    let p = c.press_due.new.player in
+    let p = c.press_due.new.slot in
     let h = c.press_due.new.host.host in
-    let next : Player = record p { pace = c.advance.new.self } in
+    let next : ScriptedSlot = record p { pace = c.advance.new.self } in
     let k = c.grant-executed.result in
     let most : c.turn-most.result ≡ turn_of p.pace (keys_of p) c.args.quantum =
     c.turn-most.ensures ∙ ap (λ (ks : List Key). turn_of p.pace ks c.args.quantum) c.deref.ensures.value in
@@ -28,8 +28,8 @@ returns-clause-playing c = λ steps start r.
 
 pub returns-clause-moves : goal.returns-clause-moves
 returns-clause-moves c =
-    let p = c.press_due.new.player in
+    let p = c.press_due.new.slot in
     let h = c.press_due.new.host.host in
-    let next : Player = record p { pace = c.advance.new.self } in
-    moves-on c.args.player.now p next c.args.host.now.host h c.grant-executed.new.host.host c.press_due.ensures.moves
+    let next : ScriptedSlot = record p { pace = c.advance.new.self } in
+    moves-on c.args.slot.now p next c.args.host.now.host h c.grant-executed.new.host.host c.press_due.ensures.moves
     (moves-ask p next h c.grant-executed.new.host.host (Calls (Grant c.turn-most.result)) refl refl c.grant-executed.ensures.host)

@@ -1,4 +1,4 @@
-use Rattle.cpm_turns.proofs.PlayerLemmas.{granted-executed, granted-none, granted-within}
+use Rattle.cpm_turns.proofs.ScriptedSlotLemmas.{granted-executed, granted-none, granted-within}
 use Rattle.cpm_turns.proofs.turn.grant.Goals as goal
 
 pub returns-in-Ok-clause-executed : goal.returns-in-Ok-clause-executed

@@ -2,22 +2,22 @@ use Rattle.std.proofs.Common.{◌≡◌, ◌∙◌, ◌+◌, List, Some, refl, s
 use Rattle.cpm_script.specs.declared.script.Key.{Key}
 use Rattle.cpm_sessions.specs.Serving.{Calls}
 use Rattle.cpm_slots.specs.Calls.{Key as Pressed}
-use Rattle.cpm_turns.specs.declared.player.Player.{Player}
+use Rattle.cpm_turns.specs.declared.scripted_slot.ScriptedSlot.{ScriptedSlot}
 use Rattle.cpm_turns.specs.Pacing.{due_at}
-use Rattle.cpm_turns.specs.Players.{keys_of}
+use Rattle.cpm_turns.specs.ScriptedSlots.{keys_of}
 use Rattle.cpm_turns.proofs.HostLemmas.{moves-ask, moves-on}
-use Rattle.cpm_turns.proofs.PlayerLemmas.{resting-key}
+use Rattle.cpm_turns.proofs.ScriptedSlotLemmas.{resting-key}
 use Rattle.cpm_turns.proofs.turn.press_due.Goals as goal
 
 pub loop-key-preserved : goal.loop-key-preserved
 loop-key-preserved c =
     let l = c.loop-key in
-    let next : Player = record l.player { pace = record l.player.pace { pressed = l.player.pace.pressed + 1 } } in
-    let due : due_at l.player.pace.done (slice_get (keys_of l.player) l.player.pace.pressed) ≡ Some c.in-Some.key =
-    ap (λ (ks : List Key). due_at l.player.pace.done (slice_get ks l.player.pace.pressed)) (sym c.deref.ensures.value) ∙ sym c.in-Some.ensures in
+    let next : ScriptedSlot = record l.slot { pace = record l.slot.pace { pressed = l.slot.pace.pressed + 1 } } in
+    let due : due_at l.slot.pace.done (slice_get (keys_of l.slot) l.slot.pace.pressed) ≡ Some c.in-Some.key =
+    ap (λ (ks : List Key). due_at l.slot.pace.done (slice_get ks l.slot.pace.pressed)) (sym c.deref.ensures.value) ∙ sym c.in-Some.ensures in
     record {
-      playing = λ steps start r. resting-key steps c.in-Some.key start l.player next l.host.host c.key.new.self.host due c.key.ensures.host refl (l.invariant.playing steps start r);
-      moves = moves-on c.args.player.now l.player next c.args.host.now.host l.host.host c.key.new.self.host l.invariant.moves
-          (moves-ask l.player next l.host.host c.key.new.self.host (Calls (Pressed c.in-Some.key)) refl refl c.key.ensures.host);
+      playing = λ steps start r. resting-key steps c.in-Some.key start l.slot next l.host.host c.key.new.self.host due c.key.ensures.host refl (l.invariant.playing steps start r);
+      moves = moves-on c.args.slot.now l.slot next c.args.host.now.host l.host.host c.key.new.self.host l.invariant.moves
+          (moves-ask l.slot next l.host.host c.key.new.self.host (Calls (Pressed c.in-Some.key)) refl refl c.key.ensures.host);
       left = l.invariant.left;
     }

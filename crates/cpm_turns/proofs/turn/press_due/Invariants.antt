@@ -1,14 +1,14 @@
 use Rattle.std.proofs.Common.{◌≡◌, ◌-◌, ℕ, length}
 use Rattle.cpm_slots.specs.MachineState.{MachineState}
-use Rattle.cpm_turns.specs.Players.{keys_of, steps_of, IsResting, Moves}
+use Rattle.cpm_turns.specs.ScriptedSlots.{keys_of, steps_of, IsResting, Moves}
 use Rattle.cpm_turns.proofs.turn.press_due.Given as goal
 
 abbrev pub invariant-loop-key : goal.invariant-loop-key
 invariant-loop-key l = record {
-  playing : (steps : ℕ) (start : MachineState) → IsResting steps start l.fn.player l.fn.host.host → IsResting steps start l.player l.host.host;
-  moves : Moves l.fn.player l.player l.fn.host.host l.host.host;
-  left : steps_of l.player ≡ steps_of l.fn.player;
+  playing : (steps : ℕ) (start : MachineState) → IsResting steps start l.fn.slot l.fn.host.host → IsResting steps start l.slot l.host.host;
+  moves : Moves l.fn.slot l.slot l.fn.host.host l.host.host;
+  left : steps_of l.slot ≡ steps_of l.fn.slot;
 }
 
 abbrev pub decreases-loop-key : goal.decreases-loop-key
-decreases-loop-key l = length (keys_of l.player) - l.player.pace.pressed
+decreases-loop-key l = length (keys_of l.slot) - l.slot.pace.pressed

@@ -1,5 +1,5 @@
 use Rattle.std.proofs.Common.{◌≤◌, arith, length}
-use Rattle.cpm_turns.proofs.PlayerLemmas.{bytes-taken, never-refused, console-falls}
+use Rattle.cpm_turns.proofs.ScriptedSlotLemmas.{bytes-taken, never-refused, console-falls}
 use Rattle.cpm_turns.proofs.turn.read_console.Goals as goal
 
 pub returns-in-Ok-clause-bytes : goal.returns-in-Ok-clause-bytes

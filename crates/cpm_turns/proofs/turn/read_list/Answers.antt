@@ -1,5 +1,5 @@
 use Rattle.std.proofs.Common.{◌≤◌, arith, length}
-use Rattle.cpm_turns.proofs.PlayerLemmas.{list-taken, never-refused_list, list-falls}
+use Rattle.cpm_turns.proofs.ScriptedSlotLemmas.{list-taken, never-refused_list, list-falls}
 use Rattle.cpm_turns.proofs.turn.read_list.Goals as goal
 
 pub returns-in-Ok-clause-bytes : goal.returns-in-Ok-clause-bytes

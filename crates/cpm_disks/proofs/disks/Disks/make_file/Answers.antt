@@ -1,29 +1,22 @@
-use Rattle.std.proofs.Common.{◌∙◌, Err, refl, sym, ap, arith}
+use Rattle.std.proofs.Common.{refl, arith}
 use Rattle.std.proofs.lemmas.Result.{err_from_is_err_and}
-use Rattle.cpm_drive.specs.Reads.{lent_drive}
 use Rattle.cpm_disks.specs.Calls.{on_drive}
-use Rattle.cpm_disks.specs.Files.{make_file, make_on}
-use Rattle.cpm_disks.proofs.DriveLemmas.{is_own_drive, is_own_and_none, not_own, used_user, system_is_protected}
-use Rattle.cpm_disks.proofs.CallLemmas.{no_drive, own_call, system_call, refused_by}
-use Rattle.cpm_files.specs.declared.answer.Fault.TheVariants.{ReadOnly}
+use Rattle.cpm_disks.specs.Files.{make_file, make_file_on}
+use Rattle.cpm_disks.proofs.DriveLemmas.{own_is_some}
+use Rattle.cpm_disks.proofs.CallLemmas.{own_call}
 use Rattle.cpm_disks.proofs.disks.Disks.make_file.Goals as goal
 
-pub returns-in_err-number : goal.returns-in_err-number
-unfolding make_file
-returns-in_err-number c =
+pub returns-in_err-place : goal.returns-in_err-place
+unfolding make_file make_file_on
+returns-in_err-place c =
     let p = err_from_is_err_and c.from_residual.result c.from_residual.ensures.1 in
-    λ buffer. rw (p.1, p.2) (no_drive (make_on c.args.self.now.user c.args.fcb.now buffer) c.args.self.now c.use_named.new.self c.args.system.now c.args.fcb.now buffer _ c.in_err-number.ensures)
+    λ buffer. rw (p.1, p.2) (c.in_err-place.ensures (make_file_on c.args.self.now.user c.args.fcb.now buffer) buffer (λ drive h. rw h refl))
 
-pub returns-then-not-is_own : goal.returns-then-not-is_own
-unfolding make_file make_on
-returns-then-not-is_own c =
-    λ buffer. system_call (make_on c.args.self.now.user c.args.fcb.now buffer) c.args.self.now c.use_named.new.self c.args.system.now c.args.fcb.now buffer c.in_ok-number.number (on_drive (Err ReadOnly) (lent_drive c.args.system.now c.use_named.new.self.system) c.args.fcb.now buffer) c.in_ok-number.ensures (not_own c.use_named.new.self c.in_ok-number.number (sym c.is_own.ensures.value ∙ c.if-not-is_own.true)) (refused_by (lent_drive c.args.system.now c.use_named.new.self.system) c.args.fcb.now buffer _ (system_is_protected c.args.self.now c.use_named.new.self c.args.system.now c.in_ok-number.number c.in_ok-number.ensures.2 (not_own c.use_named.new.self c.in_ok-number.number (sym c.is_own.ensures.value ∙ c.if-not-is_own.true)))) refl
-
-pub unreachable-requires : goal.unreachable-requires
-unreachable-requires c =
-    is_own_and_none c.use_named.new.self c.from.result c.in_ok-number.number c.index-self-from.result c.from.ensures (omega (arith, c.is_own.ensures.within c.if-not-is_own.false)) c.in_default.is (sym c.is_own.ensures.value ∙ c.if-not-is_own.false)
+pub drive_in-requires : goal.drive_in-requires
+drive_in-requires c =
+    own_is_some c.place_to_write.new.self c.in_ok-place.place _ _ refl (omega (arith, c.in_ok-place.ensures.2)) c.in_ok-place.ensures.1
 
 pub returns : goal.returns
 unfolding make_file
 returns c =
-    λ buffer. own_call (make_on c.args.self.now.user c.args.fcb.now buffer) c.args.self.now c.use_named.new.self c.args.system.now c.args.fcb.now buffer c.in_ok-number.number c.from.result c.in-Some.drive (on_drive c.make.result c.make.new.drive c.make.new.fcb buffer) c.in_ok-number.ensures c.from.ensures (is_own_drive c.use_named.new.self c.from.result c.in_ok-number.number c.in-Some.drive c.index-self-from.result c.from.ensures (omega (arith, c.is_own.ensures.within c.if-not-is_own.false)) c.in-Some.is) (c.make.ensures buffer ∙ ap (λ u. make_on u c.args.fcb.now buffer c.in-Some.drive) (used_user c.args.self.now c.use_named.new.self c.args.system.now c.in_ok-number.number c.in_ok-number.ensures.2))
+    λ buffer. own_call (λ user. make_file_on user c.args.fcb.now buffer) c.args.self.now c.place_to_write.new.self c.args.system.now c.args.fcb.now buffer c.in_ok-place.place c.in_ok-place.place _ c.drive_in.result.now (on_drive c.make_file.result c.make_file.new.drive c.make_file.new.fcb buffer) c.in_ok-place.ensures.0 refl (omega (arith, c.in_ok-place.ensures.2)) c.drive_in.ensures.value (c.make_file.ensures buffer)

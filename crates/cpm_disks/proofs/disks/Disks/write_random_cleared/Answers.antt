@@ -1,29 +1,22 @@
-use Rattle.std.proofs.Common.{◌∙◌, Err, refl, sym, ap, arith}
+use Rattle.std.proofs.Common.{refl, arith}
 use Rattle.std.proofs.lemmas.Result.{err_from_is_err_and}
-use Rattle.cpm_drive.specs.Reads.{lent_drive}
 use Rattle.cpm_disks.specs.Calls.{on_drive}
-use Rattle.cpm_disks.specs.Files.{write_random_cleared, write_at_cleared_on}
-use Rattle.cpm_disks.proofs.DriveLemmas.{is_own_drive, is_own_and_none, not_own, used_user, system_is_protected}
-use Rattle.cpm_disks.proofs.CallLemmas.{no_drive, own_call, system_call, refused_by}
-use Rattle.cpm_files.specs.declared.answer.Fault.TheVariants.{ReadOnly}
+use Rattle.cpm_disks.specs.Files.{write_random_cleared, write_random_cleared_on}
+use Rattle.cpm_disks.proofs.DriveLemmas.{own_is_some}
+use Rattle.cpm_disks.proofs.CallLemmas.{own_call}
 use Rattle.cpm_disks.proofs.disks.Disks.write_random_cleared.Goals as goal
 
-pub returns-in_err-number : goal.returns-in_err-number
-unfolding write_random_cleared
-returns-in_err-number c =
+pub returns-in_err-place : goal.returns-in_err-place
+unfolding write_random_cleared write_random_cleared_on
+returns-in_err-place c =
     let p = err_from_is_err_and c.from_residual.result c.from_residual.ensures.1 in
-    rw (p.1, p.2) (no_drive (write_at_cleared_on c.args.self.now.user c.args.fcb.now c.args.buffer.now) c.args.self.now c.use_named.new.self c.args.system.now c.args.fcb.now c.args.buffer.now _ c.in_err-number.ensures)
+    rw (p.1, p.2) (c.in_err-place.ensures (write_random_cleared_on c.args.self.now.user c.args.fcb.now c.args.buffer.now) c.args.buffer.now (λ drive h. rw h refl))
 
-pub returns-then-not-is_own : goal.returns-then-not-is_own
-unfolding write_random_cleared write_at_cleared_on
-returns-then-not-is_own c =
-    system_call (write_at_cleared_on c.args.self.now.user c.args.fcb.now c.args.buffer.now) c.args.self.now c.use_named.new.self c.args.system.now c.args.fcb.now c.args.buffer.now c.in_ok-number.number (on_drive (Err ReadOnly) (lent_drive c.args.system.now c.use_named.new.self.system) c.args.fcb.now c.args.buffer.now) c.in_ok-number.ensures (not_own c.use_named.new.self c.in_ok-number.number (sym c.is_own.ensures.value ∙ c.if-not-is_own.true)) (refused_by (lent_drive c.args.system.now c.use_named.new.self.system) c.args.fcb.now c.args.buffer.now _ (system_is_protected c.args.self.now c.use_named.new.self c.args.system.now c.in_ok-number.number c.in_ok-number.ensures.2 (not_own c.use_named.new.self c.in_ok-number.number (sym c.is_own.ensures.value ∙ c.if-not-is_own.true)))) refl
-
-pub unreachable-requires : goal.unreachable-requires
-unreachable-requires c =
-    is_own_and_none c.use_named.new.self c.from.result c.in_ok-number.number c.index-self-from.result c.from.ensures (omega (arith, c.is_own.ensures.within c.if-not-is_own.false)) c.in_default.is (sym c.is_own.ensures.value ∙ c.if-not-is_own.false)
+pub drive_in-requires : goal.drive_in-requires
+drive_in-requires c =
+    own_is_some c.place_to_write.new.self c.in_ok-place.place _ _ refl (omega (arith, c.in_ok-place.ensures.2)) c.in_ok-place.ensures.1
 
 pub returns : goal.returns
 unfolding write_random_cleared
 returns c =
-    own_call (write_at_cleared_on c.args.self.now.user c.args.fcb.now c.args.buffer.now) c.args.self.now c.use_named.new.self c.args.system.now c.args.fcb.now c.args.buffer.now c.in_ok-number.number c.from.result c.in-Some.drive (on_drive c.write_at_cleared.result c.write_at_cleared.new.drive c.write_at_cleared.new.fcb c.args.buffer.now) c.in_ok-number.ensures c.from.ensures (is_own_drive c.use_named.new.self c.from.result c.in_ok-number.number c.in-Some.drive c.index-self-from.result c.from.ensures (omega (arith, c.is_own.ensures.within c.if-not-is_own.false)) c.in-Some.is) (c.write_at_cleared.ensures ∙ ap (λ u. write_at_cleared_on u c.args.fcb.now c.args.buffer.now c.in-Some.drive) (used_user c.args.self.now c.use_named.new.self c.args.system.now c.in_ok-number.number c.in_ok-number.ensures.2))
+    own_call (λ user. write_random_cleared_on user c.args.fcb.now c.args.buffer.now) c.args.self.now c.place_to_write.new.self c.args.system.now c.args.fcb.now c.args.buffer.now c.in_ok-place.place c.in_ok-place.place _ c.drive_in.result.now (on_drive c.write_random_cleared.result c.write_random_cleared.new.drive c.write_random_cleared.new.fcb c.args.buffer.now) c.in_ok-place.ensures.0 refl (omega (arith, c.in_ok-place.ensures.2)) c.drive_in.ensures.value c.write_random_cleared.ensures

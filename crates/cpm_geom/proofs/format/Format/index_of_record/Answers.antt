@@ -10,7 +10,7 @@ pub index_of_sector-requires : goal.index_of_sector-requires
 index_of_sector-requires c =
     let h = record_sector c.args.self c.args.number c.requires in
     let e = c.sectors_per_track.ensures.value in
-    rw (c.track_of-track.ensures, c.sector_of-sector.ensures, e) h
+    rw (c.track_of-track.ensures, c.from-sector.ensures, c.sector_of.ensures, e) h
 
 pub returns-clause-place : goal.returns-clause-place
 unfolding record_index

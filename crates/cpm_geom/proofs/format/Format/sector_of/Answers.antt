@@ -19,4 +19,4 @@ pub returns : goal.returns
 unfolding skew
 returns c =
     let place : c.from.result ≡ c.args.place = c.from.ensures in
-    c.from-2.ensures ∙ (ap (λ i. get_or skew i 0) place ∙ sym (by_table c.args.self c.args.place))
+    ap (λ i. get_or skew i 0) place ∙ sym (by_table c.args.self c.args.place)

@@ -5,8 +5,8 @@ use Rattle.cpm_slots.specs.Calls.{GrantUntil}
 use Rattle.cpm_sessions.specs.declared.event.Reply.TheVariants as reply
 use Rattle.cpm_sessions.specs.Serving.{Calls}
 use Rattle.cpm_sessions.specs.Host.{Host, slot_at}
-use Rattle.cpm_sessions.specs.Place.{LiesAt}
-use Rattle.cpm_sessions.specs.Seating.{slots_of}
+use Rattle.cpm_sessions.specs.Index.{IsAtIndex}
+use Rattle.cpm_sessions.specs.Slots.{slots_of}
 use Rattle.cpm_sessions.proofs.CallLaws.{same-host, no-slot-reply, no-slot-host, call-reply, call-host, call-keeps}
 use Rattle.cpm_sessions.proofs.host.Host.grant_until.Goals as goal
 
@@ -14,38 +14,38 @@ pub returns-in-None-clause-reply : goal.returns-in-None-clause-reply
 returns-in-None-clause-reply c =
     let s = c.self.inside in
     let m = memories s.store in
-    let h : Host = record { system = s.system; frames = s.frames; openings = s.openings; slots = slots_of m s.seats.items } in
-    let all : (m : List (Option Contents)) → slot_at c.args.id.0 (slots_of m s.seats.items) ≡ None = rw c.deref.ensures.value at c.in-None.ensures in
+    let h : Host = record { system = s.system; frames = s.frames; openings = s.openings; slots = slots_of m s.slots.items } in
+    let all : (m : List (Option Contents)) → slot_at c.args.id.0 (slots_of m s.slots.items) ≡ None = rw c.deref.ensures.value at c.in-None.ensures in
     no-slot-reply h c.args.self.now.host c.args.id.0 (Calls (GrantUntil c.args.steps c.args.pc)) (same-host c.self.view_is) (all m)
 
 pub returns-in-None-clause-host : goal.returns-in-None-clause-host
 returns-in-None-clause-host c =
     let s = c.self.inside in
     let m = memories s.store in
-    let h : Host = record { system = s.system; frames = s.frames; openings = s.openings; slots = slots_of m s.seats.items } in
-    let all : (m : List (Option Contents)) → slot_at c.args.id.0 (slots_of m s.seats.items) ≡ None = rw c.deref.ensures.value at c.in-None.ensures in
+    let h : Host = record { system = s.system; frames = s.frames; openings = s.openings; slots = slots_of m s.slots.items } in
+    let all : (m : List (Option Contents)) → slot_at c.args.id.0 (slots_of m s.slots.items) ≡ None = rw c.deref.ensures.value at c.in-None.ensures in
     no-slot-host h c.args.self.now.host c.args.id.0 (Calls (GrantUntil c.args.steps c.args.pc)) (same-host c.self.view_is) (all m)
 
 pub returns-in-Some-clause-reply : goal.returns-in-Some-clause-reply
 returns-in-Some-clause-reply c =
     let s = c.self.inside in
     let m = memories s.store in
-    let h : Host = record { system = s.system; frames = s.frames; openings = s.openings; slots = slots_of m s.seats.items } in
-    let all : (m : List (Option Contents)) → LiesAt c.args.id.0 (slots_of m s.seats.items) c.in-Some.place = rw c.deref.ensures.value at c.in-Some.ensures in
-    call-reply h c.args.self.now.host c.args.id.0 c.in-Some.place (GrantUntil c.args.steps c.args.pc) (reply.Granted c.grant_until_at.result) (slots_of (memories c.grant_until_at.new.store) c.grant_until_at.new.seats.items) (same-host c.self.view_is) (all m) (c.grant_until_at.ensures.served)
+    let h : Host = record { system = s.system; frames = s.frames; openings = s.openings; slots = slots_of m s.slots.items } in
+    let all : (m : List (Option Contents)) → IsAtIndex c.args.id.0 (slots_of m s.slots.items) c.in-Some.index = rw c.deref.ensures.value at c.in-Some.ensures in
+    call-reply h c.args.self.now.host c.args.id.0 c.in-Some.index (GrantUntil c.args.steps c.args.pc) (reply.Granted c.grant_until_at.result) (slots_of (memories c.grant_until_at.new.store) c.grant_until_at.new.slots.items) (same-host c.self.view_is) (all m) (c.grant_until_at.ensures.served)
 
 pub returns-in-Some-clause-host : goal.returns-in-Some-clause-host
 returns-in-Some-clause-host c =
     let s = c.self.inside in
     let m = memories s.store in
-    let h : Host = record { system = s.system; frames = s.frames; openings = s.openings; slots = slots_of m s.seats.items } in
-    let all : (m : List (Option Contents)) → LiesAt c.args.id.0 (slots_of m s.seats.items) c.in-Some.place = rw c.deref.ensures.value at c.in-Some.ensures in
-    call-host h c.args.self.now.host c.args.id.0 c.in-Some.place (GrantUntil c.args.steps c.args.pc) (reply.Granted c.grant_until_at.result) (slots_of (memories c.grant_until_at.new.store) c.grant_until_at.new.seats.items) (same-host c.self.view_is) c.self.invariant.0 (all m) (c.grant_until_at.ensures.served)
+    let h : Host = record { system = s.system; frames = s.frames; openings = s.openings; slots = slots_of m s.slots.items } in
+    let all : (m : List (Option Contents)) → IsAtIndex c.args.id.0 (slots_of m s.slots.items) c.in-Some.index = rw c.deref.ensures.value at c.in-Some.ensures in
+    call-host h c.args.self.now.host c.args.id.0 c.in-Some.index (GrantUntil c.args.steps c.args.pc) (reply.Granted c.grant_until_at.result) (slots_of (memories c.grant_until_at.new.store) c.grant_until_at.new.slots.items) (same-host c.self.view_is) c.self.invariant.0 (all m) (c.grant_until_at.ensures.served)
 
 pub invariant_of-self : goal.invariant_of-self
 invariant_of-self c =
     let s = c.self.inside in
     let m = memories s.store in
-    let h : Host = record { system = s.system; frames = s.frames; openings = s.openings; slots = slots_of m s.seats.items } in
-    let all : (m : List (Option Contents)) → LiesAt c.args.id.0 (slots_of m s.seats.items) c.in-Some.place = rw c.deref.ensures.value at c.in-Some.ensures in
-    (call-keeps h c.args.id.0 c.in-Some.place (GrantUntil c.args.steps c.args.pc) (reply.Granted c.grant_until_at.result) (slots_of (memories c.grant_until_at.new.store) c.grant_until_at.new.seats.items) c.self.invariant.0 (all m) (c.grant_until_at.ensures.served), c.grant_until_at.ensures.seated, c.grant_until_at.ensures.frames ∙ c.self.invariant.2, c.grant_until_at.ensures.store, c.grant_until_at.ensures.cached)
+    let h : Host = record { system = s.system; frames = s.frames; openings = s.openings; slots = slots_of m s.slots.items } in
+    let all : (m : List (Option Contents)) → IsAtIndex c.args.id.0 (slots_of m s.slots.items) c.in-Some.index = rw c.deref.ensures.value at c.in-Some.ensures in
+    (call-keeps h c.args.id.0 c.in-Some.index (GrantUntil c.args.steps c.args.pc) (reply.Granted c.grant_until_at.result) (slots_of (memories c.grant_until_at.new.store) c.grant_until_at.new.slots.items) c.self.invariant.0 (all m) (c.grant_until_at.ensures.served), c.grant_until_at.ensures.have_tables, c.grant_until_at.ensures.frames ∙ c.self.invariant.2, c.grant_until_at.ensures.store, c.grant_until_at.ensures.cached)

@@ -6,9 +6,9 @@ use Rattle.cpm_slots.specs.Calls.{Peek}
 use Rattle.cpm_sessions.specs.declared.event.Reply.TheVariants as reply
 use Rattle.cpm_sessions.specs.Serving.{Calls}
 use Rattle.cpm_sessions.specs.Host.{Host, slot_at}
-use Rattle.cpm_sessions.specs.Place.{LiesAt}
-use Rattle.cpm_sessions.specs.Seating.{slots_of}
-use Rattle.cpm_sessions.proofs.PlaceLaws.{peeked}
+use Rattle.cpm_sessions.specs.Index.{IsAtIndex}
+use Rattle.cpm_sessions.specs.Slots.{slots_of}
+use Rattle.cpm_sessions.proofs.IndexLaws.{peeked}
 use Rattle.cpm_sessions.proofs.CallLaws.{same-host, no-slot-reply, no-slot-host, call-reply, call-host}
 use Rattle.cpm_sessions.proofs.host.Host.peek.Goals as goal
 
@@ -16,34 +16,34 @@ pub returns-in-None-clause-reply : goal.returns-in-None-clause-reply
 returns-in-None-clause-reply c =
     let s = c.self.inside in
     let m = memories s.store in
-    let h : Host = record { system = s.system; frames = s.frames; openings = s.openings; slots = slots_of m s.seats.items } in
-    let all : (m : List (Option Contents)) → slot_at c.args.id.0 (slots_of m s.seats.items) ≡ None = rw c.deref.ensures.value at c.in-None.ensures in
+    let h : Host = record { system = s.system; frames = s.frames; openings = s.openings; slots = slots_of m s.slots.items } in
+    let all : (m : List (Option Contents)) → slot_at c.args.id.0 (slots_of m s.slots.items) ≡ None = rw c.deref.ensures.value at c.in-None.ensures in
     no-slot-reply h c.args.self.now.host c.args.id.0 (Calls (Peek c.args.address)) (same-host c.self.view_is) (all m)
 
 pub returns-in-None-clause-unchanged : goal.returns-in-None-clause-unchanged
 returns-in-None-clause-unchanged c =
     let s = c.self.inside in
     let m = memories s.store in
-    let h : Host = record { system = s.system; frames = s.frames; openings = s.openings; slots = slots_of m s.seats.items } in
-    let all : (m : List (Option Contents)) → slot_at c.args.id.0 (slots_of m s.seats.items) ≡ None = rw c.deref.ensures.value at c.in-None.ensures in
+    let h : Host = record { system = s.system; frames = s.frames; openings = s.openings; slots = slots_of m s.slots.items } in
+    let all : (m : List (Option Contents)) → slot_at c.args.id.0 (slots_of m s.slots.items) ≡ None = rw c.deref.ensures.value at c.in-None.ensures in
     sym (no-slot-host h c.args.self.now.host c.args.id.0 (Calls (Peek c.args.address)) (same-host c.self.view_is) (all m))
 
 pub returns-in-Some-clause-reply : goal.returns-in-Some-clause-reply
 returns-in-Some-clause-reply c =
     let s = c.self.inside in
     let m = memories s.store in
-    let slots = slots_of m s.seats.items in
+    let slots = slots_of m s.slots.items in
     let h : Host = record { system = s.system; frames = s.frames; openings = s.openings; slots = slots } in
-    let all : (m : List (Option Contents)) → LiesAt c.args.id.0 (slots_of m s.seats.items) c.in-Some.place = rw c.deref.ensures.value at c.in-Some.ensures in
-    let seen : IfSome (slice_get slots c.in-Some.place) (λ x. c.peek_at.result ≡ byte_at x.state.memory c.args.address) = rw c.deref-in-Some.ensures.value at c.peek_at.ensures in
-    call-reply h c.args.self.now.host c.args.id.0 c.in-Some.place (Peek c.args.address) (reply.Peeked c.peek_at.result) slots (same-host c.self.view_is) (all m) (peeked s.system c.in-Some.place c.args.address c.peek_at.result slots seen)
+    let all : (m : List (Option Contents)) → IsAtIndex c.args.id.0 (slots_of m s.slots.items) c.in-Some.index = rw c.deref.ensures.value at c.in-Some.ensures in
+    let seen : IfSome (slice_get slots c.in-Some.index) (λ x. c.peek_at.result ≡ byte_at x.state.memory c.args.address) = rw c.deref-in-Some.ensures.value at c.peek_at.ensures in
+    call-reply h c.args.self.now.host c.args.id.0 c.in-Some.index (Peek c.args.address) (reply.Peeked c.peek_at.result) slots (same-host c.self.view_is) (all m) (peeked s.system c.in-Some.index c.args.address c.peek_at.result slots seen)
 
 pub returns-in-Some-clause-unchanged : goal.returns-in-Some-clause-unchanged
 returns-in-Some-clause-unchanged c =
     let s = c.self.inside in
     let m = memories s.store in
-    let slots = slots_of m s.seats.items in
+    let slots = slots_of m s.slots.items in
     let h : Host = record { system = s.system; frames = s.frames; openings = s.openings; slots = slots } in
-    let all : (m : List (Option Contents)) → LiesAt c.args.id.0 (slots_of m s.seats.items) c.in-Some.place = rw c.deref.ensures.value at c.in-Some.ensures in
-    let seen : IfSome (slice_get slots c.in-Some.place) (λ x. c.peek_at.result ≡ byte_at x.state.memory c.args.address) = rw c.deref-in-Some.ensures.value at c.peek_at.ensures in
-    sym (call-host h c.args.self.now.host c.args.id.0 c.in-Some.place (Peek c.args.address) (reply.Peeked c.peek_at.result) slots (same-host c.self.view_is) c.self.invariant.0 (all m) (peeked s.system c.in-Some.place c.args.address c.peek_at.result slots seen)) ∙ (same-host c.self.view_is)
+    let all : (m : List (Option Contents)) → IsAtIndex c.args.id.0 (slots_of m s.slots.items) c.in-Some.index = rw c.deref.ensures.value at c.in-Some.ensures in
+    let seen : IfSome (slice_get slots c.in-Some.index) (λ x. c.peek_at.result ≡ byte_at x.state.memory c.args.address) = rw c.deref-in-Some.ensures.value at c.peek_at.ensures in
+    sym (call-host h c.args.self.now.host c.args.id.0 c.in-Some.index (Peek c.args.address) (reply.Peeked c.peek_at.result) slots (same-host c.self.view_is) c.self.invariant.0 (all m) (peeked s.system c.in-Some.index c.args.address c.peek_at.result slots seen)) ∙ (same-host c.self.view_is)

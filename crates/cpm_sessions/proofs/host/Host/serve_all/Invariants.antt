@@ -4,9 +4,9 @@ use Rattle.cpm_sessions.proofs.RunLaws.{replies_by}
 use Rattle.cpm_sessions.proofs.host.Host.serve_all.Given as goal
 
 -- the host and the replies so far, and those to what is left, are those of the whole list
-abbrev pub invariant-loop-place : goal.invariant-loop-place
-invariant-loop-place l = record {
-  host : host_after (map happening_of (drop l.place l.events)) l.self.host ≡ host_after (map happening_of l.events) l.fn.self.host;
-  replies : take l.place l.replies ++ replies_by (drop l.place l.events) l.self.host ≡ replies_by l.events l.fn.self.host;
+abbrev pub invariant-loop-index : goal.invariant-loop-index
+invariant-loop-index l = record {
+  host : host_after (map happening_of (drop l.index l.events)) l.self.host ≡ host_after (map happening_of l.events) l.fn.self.host;
+  replies : take l.index l.replies ++ replies_by (drop l.index l.events) l.self.host ≡ replies_by l.events l.fn.self.host;
   rest : drop (length l.events) l.replies ≡ drop (length l.events) l.fn.replies;
 }

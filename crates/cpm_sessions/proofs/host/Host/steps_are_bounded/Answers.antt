@@ -2,12 +2,12 @@ use Rattle.std.proofs.Common.{All, ap, ◌∙◌}
 use Rattle.cpm_memory.specs.Frames.{memories}
 use Rattle.cpm_slots.proofs.StepBounds.{IsBounded-step}
 use Rattle.cpm_sessions.specs.Host.{slot_at}
-use Rattle.cpm_sessions.specs.Housed.{Housed}
-use Rattle.cpm_sessions.proofs.FitSeats.{SeatFits, fit-slot}
+use Rattle.cpm_sessions.specs.HostWithStore.{HostWithStore}
+use Rattle.cpm_sessions.proofs.FitSlots.{SlotFits, fit-slot}
 use Rattle.cpm_sessions.proofs.host.Host.steps_are_bounded.Goals as goal
 
 pub returns : goal.returns
 returns c = λ system id state at.
     let s = c.self.inside in
-    let fits : All SeatFits s.seats.items = rw c.deref.ensures.value at c.numbers_fit.ensures in
-    IsBounded-step system state (fit-slot (memories s.store) s.seats.items id state fits (ap (λ (x : Housed). slot_at id x.host.slots) c.self.view_is ∙ at))
+    let fits : All SlotFits s.slots.items = rw c.deref.ensures.value at c.numbers_fit.ensures in
+    IsBounded-step system state (fit-slot (memories s.store) s.slots.items id state fits (ap (λ (x : HostWithStore). slot_at id x.host.slots) c.self.view_is ∙ at))

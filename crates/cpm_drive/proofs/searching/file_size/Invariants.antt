@@ -1,8 +1,0 @@
-use Rattle.std.proofs.Common.{◌≡◌, ◌<◌, take, IfSome}
-use Rattle.cpm_files.specs.Names.{file_size}
-use Rattle.cpm_directory.specs.Directory.{entries_of}
-use Rattle.cpm_drive.proofs.searching.file_size.Given as goal
-
-abbrev pub invariant-loop-index : goal.invariant-loop-index
-invariant-loop-index l =
-    (l.size ≡ file_size (take l.index (entries_of l.image)) l.user l.name) × IfSome l.size (λ size. size < 65664)

@@ -1,0 +1,142 @@
+-- ScriptedSlots of a host: sessions in its slots that are played in turns. All of it is own.
+use Rattle.std.specs.Prelude.{⊤, ◌≡◌, ◌≢◌, ℕ, ◌≤◌, List, [], ◌∷◌, length, take, min, map, sum_by, Bool, nat_lt, Option, Some, None}
+use Rattle.std.specs.List.{list_any}
+use Rattle.cpm_geom.specs.Disk.{Disk}
+use Rattle.cpm_script.specs.declared.script.Key.{Key}
+use Rattle.cpm_sessions.specs.Host.{Host, SlotState, slot_at}
+use Rattle.cpm_slots.specs.MachineState.{MachineState}
+use Rattle.cpm_turns.specs.declared.scripted_slot.ScriptedSlot.{ScriptedSlot}
+use Rattle.cpm_turns.specs.Pacing.{left_in, IsOn}
+use Rattle.cpm_turns.specs.Playing.{IsFresh, IsInOrder, IsPlayed, IsQuiet}
+
+-- the keys that a scripted slot was given
+abbrev pub keys_of : ScriptedSlot → List Key
+keys_of p = p.keys.items
+
+-- the steps that it is still to execute: those that it was given, before its first turn
+abbrev pub steps_of : ScriptedSlot → ℕ
+steps_of p = left_in p.pace
+
+-- it has had no turn
+pub record IsNew (p : ScriptedSlot) : Type 0 where
+  pub console : p.console.items ≡ []
+  pub list : p.list.items ≡ []
+  pub pressed : p.pace.pressed ≡ 0
+  pub done : p.pace.done ≡ 0
+
+-- it has had no turn, its keys are in order and not too many, and its slot is open and fresh
+pub record IsReady (slots : List SlotState) (p : ScriptedSlot) : Type 0 where
+  pub unplayed : IsNew p
+  pub order : IsInOrder 0 (keys_of p)
+  pub few : length (keys_of p) ≤ 4096
+  pub start : MachineState
+  pub opened : slot_at p.id.0 slots ≡ Some start
+  pub fresh : IsFresh start
+
+-- the numbers of the slots
+abbrev pub ids_of : List ScriptedSlot → List ℕ
+ids_of ps = map (λ p. p.id.0) ps
+
+-- the number is none of these
+abbrev pub IsNone : ℕ → List ℕ → Type 0
+IsNone id [] = ⊤
+IsNone id (x ∷ xs) = (x ≢ id) × IsNone id xs
+
+abbrev pub AreDifferent : List ℕ → Type 0
+AreDifferent [] = ⊤
+AreDifferent (x ∷ xs) = IsNone x xs × AreDifferent xs
+
+-- none of the scripted slots plays the slot of that number
+abbrev pub IsNoSlot : ℕ → List ScriptedSlot → Type 0
+IsNoSlot id ps = IsNone id (ids_of ps)
+
+-- each has a slot of its own
+abbrev pub AllDiffer : List ScriptedSlot → Type 0
+AllDiffer ps = AreDifferent (ids_of ps)
+
+abbrev pub AllReady : List SlotState → List ScriptedSlot → Type 0
+AllReady slots [] = ⊤
+AllReady slots (p ∷ ps) = IsReady slots p × AllReady slots ps
+
+-- A scripted slot `p` has become `q`: its slot was played, and it has the text of the console and of the list device.
+pub record HasPlayed (system : Disk) (before now : List SlotState) (p q : ScriptedSlot) : Type 0 where
+  pub id : q.id ≡ p.id
+  pub start : MachineState
+  pub last : MachineState
+  pub opened : slot_at p.id.0 before ≡ Some start
+  pub stands : slot_at p.id.0 now ≡ Some last
+  pub played : IsPlayed system (keys_of p) (steps_of p) start last q.console.items q.list.items
+
+-- each of the scripted slots, at its place
+abbrev pub AllPlayed : Disk → List SlotState → List SlotState → List ScriptedSlot → List ScriptedSlot → Type 0
+AllPlayed system before now [] [] = ⊤
+AllPlayed system before now (p ∷ ps) (q ∷ qs) = HasPlayed system before now p q × AllPlayed system before now ps qs
+AllPlayed system before now [] (q ∷ qs) = ⊥
+AllPlayed system before now (p ∷ ps) [] = ⊥
+
+-- nothing of the host is changed but the slots of these numbers
+pub record LeavesOthers (ids : List ℕ) (old new : Host) : Type 0 where
+  pub system : new.system ≡ old.system
+  pub frames : new.frames ≡ old.frames
+  pub openings : new.openings ≡ old.openings
+  pub others : (id : ℕ) → IsNone id ids → slot_at id new.slots ≡ slot_at id old.slots
+
+-- ---- on the way
+
+-- so many of the bytes that wait were taken into some room
+pub record AreTaken (n room : ℕ) (out waiting : List ℕ) : Type 0 where
+  pub bytes : take n out ≡ take (min room (length waiting)) waiting
+  pub count : n ≡ min room (length waiting)
+
+-- how many console bytes, or list bytes, wait in a slot
+abbrev pub console_in : Option MachineState → ℕ
+console_in None = 0
+console_in (Some s) = length s.cpm.console.screen
+
+abbrev pub list_in : Option MachineState → ℕ
+list_in None = 0
+list_in (Some s) = length s.cpm.console.printer
+
+-- a slot went from a start so far
+pub record IsPlaying (steps : ℕ) (start : MachineState) (p : ScriptedSlot) (h : Host) : Type 0 where
+  pub now : MachineState
+  pub stands : slot_at p.id.0 h.slots ≡ Some now
+  pub few : length (keys_of p) ≤ 4096
+  pub on : IsOn h.system (keys_of p) steps start p.pace p.console.items p.list.items now
+
+-- and its console bytes are taken, or all its bytes
+pub record IsRead (steps : ℕ) (start : MachineState) (p : ScriptedSlot) (h : Host) : Type 0 where
+  pub playing : IsPlaying steps start p h
+  pub screen : playing.now.cpm.console.screen ≡ []
+
+pub record IsResting (steps : ℕ) (start : MachineState) (p : ScriptedSlot) (h : Host) : Type 0 where
+  pub playing : IsPlaying steps start p h
+  pub quiet : IsQuiet playing.now
+
+-- a scripted slot and its host, before and after a part of a turn: the scripted slot keeps its slot and its keys, and the other slots stay
+pub record Moves (p q : ScriptedSlot) (old new : Host) : Type 0 where
+  pub id : q.id ≡ p.id
+  pub keys : keys_of q ≡ keys_of p
+  pub others : LeavesOthers (p.id.0 ∷ []) old new
+
+-- the steps that are left to all scripted slots
+abbrev pub left_of : List ScriptedSlot → ℕ
+left_of ps = sum_by steps_of ps
+
+-- one of them has steps left
+abbrev pub has_steps : List ScriptedSlot → Bool
+has_steps ps = list_any (λ p. nat_lt 0 (steps_of p)) ps
+
+-- a scripted slot `p` is now `q`: it has its slot and its keys, and rests between two turns
+pub record IsPair (before : List SlotState) (h : Host) (p q : ScriptedSlot) : Type 0 where
+  pub id : q.id ≡ p.id
+  pub keys : keys_of q ≡ keys_of p
+  pub start : MachineState
+  pub opened : slot_at p.id.0 before ≡ Some start
+  pub resting : IsResting (steps_of p) start q h
+
+abbrev pub AllPairs : List SlotState → Host → List ScriptedSlot → List ScriptedSlot → Type 0
+AllPairs before h [] [] = ⊤
+AllPairs before h (p ∷ ps) (q ∷ qs) = IsPair before h p q × AllPairs before h ps qs
+AllPairs before h [] (q ∷ qs) = ⊥
+AllPairs before h (p ∷ ps) [] = ⊥
