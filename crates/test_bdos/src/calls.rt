@@ -5,6 +5,7 @@ pub mod bios;
 pub mod disk;
 mod drives;
 mod faults;
+mod forged;
 mod input;
 mod lines;
 mod output;

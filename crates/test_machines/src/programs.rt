@@ -178,6 +178,38 @@ fn halts_with_flags(rt: HostRuntime) -> Result<(), Fail> {
 }
 
 #[test]
+fn runs_what_it_stored_over_the_entry_of_the_bdos(rt: HostRuntime) -> Result<(), Fail> {
+    // HLT is stored at 0005h, and called
+    let ran = run(
+        rt.alloc(),
+        Cpu::I8080,
+        &[0x3E, 0x76, 0x32, 0x05, 0x00, 0xCD, 0x05, 0x00],
+    )?;
+    same(&rt, ran.granted.executed, 4);
+    let look = ran.machine.look();
+    same(&rt, look.ended, End::Halted);
+    same(&rt, look.regs.pc, 0x0006);
+    Ok(())
+}
+
+/// PUSH B where SP is 0001h.
+const PUSHES_ACROSS: Left = Left {
+    program: &[0x31, 0x01, 0x00, 0x01, 0x34, 0x12, 0xC5, 0x76],
+    executed: 4,
+    bytes: &[(0x0000, 0x12), (0xFFFF, 0x34)],
+};
+
+#[test]
+fn a_stack_wraps_around_the_end_of_memory(rt: HostRuntime) -> Result<(), Fail> {
+    halts(&rt, rt.alloc(), Cpu::I8080, &PUSHES_ACROSS)?;
+    halts(&rt, rt.alloc(), Cpu::Z80, &PUSHES_ACROSS)?;
+    // of the program, of its stack, and both that the word lies in
+    let ran = run(rt.alloc(), Cpu::I8080, PUSHES_ACROSS.program)?;
+    same(&rt, ran.machine.look().pages, 4);
+    Ok(())
+}
+
+#[test]
 fn full_ring_blocks(rt: HostRuntime) -> Result<(), Fail> {
     let mut ran = run(
         rt.alloc(),

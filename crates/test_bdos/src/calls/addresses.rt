@@ -16,7 +16,7 @@ fn a_record_wraps_around_the_end_of_memory(rt: HostRuntime) {
             Gives(READ_NEXT, FCB, 0x00),
             Has(0xFFC0, &[0x41; 128]),
             Has(0x0000, &[0x41; 64]),
-            Has(0x0040, &[0]),
+            Has(0x003F, &[0x41, 0]),
         ],
     );
 }

@@ -35,7 +35,7 @@ fn call(rt: &impl Abort, trial: &mut Trial, number: u8, word: u16) -> (u8, u16) 
 }
 
 /// Makes calls, each of a function with a word in BC, which must give this A and this HL.
-fn make(rt: &impl Abort, trial: &mut Trial, calls: &[(u8, u16, u8, u16)]) {
+pub fn make(rt: &impl Abort, trial: &mut Trial, calls: &[(u8, u16, u8, u16)]) {
     for (number, word, a, hl) in calls {
         same(rt, call(rt, trial, *number, *word), (*a, *hl));
     }
