@@ -4,14 +4,19 @@
 //!
 //! Or it makes memories to see what room they take: `sessions NUMBER` in one store, each with one written page, or `flats NUMBER` of
 //! their own. It prints what Linux says of its own memory then.
+//!
+//! Or it runs sessions of programs that nobody vouches for, `soak FOLDER NUMBER STEPS`, each by itself, or with a further word QUANTUM all on
+//! one host, and prints a line of what each showed and left.
 #![tactic(auto)]
 
 mod sessions;
+mod soak;
 
 use cpm_flags::Cpu;
 use cpm_geom::Image;
 use cpm_memory::{FlatMemory, FrameStore, has_room};
 use sessions::{Turns, make_openings, open_and_close, run_host, run_machine};
+use soak::soak;
 use std::process::ExitCode;
 use std::{env, fs};
 
@@ -75,6 +80,30 @@ fn system_of(rt: &HostRuntime, file: &str) -> Option<Image> {
     Image::from_bytes(fs::read(rt, file).ok()?).ok()
 }
 
+/// Runs the sessions of a folder, where the words ask for it.
+fn run_soak(rt: &HostRuntime, words: &[&str]) -> Option<()> {
+    match words {
+        [folder, number, steps] => soak(
+            rt,
+            folder,
+            number.parse().ok()?,
+            steps.parse().ok()?,
+            None,
+        ),
+        [folder, number, steps, quantum] => {
+            let quantum = quantum.parse().ok()?;
+            soak(
+                rt,
+                folder,
+                number.parse().ok()?,
+                steps.parse().ok()?,
+                Some(quantum),
+            )
+        }
+        _ => None,
+    }
+}
+
 /// Does what the words ask for, and gives the number to print.
 fn measure(rt: &HostRuntime, words: &[&str]) -> Option<u64> {
     match words {
@@ -99,22 +128,28 @@ fn measure(rt: &HostRuntime, words: &[&str]) -> Option<u64> {
     }
 }
 
-/// The same for the words of the command line behind the program's own name.
-fn measure_words(rt: &HostRuntime) -> Option<u64> {
+/// Prints that number.
+fn print_measure(rt: &HostRuntime, words: &[&str]) -> Option<()> {
+    let done = measure(rt, words)?;
+    println!(rt; "{done}").ok()
+}
+
+/// Does what the words of the command line behind the program's own name ask for.
+fn do_words(rt: &HostRuntime) -> Option<()> {
     let words: Vec<String> = env::args(rt).ok()?.skip(1).collect(rt.alloc()).ok()?;
     let mut texts = Vec::new(rt.alloc());
     for word in &words {
         texts.push(word.as_str()).ok()?;
     }
-    measure(rt, texts.as_slice())
+    match texts.as_slice() {
+        ["soak", rest @ ..] => run_soak(rt, rest),
+        words => print_measure(rt, words),
+    }
 }
 
 fn main(rt: HostRuntime) -> ExitCode {
-    match measure_words(&rt) {
-        Some(done) => {
-            let _ = println!(rt; "{done}");
-            ExitCode::SUCCESS
-        }
+    match do_words(&rt) {
+        Some(()) => ExitCode::SUCCESS,
         None => ExitCode::from(1),
     }
 }
