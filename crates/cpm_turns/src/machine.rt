@@ -1,6 +1,6 @@
 //! One machine by itself.
 
-ghost use Rattle.std.specs.Prelude.{◌≡◌, ◌≤◌, OnOk, OnErr, None, length, slice_get};
+ghost use Rattle.std.specs.Prelude.{◌≡◌, ◌<◌, ◌≤◌, OnOk, OnErr, None, length, slice_get};
 ghost use Rattle.std.specs.Io.KnownBytes.{Appends};
 ghost use Rattle.cpm_turns.specs.Pacing.{IsPressed, due_at, without_list, without_text};
 ghost use Rattle.cpm_turns.specs.Playing.{EndsAs, HasText, IsFresh, IsInOrder, alone_by};
@@ -14,6 +14,17 @@ use std::io::Write;
 
 /// How many steps a turn has at most, so that output appears as it comes.
 const QUANTUM: u64 = 1_000_000;
+
+/// The same for a machine: where it waits for a key nothing comes before the next one, so all waits are one turn.
+fn quantum_of(machine: &Machine) -> u64
+    ensures { 0 < result }
+{
+    if machine.look().waiting {
+        u64::MAX
+    } else {
+        QUANTUM
+    }
+}
 
 /// How many bytes are taken at once.
 const CHUNK: usize = 8192;
@@ -80,7 +91,7 @@ pub fn play_machine<W: Write>(
     let mut pace = Pace::new(steps);
     while pace.left() > 0 {
         press_due(machine, keys, &mut pace);
-        let granted = machine.grant(system, pace.turn(keys, QUANTUM));
+        let granted = machine.grant(system, pace.turn(keys, quantum_of(machine)));
         pace.advance(granted.executed);
         move_text(machine, out)?;
         drop_list(machine);

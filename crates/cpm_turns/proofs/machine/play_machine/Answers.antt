@@ -16,11 +16,11 @@ loop-pace-preserved g c =
     let pressed = c.press_due.new.pace in
     let next = c.press_due.new.machine in
     let k = c.grant-granted.result.executed in
-    let is : k ≡ executed c.args.system.now (turn_of pressed c.args.keys.now 1000000) next = c.grant-granted.ensures.executed ∙ ap (λ (n : ℕ). executed c.args.system.now n next) c.turn.ensures in
-    let within : k ≤ turn_of pressed c.args.keys.now 1000000 = subst (λ (n : ℕ). k ≤ n) c.turn.ensures c.grant-granted.ensures.within in
-    shown-turn c.args.system.now c.args.keys.now c.args.steps k 1000000 c.args.machine.now c.loop-pace.pace pressed c.advance.new.self c.loop-pace.machine next c.grant-granted.new.self c.drop_list.new.machine
+    let is : k ≡ executed c.args.system.now (turn_of pressed c.args.keys.now c.quantum_of.result) next = c.grant-granted.ensures.executed ∙ ap (λ (n : ℕ). executed c.args.system.now n next) c.turn.ensures in
+    let within : k ≤ turn_of pressed c.args.keys.now c.quantum_of.result = subst (λ (n : ℕ). k ≤ n) c.turn.ensures c.grant-granted.ensures.within in
+    shown-turn c.args.system.now c.args.keys.now c.args.steps k c.quantum_of.result c.args.machine.now c.loop-pace.pace pressed c.advance.new.self c.loop-pace.machine next c.grant-granted.new.self c.drop_list.new.machine
     (g.W.Write.contents c.args.out.now) (g.W.Write.contents c.loop-pace.out) (g.W.Write.contents c.move_text.new.out)
-    c.loop-pace.invariant c.press_due.ensures.pressed c.press_due.ensures.due (omega arith) is within c.grant-granted.ensures.state
+    c.loop-pace.invariant c.press_due.ensures.pressed c.press_due.ensures.due c.quantum_of.ensures is within c.grant-granted.ensures.state
     (record { pressed = c.advance.ensures.pressed; done = c.advance.ensures.done; until = c.advance.ensures.until })
     (c.drop_list.ensures ∙ ap without_list c.in_ok-move_text.ensures.state) c.in_ok-move_text.ensures.text
 
@@ -29,12 +29,12 @@ returns-in_err-move_text-clause-refused g c =
     let pressed = c.press_due.new.pace in
     let next = c.press_due.new.machine in
     let k = c.grant-granted.result.executed in
-    let is : k ≡ executed c.args.system.now (turn_of pressed c.args.keys.now 1000000) next = c.grant-granted.ensures.executed ∙ ap (λ (n : ℕ). executed c.args.system.now n next) c.turn.ensures in
-    let within : k ≤ turn_of pressed c.args.keys.now 1000000 = subst (λ (n : ℕ). k ≤ n) c.turn.ensures c.grant-granted.ensures.within in
+    let is : k ≡ executed c.args.system.now (turn_of pressed c.args.keys.now c.quantum_of.result) next = c.grant-granted.ensures.executed ∙ ap (λ (n : ℕ). executed c.args.system.now n next) c.turn.ensures in
+    let within : k ≤ turn_of pressed c.args.keys.now c.quantum_of.result = subst (λ (n : ℕ). k ≤ n) c.turn.ensures c.grant-granted.ensures.within in
     on_err c.from_residual.result
-    (shown-text c.args.system.now c.args.keys.now c.args.steps k 1000000 c.args.machine.now c.loop-pace.pace pressed c.advance.new.self c.loop-pace.machine next c.grant-granted.new.self
+    (shown-text c.args.system.now c.args.keys.now c.args.steps k c.quantum_of.result c.args.machine.now c.loop-pace.pace pressed c.advance.new.self c.loop-pace.machine next c.grant-granted.new.self
     (g.W.Write.contents c.args.out.now) (g.W.Write.contents c.loop-pace.out)
-    c.loop-pace.invariant c.press_due.ensures.pressed c.press_due.ensures.due (omega arith) is within c.grant-granted.ensures.state
+    c.loop-pace.invariant c.press_due.ensures.pressed c.press_due.ensures.due c.quantum_of.ensures is within c.grant-granted.ensures.state
     (record { pressed = c.advance.ensures.pressed; done = c.advance.ensures.done; until = c.advance.ensures.until }) c.in_err-move_text.ensures.refused)
 
 pub returns-clause-text : goal.returns-clause-text
