@@ -23,3 +23,10 @@ pub record ReservesAtLogin (d : Dpb) (es : List Entry) : Type 0 where
 
 abbrev pub LoginLaw : Type 0
 LoginLaw = (d : Dpb) (es : List Entry) → IsFormat d → ReservesAtLogin d es
+
+-- the directory of a disk is checked without a fault exactly where the drive, logged in, agrees with itself: that is what the laws of files ask of it
+abbrev pub CheckedLaw : Type 0
+CheckedLaw =
+    (disk : Disk) → IsDisk disk
+    → ((i : ℕ) → fault_of (dpb_of disk.format) (entries_of disk) i ≡ None)
+    ↔ IsWellFormed (dpb_of disk.format) (entries_of disk) (reserved_at_login (dpb_of disk.format) (entries_of disk))

@@ -4,3 +4,4 @@ pub mod Directory
 pub mod Login
 pub mod CommandLine
 pub mod Laws
+pub mod WellFormed

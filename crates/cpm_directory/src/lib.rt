@@ -5,15 +5,18 @@ mod bits;
 pub mod block;
 pub mod command_line;
 pub mod directory;
+pub mod fault;
 pub mod laws;
 pub mod lent;
 pub mod listed;
 pub mod pattern;
 pub mod reserved;
+pub mod well_formed;
 
 pub use block::block_at;
 pub use command_line::parse_fcb;
 pub use cpm_files::{Entry, Extent, Fcb};
+pub use fault::DriveFault;
 pub use directory::{DirectoryError, entry, find, first_free, put_entry};
 pub use lent::LentImage;
 pub use listed::ListedImage;
