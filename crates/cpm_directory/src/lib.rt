@@ -3,6 +3,7 @@
 
 mod bits;
 pub mod block;
+pub mod checking;
 pub mod command_line;
 pub mod directory;
 pub mod fault;
@@ -11,9 +12,9 @@ pub mod lent;
 pub mod listed;
 pub mod pattern;
 pub mod reserved;
-pub mod well_formed;
 
 pub use block::block_at;
+pub use checking::well_formed;
 pub use command_line::parse_fcb;
 pub use cpm_files::{Entry, Extent, Fcb};
 pub use fault::DriveFault;
