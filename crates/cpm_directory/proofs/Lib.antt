@@ -8,3 +8,4 @@ pub mod LoginLemmas
 pub mod ReservedLemmas
 pub mod TextLemmas
 pub mod LawLemmas
+pub mod CheckingLemmas

@@ -1,5 +1,6 @@
 -- Whether the directory of a drive agrees with itself, and what is wrong with it. What a disk is refused for is own.
-use Rattle.std.specs.Prelude.{◌≡◌, ℕ, ◌<◌, ◌×◌, Bool, not, ◌==◌, ◌&&◌, ◌||◌, nat_lt, if◌then◌else◌, List, Option, Some, None, option_map, option_or, Result, Ok, Err, Unit, length, take}
+use Rattle.std.specs.Prelude.{◌≡◌, ℕ, ◌<◌, Bool, not, ◌==◌, ◌&&◌, ◌||◌, nat_lt, if◌then◌else◌, List, Option, Some, None, option_map, Result, Ok, Err, length, take, slice_index_or, true}
+use Rattle.std.specs.Option.{option_or}
 use Rattle.std.specs.List.{find, list_any, position, position_or_len, range_with_len}
 use Rattle.cpm_geom.specs.declared.dpb.Dpb.{Dpb}
 use Rattle.cpm_files.specs.declared.extent.Entry.{Entry}
@@ -47,6 +48,11 @@ fault_of d es i =
     else option_or (bad_block_in d es i) (option_or (twice_block_in es i) (twice_entry_in d es i))
 
 -- no entry has a fault; or this is the fault of the first that has one
-abbrev pub IsChecked : Dpb → List Entry → Result Unit {0} DriveFault → Type 0
+abbrev pub IsChecked : Dpb → List Entry → Result (Unit {0}) DriveFault → Type 0
 IsChecked d es (Ok _) = (i : ℕ) → fault_of d es i ≡ None
 IsChecked d es (Err fault) = (i : ℕ) × (fault_of d es i ≡ Some fault) × ((j : ℕ) → j < i → fault_of d es j ≡ None)
+
+-- own: the tests of 512 numbers say which blocks stand in the entries in use before an index
+pub record AreBefore (es : List Entry) (i : ℕ) (tests : List Bool) : Type 0 where
+  pub size : length tests ≡ 512
+  pub at : (b : ℕ) → 0 < b → b < 512 → slice_index_or tests b true ≡ list_any (has_block b) (take i es)
