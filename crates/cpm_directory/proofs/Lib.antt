@@ -9,3 +9,4 @@ pub mod ReservedLemmas
 pub mod TextLemmas
 pub mod LawLemmas
 pub mod CheckingLemmas
+pub mod CheckedLemmas

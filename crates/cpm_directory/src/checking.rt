@@ -1,7 +1,7 @@
 //! Whether the directory of a drive agrees with itself.
 
-ghost use Rattle.std.specs.Prelude.{◌≡◌, ◌≤◌, ◌+◌, ◌%◌, ◌==◌};
-ghost use Rattle.std.specs.List.{list_all, zip};
+ghost use Rattle.std.specs.Prelude.{◌≡◌, ◌<◌, ◌≤◌, ◌+◌, ◌%◌, ◌==◌, ◌||◌, false, slice_index_or};
+ghost use Rattle.std.specs.List.{list_all, list_any, zip};
 ghost use Rattle.cpm_geom.specs.Geometry.{dpb_of};
 ghost use Rattle.cpm_files.specs.Files.{extent_number, group_of, is_of, same_name};
 ghost use Rattle.cpm_directory.specs.Directory.{entries_of};
@@ -85,17 +85,23 @@ fn twice_block(image: &Image, index: u16, before: &Bits) -> Option<DriveFault>
 {
     let blocks = entry(image, index).extent.blocks;
     for (place, block) in blocks.iter().enumerate() {
-        let block = *block;
-        if block != 0 && (before.contains(usize::from(block)) || blocks[..place].contains(&block)) {
-            let owner = owner_of(image, block);
+        if *block != 0 && is_among(before, &blocks[..place], *block) {
             return Some(DriveFault::TwiceBlock {
                 entry: index,
-                block,
-                owner,
+                block: *block,
+                owner: owner_of(image, *block),
             });
         }
     }
     None
+}
+
+/// Whether a block is of those before an entry, or of these numbers.
+fn is_among(before: &Bits, numbers: &[u16], block: u16) -> bool
+    requires { block < 512 }
+    ensures { result ≡ (slice_index_or before.now block false || list_any (λ number. number == block) numbers.now) }
+{
+    before.contains(usize::from(block)) || numbers.contains(&block)
 }
 
 /// The index of the first entry in use that has a block; the number of entries where none has it.
