@@ -32,7 +32,7 @@ stands_before es i s =
 unfoldable pub twice_block_in : List Entry → ℕ → Option DriveFault
 twice_block_in es i =
     option_map (λ s. let b = block_number (entry_at es i).extent s in TwiceBlock i b (owner_of es b))
-        (position (λ s. stands_before es i s) (range_with_len 0 (length (entry_at es i).extent.blocks)))
+    (position (λ s. stands_before es i s) (range_with_len 0 (length (entry_at es i).extent.blocks)))
 
 -- an entry is of the user, the name (in the low seven bits of each character) and the group of extents of an earlier one: the first of these
 unfoldable pub twice_entry_in : Dpb → List Entry → ℕ → Option DriveFault

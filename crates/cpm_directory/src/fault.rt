@@ -7,21 +7,11 @@ use thiserror::Error;
 pub enum DriveFault {
     /// The entry has a block number that no file can have: above the drive's last block, or of the directory's blocks.
     #[error("entry {entry} has the number {block}, which no file can have")]
-    BadBlock {
-        entry: u16,
-        block: u16,
-    },
+    BadBlock { entry: u16, block: u16 },
     /// The entry has a block that stands before: in the map of `owner`, the first entry that has it, which may be this one.
     #[error("entry {entry} has block {block}, which entry {owner} has before")]
-    TwiceBlock {
-        entry: u16,
-        block: u16,
-        owner: u16,
-    },
+    TwiceBlock { entry: u16, block: u16, owner: u16 },
     /// The entry is of the user, the name and the group of extents of an earlier one.
     #[error("entry {entry} is of the same file and extents as entry {earlier}")]
-    TwiceEntry {
-        entry: u16,
-        earlier: u16,
-    },
+    TwiceEntry { entry: u16, earlier: u16 },
 }

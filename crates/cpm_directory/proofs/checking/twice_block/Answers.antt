@@ -1,9 +1,8 @@
 use Rattle.std.proofs.Common.{◌≡◌, ◌<◌, true, length, get_or, below_more, sym, ap, ◌∙◌, arith}
-use Rattle.cpm_geom.specs.Geometry.{dpb_of}
 use Rattle.cpm_files.specs.declared.extent.Entry.{Entry}
 use Rattle.cpm_directory.specs.Directory.{entries_of}
 use Rattle.cpm_directory.specs.WellFormed.{stands_before}
-use Rattle.cpm_directory.proofs.DriveLemmas.{last_block_small, entries_length}
+use Rattle.cpm_directory.proofs.DriveLemmas.{entries_length}
 use Rattle.cpm_directory.proofs.CheckingLemmas.{map_length, number_small, stands_is, stands_of_none, twice_is, single_is}
 use Rattle.cpm_directory.proofs.checking.twice_block.Goals as goal
 use Rattle.cpm_directory.proofs.checking.twice_block.Goals.{else-block-ne0-via-then-block-ne0+else-is_among, else-block-ne0-via-else-block-ne0}

@@ -1,4 +1,4 @@
-use Rattle.std.proofs.Common.{◌≡◌, ◌<◌, false, true, length, ap, sym, ◌∙◌, inl, inr, arith}
+use Rattle.std.proofs.Common.{◌≡◌, false, true, ap, inl, inr, arith}
 use Rattle.std.proofs.lemmas.Bool.{cases_lt}
 use Rattle.std.proofs.lemmas.List.{length-replicate, get_or-replicate}
 use Rattle.cpm_geom.specs.Geometry.{dpb_of}
@@ -16,11 +16,11 @@ overflow_add-index-end c =
 
 pub loop-index-init : goal.loop-index-init
 loop-index-init c = (
-    record {
-      size = rw c.none-before.ensures (length-replicate 512 false);
-      at = λ b low high. rw c.none-before.ensures (get_or-replicate 512 b false true high);
-    },
-    λ j h. absurd (omega arith),
+  record {
+    size = rw c.none-before.ensures (length-replicate 512 false);
+    at = λ b low high. rw c.none-before.ensures (get_or-replicate 512 b false true high);
+  },
+  λ j h. absurd (omega arith),
 )
 
 pub returns : goal.returns
