@@ -160,6 +160,7 @@ impl Host {
     pub fn key(&mut self, id: SlotId, key: u8) -> Result<(), Refusal>
         ensures reply { key_reply result ≡ reply_at self.old.host id.0 (Calls (Key key)) }
         ensures host { self.new.host ≡ after_ask self.old.host id.0 (Calls (Key key)) }
+        ensures unchanged { OnErr result (self.new ≡ self.old) }
     {
         match index_of(&self.slots, id) {
             None => Err(Refusal::NoSuchSlot),
@@ -172,6 +173,7 @@ impl Host {
     fn grant_to(&mut self, id: SlotId, steps: u64, stop: Option<u16>) -> Result<Granted, Refusal>
         ensures reply { grant_reply result ≡ reply_at self.old.host id.0 (Calls (grant_call stop steps)) }
         ensures host { self.new.host ≡ after_ask self.old.host id.0 (Calls (grant_call stop steps)) }
+        ensures unchanged { OnErr result (self.new ≡ self.old) }
     {
         match index_of(&self.slots, id) {
             None => Err(Refusal::NoSuchSlot),
@@ -191,6 +193,7 @@ impl Host {
     pub fn grant(&mut self, id: SlotId, steps: u64) -> Result<Granted, Refusal>
         ensures reply { grant_reply result ≡ reply_at self.old.host id.0 (Calls (Grant steps)) }
         ensures host { self.new.host ≡ after_ask self.old.host id.0 (Calls (Grant steps)) }
+        ensures unchanged { OnErr result (self.new ≡ self.old) }
     {
         self.grant_to(id, steps, None)
     }
@@ -200,6 +203,7 @@ impl Host {
     pub fn grant_until(&mut self, id: SlotId, steps: u64, pc: u16) -> Result<Granted, Refusal>
         ensures reply { grant_reply result ≡ reply_at self.old.host id.0 (Calls (GrantUntil steps pc)) }
         ensures host { self.new.host ≡ after_ask self.old.host id.0 (Calls (GrantUntil steps pc)) }
+        ensures unchanged { OnErr result (self.new ≡ self.old) }
     {
         self.grant_to(id, steps, Some(pc))
     }
@@ -217,6 +221,7 @@ impl Host {
         ensures length { length out.new ≡ length out.old }
         ensures refused { OnErr result (out.new ≡ out.old) }
         ensures host { self.new.host ≡ after_ask self.old.host id.0 (Calls (take_call device (length out.old))) }
+        ensures unchanged { OnErr result (self.new ≡ self.old) }
     {
         match index_of(&self.slots, id) {
             None => Err(Refusal::NoSuchSlot),
@@ -232,6 +237,7 @@ impl Host {
         ensures length { length out.new ≡ length out.old }
         ensures refused { OnErr result (out.new ≡ out.old) }
         ensures host { self.new.host ≡ after_ask self.old.host id.0 (Calls (Take (length out.old))) }
+        ensures unchanged { OnErr result (self.new ≡ self.old) }
     {
         self.take_from(id, Device::Console, out)
     }
@@ -244,6 +250,7 @@ impl Host {
         ensures length { length out.new ≡ length out.old }
         ensures refused { OnErr result (out.new ≡ out.old) }
         ensures host { self.new.host ≡ after_ask self.old.host id.0 (Calls (TakeList (length out.old))) }
+        ensures unchanged { OnErr result (self.new ≡ self.old) }
     {
         self.take_from(id, Device::List, out)
     }
@@ -305,6 +312,7 @@ impl Host {
         ensures reply { close_reply result ≡ reply_at self.old.host id.0 Closes }
         ensures closed { IfOk result (λ c. IfSome (slot_at id.0 self.old.host.slots) (λ s. (c.look ≡ look_of s) × (c.drives ≡ images_of s.cpm.disks))) }
         ensures host { self.new.host ≡ after_ask self.old.host id.0 Closes }
+        ensures unchanged { OnErr result (self.new ≡ self.old) }
     {
         match index_of(&self.slots, id) {
             None => Err(Refusal::NoSuchSlot),

@@ -1,6 +1,6 @@
 //! Sessions whose memories lie in one store of frames, by their places.
 
-ghost use Rattle.std.specs.Prelude.{◌≡◌, ℕ, true, false, nat_lt, IfOk, IfErr, ◌<◌, ◌≤◌, ◌*◌, ◌+◌, List, Option, length, take, drop, sum_by, slice_get, remove, IfSome};
+ghost use Rattle.std.specs.Prelude.{◌≡◌, ℕ, true, false, nat_lt, IfOk, IfErr, OnErr, ◌<◌, ◌≤◌, ◌*◌, ◌+◌, List, Option, length, take, drop, sum_by, slice_get, remove, IfSome};
 ghost use Rattle.std.specs.List.{All};
 ghost use Rattle.cpm_geom.specs.Disk.{Disk};
 ghost use Rattle.cpm_bdos.specs.Bounds.{IsFit};
@@ -90,6 +90,7 @@ fn press(runner: &mut Runner, key: u8) -> Result<(), Refusal>
     ensures sound { (memory : Contents) → IsSound (state_of runner.old memory) → IsSound (state_of runner.new memory) }
     ensures quota { runner.new.quota ≡ runner.old.quota }
     ensures cache { runner.new.cache ≡ runner.old.cache }
+    ensures kept { OnErr result (runner.new ≡ runner.old) }
 {
     give(&mut runner.cpm.console, key)
 }
@@ -113,6 +114,7 @@ pub fn key_at(slots: &mut Vec<Slot>, index: usize, key: u8) -> Result<(), Refusa
     ensures served { (system : Disk) (memories : List (Option Contents)) → IsServed system (Key key) index (key_reply result) (slots_of memories slots.old.items) (slots_of memories slots.new.items) }
     ensures have_tables { (memories : List (Option Contents)) → HaveTables memories slots.old.items → HaveTables memories slots.new.items }
     ensures cached { (memories : List (Option Contents)) (stamps : List (List ℕ)) → AllCached memories stamps slots.old.items → AllCached memories stamps slots.new.items }
+    ensures kept { OnErr result (slots.new.items ≡ slots.old.items) }
 {
     let slot = &mut slots[index];
     press(&mut slot.runner, key)
