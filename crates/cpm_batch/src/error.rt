@@ -11,8 +11,8 @@ use thiserror::Error;
 /// Why what the sessions of a configuration need can't be read. The text begins with the code, but for want of memory.
 #[derive(Clone, Copy, Debug, PartialEq, Eq, Drop, Error)]
 pub enum ReadError {
-    /// A file can't be read.
-    #[error("HO4 can't read '{0}': no file of at most 16777216 bytes can be read there")]
+    /// A file can't be read, or has more than 16,777,216 bytes.
+    #[error("HO4 can't read '{0}'")]
     File(Word),
     /// A file is no image, by its length.
     #[error("HO6 '{name}' has {length} bytes, and the image of a drive has 256256")]

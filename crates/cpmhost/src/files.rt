@@ -1,9 +1,10 @@
 //! The files of the machine that the program runs on.
-ghost use Rattle.std.specs.Prelude.{⊤, ◌≡◌, ◌≤◌, None, IfErr, IfOk, vec_len};
+ghost use Rattle.std.specs.Prelude.{⊤, ◌≡◌, ◌≤◌, ◌⊎◌, None, IfErr, IfOk, vec_len};
 ghost use Rattle.cpm_host.specs.Refusals.{IsFileRefusal, IsOutRefusal};
 ghost use Rattle.cpm_store.specs.Files.{CountsFailure};
 
 use crate::output::Outputs;
+use crate::refused::Behind;
 use cpm_host::{Config, HostError, Store, StoreError, read_whole, shown};
 use std::alloc::Global;
 use std::io::ErrorKind;
@@ -34,7 +35,7 @@ pub fn write_file(
     name: &str,
     bytes: &[u8],
 ) -> Result<(), HostError>
-    ensures refusal { IfErr result IsOutRefusal }
+    ensures refusal { IfErr result (λ e. IsOutRefusal e ⊎ (e ≡ HostError.OutOfMemory)) }
 {
     outputs
         .write(rt, name, bytes)
@@ -47,7 +48,7 @@ fn check_file(
     outputs: Outputs,
     name: &str,
 ) -> Result<(), HostError>
-    ensures refusal { IfErr result IsOutRefusal }
+    ensures refusal { IfErr result (λ e. IsOutRefusal e ⊎ (e ≡ HostError.OutOfMemory)) }
 {
     outputs
         .check(rt, name)
@@ -61,7 +62,7 @@ pub fn check_outputs(
     outputs: Outputs,
     config: &Config,
 ) -> Result<(), HostError>
-    ensures refusal { IfErr result IsOutRefusal }
+    ensures refusal { IfErr result (λ e. IsOutRefusal e ⊎ (e ≡ HostError.OutOfMemory)) }
 {
     for session in &config.sessions {
         check_file(rt, outputs, session.console.as_str())?;
@@ -79,11 +80,15 @@ pub fn check_outputs(
 
 /// Why a file was not written.
 fn unwritable(name: &str, reason: io::Error) -> HostError
-    ensures { IsOutRefusal result }
+    ensures { IsOutRefusal result ⊎ (result ≡ HostError.OutOfMemory) }
 {
-    HostError::FileUnwritable {
-        name: shown(name),
-        reason,
+    if reason.kind() == ErrorKind::OutOfMemory {
+        HostError::OutOfMemory
+    } else {
+        HostError::FileUnwritable {
+            name: shown(name),
+            reason,
+        }
     }
 }
 
@@ -107,6 +112,7 @@ pub struct MachineFiles<'a, R: Files + AllocGlobal> {
     rt: &'a R,
     outputs: Outputs,
     failures: u64,
+    reason: Option<io::Error>,
 }
 
 impl<'a, R: Files + AllocGlobal> MachineFiles<'a, R> {
@@ -118,6 +124,15 @@ impl<'a, R: Files + AllocGlobal> MachineFiles<'a, R> {
             rt,
             outputs,
             failures: 0,
+            reason: None,
+        }
+    }
+
+    /// What is said behind the refusal of a run that the last call ended: why that failed, if it did.
+    pub fn behind(&self) -> Behind {
+        match self.reason {
+            Some(reason) => Behind::Reason(reason),
+            None => Behind::Nothing,
         }
     }
 
@@ -130,6 +145,7 @@ impl<'a, R: Files + AllocGlobal> MachineFiles<'a, R> {
             return StoreError::OutOfMemory;
         }
         self.failures = self.failures.saturating_add(1);
+        self.reason = Some(reason);
         StoreError::Device
     }
 }

@@ -6,6 +6,8 @@ ghost use Rattle.cpm_host.specs.Refusals.{IsWordRefusal};
 
 mod files;
 mod output;
+mod place;
+mod refused;
 
 use cpm_flags::Cpu;
 use cpm_host::{
@@ -13,6 +15,8 @@ use cpm_host::{
 };
 use files::{MachineFiles, check_outputs, read_file, write_file};
 use output::Outputs;
+use place::{check_apart, check_pair};
+use refused::{Behind, Refused};
 use std::env::Env;
 use std::io::{BufReader, BufWriter, ErrorKind};
 use std::process::{self, ExitCode};
@@ -35,11 +39,19 @@ fn run_sessions(
     rt: &(impl Files + Print + AllocGlobal),
     outputs: Outputs,
     file: &str,
-) -> Result<(), HostError> {
+) -> Result<(), Refused> {
     let text = read_file(rt, file)?;
-    let config = Config::read(rt.alloc(), text.as_slice())?;
+    let config = Config::read(rt.alloc(), text.as_slice()).map_err(HostError::from)?;
     check_outputs(rt, outputs, &config)?;
-    let report = run_host(rt.alloc(), &config, &mut MachineFiles::new(rt, outputs))?;
+    check_apart(rt, file, &config)?;
+    let mut files = MachineFiles::new(rt, outputs);
+    let report = match run_host(rt.alloc(), &config, &mut files) {
+        Ok(report) => report,
+        Err(error) => {
+            let behind = files.behind();
+            return Err(Refused { error, behind });
+        }
+    };
     for session in &report {
         println!(rt; "{session}").map_err(HostError::OutputUnwritable)?;
     }
@@ -97,10 +109,12 @@ fn asm(
     outputs: Outputs,
     source: &str,
     out: &str,
-) -> Result<(), HostError> {
+) -> Result<(), Refused> {
     let text = read_file(rt, source)?;
+    check_pair(rt, source, out)?;
     let image = run_asm(rt.alloc(), text.as_slice())?;
-    write_file(rt, outputs, out, image.as_slice())
+    write_file(rt, outputs, out, image.as_slice())?;
+    Ok(())
 }
 
 /// Prints the program in a file as instructions of the 8080.
@@ -130,35 +144,37 @@ fn debug(
 fn run(
     rt: &(impl Env + Files + Input + Print + Eprint + AllocGlobal),
     outputs: Outputs,
-) -> Result<(), HostError> {
+) -> Result<(), Refused> {
     let words = arguments(rt)?;
     let mut texts = Vec::new(rt.alloc());
     for word in &words {
         texts.push(word.as_str())?;
     }
     if let Some(text) = help(texts.as_slice()) {
-        return rt.print(text).map_err(HostError::OutputUnwritable);
+        rt.print(text).map_err(HostError::OutputUnwritable)?;
+        return Ok(());
     }
-    match command(rt.alloc(), texts.as_slice())? {
+    match command(rt.alloc(), texts.as_slice()).map_err(HostError::from)? {
         Task::Com {
             file,
             cpu,
             steps,
             keys,
-        } => com(rt, file, cpu, keys, steps),
-        Task::Asm { source, out } => asm(rt, outputs, source, out),
-        Task::List { file } => list(rt, file),
-        Task::Run { config } => run_sessions(rt, outputs, config),
-        Task::Debug { file, cpu } => debug(rt, file, cpu),
+        } => com(rt, file, cpu, keys, steps)?,
+        Task::Asm { source, out } => asm(rt, outputs, source, out)?,
+        Task::List { file } => list(rt, file)?,
+        Task::Run { config } => run_sessions(rt, outputs, config)?,
+        Task::Debug { file, cpu } => debug(rt, file, cpu)?,
     }
+    Ok(())
 }
 
 fn main(rt: HostRuntime) -> ExitCode {
     match run(&rt, Outputs::new(process::id(rt.process()))) {
         Ok(()) => ExitCode::SUCCESS,
-        Err(error) => {
-            let _ = eprintln!(rt; "cpmhost: {error}");
-            ExitCode::from(error.status())
+        Err(refused) => {
+            let _ = eprintln!(rt; "cpmhost: {refused}");
+            ExitCode::from(refused.error.status())
         }
     }
 }

@@ -48,7 +48,7 @@ fn is_open_already(path: &str) -> bool {
 }
 
 /// Where the file of a name lies, once its links are followed.
-fn target_of(rt: &(impl Files + AllocGlobal), name: &str) -> io::Result<PathBuf> {
+pub fn target_of(rt: &(impl Files + AllocGlobal), name: &str) -> io::Result<PathBuf> {
     let mut path = Path::new(name).to_path_buf(rt.alloc())?;
     for _link in 0..MOST_LINKS {
         if is_open_already(path.as_path().as_str()) {

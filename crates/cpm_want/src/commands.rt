@@ -1,0 +1,126 @@
+//! The commands, over bytes, writers and a store in memory.
+
+use crate::Outcome;
+use crate::machines::letter;
+use crate::stores::{holds, put};
+use crate::texts::{CONFIG, KEYS, SOURCE};
+use cpm_flags::Cpu;
+use cpm_geom::{Format, Image};
+use cpm_host::{
+    Config, DebugError, HostError, MemoryStore, Script, run_asm, run_com, run_debug, run_host,
+    run_list,
+};
+use std::alloc::{AllocError, Global};
+use std::io;
+use std::io::Write;
+
+/// What the first session of the configuration shows, and the second.
+const SHOWN: [&[u8]; 2] = [b"\r\nA>DIR\r\r\nNO FILE\r\nA>", b"\r\nA>"];
+
+/// Counts the bytes that it is given.
+#[derive(Drop)]
+struct Counter {
+    count: usize,
+}
+
+impl Write for Counter {
+    fn write(&mut self, buf: &[u8]) -> io::Result<usize> {
+        self.count = self.count.saturating_add(buf.len());
+        Ok(buf.len())
+    }
+
+    fn flush(&mut self) -> io::Result<()> {
+        Ok(())
+    }
+}
+
+pub fn com(alloc: Global) -> Result<Outcome, AllocError> {
+    let program = letter(alloc)?;
+    let script = Script {
+        name: "one.keys",
+        text: KEYS,
+    };
+    let mut out = Counter { count: 0 };
+    Ok(
+        match run_com(alloc, Cpu::I8080, program, Some(script), 100, &mut out) {
+            Ok(ending) if ending.count == 7 && out.count == 1 => Outcome::Made,
+            Err(HostError::OutOfMemory) => Outcome::refused_if(out.count == 0),
+            _ => Outcome::Wrong,
+        },
+    )
+}
+
+pub fn asm(alloc: Global) -> Outcome {
+    match run_asm(alloc, SOURCE) {
+        Ok(_) => Outcome::Made,
+        Err(HostError::OutOfMemory) => Outcome::Refused,
+        Err(_) => Outcome::Wrong,
+    }
+}
+
+pub fn debug(alloc: Global) -> Result<Outcome, AllocError> {
+    let program = letter(alloc)?;
+    let mut lines: &[u8] = b"S 2\nR\nK ^M\nG EC06 100\nO\nD 0100\nL 0100\nQ\n";
+    let mut out = Counter { count: 0 };
+    Ok(
+        match run_debug(alloc, Cpu::Z80, program, &mut lines, &mut out) {
+            Ok(()) if out.count > 0 => Outcome::Made,
+            Err(DebugError::OutOfMemory) => Outcome::Refused,
+            _ => Outcome::Wrong,
+        },
+    )
+}
+
+/// It takes no memory.
+pub fn list() -> Outcome {
+    let mut out = Counter { count: 0 };
+    match run_list(SOURCE, &mut out) {
+        Ok(()) if out.count > 0 => Outcome::Made,
+        _ => Outcome::Wrong,
+    }
+}
+
+/// A store with blank drives and the keys of the first session.
+fn filled(alloc: Global) -> Result<MemoryStore, AllocError> {
+    let mut store = MemoryStore::new(alloc);
+    let blank = Image::blank(alloc, Format::Ibm3740)?.into_bytes();
+    put(&mut store, "p.img", blank.as_slice())?;
+    put(&mut store, "a.img", blank.as_slice())?;
+    put(&mut store, "one.keys", KEYS)?;
+    Ok(store)
+}
+
+/// Whether a store has the files of the run up to one of them, and none behind it.
+fn are_written_in_order(store: &MemoryStore, blank: &[u8]) -> bool {
+    let files: [(&str, &[u8]); 4] = [
+        ("one.txt", SHOWN[0]),
+        ("one.lst", b""),
+        ("a.out", blank),
+        ("two.txt", SHOWN[1]),
+    ];
+    let mut is_there = true;
+    for (name, bytes) in files {
+        is_there = is_there && store.file(name).is_some();
+        if is_there != store.file(name).is_some() || (is_there && !holds(store, name, bytes)) {
+            return false;
+        }
+    }
+    holds(store, "p.img", blank) && holds(store, "a.img", blank) && holds(store, "one.keys", KEYS)
+}
+
+pub fn run(alloc: Global) -> Result<Outcome, AllocError> {
+    let mut store = filled(alloc)?;
+    let blank = Image::blank(alloc, Format::Ibm3740)?.into_bytes();
+    let Ok(config) = Config::read(alloc, CONFIG.as_bytes()) else {
+        return Err(AllocError);
+    };
+    let answer = run_host(alloc, &config, &mut store);
+    let is_right = are_written_in_order(&store, blank.as_slice());
+    Ok(match answer {
+        Ok(_) if is_right && store.file("two.txt").is_some() => Outcome::Made,
+        Err(HostError::OutOfMemory) => {
+            Outcome::refused_if(is_right && store.file("two.txt").is_none())
+        }
+        _ => Outcome::Wrong,
+    })
+}

@@ -1,0 +1,63 @@
+//! The calls of a store in memory.
+
+use crate::Outcome;
+use cpm_host::{MemoryStore, Store, StoreError};
+use std::alloc::{AllocError, Global};
+
+/// A store with two files.
+fn filled(alloc: Global) -> Result<MemoryStore, AllocError> {
+    let mut store = MemoryStore::new(alloc);
+    put(&mut store, "old", b"what it held")?;
+    put(&mut store, "other", b"another one")?;
+    Ok(store)
+}
+
+/// Writes a file before the call in question.
+pub fn put(store: &mut MemoryStore, name: &str, bytes: &[u8]) -> Result<(), AllocError> {
+    match store.write(name, bytes) {
+        Ok(()) => Ok(()),
+        Err(_) => Err(AllocError),
+    }
+}
+
+/// Whether a store has a file of this name with these bytes.
+pub fn holds(store: &MemoryStore, name: &str, bytes: &[u8]) -> bool {
+    store.file(name).is_some_and(|found| found == bytes)
+}
+
+/// Whether the two files are as they were, and no other is there.
+fn is_as_filled(store: &MemoryStore) -> bool {
+    holds(store, "old", b"what it held")
+        && holds(store, "other", b"another one")
+        && store.file("new").is_none()
+}
+
+pub fn read(alloc: Global) -> Result<Outcome, AllocError> {
+    let mut store = filled(alloc)?;
+    Ok(match store.read(alloc, "old") {
+        Ok(bytes) if bytes.as_slice() == b"what it held".as_slice() => Outcome::Made,
+        Err(StoreError::OutOfMemory) => {
+            Outcome::refused_if(is_as_filled(&store) && store.failures() == 0)
+        }
+        _ => Outcome::Wrong,
+    })
+}
+
+/// Writes a file that is there, and one that is not.
+pub fn write(alloc: Global) -> Result<Outcome, AllocError> {
+    let mut store = filled(alloc)?;
+    match store.write("old", b"what it holds") {
+        Ok(()) => {}
+        Err(StoreError::OutOfMemory) => {
+            return Ok(Outcome::refused_if(is_as_filled(&store) && store.failures() == 0));
+        }
+        Err(_) => return Ok(Outcome::Wrong),
+    }
+    Ok(match store.write("new", b"a new one") {
+        Ok(()) if holds(&store, "new", b"a new one") => Outcome::Made,
+        Err(StoreError::OutOfMemory) => Outcome::refused_if(
+            holds(&store, "old", b"what it holds") && store.file("new").is_none(),
+        ),
+        _ => Outcome::Wrong,
+    })
+}

@@ -1,0 +1,72 @@
+//! Command lines, sources, configurations and key scripts.
+
+use crate::Outcome;
+use cpm_asm::{AsmErrorKind, assemble};
+use cpm_host::{Config, ConfigError, ScriptError, UsageError, command, read_keys};
+use std::alloc::Global;
+
+/// A program that prints a letter and returns.
+pub const SOURCE: &[u8] =
+    b"BDOS EQU 5\n MVI C,2\n MVI E,'A'\nAGAIN: CALL BDOS\n RET\nTEXT: DB 'of it',0DH\n DW AGAIN\n";
+
+/// Two sessions with each of the keys of a configuration.
+pub const CONFIG: &str = "frames = 64
+quantum = 7
+system = \"p.img\"
+
+[[session]]
+name = \"one\"
+cpu = \"8080\"
+quota = 16
+steps = 50
+drives = [\"a.img\"]
+console = \"one.txt\"
+keys = \"one.keys\"
+list = \"one.lst\"
+out = [\"a.out\"]
+
+[[session]]
+name = \"two\"
+cpu = \"z80\"
+quota = 16
+steps = 10
+drives = [\"a.img\"]
+console = \"two.txt\"
+";
+
+/// What is typed at the first session.
+pub const KEYS: &[u8] = b"# a comment\n0 DIR^M\n";
+
+pub fn command_line(alloc: Global) -> Outcome {
+    let words = [
+        "cpmhost", "com", "a.com", "--z80", "--steps", "7", "--keys", "a.keys",
+    ];
+    match command(alloc, &words) {
+        Ok(_) => Outcome::Made,
+        Err(UsageError::OutOfMemory) => Outcome::Refused,
+        Err(_) => Outcome::Wrong,
+    }
+}
+
+pub fn source(alloc: Global) -> Outcome {
+    match assemble(alloc, SOURCE) {
+        Ok(_) => Outcome::Made,
+        Err(error) => Outcome::refused_if(error.kind == AsmErrorKind::OutOfMemory),
+    }
+}
+
+pub fn configuration(alloc: Global) -> Outcome {
+    match Config::read(alloc, CONFIG.as_bytes()) {
+        Ok(_) => Outcome::Made,
+        Err(ConfigError::OutOfMemory) => Outcome::Refused,
+        Err(_) => Outcome::Wrong,
+    }
+}
+
+pub fn key_script(alloc: Global) -> Outcome {
+    match read_keys(alloc, KEYS) {
+        Ok(_) => Outcome::Made,
+        Err(ScriptError::OutOfMemory) => Outcome::Refused,
+        Err(_) => Outcome::Wrong,
+    }
+}

@@ -1,0 +1,189 @@
+//! Which file of the machine a name is of, by whatever spelling or link.
+
+use crate::output::target_of;
+use crate::refused::{Behind, Refused};
+use cpm_host::{Config, HostError, shown};
+use std::alloc::AllocError;
+use std::fs;
+use std::io::ErrorKind;
+use std::os::unix::fs::MetadataExt;
+use std::path::Path;
+use std::rt::Files;
+
+/// Where a file lies: names with one place are of one file.
+#[derive(PartialEq, Eq, Drop)]
+struct Place {
+    device: u64,
+    node: u64,
+    /// Of a file that isn't there yet, its name in the folder that the numbers are of.
+    name: Option<String>,
+}
+
+/// The place of a file that isn't there yet, where its folder is.
+fn place_in_folder(
+    rt: &(impl Files + AllocGlobal),
+    target: Path<'_>,
+) -> Result<Option<Place>, AllocError> {
+    let (Some(folder), Some(name)) = (target.parent(), target.file_name()) else {
+        return Ok(None);
+    };
+    let folder = match folder.as_str() {
+        "" => Path::new("."),
+        _ => folder,
+    };
+    let Ok(found) = fs::metadata(rt, folder) else {
+        return Ok(None);
+    };
+    Ok(Some(Place {
+        device: found.dev(),
+        node: found.ino(),
+        name: Some(String::from_str(rt.alloc(), name)?),
+    }))
+}
+
+/// The place of the file of a name. None of what is no file of its own, as a pipe or a device, and of what can't be looked at.
+fn place_of(rt: &(impl Files + AllocGlobal), name: &str) -> Result<Option<Place>, AllocError> {
+    let target = match target_of(rt, name) {
+        Ok(target) => target,
+        Err(error) if error.kind() == ErrorKind::OutOfMemory => return Err(AllocError),
+        Err(_) => return Ok(None),
+    };
+    match fs::metadata(rt, target.as_path()) {
+        Ok(found) if found.is_file() => Ok(Some(Place {
+            device: found.dev(),
+            node: found.ino(),
+            name: None,
+        })),
+        Err(error) if error.kind() == ErrorKind::NotFound => {
+            place_in_folder(rt, target.as_path())
+        }
+        _ => Ok(None),
+    }
+}
+
+/// A file of a run.
+#[derive(Drop)]
+struct Named<'a> {
+    name: &'a str,
+    place: Place,
+    is_image: bool,
+}
+
+/// The files of a run that were looked at so far.
+#[derive(Drop)]
+struct Looked<'a> {
+    inputs: Vec<Named<'a>>,
+    outputs: Vec<Named<'a>>,
+}
+
+impl<'a> Looked<'a> {
+    fn add_input(
+        &mut self,
+        rt: &(impl Files + AllocGlobal),
+        name: &'a str,
+        is_image: bool,
+    ) -> Result<(), Refused> {
+        if let Some(place) = place_of(rt, name)? {
+            self.inputs.push(Named {
+                name,
+                place,
+                is_image,
+            })?;
+        }
+        Ok(())
+    }
+
+    /// Refuses an output that is an output before it, or an input; but an image may take the place of one that was read.
+    fn add_output(
+        &mut self,
+        rt: &(impl Files + AllocGlobal),
+        name: &'a str,
+        is_image: bool,
+    ) -> Result<(), Refused> {
+        let Some(place) = place_of(rt, name)? else {
+            return Ok(());
+        };
+        for other in &self.outputs {
+            if other.place == place {
+                return Err(twin(other.name, Behind::Output(shown(name))));
+            }
+        }
+        for input in &self.inputs {
+            if input.place == place && !(is_image && input.is_image) {
+                return Err(twin(name, Behind::Input(shown(input.name))));
+            }
+        }
+        self.outputs.push(Named {
+            name,
+            place,
+            is_image,
+        })?;
+        Ok(())
+    }
+}
+
+/// The refusal of an output that is another file too.
+fn twin(name: &str, behind: Behind) -> Refused {
+    Refused {
+        error: HostError::WriteFault(shown(name)),
+        behind,
+    }
+}
+
+/// The files that a run reads.
+fn inputs_of<'a>(
+    rt: &(impl Files + AllocGlobal),
+    file: &'a str,
+    config: &'a Config,
+) -> Result<Looked<'a>, Refused> {
+    let mut looked = Looked {
+        inputs: Vec::new(rt.alloc()),
+        outputs: Vec::new(rt.alloc()),
+    };
+    looked.add_input(rt, file, false)?;
+    looked.add_input(rt, config.system.as_str(), true)?;
+    for session in &config.sessions {
+        for drive in &session.drives {
+            looked.add_input(rt, drive.as_str(), true)?;
+        }
+        if let Some(keys) = &session.keys {
+            looked.add_input(rt, keys.as_str(), false)?;
+        }
+    }
+    Ok(looked)
+}
+
+/// Refuses a run of the configuration in a file that would write one file twice, or write over what it reads, under whatever names. An
+/// image may be written where one was read.
+pub fn check_apart(
+    rt: &(impl Files + AllocGlobal),
+    file: &str,
+    config: &Config,
+) -> Result<(), Refused> {
+    let mut looked = inputs_of(rt, file, config)?;
+    for session in &config.sessions {
+        looked.add_output(rt, session.console.as_str(), false)?;
+        if let Some(list) = &session.list {
+            looked.add_output(rt, list.as_str(), false)?;
+        }
+        if let Some(images) = &session.out {
+            for out in images {
+                looked.add_output(rt, out.as_str(), true)?;
+            }
+        }
+    }
+    Ok(())
+}
+
+/// Refuses an output that is the one input.
+pub fn check_pair(
+    rt: &(impl Files + AllocGlobal),
+    input: &str,
+    output: &str,
+) -> Result<(), Refused> {
+    let read = place_of(rt, input)?;
+    if read.is_some() && read == place_of(rt, output)? {
+        return Err(twin(output, Behind::Input(shown(input))));
+    }
+    Ok(())
+}

@@ -1,0 +1,61 @@
+//! A refusal with what the machine says of it.
+ghost use Rattle.std.specs.Prelude.{◌≡◌};
+
+use cpm_host::{HostError, Word};
+use std::alloc::{AllocError, AllocFailed};
+use std::{fmt, io};
+
+/// What is said behind the text of a refusal.
+#[derive(Clone, Copy, Debug, Drop)]
+pub enum Behind {
+    Nothing,
+    /// Why the machine didn't read or write the file.
+    Reason(io::Error),
+    /// The output of this name is the same file.
+    Output(Word),
+    /// The input of this name is the same file.
+    Input(Word),
+}
+
+/// Why a command is refused, on one line.
+#[derive(Clone, Copy, Debug, Drop)]
+pub struct Refused {
+    pub error: HostError,
+    pub behind: Behind,
+}
+
+impl fmt::Display for Refused {
+    fn fmt<W: fmt::Write>(&self, f: &mut fmt::Formatter<W>) -> fmt::Result {
+        let error = &self.error;
+        match &self.behind {
+            Behind::Nothing => write!(f, "{error}"),
+            Behind::Reason(reason) => write!(f, "{error}: {reason}"),
+            Behind::Output(other) => write!(f, "{error} and '{other}': they are one file"),
+            Behind::Input(other) => write!(
+                f,
+                "{error} over the input '{other}': they are one file"
+            ),
+        }
+    }
+}
+
+impl From<HostError> for Refused {
+    fn from(error: HostError) -> Refused {
+        Refused {
+            error,
+            behind: Behind::Nothing,
+        }
+    }
+}
+
+impl From<AllocError> for Refused {
+    fn from(_error: AllocError) -> Refused {
+        Refused::from(HostError::OutOfMemory)
+    }
+}
+
+impl<T: Drop> From<AllocFailed<T>> for Refused {
+    fn from(_error: AllocFailed<T>) -> Refused {
+        Refused::from(HostError::OutOfMemory)
+    }
+}
