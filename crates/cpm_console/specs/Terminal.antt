@@ -1,6 +1,8 @@
 -- The console and the list device: keys that were not read yet, bytes that were not taken yet, the column of the cursor,
 -- and whether the list device gets what the console shows.
 use Rattle.std.specs.Prelude.{ℕ, ◌+◌, ◌-◌, ◌%◌, ◌≤◌, Bool, false, List, [], ◌∷◌, ◌++◌, length, drop, min, not, nat_le, ◌&&◌, ◌==◌, if◌then◌else◌, fold, replicate}
+use Rattle.cpm_console.specs.declared.device.Device.{Device}
+use Rattle.cpm_console.specs.declared.device.Device.TheVariants as device
 
 -- own: both devices and the keys as lists
 pub record Terminal : Type 0 where
@@ -26,6 +28,16 @@ pressed t key = record t { keys = t.keys ++ key ∷ [] }
 -- own: the first key read; with no key nothing changes
 abbrev pub key_read : Terminal → Terminal
 key_read t = record t { keys = drop 1 t.keys }
+
+-- own: the bytes that wait on a device
+abbrev pub waiting_on : Device → Terminal → List ℕ
+waiting_on device.Console t = t.screen
+waiting_on device.List t = t.printer
+
+-- own: other bytes wait on a device
+abbrev pub with_waiting : Device → List ℕ → Terminal → Terminal
+with_waiting device.Console bytes t = record t { screen = bytes }
+with_waiting device.List bytes t = record t { printer = bytes }
 
 -- own: each device holds 8,192 bytes, and a step begins only where 4,096 more fit on both
 abbrev pub has_room : Terminal → Bool

@@ -1,8 +1,9 @@
 //! Keys that wait to be read, bytes that wait to be taken, and the column of the cursor.
 
 ghost use Rattle.std.specs.Prelude.{◌≡◌, ◌<◌, ◌≤◌, ◌+◌, ◌-◌, ◌%◌, ◌↔◌, ◌++◌, ◌∷◌, [], length, take, drop, min, slice_get, IsTrue, IfNone, IfOk, if◌then◌else◌};
-ghost use Rattle.cpm_console.specs.Terminal.{blank, pressed, key_read, has_room, shown, printed, said, expanded, column_after, column_past};
+ghost use Rattle.cpm_console.specs.Terminal.{blank, pressed, key_read, has_room, shown, printed, said, expanded, column_after, column_past, waiting_on, with_waiting};
 
+use crate::device::Device;
 use circular_buffer::HeapCircularBuffer;
 use std::alloc::{AllocError, Global};
 use std::marker::Model;
@@ -190,13 +191,25 @@ impl Console {
         }
     }
 
+    /// Moves out the first bytes of a device, as many as fit, and says how many.
+    pub fn take_from(&mut self, device: Device, out: &mut [u8]) -> usize
+        ensures count { result ≡ min (length out.old) (length (waiting_on device self.old)) }
+        ensures bytes { out.new ≡ take result (waiting_on device self.old) ++ drop result out.old }
+        ensures after { self.new ≡ with_waiting device (drop result (waiting_on device self.old)) self.old }
+    {
+        match device {
+            Device::Console => self.screen.read_into(out),
+            Device::List => self.printer.read_into(out),
+        }
+    }
+
     /// Moves out the first console bytes, as many as fit, and says how many.
     pub fn take(&mut self, out: &mut [u8]) -> usize
         ensures count { result ≡ min (length out.old) (length self.old.screen) }
         ensures bytes { out.new ≡ take result self.old.screen ++ drop result out.old }
         ensures after { self.new ≡ record self.old { screen = drop result self.old.screen } }
     {
-        self.screen.read_into(out)
+        self.take_from(Device::Console, out)
     }
 
     /// Moves out the first list bytes, as many as fit, and says how many.
@@ -205,7 +218,7 @@ impl Console {
         ensures bytes { out.new ≡ take result self.old.printer ++ drop result out.old }
         ensures after { self.new ≡ record self.old { printer = drop result self.old.printer } }
     {
-        self.printer.read_into(out)
+        self.take_from(Device::List, out)
     }
 }
 

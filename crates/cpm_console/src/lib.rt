@@ -3,9 +3,11 @@
 #![tactic(auto)]
 
 pub mod console;
+pub mod device;
 pub mod laws;
 pub mod line;
 
 pub use console::{Console, KEYS, RING, STEP_OUTPUT};
+pub use device::Device;
 pub use laws::erased_as_typed;
 pub use line::{Keystroke, Line, Progress};

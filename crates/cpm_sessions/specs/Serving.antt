@@ -1,7 +1,12 @@
 -- What a slot of a host replies to what is asked of it. A slot is a machine that may be open; it is served by its own state and the system drive alone. (own)
-use Rattle.std.specs.Prelude.{Option, Some, None}
+use Rattle.std.specs.Prelude.{ℕ, Option, Some, None}
 use Rattle.cpm_geom.specs.Disk.{Disk}
+use Rattle.cpm_console.specs.declared.device.Device.{Device}
+use Rattle.cpm_console.specs.declared.device.Device.TheVariants as device
+use Rattle.cpm_slots.specs.declared.reply.Why.{Why}
 use Rattle.cpm_slots.specs.MachineState.{MachineState}
+use Rattle.cpm_slots.specs.Serve.{executed, why}
+use Rattle.cpm_slots.specs.Until.{executed_until, why_until}
 use Rattle.cpm_slots.specs.Calls.{Call, Key, Grant, GrantUntil, Take, TakeList, LookAt, Peek, Answer, Accepted, KeysFull, Grants, Bytes, Looked, Peeked, serve}
 use Rattle.cpm_sessions.specs.declared.event.Request.{Request}
 use Rattle.cpm_sessions.specs.declared.event.Request.TheVariants as asks
@@ -13,6 +18,25 @@ use Rattle.cpm_sessions.specs.declared.event.Refusal.TheVariants as refusal
 pub data Ask : Type 0 where
   Calls : (call : Call) → Ask
   Closes : Ask
+
+-- the call that takes the bytes of a device (own)
+abbrev pub take_call : Device → ℕ → Call
+take_call device.Console room = Take room
+take_call device.List room = TakeList room
+
+-- the call that grants steps, where there is a stop up to that address (own)
+abbrev pub grant_call : Option ℕ → ℕ → Call
+grant_call None steps = Grant steps
+grant_call (Some pc) steps = GrantUntil steps pc
+
+-- the steps that such a grant executes, and why it ends (own)
+abbrev pub executed_to : Disk → Option ℕ → ℕ → MachineState → ℕ
+executed_to system None steps s = executed system steps s
+executed_to system (Some pc) steps s = executed_until system pc steps s
+
+abbrev pub why_to : Option ℕ → ℕ → ℕ → MachineState → Why
+why_to None steps k s = why steps k s
+why_to (Some pc) steps k s = why_until pc steps k s
 
 -- a request of a list, which takes up to 128 bytes (own)
 abbrev pub ask_of : Request → Ask

@@ -15,15 +15,15 @@ ghost use Rattle.cpm_slots.specs.Serve.{look_of};
 ghost use Rattle.cpm_slots.specs.Step.{step};
 ghost use Rattle.cpm_slots.specs.Calls.{Key, Grant, GrantUntil, Take, TakeList, LookAt, Peek};
 ghost use Rattle.cpm_sessions.specs.Host.{opened_slot};
-ghost use Rattle.cpm_sessions.specs.Serving.{Calls, Closes};
+ghost use Rattle.cpm_sessions.specs.Serving.{Calls, Closes, take_call, grant_call};
 
 use crate::event::{Refusal, SlotId};
 use crate::slots::{
-    Slot, close_at, grant_at, grant_until_at, index_of, key_at, look_at, numbers_fit, peek_at,
-    quotas_of, table_at, take_at, take_list_at,
+    Slot, close_at, grant_at, index_of, key_at, look_at, numbers_fit, peek_at, quotas_of, table_at,
+    take_at,
 };
 use cpm_bdos::Cpm;
-use cpm_console::Console;
+use cpm_console::{Console, Device};
 use cpm_decode::DecodeCache;
 use cpm_geom::Image;
 use cpm_memory::{FrameStore, TableId};
@@ -167,10 +167,11 @@ impl Host {
         }
     }
 
-    /// Executes the greatest number of steps of a slot, at most `steps`, that can be made.
-    pub fn grant(&mut self, id: SlotId, steps: u64) -> Result<Granted, Refusal>
-        ensures reply { grant_reply result ≡ reply_at self.old.host id.0 (Calls (Grant steps)) }
-        ensures host { self.new.host ≡ after_ask self.old.host id.0 (Calls (Grant steps)) }
+    /// Executes the greatest number of steps of a slot, at most `steps`, that can be made and of which none but the first begins
+    /// in the program at the stop, where there is one.
+    fn grant_to(&mut self, id: SlotId, steps: u64, stop: Option<u16>) -> Result<Granted, Refusal>
+        ensures reply { grant_reply result ≡ reply_at self.old.host id.0 (Calls (grant_call stop steps)) }
+        ensures host { self.new.host ≡ after_ask self.old.host id.0 (Calls (grant_call stop steps)) }
     {
         match index_of(&self.slots, id) {
             None => Err(Refusal::NoSuchSlot),
@@ -181,8 +182,17 @@ impl Host {
                 &self.system,
                 index,
                 steps,
+                stop,
             )),
         }
+    }
+
+    /// Executes the greatest number of steps of a slot, at most `steps`, that can be made.
+    pub fn grant(&mut self, id: SlotId, steps: u64) -> Result<Granted, Refusal>
+        ensures reply { grant_reply result ≡ reply_at self.old.host id.0 (Calls (Grant steps)) }
+        ensures host { self.new.host ≡ after_ask self.old.host id.0 (Calls (Grant steps)) }
+    {
+        self.grant_to(id, steps, None)
     }
 
     /// Executes the greatest number of steps of a slot, at most `steps`, that can be made and of which none but the first begins
@@ -191,16 +201,26 @@ impl Host {
         ensures reply { grant_reply result ≡ reply_at self.old.host id.0 (Calls (GrantUntil steps pc)) }
         ensures host { self.new.host ≡ after_ask self.old.host id.0 (Calls (GrantUntil steps pc)) }
     {
+        self.grant_to(id, steps, Some(pc))
+    }
+
+    /// Moves out the first bytes of a slot's device, as many as fit, and says how many.
+    pub fn take_from(
+        &mut self,
+        id: SlotId,
+        device: Device,
+        out: &mut [u8],
+    ) -> Result<usize, Refusal>
+        ensures reply { take_reply result out.new ≡ reply_at self.old.host id.0 (Calls (take_call device (length out.old))) }
+        ensures rest { IfOk result (λ count. drop count out.new ≡ drop count out.old) }
+        ensures count { IfOk result (λ count. count ≤ length out.old) }
+        ensures length { length out.new ≡ length out.old }
+        ensures refused { OnErr result (out.new ≡ out.old) }
+        ensures host { self.new.host ≡ after_ask self.old.host id.0 (Calls (take_call device (length out.old))) }
+    {
         match index_of(&self.slots, id) {
             None => Err(Refusal::NoSuchSlot),
-            Some(index) => Ok(grant_until_at(
-                &mut self.slots,
-                &mut self.store,
-                &self.system,
-                index,
-                steps,
-                pc,
-            )),
+            Some(index) => Ok(take_at(&mut self.slots, index, device, out)),
         }
     }
 
@@ -213,10 +233,7 @@ impl Host {
         ensures refused { OnErr result (out.new ≡ out.old) }
         ensures host { self.new.host ≡ after_ask self.old.host id.0 (Calls (Take (length out.old))) }
     {
-        match index_of(&self.slots, id) {
-            None => Err(Refusal::NoSuchSlot),
-            Some(index) => Ok(take_at(&mut self.slots, index, out)),
-        }
+        self.take_from(id, Device::Console, out)
     }
 
     /// Moves out the first list bytes of a slot, as many as fit, and says how many.
@@ -228,10 +245,7 @@ impl Host {
         ensures refused { OnErr result (out.new ≡ out.old) }
         ensures host { self.new.host ≡ after_ask self.old.host id.0 (Calls (TakeList (length out.old))) }
     {
-        match index_of(&self.slots, id) {
-            None => Err(Refusal::NoSuchSlot),
-            Some(index) => Ok(take_list_at(&mut self.slots, index, out)),
-        }
+        self.take_from(id, Device::List, out)
     }
 
     /// What is seen of a slot. Its memory is lent for reading alone.

@@ -9,6 +9,7 @@ ghost use Rattle.cpm_sessions.specs.Account.{account_by, slot_after, replies_of,
 use crate::event::{Event, Reply, Request, SlotId};
 use crate::host::Host;
 use arrayvec::ArrayVec;
+use cpm_console::Device;
 
 /// The bytes, in a vector that takes no memory.
 fn chunk(bytes: &[u8]) -> ArrayVec<u8, 128>
@@ -22,28 +23,15 @@ fn chunk(bytes: &[u8]) -> ArrayVec<u8, 128>
 
 impl Host {
     ghost use Rattle.cpm_sessions.specs.Host.{reply_at, after_ask, happening_of, host_after, told, own, replies_to, slot_at};
-    ghost use Rattle.cpm_slots.specs.Calls.{Take, TakeList};
-    ghost use Rattle.cpm_sessions.specs.Serving.{Calls};
+    ghost use Rattle.cpm_sessions.specs.Serving.{Calls, take_call};
 
-    /// Gives up to 128 console bytes.
-    fn take_chunk(&mut self, id: SlotId) -> Reply
-        ensures reply { result ≡ reply_at self.old.host id.0 (Calls (Take 128)) }
-        ensures host { self.new.host ≡ after_ask self.old.host id.0 (Calls (Take 128)) }
+    /// Gives up to 128 bytes of a device.
+    fn take_chunk(&mut self, id: SlotId, device: Device) -> Reply
+        ensures reply { result ≡ reply_at self.old.host id.0 (Calls (take_call device 128)) }
+        ensures host { self.new.host ≡ after_ask self.old.host id.0 (Calls (take_call device 128)) }
     {
         let mut bytes = [0; 128];
-        match self.take(id, &mut bytes) {
-            Ok(count) => Reply::Bytes(chunk(&bytes[..count])),
-            Err(refusal) => Reply::Refused(refusal),
-        }
-    }
-
-    /// Gives up to 128 list bytes.
-    fn take_list_chunk(&mut self, id: SlotId) -> Reply
-        ensures reply { result ≡ reply_at self.old.host id.0 (Calls (TakeList 128)) }
-        ensures host { self.new.host ≡ after_ask self.old.host id.0 (Calls (TakeList 128)) }
-    {
-        let mut bytes = [0; 128];
-        match self.take_list(id, &mut bytes) {
+        match self.take_from(id, device, &mut bytes) {
             Ok(count) => Reply::Bytes(chunk(&bytes[..count])),
             Err(refusal) => Reply::Refused(refusal),
         }
@@ -68,8 +56,8 @@ impl Host {
                 Ok(granted) => Reply::Granted(granted),
                 Err(refusal) => Reply::Refused(refusal),
             },
-            Request::Take => self.take_chunk(id),
-            Request::TakeList => self.take_list_chunk(id),
+            Request::Take => self.take_chunk(id, Device::Console),
+            Request::TakeList => self.take_chunk(id, Device::List),
             Request::Look => match self.look(id) {
                 Ok(look) => Reply::Looked(look),
                 Err(refusal) => Reply::Refused(refusal),

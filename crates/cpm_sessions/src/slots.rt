@@ -10,17 +10,17 @@ ghost use Rattle.cpm_memory.specs.Contents.{Contents, byte_at};
 ghost use Rattle.cpm_memory.specs.Frames.{memories, stamps_at, IsTaken, KeepsStamps, IsSound as IsSoundStore};
 ghost use Rattle.cpm_decode.specs.Cache.{IsRightFor};
 ghost use Rattle.cpm_slots.specs.Step.{after};
-ghost use Rattle.cpm_slots.specs.Serve.{executed, why, look_of};
-ghost use Rattle.cpm_slots.specs.Until.{executed_until, why_until};
-ghost use Rattle.cpm_slots.specs.Calls.{Key, Grant, GrantUntil, Take, TakeList};
+ghost use Rattle.cpm_slots.specs.Serve.{look_of};
+ghost use Rattle.cpm_slots.specs.Calls.{Key};
 ghost use Rattle.cpm_slots.specs.Runner.{state_of, IsSound};
 ghost use Rattle.cpm_sessions.specs.Host.{key_reply};
 ghost use Rattle.cpm_sessions.specs.Index.{IsIndex, Serves, IsServed};
+ghost use Rattle.cpm_sessions.specs.Serving.{take_call, grant_call, executed_to, why_to};
 ghost use Rattle.cpm_sessions.specs.Slots.{contents_at, slots_of, HaveTables, AllCached, ChangesAt};
 
 use crate::event::{Refusal, Reply, SlotId};
 use cpm_bdos::Mode;
-use cpm_console::Console;
+use cpm_console::{Console, Device};
 use cpm_geom::Image;
 use cpm_memory::{FrameStore, Memory, TableId};
 use cpm_mirror::{Mirror, MirroredView};
@@ -94,9 +94,9 @@ fn press(runner: &mut Runner, key: u8) -> Result<(), Refusal>
     give(&mut runner.cpm.console, key)
 }
 
-/// Moves out the first console bytes of a session.
-fn take_from(runner: &mut Runner, out: &mut [u8]) -> usize
-    ensures serves { (system : Disk) (memory : Contents) → Serves system (Take (length out.old)) (Reply.Bytes (record { items = take result out.new })) (state_of runner.old memory) (state_of runner.new memory) }
+/// Moves out the first bytes of a session's device.
+fn take_from(runner: &mut Runner, device: Device, out: &mut [u8]) -> usize
+    ensures serves { (system : Disk) (memory : Contents) → Serves system (take_call device (length out.old)) (Reply.Bytes (record { items = take result out.new })) (state_of runner.old memory) (state_of runner.new memory) }
     ensures rest { drop result out.new ≡ drop result out.old }
     ensures count { result ≤ length out.old }
     ensures length { length out.new ≡ length out.old }
@@ -104,20 +104,7 @@ fn take_from(runner: &mut Runner, out: &mut [u8]) -> usize
     ensures quota { runner.new.quota ≡ runner.old.quota }
     ensures cache { runner.new.cache ≡ runner.old.cache }
 {
-    runner.cpm.console.take(out)
-}
-
-/// Moves out the first list bytes of a session.
-fn take_list_from(runner: &mut Runner, out: &mut [u8]) -> usize
-    ensures serves { (system : Disk) (memory : Contents) → Serves system (TakeList (length out.old)) (Reply.Bytes (record { items = take result out.new })) (state_of runner.old memory) (state_of runner.new memory) }
-    ensures rest { drop result out.new ≡ drop result out.old }
-    ensures count { result ≤ length out.old }
-    ensures length { length out.new ≡ length out.old }
-    ensures sound { (memory : Contents) → IsSound (state_of runner.old memory) → IsSound (state_of runner.new memory) }
-    ensures quota { runner.new.quota ≡ runner.old.quota }
-    ensures cache { runner.new.cache ≡ runner.old.cache }
-{
-    runner.cpm.console.take_list(out)
+    runner.cpm.console.take_from(device, out)
 }
 
 /// Presses a key in the session at a place.
@@ -131,10 +118,10 @@ pub fn key_at(slots: &mut Vec<Slot>, index: usize, key: u8) -> Result<(), Refusa
     press(&mut slot.runner, key)
 }
 
-/// Moves out the first console bytes of the session at a place, as many as fit, and says how many.
-pub fn take_at(slots: &mut Vec<Slot>, index: usize, out: &mut [u8]) -> usize
+/// Moves out the first bytes of a device of the session at a place, as many as fit, and says how many.
+pub fn take_at(slots: &mut Vec<Slot>, index: usize, device: Device, out: &mut [u8]) -> usize
     requires { index < length slots.old.items }
-    ensures served { (system : Disk) (memories : List (Option Contents)) → IsServed system (Take (length out.old)) index (Reply.Bytes (record { items = take result out.new })) (slots_of memories slots.old.items) (slots_of memories slots.new.items) }
+    ensures served { (system : Disk) (memories : List (Option Contents)) → IsServed system (take_call device (length out.old)) index (Reply.Bytes (record { items = take result out.new })) (slots_of memories slots.old.items) (slots_of memories slots.new.items) }
     ensures rest { drop result out.new ≡ drop result out.old }
     ensures count { result ≤ length out.old }
     ensures length { length out.new ≡ length out.old }
@@ -142,25 +129,35 @@ pub fn take_at(slots: &mut Vec<Slot>, index: usize, out: &mut [u8]) -> usize
     ensures cached { (memories : List (Option Contents)) (stamps : List (List ℕ)) → AllCached memories stamps slots.old.items → AllCached memories stamps slots.new.items }
 {
     let slot = &mut slots[index];
-    take_from(&mut slot.runner, out)
+    take_from(&mut slot.runner, device, out)
 }
 
-/// Moves out the first list bytes of the session at a place, as many as fit, and says how many.
-pub fn take_list_at(slots: &mut Vec<Slot>, index: usize, out: &mut [u8]) -> usize
-    requires { index < length slots.old.items }
-    ensures served { (system : Disk) (memories : List (Option Contents)) → IsServed system (TakeList (length out.old)) index (Reply.Bytes (record { items = take result out.new })) (slots_of memories slots.old.items) (slots_of memories slots.new.items) }
-    ensures rest { drop result out.new ≡ drop result out.old }
-    ensures count { result ≤ length out.old }
-    ensures length { length out.new ≡ length out.old }
-    ensures have_tables { (memories : List (Option Contents)) → HaveTables memories slots.old.items → HaveTables memories slots.new.items }
-    ensures cached { (memories : List (Option Contents)) (stamps : List (List ℕ)) → AllCached memories stamps slots.old.items → AllCached memories stamps slots.new.items }
+/// Executes the greatest number of steps, at most `steps`, that can be made and of which none but the first begins in the program
+/// at the stop, where there is one.
+fn grant_to<M: Memory>(
+    system: &Image,
+    runner: &mut Runner,
+    memory: &mut M,
+    steps: u64,
+    stop: Option<u16>,
+) -> Granted
+    requires sound { IsSound (state_of runner.old (M.contents memory.old)) }
+    requires right { IsRightFor (M.contents memory.old) (M.stamps memory.old) runner.old.cache }
+    ensures executed { result.executed ≡ executed_to system.now stop steps (state_of runner.old (M.contents memory.old)) }
+    ensures why { result.why ≡ why_to stop steps result.executed (state_of runner.new (M.contents memory.new)) }
+    ensures state { state_of runner.new (M.contents memory.new) ≡ after system.now result.executed (state_of runner.old (M.contents memory.old)) }
+    ensures sound { IsSound (state_of runner.new (M.contents memory.new)) }
+    ensures right { IsRightFor (M.contents memory.new) (M.stamps memory.new) runner.new.cache }
+    ensures leads { M.Leads memory.old memory.new }
 {
-    let slot = &mut slots[index];
-    take_list_from(&mut slot.runner, out)
+    match stop {
+        None => steps::grant(system, runner, memory, steps),
+        Some(pc) => until::grant_until(system, runner, memory, steps, pc),
+    }
 }
 
-/// Executes the greatest number of steps, at most `steps`, that can be made in a session whose memory is a table of the store. Where it
-/// begins in a program, and there are steps enough, the memory is mirrored for them.
+/// The same in a session whose memory is a table of the store. Where it begins in a program, and there are steps enough and no
+/// stop, the memory is mirrored for them.
 fn grant_table(
     runner: &mut Runner,
     store: &mut FrameStore,
@@ -168,12 +165,13 @@ fn grant_table(
     table: TableId,
     system: &Image,
     steps: u64,
+    stop: Option<u16>,
 ) -> Granted
     requires taken { IsTaken store.old table }
     requires sound { IsSound (state_of runner.old (contents_at (memories store.old) table)) }
     requires right { IsRightFor (contents_at (memories store.old) table) (stamps_at store.old table) runner.old.cache }
-    ensures executed { result.executed ≡ executed system.now steps (state_of runner.old (contents_at (memories store.old) table)) }
-    ensures why { result.why ≡ why steps result.executed (state_of runner.new (contents_at (memories store.new) table)) }
+    ensures executed { result.executed ≡ executed_to system.now stop steps (state_of runner.old (contents_at (memories store.old) table)) }
+    ensures why { result.why ≡ why_to stop steps result.executed (state_of runner.new (contents_at (memories store.new) table)) }
     ensures state { state_of runner.new (contents_at (memories store.new) table) ≡ after system.now result.executed (state_of runner.old (contents_at (memories store.old) table)) }
     ensures others { ChangesAt table (memories store.old) (memories store.new) }
     ensures stamps { KeepsStamps store.old store.new table }
@@ -182,15 +180,15 @@ fn grant_table(
     ensures frames { store.new.private ≡ store.old.private }
     ensures store { IsSoundStore store.new }
 {
-    if steps < LEAST_MIRRORED || runner.cpm.mode != Mode::Program {
+    if stop.is_some() || steps < LEAST_MIRRORED || runner.cpm.mode != Mode::Program {
         let mut view = store.view(table);
-        return steps::grant(system, runner, &mut view, steps);
+        return grant_to(system, runner, &mut view, steps, stop);
     }
     let mut mirrored = MirroredView::new(store, table, mirror);
     steps::grant(system, runner, &mut mirrored, steps)
 }
 
-/// Executes the greatest number of steps, at most `steps`, that can be made in the session at a place.
+/// The same in the session at a place.
 pub fn grant_at(
     slots: &mut Vec<Slot>,
     store: &mut FrameStore,
@@ -198,68 +196,20 @@ pub fn grant_at(
     system: &Image,
     index: usize,
     steps: u64,
+    stop: Option<u16>,
 ) -> Granted
     requires index { index < length slots.old.items }
     requires have_tables { HaveTables (memories store.old) slots.old.items }
     requires cached { AllCached (memories store.old) store.old.stamps slots.old.items }
-    ensures served { IsServed system.now (Grant steps) index (Reply.Granted result) (slots_of (memories store.old) slots.old.items) (slots_of (memories store.new) slots.new.items) }
+    ensures served { IsServed system.now (grant_call stop steps) index (Reply.Granted result) (slots_of (memories store.old) slots.old.items) (slots_of (memories store.new) slots.new.items) }
     ensures have_tables { HaveTables (memories store.new) slots.new.items }
     ensures cached { AllCached (memories store.new) store.new.stamps slots.new.items }
     ensures frames { store.new.private ≡ store.old.private }
     ensures store { IsSoundStore store.new }
 {
     let slot = &mut slots[index];
-    grant_table(&mut slot.runner, store, mirror, slot.table, system, steps)
-}
-
-/// Executes the greatest number of steps, at most `steps`, that can be made and of which none but the first begins in the
-/// program at `pc`, in a session whose memory is a table of the store.
-fn grant_table_until(
-    runner: &mut Runner,
-    store: &mut FrameStore,
-    table: TableId,
-    system: &Image,
-    steps: u64,
-    pc: u16,
-) -> Granted
-    requires taken { IsTaken store.old table }
-    requires sound { IsSound (state_of runner.old (contents_at (memories store.old) table)) }
-    requires right { IsRightFor (contents_at (memories store.old) table) (stamps_at store.old table) runner.old.cache }
-    ensures executed { result.executed ≡ executed_until system.now pc steps (state_of runner.old (contents_at (memories store.old) table)) }
-    ensures why { result.why ≡ why_until pc steps result.executed (state_of runner.new (contents_at (memories store.new) table)) }
-    ensures state { state_of runner.new (contents_at (memories store.new) table) ≡ after system.now result.executed (state_of runner.old (contents_at (memories store.old) table)) }
-    ensures others { ChangesAt table (memories store.old) (memories store.new) }
-    ensures stamps { KeepsStamps store.old store.new table }
-    ensures sound { IsSound (state_of runner.new (contents_at (memories store.new) table)) }
-    ensures right { IsRightFor (contents_at (memories store.new) table) (stamps_at store.new table) runner.new.cache }
-    ensures frames { store.new.private ≡ store.old.private }
-    ensures store { IsSoundStore store.new }
-{
-    let mut view = store.view(table);
-    until::grant_until(system, runner, &mut view, steps, pc)
-}
-
-/// Executes the greatest number of steps, at most `steps`, that can be made and of which none but the first begins in the
-/// program at `pc`, in the session at a place.
-pub fn grant_until_at(
-    slots: &mut Vec<Slot>,
-    store: &mut FrameStore,
-    system: &Image,
-    index: usize,
-    steps: u64,
-    pc: u16,
-) -> Granted
-    requires index { index < length slots.old.items }
-    requires have_tables { HaveTables (memories store.old) slots.old.items }
-    requires cached { AllCached (memories store.old) store.old.stamps slots.old.items }
-    ensures served { IsServed system.now (GrantUntil steps pc) index (Reply.Granted result) (slots_of (memories store.old) slots.old.items) (slots_of (memories store.new) slots.new.items) }
-    ensures have_tables { HaveTables (memories store.new) slots.new.items }
-    ensures cached { AllCached (memories store.new) store.new.stamps slots.new.items }
-    ensures frames { store.new.private ≡ store.old.private }
-    ensures store { IsSoundStore store.new }
-{
-    let slot = &mut slots[index];
-    grant_table_until(&mut slot.runner, store, slot.table, system, steps, pc)
+    let table = slot.table;
+    grant_table(&mut slot.runner, store, mirror, table, system, steps, stop)
 }
 
 /// What is seen of the session at a place. The store is lent for reading alone.

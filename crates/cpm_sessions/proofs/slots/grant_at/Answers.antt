@@ -4,8 +4,8 @@ use Rattle.std.proofs.lemmas.Option.{slice_get_read}
 use Rattle.cpm_memory.specs.Frames.{memories}
 use Rattle.cpm_slots.specs.MachineState.{MachineState}
 use Rattle.cpm_slots.specs.Runner.{state_of}
-use Rattle.cpm_slots.specs.Calls.{Grant}
 use Rattle.cpm_sessions.specs.declared.event.Reply.TheVariants as reply
+use Rattle.cpm_sessions.specs.Serving.{grant_call}
 use Rattle.cpm_sessions.specs.Slots.{contents_at}
 use Rattle.cpm_sessions.proofs.OrderLaws.{quota-after}
 use Rattle.cpm_sessions.proofs.ServeLaws.{grants}
@@ -41,8 +41,8 @@ returns-clause-served c =
     let old = memories c.args.store.now in
     let new = memories c.grant_table.new.store in
     let at : slice_get slots c.args.index ≡ Some slot = slice_get_read slots _ c.args.index slot refl c.requires.index c.index_mut-slot.ensures.value in
-    served-on c.args.system.now (Grant c.args.steps) (reply.Granted c.grant_table.result) old new slots c.args.index slot c.grant_table.new.runner c.requires.have_tables at c.grant_table.ensures.others
-    (grants c.args.system.now c.args.steps c.grant_table.result (state_of slot.runner (contents_at old slot.table)) (state_of c.grant_table.new.runner (contents_at new slot.table)) c.grant_table.ensures.executed c.grant_table.ensures.state c.grant_table.ensures.why)
+    served-on c.args.system.now (grant_call c.args.stop c.args.steps) (reply.Granted c.grant_table.result) old new slots c.args.index slot c.grant_table.new.runner c.requires.have_tables at c.grant_table.ensures.others
+    (grants c.args.system.now c.args.stop c.args.steps c.grant_table.result (state_of slot.runner (contents_at old slot.table)) (state_of c.grant_table.new.runner (contents_at new slot.table)) c.grant_table.ensures.executed c.grant_table.ensures.state c.grant_table.ensures.why)
 
 pub returns-clause-have_tables : goal.returns-clause-have_tables
 returns-clause-have_tables c =

@@ -1,8 +1,8 @@
 use Rattle.std.proofs.Common.{◌≡◌, Some, refl, length, take}
 use Rattle.std.specs.Prelude.{slice_get}
 use Rattle.std.proofs.lemmas.Option.{slice_get_read}
-use Rattle.cpm_slots.specs.Calls.{Take}
 use Rattle.cpm_sessions.specs.declared.event.Reply.TheVariants as reply
+use Rattle.cpm_sessions.specs.Serving.{take_call}
 use Rattle.cpm_sessions.specs.Slots.{contents_at}
 use Rattle.cpm_sessions.proofs.TableLaws.{IsSlot-at, served-alone, HaveTables-alone}
 use Rattle.cpm_sessions.proofs.CachedSlots.{AllCached-alone}
@@ -13,7 +13,7 @@ returns-clause-served c = λ system m.
     let slots = c.args.slots.now.items in
     let slot = c.index_mut-slot.result.now in
     let at : slice_get slots c.args.index ≡ Some slot = slice_get_read slots _ c.args.index slot refl c.requires c.index_mut-slot.ensures.value in
-    served-alone system (Take (length c.args.out.now)) (reply.Bytes (record { items = take c.take_from.result c.take_from.new.out })) m slots c.args.index slot c.take_from.new.runner at (c.take_from.ensures.serves system (contents_at m slot.table))
+    served-alone system (take_call c.args.device (length c.args.out.now)) (reply.Bytes (record { items = take c.take_from.result c.take_from.new.out })) m slots c.args.index slot c.take_from.new.runner at (c.take_from.ensures.serves system (contents_at m slot.table))
 
 pub returns-clause-have_tables : goal.returns-clause-have_tables
 returns-clause-have_tables c = λ m k.
