@@ -8,10 +8,13 @@ use Rattle.std.proofs.lemmas.List.{take_more, length_push}
 use Rattle.std.proofs.lemmas.Option.{get_or_from_slice_get, slice_get_within}
 use Rattle.std.proofs.lemmas.Option.{none-some, same_Some}
 use Rattle.cpm_geom.specs.Disk.{Disk}
-use Rattle.cpm_console.specs.Terminal.{Terminal, has_room}
+use Rattle.cpm_console.specs.declared.device.Device.{Device}
+use Rattle.cpm_console.specs.declared.device.Device.TheVariants as device
+use Rattle.cpm_console.specs.Terminal.{Terminal, has_room, waiting_on}
 use Rattle.cpm_script.specs.declared.script.Key.{Key}
 use Rattle.cpm_slots.specs.Alone.{due, alone}
 use Rattle.cpm_slots.specs.Calls.{state_behind}
+use Rattle.cpm_slots.specs.declared.reply.End.{End}
 use Rattle.cpm_slots.specs.declared.reply.KeysFull.{KeysFull}
 use Rattle.cpm_slots.specs.MachineState.{MachineState}
 use Rattle.cpm_slots.specs.Serve.{executed, keyed, taken, taken_list, takes_key}
@@ -20,9 +23,11 @@ use Rattle.cpm_slots.proofs.AloneLaws.{after-behind, taken-behind, taken_list-be
 use Rattle.cpm_slots.proofs.GrantLaws.{longest-is}
 use Rattle.cpm_slots.proofs.KeyLaws.{keys_leave-step}
 use Rattle.cpm_slots.proofs.PressLaws.{alone-add, alone-pressed, with_keys-nil, AllCame-later, AllCame-pressed}
+use Rattle.cpm_sessions.proofs.ServeLaws.{taken_from}
 use Rattle.cpm_turns.specs.declared.pace.Pace.{Pace}
 use Rattle.cpm_turns.specs.Pacing.{due_at, first_pace, left_in, turn_of, up_to, IsOfAll, IsOn, IsPressed, IsShown, without_list, without_text}
 use Rattle.cpm_turns.specs.Playing.{presses_of, EndsAs, HasText, IsFresh, IsInOrder, IsPlayed, IsQuiet}
+use Rattle.cpm_turns.specs.ScriptedSlots.{console_with, list_with}
 use Rattle.cpm_turns.proofs.TextLemmas.{appends_more, appends_none, keeps_all, both_empty}
 use Rattle.cpm_turns.proofs.AloneLemmas.{step-stays, alone-ended, alone-taken, keyless, keyless-ended, none-due, presses-append, presses-more, text-alone}
 use Rattle.cpm_turns.proofs.OrderLemmas.{order-first, order-later}
@@ -127,28 +132,29 @@ on-turn system keys steps k m start pace console list now turn on =
     turn-left None h = omega arith
     turn-left (Some key) h = omega arith
 
--- bytes that are taken
-pub on-take : (system : Disk) (keys : List Key) (steps room : ℕ) (start : MachineState) (pace : Pace) (console list : List ℕ) (now : MachineState) → IsOn system keys steps start pace console list now →
-    IsOn system keys steps start pace (console ++ take (min room (length now.cpm.console.screen)) now.cpm.console.screen) list (taken room now)
-on-take system keys steps room start pace console list now on = record {
-  state = taken-behind console list room now ∙ on.state;
+-- another state, with which other bytes were taken
+on-behind : (system : Disk) (keys : List Key) (steps : ℕ) (start : MachineState) (pace : Pace) (console list console' list' : List ℕ) (now next : MachineState) → state_behind console' list' next ≡ state_behind console list now →
+    IsOn system keys steps start pace console list now → IsOn system keys steps start pace console' list' next
+on-behind system keys steps start pace console list console' list' now next same on = record {
+  state = same ∙ on.state;
   came = on.came;
   later = on.later;
   within = on.within;
-  pending = on.pending;
-  all = record { within = on.all.within; most = on.all.most; all = on.all.all };
+  pending = subst (λ (ks : List ℕ). length ks ≤ pace.pressed) (sym (ap (λ (s : MachineState). s.cpm.console.keys) same)) on.pending;
+  all = record {
+    within = on.all.within;
+    most = on.all.most;
+    all = subst (λ (e : End). (pace.until ≡ steps) ⊎ (is_running e ≡ false)) (sym (ap (λ (s : MachineState). s.ended) same)) on.all.all;
+  };
 }
 
-pub on-take_list : (system : Disk) (keys : List Key) (steps room : ℕ) (start : MachineState) (pace : Pace) (console list : List ℕ) (now : MachineState) → IsOn system keys steps start pace console list now →
-    IsOn system keys steps start pace console (list ++ take (min room (length now.cpm.console.printer)) now.cpm.console.printer) (taken_list room now)
-on-take_list system keys steps room start pace console list now on = record {
-  state = taken_list-behind console list room now ∙ on.state;
-  came = on.came;
-  later = on.later;
-  within = on.within;
-  pending = on.pending;
-  all = record { within = on.all.within; most = on.all.most; all = on.all.all };
-}
+-- bytes of a device that are taken
+pub on-take : (system : Disk) (keys : List Key) (steps room : ℕ) (start : MachineState) (pace : Pace) (console list : List ℕ) (now : MachineState) (on_device : Device) → IsOn system keys steps start pace console list now →
+    let waits = waiting_on on_device now.cpm.console in
+    let bytes = take (min room (length waits)) waits in
+    IsOn system keys steps start pace (console_with on_device bytes console) (list_with on_device bytes list) (taken_from on_device room now)
+on-take system keys steps room start pace console list now device.Console on = on-behind system keys steps start pace console list _ _ now (taken room now) (taken-behind console list room now) on
+on-take system keys steps room start pace console list now device.List on = on-behind system keys steps start pace console list _ _ now (taken_list room now) (taken_list-behind console list room now) on
 
 -- ---- the end
 
@@ -291,15 +297,10 @@ on-advance system keys steps k quantum start old new console list now quiet none
 -- all bytes that wait are taken
 on-taken : (system : Disk) (keys : List Key) (steps : ℕ) (start : MachineState) (pace : Pace) (console list : List ℕ) (now : MachineState) → IsOn system keys steps start pace console list now →
     IsOn system keys steps start pace (console ++ now.cpm.console.screen) (list ++ now.cpm.console.printer) (without_list (without_text now))
-on-taken system keys steps start pace console list now on = record {
-  state = ap₂ (λ (xs ys : List ℕ). record now { cpm = record now.cpm { console = record now.cpm.console { screen = xs; printer = ys } } })
-      (append-nil (console ++ now.cpm.console.screen)) (append-nil (list ++ now.cpm.console.printer)) ∙ on.state;
-  came = on.came;
-  later = on.later;
-  within = on.within;
-  pending = on.pending;
-  all = record { within = on.all.within; most = on.all.most; all = on.all.all };
-}
+on-taken system keys steps start pace console list now on =
+    on-behind system keys steps start pace console list _ _ now (without_list (without_text now))
+    (ap₂ (λ (xs ys : List ℕ). record now { cpm = record now.cpm { console = record now.cpm.console { screen = xs; printer = ys } } })
+    (append-nil (console ++ now.cpm.console.screen)) (append-nil (list ++ now.cpm.console.printer))) on
 
 pub shown-start : (system : Disk) (keys : List Key) (steps : ℕ) (start : MachineState) (o : Option (List ℕ)) → IsFresh start → IsInOrder 0 keys → IsShown system keys steps start (first_pace steps) start o o
 shown-start system keys steps start o fresh order = record {

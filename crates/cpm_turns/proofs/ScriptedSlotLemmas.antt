@@ -1,6 +1,11 @@
 -- What the parts of a turn leave of a scripted slot and its slot.
 use Rattle.std.proofs.Common.{◌≡◌, ℕ, zero, suc, ◌+◌, ◌-◌, ◌<◌, ◌≤◌, min, Bool, true, false, Option, Some, None, Ok, Err, List, [], ◌∷◌, ◌++◌, length, take, drop, refl, sym, ap, ◌∙◌, subst, arith, append-nil, slice_get, length-drop}
+use Rattle.std.specs.Prelude.{option_map}
+use Rattle.std.proofs.Math.Seq.{drop-nil, take-nil}
 use Rattle.std.proofs.lemmas.List.{length-take-le}
+use Rattle.cpm_console.specs.declared.device.Device.{Device}
+use Rattle.cpm_console.specs.declared.device.Device.TheVariants as device
+use Rattle.cpm_console.specs.Terminal.{waiting_on}
 use Rattle.cpm_geom.specs.Disk.{Disk}
 use Rattle.cpm_script.specs.declared.script.Key.{Key}
 use Rattle.cpm_sessions.specs.declared.event.Reply.{Reply}
@@ -8,18 +13,20 @@ use Rattle.cpm_sessions.specs.declared.event.Reply.TheVariants as reply
 use Rattle.cpm_sessions.specs.declared.event.Refusal.{Refusal}
 use Rattle.cpm_sessions.specs.declared.event.SlotId.{SlotId}
 use Rattle.cpm_sessions.specs.Host.{Host, slot_at, after_ask, reply_at, grant_reply, take_reply}
-use Rattle.cpm_sessions.specs.Serving.{Calls, serve_slot}
+use Rattle.cpm_sessions.specs.Serving.{Calls, reply_of, serve_slot, take_call}
 use Rattle.cpm_slots.specs.declared.reply.Granted.{Granted}
-use Rattle.cpm_slots.specs.Calls.{Call, Key as Pressed, Grant, Take, TakeList, serve, served_key}
+use Rattle.cpm_slots.specs.Calls.{Call, Key as Pressed, Grant, Served, serve, served_key}
 use Rattle.cpm_slots.specs.MachineState.{MachineState}
-use Rattle.cpm_slots.specs.Serve.{executed, keyed, taken, taken_list, takes_key}
+use Rattle.cpm_slots.specs.Serve.{executed, keyed, takes_key}
 use Rattle.cpm_slots.specs.Step.{after, can_step}
 use Rattle.cpm_slots.proofs.GrantLaws.{longest-is}
+use Rattle.cpm_sessions.proofs.ServeLaws.{serve-take, taken_from}
+use Rattle.cpm_sessions.proofs.SlotLaws.{slot_at-same}
 use Rattle.cpm_turns.specs.declared.scripted_slot.ScriptedSlot.{ScriptedSlot}
 use Rattle.cpm_turns.specs.Pacing.{due_at, turn_of, IsOn}
-use Rattle.cpm_turns.specs.ScriptedSlots.{console_in, keys_of, list_in, AreTaken, IsPlaying, IsRead, IsResting}
-use Rattle.cpm_turns.proofs.HostLemmas.{reply-served, slot-served}
-use Rattle.cpm_turns.proofs.PaceLemmas.{due-key, on-advance, on-key, on-take, on-take_list, takes-due, IsAdvanced, IsDue}
+use Rattle.cpm_turns.specs.ScriptedSlots.{console_with, keys_of, list_with, waits_in, AreTaken, HasAdded, IsPlaying, IsResting, Moves}
+use Rattle.cpm_turns.proofs.HostLemmas.{moves-ask, reply-served, slot-served}
+use Rattle.cpm_turns.proofs.PaceLemmas.{due-key, on-advance, on-key, on-take, takes-due, IsAdvanced, IsDue}
 
 -- a scripted slot whose slot is in a new state
 abbrev pub playing-at : (steps : ℕ) (start s next : MachineState) (p q : ScriptedSlot) (old new : Host) (call : Call) → new ≡ after_ask old p.id.0 (Calls call) → (serve old.system call s).state ≡ next →
@@ -112,134 +119,113 @@ took-count n room out waiting fits bytes = record {
   count = sym (length-take-le n out fits) ∙ ap length bytes ∙ length-take-le (min room (length waiting)) waiting (omega arith);
 }
 
-pub bytes-taken : (h : Host) (id n room : ℕ) (out : List ℕ) (s : MachineState) → take_reply (Ok n) out ≡ reply_at h id (Calls (Take room)) → n ≤ length out → slot_at id h.slots ≡ Some s → AreTaken n room out s.cpm.console.screen
-unfolding serve
-bytes-taken h id n room out s replied fits at =
-    took-count n room out s.cpm.console.screen fits (ap bytes_in (replied ∙ reply-served h id (Take room) s at))
-
-pub list-taken : (h : Host) (id n room : ℕ) (out : List ℕ) (s : MachineState) → take_reply (Ok n) out ≡ reply_at h id (Calls (TakeList room)) → n ≤ length out → slot_at id h.slots ≡ Some s → AreTaken n room out s.cpm.console.printer
-unfolding serve
-list-taken h id n room out s replied fits at =
-    took-count n room out s.cpm.console.printer fits (ap bytes_in (replied ∙ reply-served h id (TakeList room) s at))
-
 -- a slot that is open gives its bytes
-pub never-refused : (h : Host) (id room : ℕ) (out : List ℕ) (fault : Refusal) (s : MachineState) → take_reply (Err fault) out ≡ reply_at h id (Calls (Take room)) → slot_at id h.slots ≡ Some s → ⊥
-unfolding serve
-never-refused h id room out fault s replied at = let bad : false ≡ true = ap is_bytes (replied ∙ reply-served h id (Take room) s at) in cc
-
-pub never-refused_list : (h : Host) (id room : ℕ) (out : List ℕ) (fault : Refusal) (s : MachineState) → take_reply (Err fault) out ≡ reply_at h id (Calls (TakeList room)) → slot_at id h.slots ≡ Some s → ⊥
-unfolding serve
-never-refused_list h id room out fault s replied at = let bad : false ≡ true = ap is_bytes (replied ∙ reply-served h id (TakeList room) s at) in cc
+take-served : (h : Host) (id room : ℕ) (on : Device) (s : MachineState) → slot_at id h.slots ≡ Some s →
+    let waits = waiting_on on s.cpm.console in
+    reply_at h id (Calls (take_call on room)) ≡ reply.Bytes (record { items = take (min room (length waits)) waits })
+take-served h id room on s at = reply-served h id (take_call on room) s at ∙ ap (λ (x : Served). reply_of x.answer) (serve-take h.system on room s)
 
 -- and one that is not gives none
 bytes-none : (h : Host) (id : ℕ) (call : Call) → slot_at id h.slots ≡ None → is_bytes (reply_at h id (Calls call)) ≡ false
 unfolding serve_slot
 bytes-none h id call at = ap (λ o. is_bytes (serve_slot h.system (Calls call) o).reply) at
 
-fewer : (n room : ℕ) (out waiting : List ℕ) → AreTaken n room out waiting → (n ≡ 0 → ⊥) → length (drop (min room (length waiting)) waiting) < length waiting
-fewer n room out waiting took some =
+pub bytes-taken : (h : Host) (id room n : ℕ) (on : Device) (out : List ℕ) → take_reply (Ok n) out ≡ reply_at h id (Calls (take_call on room)) → n ≤ length out → AreTaken n room out (waits_in on (slot_at id h.slots))
+bytes-taken h id room n on out replied fits = go (slot_at id h.slots) refl
+  where
+    go : (o : Option MachineState) → slot_at id h.slots ≡ o → AreTaken n room out (waits_in on o)
+    go None at = let bad : true ≡ false = ap is_bytes replied ∙ bytes-none h id (take_call on room) at in absurd (let no : ⊥ = cc in no)
+    go (Some s) at = took-count n room out (waiting_on on s.cpm.console) fits (ap bytes_in (replied ∙ take-served h id room on s at))
+
+pub bytes-refused : (h : Host) (id room : ℕ) (on : Device) (out : List ℕ) (fault : Refusal) → take_reply (Err fault) out ≡ reply_at h id (Calls (take_call on room)) → AreTaken 0 room out (waits_in on (slot_at id h.slots))
+bytes-refused h id room on out fault replied = go (slot_at id h.slots) refl
+  where
+    go : (o : Option MachineState) → slot_at id h.slots ≡ o → AreTaken 0 room out (waits_in on o)
+    go None at = took-count 0 room out [] (omega arith) (sym (take-nil (min room 0)))
+    go (Some s) at = let bad : false ≡ true = ap is_bytes (replied ∙ take-served h id room on s at) in absurd (let no : ⊥ = cc in no)
+
+-- what a take leaves of a slot, and what waits in it then
+serve-taken : (system : Disk) (on : Device) (room : ℕ) (o : Option MachineState) → (serve_slot system (Calls (take_call on room)) o).slot ≡ option_map (taken_from on room) o
+unfolding serve_slot
+serve-taken system on room None = refl
+serve-taken system on room (Some s) = ap (λ (x : Served). Some x.state) (serve-take system on room s)
+
+slot-taken : (h new : Host) (id room : ℕ) (on : Device) → new ≡ after_ask h id (Calls (take_call on room)) → slot_at id new.slots ≡ option_map (taken_from on room) (slot_at id h.slots)
+slot-taken h new id room on is =
+    ap (λ (g : Host). slot_at id g.slots) is ∙ slot_at-same id (Calls (take_call on room)) h.system h.slots (slot_at id h.slots) refl ∙ serve-taken h.system on room (slot_at id h.slots)
+
+waits-left : (on : Device) (room : ℕ) (o : Option MachineState) → waits_in on (option_map (taken_from on room) o) ≡ drop (min room (length (waits_in on o))) (waits_in on o)
+waits-left on room None = sym (drop-nil (min room 0))
+waits-left device.Console room (Some s) = refl
+waits-left device.List room (Some s) = refl
+
+waits-stay : (on other : Device) (room : ℕ) (o : Option MachineState) → waits_in other o ≡ [] → waits_in other (option_map (taken_from on room) o) ≡ []
+waits-stay on other room None none = refl
+waits-stay device.Console device.Console room (Some s) none = ap (drop _) none ∙ drop-nil _
+waits-stay device.Console device.List room (Some s) none = none
+waits-stay device.List device.Console room (Some s) none = none
+waits-stay device.List device.List room (Some s) none = ap (drop _) none ∙ drop-nil _
+
+-- one chunk more went to the scripted slot `p`, which is `q` then
+after-chunk : (room : ℕ) (on other : Device) (bytes : List ℕ) (p q : ScriptedSlot) (old new : Host) → new ≡ after_ask old p.id.0 (Calls (take_call on room)) → HasAdded on bytes p q →
+    waits_in other (slot_at q.id.0 new.slots) ≡ waits_in other (option_map (taken_from on room) (slot_at p.id.0 old.slots))
+after-chunk room on other bytes p q old new is added =
+    ap (λ (x : ScriptedSlot). waits_in other (slot_at x.id.0 new.slots)) added.same ∙ ap (waits_in other) (slot-taken old new p.id.0 room on is)
+
+pub moves-chunk : (room : ℕ) (on : Device) (bytes : List ℕ) (p q : ScriptedSlot) (old new : Host) → new ≡ after_ask old p.id.0 (Calls (take_call on room)) → HasAdded on bytes p q → Moves p q old new
+moves-chunk room on bytes p q old new is added =
+    moves-ask p q old new (Calls (take_call on room)) (ap (λ (x : ScriptedSlot). x.id) added.same) (ap keys_of added.same) is
+
+pub stays-empty : (room : ℕ) (on other : Device) (bytes : List ℕ) (p q : ScriptedSlot) (old new : Host) → new ≡ after_ask old p.id.0 (Calls (take_call on room)) → HasAdded on bytes p q →
+    waits_in other (slot_at p.id.0 old.slots) ≡ [] → waits_in other (slot_at q.id.0 new.slots) ≡ []
+stays-empty room on other bytes p q old new is added none = after-chunk room on other bytes p q old new is added ∙ waits-stay on other room (slot_at p.id.0 old.slots) none
+
+-- some were taken, and fewer wait
+pub fewer-wait : (n room : ℕ) (on : Device) (out bytes : List ℕ) (p q : ScriptedSlot) (old new : Host) → AreTaken n room out (waits_in on (slot_at p.id.0 old.slots)) → (n ≡ 0 → ⊥) →
+    new ≡ after_ask old p.id.0 (Calls (take_call on room)) → HasAdded on bytes p q → length (waits_in on (slot_at q.id.0 new.slots)) < length (waits_in on (slot_at p.id.0 old.slots))
+fewer-wait n room on out bytes p q old new took some is added =
+    let waits = waits_in on (slot_at p.id.0 old.slots) in
     let count = took.count in
-    let left : length (drop (min room (length waiting)) waiting) ≡ length waiting - min room (length waiting) = length-drop (min room (length waiting)) waiting in
+    let left = length-drop (min room (length waits)) waits in
+    let now = ap length (after-chunk room on on bytes p q old new is added ∙ waits-left on room (slot_at p.id.0 old.slots)) in
     omega (arith, some)
 
-pub console-falls : (h new : Host) (id n room : ℕ) (out : List ℕ) → take_reply (Ok n) out ≡ reply_at h id (Calls (Take room)) → n ≤ length out → (n ≡ 0 → ⊥) → new ≡ after_ask h id (Calls (Take room)) →
-    console_in (slot_at id new.slots) < console_in (slot_at id h.slots)
-unfolding serve
-console-falls h new id n room out replied fits some is = go (slot_at id h.slots) refl
-  where
-    go : (o : Option MachineState) → slot_at id h.slots ≡ o → console_in (slot_at id new.slots) < console_in (slot_at id h.slots)
-    go None at = let bad : true ≡ false = ap is_bytes replied ∙ bytes-none h id (Take room) at in absurd (let no : ⊥ = cc in no)
-    go (Some s) at =
-        let now : console_in (slot_at id new.slots) ≡ length (drop (min room (length s.cpm.console.screen)) s.cpm.console.screen) =
-        ap (λ (g : Host). console_in (slot_at id g.slots)) is ∙ ap console_in (slot-served h id (Take room) s at) in
-        let before : console_in (slot_at id h.slots) ≡ length s.cpm.console.screen = ap console_in at in
-        let less = fewer n room out s.cpm.console.screen (bytes-taken h id n room out s replied fits at) some in
-        omega arith
-
-pub list-falls : (h new : Host) (id n room : ℕ) (out : List ℕ) → take_reply (Ok n) out ≡ reply_at h id (Calls (TakeList room)) → n ≤ length out → (n ≡ 0 → ⊥) → new ≡ after_ask h id (Calls (TakeList room)) →
-    list_in (slot_at id new.slots) < list_in (slot_at id h.slots)
-unfolding serve
-list-falls h new id n room out replied fits some is = go (slot_at id h.slots) refl
-  where
-    go : (o : Option MachineState) → slot_at id h.slots ≡ o → list_in (slot_at id new.slots) < list_in (slot_at id h.slots)
-    go None at = let bad : true ≡ false = ap is_bytes replied ∙ bytes-none h id (TakeList room) at in absurd (let no : ⊥ = cc in no)
-    go (Some s) at =
-        let now : list_in (slot_at id new.slots) ≡ length (drop (min room (length s.cpm.console.printer)) s.cpm.console.printer) =
-        ap (λ (g : Host). list_in (slot_at id g.slots)) is ∙ ap list_in (slot-served h id (TakeList room) s at) in
-        let before : list_in (slot_at id h.slots) ≡ length s.cpm.console.printer = ap list_in at in
-        let less = fewer n room out s.cpm.console.printer (list-taken h id n room out s replied fits at) some in
-        omega arith
-
--- console bytes went to the scripted slot
-pub playing-take : (steps n room : ℕ) (start : MachineState) (out : List ℕ) (p q : ScriptedSlot) (old new : Host) → ((s : MachineState) → slot_at p.id.0 old.slots ≡ Some s → AreTaken n room out s.cpm.console.screen) →
-    new ≡ after_ask old p.id.0 (Calls (Take room)) → q ≡ record p { console = q.console } → q.console.items ≡ p.console.items ++ take n out → IsPlaying steps start p old → IsPlaying steps start q new
-unfolding serve
-playing-take steps n room start out p q old new took is same bytes playing =
-    let s = playing.now in
-    let t : AreTaken n room out s.cpm.console.screen = took s playing.stands in
-    let shown : q.console.items ≡ p.console.items ++ take (min room (length s.cpm.console.screen)) s.cpm.console.screen = bytes ∙ ap (λ xs. p.console.items ++ xs) t.bytes in
-    let r : ScriptedSlot = record p { console = q.console } in
-    subst (λ (x : ScriptedSlot). IsPlaying steps start x new) (sym same)
-    (playing-at steps start s (taken room s) p r old new (Take room) is refl playing.stands refl refl playing.few
-    (subst (λ (xs : List ℕ). IsOn old.system (keys_of p) steps start p.pace xs p.list.items (taken room s)) (sym shown)
-    (on-take old.system (keys_of p) steps room start p.pace p.console.items p.list.items s playing.on)))
-
--- none waited any more
+-- or none waited
 nothing : (room : ℕ) (out waiting : List ℕ) → 0 < room → AreTaken 0 room out waiting → waiting ≡ []
 nothing room out [] some t = refl
 nothing room out (x ∷ waiting) some t = let count = t.count in absurd (let no : ⊥ = omega arith in no)
 
-drop-nothing : (n : ℕ) (xs : List ℕ) → xs ≡ [] → drop n xs ≡ []
-drop-nothing zero xs none = none
-drop-nothing (suc n) [] none = refl
-drop-nothing (suc n) (x ∷ xs) none = absurd (let no : ⊥ = cc in no)
+pub none-wait : (n room : ℕ) (on : Device) (out bytes : List ℕ) (p q : ScriptedSlot) (old new : Host) → AreTaken n room out (waits_in on (slot_at p.id.0 old.slots)) → n ≡ 0 → 0 < room →
+    new ≡ after_ask old p.id.0 (Calls (take_call on room)) → HasAdded on bytes p q → waits_in on (slot_at q.id.0 new.slots) ≡ []
+none-wait n room on out bytes p q old new took zero_bytes some is added =
+    let waits = waits_in on (slot_at p.id.0 old.slots) in
+    stays-empty room on on bytes p q old new is added (nothing room out waits some (subst (λ m. AreTaken m room out waits) zero_bytes took))
 
-pub read-last : (steps n room : ℕ) (start : MachineState) (out : List ℕ) (p : ScriptedSlot) (old new : Host) → ((s : MachineState) → slot_at p.id.0 old.slots ≡ Some s → AreTaken n room out s.cpm.console.screen) → n ≡ 0 → 0 < room →
-    new ≡ after_ask old p.id.0 (Calls (Take room)) → IsPlaying steps start p old → IsRead steps start p new
-unfolding serve
-read-last steps n room start out p old new took zero_bytes some is playing =
+-- bytes went to the scripted slot
+pub playing-take : (steps n room : ℕ) (start : MachineState) (on : Device) (out : List ℕ) (p q : ScriptedSlot) (old new : Host) → AreTaken n room out (waits_in on (slot_at p.id.0 old.slots)) →
+    new ≡ after_ask old p.id.0 (Calls (take_call on room)) → HasAdded on (take n out) p q → IsPlaying steps start p old → IsPlaying steps start q new
+playing-take steps n room start on out p q old new took is added playing =
     let s = playing.now in
-    let screen = s.cpm.console.screen in
-    let t : AreTaken 0 room out screen = subst (λ m. AreTaken m room out screen) zero_bytes (took s playing.stands) in
-    let none : screen ≡ [] = nothing room out screen some t in
-    let shown : p.console.items ++ take (min room (length screen)) screen ≡ p.console.items = ap (λ xs. p.console.items ++ xs) (sym t.bytes) ∙ append-nil p.console.items in
-    record {
-      playing = playing-at steps start s (taken room s) p p old new (Take room) is refl playing.stands refl refl playing.few
-          (subst (λ (xs : List ℕ). IsOn old.system (keys_of p) steps start p.pace xs p.list.items (taken room s)) shown
-          (on-take old.system (keys_of p) steps room start p.pace p.console.items p.list.items s playing.on));
-      screen = drop-nothing (min room (length screen)) screen none;
-    }
+    let waits = waiting_on on s.cpm.console in
+    let next = taken_from on room s in
+    let t : AreTaken n room out waits = subst (λ o. AreTaken n room out (waits_in on o)) playing.stands took in
+    let bytes = take (min room (length waits)) waits in
+    let shown = console_with on bytes p.console.items in
+    let console : q.console.items ≡ shown = added.console ∙ ap (λ xs. console_with on xs p.console.items) t.bytes in
+    let list : q.list.items ≡ list_with on bytes p.list.items = added.list ∙ ap (λ xs. list_with on xs p.list.items) t.bytes in
+    let r : ScriptedSlot = record p { console = q.console; list = q.list } in
+    subst (λ (x : ScriptedSlot). IsPlaying steps start x new) (sym added.same)
+    (playing-at steps start s next p r old new (take_call on room) is (ap (λ (x : Served). x.state) (serve-take old.system on room s)) playing.stands refl refl playing.few
+    (subst (λ (xs : List ℕ). IsOn old.system (keys_of p) steps start p.pace xs q.list.items next) (sym console)
+    (subst (λ (xs : List ℕ). IsOn old.system (keys_of p) steps start p.pace shown xs next) (sym list)
+    (on-take old.system (keys_of p) steps room start p.pace p.console.items p.list.items s on playing.on))))
 
--- and the same of list bytes
-pub read-take : (steps n room : ℕ) (start : MachineState) (out : List ℕ) (p q : ScriptedSlot) (old new : Host) → ((s : MachineState) → slot_at p.id.0 old.slots ≡ Some s → AreTaken n room out s.cpm.console.printer) →
-    new ≡ after_ask old p.id.0 (Calls (TakeList room)) → q ≡ record p { list = q.list } → q.list.items ≡ p.list.items ++ take n out → IsRead steps start p old → IsRead steps start q new
-unfolding serve
-read-take steps n room start out p q old new took is same bytes read =
-    let playing = read.playing in
-    let s = playing.now in
-    let t : AreTaken n room out s.cpm.console.printer = took s playing.stands in
-    let shown : q.list.items ≡ p.list.items ++ take (min room (length s.cpm.console.printer)) s.cpm.console.printer = bytes ∙ ap (λ xs. p.list.items ++ xs) t.bytes in
-    let r : ScriptedSlot = record p { list = q.list } in
-    subst (λ (x : ScriptedSlot). IsRead steps start x new) (sym same) (record {
-      playing = playing-at steps start s (taken_list room s) p r old new (TakeList room) is refl playing.stands refl refl playing.few
-          (subst (λ (xs : List ℕ). IsOn old.system (keys_of p) steps start p.pace p.console.items xs (taken_list room s)) (sym shown)
-          (on-take_list old.system (keys_of p) steps room start p.pace p.console.items p.list.items s playing.on));
-      screen = read.screen;
-    })
-
-pub resting-last : (steps n room : ℕ) (start : MachineState) (out : List ℕ) (p : ScriptedSlot) (old new : Host) → ((s : MachineState) → slot_at p.id.0 old.slots ≡ Some s → AreTaken n room out s.cpm.console.printer) → n ≡ 0 → 0 < room →
-    new ≡ after_ask old p.id.0 (Calls (TakeList room)) → IsRead steps start p old → IsResting steps start p new
-unfolding serve
-resting-last steps n room start out p old new took zero_bytes some is read =
-    let playing = read.playing in
-    let s = playing.now in
-    let printer = s.cpm.console.printer in
-    let t : AreTaken 0 room out printer = subst (λ m. AreTaken m room out printer) zero_bytes (took s playing.stands) in
-    let none : printer ≡ [] = nothing room out printer some t in
-    let shown : p.list.items ++ take (min room (length printer)) printer ≡ p.list.items = ap (λ xs. p.list.items ++ xs) (sym t.bytes) ∙ append-nil p.list.items in
-    record {
-      playing = playing-at steps start s (taken_list room s) p p old new (TakeList room) is refl playing.stands refl refl playing.few
-          (subst (λ (xs : List ℕ). IsOn old.system (keys_of p) steps start p.pace p.console.items xs (taken_list room s)) shown
-          (on-take_list old.system (keys_of p) steps room start p.pace p.console.items p.list.items s playing.on));
-      quiet = record { screen = read.screen; printer = drop-nothing (min room (length printer)) printer none };
-    }
+-- where nothing waits it rests
+pub resting-empty : (steps : ℕ) (start : MachineState) (p : ScriptedSlot) (h : Host) → ((on : Device) → waits_in on (slot_at p.id.0 h.slots) ≡ []) → IsPlaying steps start p h → IsResting steps start p h
+resting-empty steps start p h empty playing = record {
+  playing = playing;
+  quiet = record {
+    screen = sym (ap (waits_in device.Console) playing.stands) ∙ empty device.Console;
+    printer = sym (ap (waits_in device.List) playing.stands) ∙ empty device.List;
+  };
+}

@@ -64,9 +64,10 @@ pub on_err : {A E P : Type 0} (r : Result A E) → P → OnErr r P
 on_err (Ok x) p = tt
 on_err (Err e) p = p
 
-pub on_ok : {A E P Q : Type 0} (r : Result A E) → OnOk r P → (P → Q) → OnOk r Q
-on_ok (Ok x) p f = f p
-on_ok (Err e) p f = tt
+-- a fact holds after a success by three that do
+pub on_ok : {A E P Q R S : Type 0} (r : Result A E) → OnOk r P → OnOk r Q → OnOk r R → (P → Q → R → S) → OnOk r S
+on_ok (Ok x) p q s f = f p q s
+on_ok (Err e) p q s f = tt
 
 pub both_empty : (xs ys : List ℕ) → xs ++ ys ≡ [] → ys ≡ []
 both_empty [] ys e = e

@@ -1,7 +1,10 @@
 -- ScriptedSlots of a host: sessions in its slots that are played in turns. All of it is own.
-use Rattle.std.specs.Prelude.{⊤, ◌≡◌, ◌≢◌, ℕ, ◌≤◌, List, [], ◌∷◌, length, take, min, map, sum_by, Bool, nat_lt, Option, Some, None}
+use Rattle.std.specs.Prelude.{⊤, ◌≡◌, ◌≢◌, ℕ, ◌≤◌, List, [], ◌∷◌, ◌++◌, length, take, min, map, sum_by, Bool, nat_lt, Option, Some, None}
 use Rattle.std.specs.List.{list_any}
 use Rattle.cpm_geom.specs.Disk.{Disk}
+use Rattle.cpm_console.specs.declared.device.Device.{Device}
+use Rattle.cpm_console.specs.declared.device.Device.TheVariants as device
+use Rattle.cpm_console.specs.Terminal.{waiting_on}
 use Rattle.cpm_script.specs.declared.script.Key.{Key}
 use Rattle.cpm_sessions.specs.Host.{Host, SlotState, slot_at}
 use Rattle.cpm_slots.specs.MachineState.{MachineState}
@@ -88,14 +91,25 @@ pub record AreTaken (n room : ℕ) (out waiting : List ℕ) : Type 0 where
   pub bytes : take n out ≡ take (min room (length waiting)) waiting
   pub count : n ≡ min room (length waiting)
 
--- how many console bytes, or list bytes, wait in a slot
-abbrev pub console_in : Option MachineState → ℕ
-console_in None = 0
-console_in (Some s) = length s.cpm.console.screen
+-- the bytes that wait on a device of a slot
+abbrev pub waits_in : Device → Option MachineState → List ℕ
+waits_in on None = []
+waits_in on (Some s) = waiting_on on s.cpm.console
 
-abbrev pub list_in : Option MachineState → ℕ
-list_in None = 0
-list_in (Some s) = length s.cpm.console.printer
+-- what was shown on the console, and on the list device, with more bytes of a device
+abbrev pub console_with : Device → List ℕ → List ℕ → List ℕ
+console_with device.Console bytes shown = shown ++ bytes
+console_with device.List bytes shown = shown
+
+abbrev pub list_with : Device → List ℕ → List ℕ → List ℕ
+list_with device.Console bytes shown = shown
+list_with device.List bytes shown = shown ++ bytes
+
+-- a scripted slot `p` got more bytes of a device
+pub record HasAdded (on : Device) (bytes : List ℕ) (p q : ScriptedSlot) : Type 0 where
+  pub same : q ≡ record p { console = q.console; list = q.list }
+  pub console : q.console.items ≡ console_with on bytes p.console.items
+  pub list : q.list.items ≡ list_with on bytes p.list.items
 
 -- a slot went from a start so far
 pub record IsPlaying (steps : ℕ) (start : MachineState) (p : ScriptedSlot) (h : Host) : Type 0 where
@@ -104,11 +118,7 @@ pub record IsPlaying (steps : ℕ) (start : MachineState) (p : ScriptedSlot) (h 
   pub few : length (keys_of p) ≤ 4096
   pub on : IsOn h.system (keys_of p) steps start p.pace p.console.items p.list.items now
 
--- and its console bytes are taken, or all its bytes
-pub record IsRead (steps : ℕ) (start : MachineState) (p : ScriptedSlot) (h : Host) : Type 0 where
-  pub playing : IsPlaying steps start p h
-  pub screen : playing.now.cpm.console.screen ≡ []
-
+-- and all its bytes are taken
 pub record IsResting (steps : ℕ) (start : MachineState) (p : ScriptedSlot) (h : Host) : Type 0 where
   pub playing : IsPlaying steps start p h
   pub quiet : IsQuiet playing.now

@@ -1,11 +1,12 @@
 //! A session of a host that is played.
 
-ghost use Rattle.std.specs.Prelude.{◌≡◌};
+ghost use Rattle.std.specs.Prelude.{◌≡◌, OnOk};
 
 use crate::pace::Pace;
+use cpm_console::Device;
 use cpm_script::Key;
 use cpm_sessions::SlotId;
-use std::alloc::Global;
+use std::alloc::{AllocError, Global};
 
 /// A session of a host that is played by its keys, and what it has shown.
 #[derive(Drop)]
@@ -21,7 +22,7 @@ pub struct ScriptedSlot {
 }
 
 impl ScriptedSlot {
-    ghost use Rattle.cpm_turns.specs.ScriptedSlots.{IsNew, keys_of, steps_of};
+    ghost use Rattle.cpm_turns.specs.ScriptedSlots.{HasAdded, IsNew, keys_of, steps_of};
 
     /// A scripted slot that has shown nothing yet, with its keys, each with the count of steps at which it comes, and with so many steps to execute.
     pub fn new(alloc: Global, id: SlotId, keys: Vec<Key>, steps: u64) -> ScriptedSlot
@@ -36,6 +37,17 @@ impl ScriptedSlot {
             list: Vec::new(alloc),
             keys,
             pace: Pace::new(steps),
+        }
+    }
+
+    /// Adds bytes of a device to those that it has shown so far. Want of memory adds none.
+    pub(crate) fn add_bytes(&mut self, device: Device, bytes: &[u8]) -> Result<(), AllocError>
+        ensures added { OnOk result (HasAdded device bytes.now self.old self.new) }
+        ensures pace { self.new.pace ≡ self.old.pace }
+    {
+        match device {
+            Device::Console => self.console.extend_from_slice(bytes),
+            Device::List => self.list.extend_from_slice(bytes),
         }
     }
 }

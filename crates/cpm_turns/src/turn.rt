@@ -1,15 +1,16 @@
 //! One turn of a scripted slot: its keys that are due, its steps, and what it shows.
 
-ghost use Rattle.std.specs.Prelude.{◌≡◌, ◌≢◌, ℕ, ◌-◌, ◌<◌, ◌≤◌, OnOk, None, Some, length, slice_get};
+ghost use Rattle.std.specs.Prelude.{◌≡◌, ℕ, ◌-◌, ◌≤◌, OnOk, None, Some, [], length, slice_get};
 ghost use Rattle.cpm_sessions.specs.Host.{after_ask, slot_at};
-ghost use Rattle.cpm_sessions.specs.Serving.{Calls};
-ghost use Rattle.cpm_slots.specs.Calls.{Grant, Take, TakeList};
+ghost use Rattle.cpm_sessions.specs.Serving.{Calls, take_call};
+ghost use Rattle.cpm_slots.specs.Calls.{Grant};
 ghost use Rattle.cpm_slots.specs.MachineState.{MachineState};
 ghost use Rattle.cpm_slots.specs.Serve.{executed};
 ghost use Rattle.cpm_turns.specs.Pacing.{due_at};
-ghost use Rattle.cpm_turns.specs.ScriptedSlots.{AreTaken, IsPlaying, IsRead, IsResting, Moves, console_in, keys_of, list_in, steps_of};
+ghost use Rattle.cpm_turns.specs.ScriptedSlots.{AreTaken, IsPlaying, IsResting, Moves, keys_of, steps_of, waits_in};
 
 use crate::scripted_slot::ScriptedSlot;
+use cpm_console::Device;
 use cpm_sessions::{Host, SlotId};
 use std::alloc::AllocError;
 
@@ -30,63 +31,34 @@ fn press_due(host: &mut Host, slot: &mut ScriptedSlot)
     }
 }
 
-/// Moves out the first console bytes of a slot, as many as fit, and says how many.
-fn read_console(host: &mut Host, id: SlotId, chunk: &mut [u8]) -> usize
-    ensures bytes { (s : MachineState) → slot_at id.0 host.old.host.slots ≡ Some s → AreTaken result (length chunk.old) chunk.new s.cpm.console.screen }
+/// Moves out the first bytes of a slot's device, as many as fit, and says how many.
+fn read(host: &mut Host, id: SlotId, device: Device, chunk: &mut [u8]) -> usize
+    ensures bytes { AreTaken result (length chunk.old) chunk.new (waits_in device (slot_at id.0 host.old.host.slots)) }
     ensures length { length chunk.new ≡ length chunk.old }
     ensures within { result ≤ length chunk.old }
-    ensures fewer { result ≢ 0 → console_in (slot_at id.0 host.new.host.slots) < console_in (slot_at id.0 host.old.host.slots) }
-    ensures host { host.new.host ≡ after_ask host.old.host id.0 (Calls (Take (length chunk.old))) }
+    ensures host { host.new.host ≡ after_ask host.old.host id.0 (Calls (take_call device (length chunk.old))) }
 {
-    match host.take(id, chunk) {
+    match host.take_from(id, device, chunk) {
         Ok(count) => count,
         Err(_) => 0,
     }
 }
 
-/// Moves out the first list bytes of a slot, as many as fit, and says how many.
-fn read_list(host: &mut Host, id: SlotId, chunk: &mut [u8]) -> usize
-    ensures bytes { (s : MachineState) → slot_at id.0 host.old.host.slots ≡ Some s → AreTaken result (length chunk.old) chunk.new s.cpm.console.printer }
-    ensures length { length chunk.new ≡ length chunk.old }
-    ensures within { result ≤ length chunk.old }
-    ensures fewer { result ≢ 0 → list_in (slot_at id.0 host.new.host.slots) < list_in (slot_at id.0 host.old.host.slots) }
-    ensures host { host.new.host ≡ after_ask host.old.host id.0 (Calls (TakeList (length chunk.old))) }
-{
-    match host.take_list(id, chunk) {
-        Ok(count) => count,
-        Err(_) => 0,
-    }
-}
-
-/// Takes all console bytes.
-fn take_console(host: &mut Host, slot: &mut ScriptedSlot) -> Result<(), AllocError>
-    ensures playing { OnOk result ((steps : ℕ) (start : MachineState) → IsPlaying steps start slot.old host.old.host → IsRead steps start slot.new host.new.host) }
+/// Takes all bytes of a device.
+fn take_all(host: &mut Host, slot: &mut ScriptedSlot, device: Device) -> Result<(), AllocError>
+    ensures playing { OnOk result ((steps : ℕ) (start : MachineState) → IsPlaying steps start slot.old host.old.host → IsPlaying steps start slot.new host.new.host) }
+    ensures empty { OnOk result (waits_in device (slot_at slot.new.id.0 host.new.host.slots) ≡ []) }
+    ensures stays { OnOk result ((other : Device) → waits_in other (slot_at slot.old.id.0 host.old.host.slots) ≡ [] → waits_in other (slot_at slot.new.id.0 host.new.host.slots) ≡ []) }
     ensures moves { OnOk result (Moves slot.old slot.new host.old.host host.new.host) }
     ensures left { steps_of slot.new ≡ steps_of slot.old }
 {
     let mut chunk = [0u8; CHUNK];
     loop {
-        let count = read_console(host, slot.id, &mut chunk);
+        let count = read(host, slot.id, device, &mut chunk);
+        slot.add_bytes(device, &chunk[..count])?;
         if count == 0 {
             return Ok(());
         }
-        slot.console.extend_from_slice(&chunk[..count])?;
-    }
-}
-
-/// Takes all list bytes.
-fn take_list(host: &mut Host, slot: &mut ScriptedSlot) -> Result<(), AllocError>
-    ensures playing { OnOk result ((steps : ℕ) (start : MachineState) → IsRead steps start slot.old host.old.host → IsResting steps start slot.new host.new.host) }
-    ensures moves { OnOk result (Moves slot.old slot.new host.old.host host.new.host) }
-    ensures left { steps_of slot.new ≡ steps_of slot.old }
-{
-    let mut chunk = [0u8; CHUNK];
-    loop {
-        let count = read_list(host, slot.id, &mut chunk);
-        if count == 0 {
-            return Ok(());
-        }
-        slot.list.extend_from_slice(&chunk[..count])?;
     }
 }
 
@@ -126,6 +98,6 @@ pub(crate) fn turn(host: &mut Host, slot: &mut ScriptedSlot, quantum: u64) -> Re
         return Ok(());
     }
     execute(host, slot, quantum);
-    take_console(host, slot)?;
-    take_list(host, slot)
+    take_all(host, slot, Device::Console)?;
+    take_all(host, slot, Device::List)
 }

@@ -1,7 +1,18 @@
+use Rattle.std.proofs.Common.{◌≡◌, []}
+use Rattle.cpm_console.specs.declared.device.Device.{Device}
+use Rattle.cpm_console.specs.declared.device.Device.TheVariants as device
+use Rattle.cpm_sessions.specs.Host.{slot_at}
+use Rattle.cpm_turns.specs.ScriptedSlots.{waits_in}
+use Rattle.cpm_turns.proofs.ScriptedSlotLemmas.{resting-empty}
 use Rattle.cpm_turns.proofs.TextLemmas.{on_ok}
 use Rattle.cpm_turns.proofs.turn.turn.Goals as goal
 
 pub returns-clause-playing : goal.returns-clause-playing
 returns-clause-playing c =
-    on_ok c.take_list.result c.take_list.ensures.playing
-    (λ last. λ steps start r. last steps start (c.in_ok-take_console.ensures.playing steps start (c.execute.ensures.playing steps start r)))
+    let first = c.in_ok-take_all.ensures in
+    let p = c.take_all-2.new.slot in
+    let h = c.take_all-2.new.host.host in
+    on_ok c.take_all-2.result c.take_all-2.ensures.playing c.take_all-2.ensures.empty c.take_all-2.ensures.stays
+    (λ last none stays. λ steps start r.
+    let empty : (on : Device) → waits_in on (slot_at p.id.0 h.slots) ≡ [] = elim [ device.Console ↦ stays device.Console first.empty | device.List ↦ none ] in
+    resting-empty steps start p h empty (last steps start (first.playing steps start (c.execute.ensures.playing steps start r))))
