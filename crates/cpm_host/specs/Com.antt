@@ -59,5 +59,5 @@ IsComRefusal {W} cpu program script steps (FileRefused (read.Script name line fa
     (length program ≤ 58112) × IsBadLine script line fault × (new ≡ old)
 IsComRefusal {W} cpu program script steps OutOfMemory old new = (length program ≤ 58112) × (new ≡ old)
 IsComRefusal {W} cpu program script steps (OutputUnwritable reason) old new =
-    (length program ≤ 58112) × HasText (ran_alone cpu program (keys_given script) steps)
+    (length program ≤ 58112) × HasScript script (keys_given script) × HasText (ran_alone cpu program (keys_given script) steps)
 IsComRefusal {W} cpu program script steps _ old new = ⊥

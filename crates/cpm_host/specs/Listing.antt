@@ -1,5 +1,5 @@
 -- What listing a program shows.
-use Rattle.std.specs.Prelude.{⊤, ℕ, zero, suc, ◌-◌, ◌%◌, List, [], ◌∷◌, ◌++◌, Option, Some, None, slice_index}
+use Rattle.std.specs.Prelude.{◌≢◌, ℕ, zero, suc, ◌-◌, ◌%◌, List, [], ◌∷◌, ◌++◌, Option, Some, None, slice_index}
 use Rattle.cpm_decode.specs.Rows8080.{decoded8080}
 use Rattle.cpm_decode.specs.declared.operation.Decoded.{Decoded}
 use Rattle.cpm_lines.specs.Listing.{list_line}
@@ -29,7 +29,7 @@ listing place left [] = []
 listing place zero (b ∷ bs) = list_line (place % 65536) (three (b ∷ bs)) ++ 0x0A ∷ listing (suc place) (length_at (three (b ∷ bs)) - 1) bs
 listing place (suc left) (b ∷ bs) = listing (suc place) left bs
 
--- when a listing is refused: the writer refused it
-abbrev pub IsListRefusal : HostError → Type 0
-IsListRefusal (OutputUnwritable reason) = ⊤
-IsListRefusal _ = ⊥
+-- when a listing is refused: the writer refused it, where there was something to write
+abbrev pub IsListRefusal : List ℕ → HostError → Type 0
+IsListRefusal bytes (OutputUnwritable reason) = bytes ≢ []
+IsListRefusal bytes _ = ⊥

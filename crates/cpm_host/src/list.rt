@@ -64,11 +64,14 @@ fn write_listing<W: Write>(bytes: &[u8], out: &mut W) -> io::Result<()>
 /// Lists a program as instructions of the 8080, a line for each that begins within it. Bytes behind its end are 0, and
 /// addresses go on at 0000h behind FFFFh.
 ///
-/// `OutputUnwritable` has the writer's error, who may have got the beginning.
+/// `OutputUnwritable` has the writer's error, who may have got the beginning. It comes only where there is something to write.
 pub fn run_list<W: Write>(program: &[u8], out: &mut W) -> Result<(), HostError>
     ensures text { OnOk result (Appends (W.contents out.old) (W.contents out.new) (listing 256 0 program.now)) }
-    ensures refusal { IfErr result IsListRefusal }
+    ensures refusal { IfErr result (IsListRefusal program.now) }
 {
+    if program.is_empty() {
+        return Ok(());
+    }
     match write_listing(program, out) {
         Ok(()) => Ok(()),
         Err(reason) => Err(HostError::OutputUnwritable(reason)),
