@@ -13,7 +13,7 @@ use std::io;
 use std::io::Write;
 
 /// How many steps a turn has at most, so that output appears as it comes.
-const QUANTUM: u64 = 1_000_000;
+const QUANTUM: u64 = 100_000;
 
 /// The same for a machine: where it waits for a key nothing comes before the next one, so all waits are one turn.
 fn quantum_of(machine: &Machine) -> u64
