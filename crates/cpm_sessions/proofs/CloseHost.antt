@@ -9,7 +9,7 @@ use Rattle.cpm_slots.specs.MachineState.{MachineState}
 use Rattle.cpm_slots.specs.Serve.{look_of}
 use Rattle.cpm_sessions.specs.declared.event.Reply.TheVariants as reply
 use Rattle.cpm_sessions.specs.declared.slots.Slot.{Slot}
-use Rattle.cpm_sessions.specs.Host.{Host, SlotState, slot_at, reply_at, after_ask, IsHost}
+use Rattle.cpm_sessions.specs.Host.{Host, SlotState, reply_at, after_ask, IsHost}
 use Rattle.cpm_sessions.specs.Index.{IsAtIndex}
 use Rattle.cpm_sessions.specs.Serving.{Closes}
 use Rattle.cpm_sessions.specs.Slots.{slot_of, slots_of}

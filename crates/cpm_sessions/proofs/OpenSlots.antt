@@ -18,7 +18,7 @@ use Rattle.cpm_slots.specs.MachineState.{MachineState}
 use Rattle.cpm_slots.specs.Opening.{drives_fault, opening_fault, first_fault}
 use Rattle.cpm_slots.specs.Runner.{state_of, IsSound}
 use Rattle.cpm_sessions.specs.declared.slots.Slot.{Slot}
-use Rattle.cpm_sessions.specs.Host.{Host, SlotState, opened_slot, quotas_of, room_fault, refusal_of}
+use Rattle.cpm_sessions.specs.Host.{Host, opened_slot, room_fault, refusal_of}
 use Rattle.cpm_sessions.specs.Slots.{contents_at, slot_of, slots_of, NoneAt, AllSound, HaveTables}
 
 -- ---- no session

@@ -1,4 +1,4 @@
-use Rattle.std.proofs.Common.{◌≡◌, ◌∙◌, ◌<◌, ℕ, [], ap, arith, length, take}
+use Rattle.std.proofs.Common.{◌≡◌, ◌∙◌, ◌<◌, ℕ, [], ap, arith, length}
 use Rattle.cpm_console.specs.declared.device.Device.{Device}
 use Rattle.cpm_sessions.specs.Host.{slot_at}
 use Rattle.cpm_slots.specs.MachineState.{MachineState}
