@@ -81,13 +81,16 @@ pub fn list() -> Outcome {
 }
 
 /// A store with blank drives and the keys of the first session.
-fn filled(alloc: Global) -> Result<MemoryStore, AllocError> {
+fn filled(alloc: Global, blank: &[u8]) -> Result<MemoryStore, AllocError> {
     let mut store = MemoryStore::new(alloc);
-    let blank = Image::blank(alloc, Format::Ibm3740)?.into_bytes();
-    put(&mut store, "p.img", blank.as_slice())?;
-    put(&mut store, "a.img", blank.as_slice())?;
-    put(&mut store, "one.keys", KEYS)?;
+    fill(&mut store, blank)?;
     Ok(store)
+}
+
+fn fill(store: &mut MemoryStore, blank: &[u8]) -> Result<(), AllocError> {
+    put(store, "p.img", blank)?;
+    put(store, "a.img", blank)?;
+    put(store, "one.keys", KEYS)
 }
 
 /// Whether a store has the files of the run up to one of them, and none behind it.
@@ -108,19 +111,27 @@ fn are_written_in_order(store: &MemoryStore, blank: &[u8]) -> bool {
     holds(store, "p.img", blank) && holds(store, "a.img", blank) && holds(store, "one.keys", KEYS)
 }
 
-pub fn run(alloc: Global) -> Result<Outcome, AllocError> {
-    let mut store = filled(alloc)?;
-    let blank = Image::blank(alloc, Format::Ibm3740)?.into_bytes();
-    let Ok(config) = Config::read(alloc, CONFIG.as_bytes()) else {
-        return Err(AllocError);
-    };
-    let answer = run_host(alloc, &config, &mut store);
-    let is_right = are_written_in_order(&store, blank.as_slice());
-    Ok(match answer {
+fn run_over(alloc: Global, config: &Config, store: &mut MemoryStore, blank: &[u8]) -> Outcome {
+    let answer = run_host(alloc, config, store);
+    let is_right = are_written_in_order(store, blank);
+    match answer {
         Ok(_) if is_right && store.file("two.txt").is_some() => Outcome::Made,
         Err(HostError::OutOfMemory) => {
             Outcome::refused_if(is_right && store.file("two.txt").is_none())
         }
         _ => Outcome::Wrong,
-    })
+    }
+}
+
+fn run_configured(alloc: Global, config: &Config) -> Result<Outcome, AllocError> {
+    let blank = Image::blank(alloc, Format::Ibm3740)?.into_bytes();
+    let mut store = filled(alloc, blank.as_slice())?;
+    Ok(run_over(alloc, config, &mut store, blank.as_slice()))
+}
+
+pub fn run(alloc: Global) -> Result<Outcome, AllocError> {
+    match Config::read(alloc, CONFIG.as_bytes()) {
+        Ok(config) => run_configured(alloc, &config),
+        Err(_) => Err(AllocError),
+    }
 }

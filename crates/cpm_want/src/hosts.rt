@@ -11,7 +11,7 @@ pub fn new(alloc: Global) -> Result<Outcome, AllocError> {
     let system = marked(alloc)?;
     Ok(match Host::new(alloc, system, 64) {
         Ok(_) => Outcome::Made,
-        Err((back, OpenError::OutOfMemory)) => Outcome::refused_if(is_marked(back)),
+        Err((back, OpenError::OutOfMemory)) => Outcome::refused_if(is_marked(&back)),
         Err(_) => Outcome::Wrong,
     })
 }
@@ -52,7 +52,7 @@ fn open_third(alloc: Global, host: &mut Host) -> Result<Outcome, AllocError> {
     Ok(match host.open(alloc, opening) {
         Ok(id) if id == SlotId(2) => Outcome::Made,
         Err((back, OpenError::OutOfMemory)) => {
-            Outcome::refused_if(is_handed_back(back, Cpu::I8080, 16))
+            Outcome::refused_if(is_handed_back(&back, Cpu::I8080, 16))
         }
         _ => Outcome::Wrong,
     })
@@ -69,26 +69,39 @@ fn is_as_before(
     Ok(now.look.is_some() && now == *before && host.grant(id, 5).is_ok_and(|did| did.executed == 5))
 }
 
+/// Whether that holds of both slots.
+fn are_as_before(
+    alloc: Global,
+    host: &mut Host,
+    ids: [SlotId; 2],
+    before: &[Seen; 2],
+) -> Result<bool, AllocError> {
+    Ok(
+        is_as_before(alloc, host, ids[0], &before[0])?
+            && is_as_before(alloc, host, ids[1], &before[1])?,
+    )
+}
+
 /// Opens a slot in a host that has two, whose looks and memories are compared before and after. After a refusal the third opens with the
 /// number that it would have had.
-pub fn open(alloc: Global) -> Result<Outcome, AllocError> {
-    let Ok(mut host) = Host::new(alloc, marked(alloc)?, 48) else {
-        return Err(AllocError);
-    };
-    let host = &mut host;
+fn open_beside(alloc: Global, host: &mut Host) -> Result<Outcome, AllocError> {
     let first = start(alloc, host, Cpu::I8080, 17)?;
     let second = start(alloc, host, Cpu::Z80, 3)?;
-    let first_before = look_at(alloc, host, first)?;
-    let second_before = look_at(alloc, host, second)?;
+    let before = [look_at(alloc, host, first)?, look_at(alloc, host, second)?];
     let outcome = open_third(alloc, host)?;
-    let are_others_kept = is_as_before(alloc, host, first, &first_before)?
-        && is_as_before(alloc, host, second, &second_before)?;
+    if !are_as_before(alloc, host, [first, second], &before)? {
+        return Ok(Outcome::Wrong);
+    }
     if outcome == Outcome::Refused && open_third(alloc, host)? != Outcome::Made {
         return Ok(Outcome::Wrong);
     }
-    if are_others_kept {
-        Ok(outcome)
-    } else {
-        Ok(Outcome::Wrong)
+    Ok(outcome)
+}
+
+/// The same in a new host.
+pub fn open(alloc: Global) -> Result<Outcome, AllocError> {
+    match Host::new(alloc, marked(alloc)?, 48) {
+        Ok(mut host) => open_beside(alloc, &mut host),
+        Err(_) => Err(AllocError),
     }
 }

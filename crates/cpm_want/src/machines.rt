@@ -42,12 +42,21 @@ pub fn marked(alloc: Global) -> Result<Image, AllocError> {
     Ok(drive)
 }
 
+/// Whether each byte of a record of a drive is this one.
+fn is_filled(drive: &Image, number: u16, byte: u8) -> bool {
+    drive
+        .record(number)
+        .is_ok_and(|record| record.iter().all(|found| *found == byte))
+}
+
 /// Whether a drive is as `marked` made it.
-pub fn is_marked(drive: Image) -> bool {
-    let bytes = drive.into_bytes();
-    let marks = bytes.iter().filter(|&&byte| byte == MARK).count();
-    let blanks = bytes.iter().filter(|&&byte| byte == 0xE5).count();
-    bytes.len() == 256_256 && marks == 128 && blanks == 256_256 - 128
+pub fn is_marked(drive: &Image) -> bool {
+    for number in 0..1949 {
+        if !is_filled(drive, number, 0xE5) {
+            return false;
+        }
+    }
+    is_filled(drive, 1949, MARK)
 }
 
 /// An opening with two marked drives.
@@ -59,12 +68,13 @@ pub fn opening(alloc: Global, cpu: Cpu, quota: u16) -> Result<Opening, AllocErro
 }
 
 /// Whether an opening is as `opening` made it.
-pub fn is_handed_back(opening: Opening, cpu: Cpu, quota: u16) -> bool {
-    let mut is_right = opening.cpu == cpu && opening.quota == quota && opening.drives.len() == 2;
-    for drive in opening.drives {
-        is_right &= is_marked(drive);
+pub fn is_handed_back(opening: &Opening, cpu: Cpu, quota: u16) -> bool {
+    for drive in &opening.drives {
+        if !is_marked(drive) {
+            return false;
+        }
     }
-    is_right
+    opening.cpu == cpu && opening.quota == quota && opening.drives.len() == 2
 }
 
 pub fn machine(alloc: Global) -> Result<Outcome, AllocError> {
@@ -72,7 +82,7 @@ pub fn machine(alloc: Global) -> Result<Outcome, AllocError> {
     Ok(match Machine::new(alloc, opening) {
         Ok(_) => Outcome::Made,
         Err((back, OpenError::OutOfMemory)) => {
-            Outcome::refused_if(is_handed_back(back, Cpu::Z80, 16))
+            Outcome::refused_if(is_handed_back(&back, Cpu::Z80, 16))
         }
         Err(_) => Outcome::Wrong,
     })
@@ -84,7 +94,7 @@ pub fn machine_with_program(alloc: Global) -> Result<Outcome, AllocError> {
     Ok(match Machine::with_program(alloc, opening, program) {
         Ok(_) => Outcome::Made,
         Err((back, program, OpenError::OutOfMemory)) => Outcome::refused_if(
-            program.as_slice() == LETTER && is_handed_back(back, Cpu::I8080, 256),
+            program.as_slice() == LETTER && is_handed_back(&back, Cpu::I8080, 256),
         ),
         Err(_) => Outcome::Wrong,
     })

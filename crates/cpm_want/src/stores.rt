@@ -34,30 +34,44 @@ fn is_as_filled(store: &MemoryStore) -> bool {
 
 pub fn read(alloc: Global) -> Result<Outcome, AllocError> {
     let mut store = filled(alloc)?;
-    Ok(match store.read(alloc, "old") {
+    Ok(read_old(alloc, &mut store))
+}
+
+fn read_old(alloc: Global, store: &mut MemoryStore) -> Outcome {
+    match store.read(alloc, "old") {
         Ok(bytes) if bytes.as_slice() == b"what it held".as_slice() => Outcome::Made,
         Err(StoreError::OutOfMemory) => {
-            Outcome::refused_if(is_as_filled(&store) && store.failures() == 0)
+            Outcome::refused_if(is_as_filled(store) && store.failures() == 0)
         }
         _ => Outcome::Wrong,
-    })
+    }
 }
 
 /// Writes a file that is there, and one that is not.
 pub fn write(alloc: Global) -> Result<Outcome, AllocError> {
     let mut store = filled(alloc)?;
+    Ok(match write_old(&mut store) {
+        Outcome::Made => write_new(&mut store),
+        outcome => outcome,
+    })
+}
+
+fn write_old(store: &mut MemoryStore) -> Outcome {
     match store.write("old", b"what it holds") {
-        Ok(()) => {}
+        Ok(()) => Outcome::Made,
         Err(StoreError::OutOfMemory) => {
-            return Ok(Outcome::refused_if(is_as_filled(&store) && store.failures() == 0));
+            Outcome::refused_if(is_as_filled(store) && store.failures() == 0)
         }
-        Err(_) => return Ok(Outcome::Wrong),
+        Err(_) => Outcome::Wrong,
     }
-    Ok(match store.write("new", b"a new one") {
-        Ok(()) if holds(&store, "new", b"a new one") => Outcome::Made,
+}
+
+fn write_new(store: &mut MemoryStore) -> Outcome {
+    match store.write("new", b"a new one") {
+        Ok(()) if holds(store, "new", b"a new one") => Outcome::Made,
         Err(StoreError::OutOfMemory) => Outcome::refused_if(
-            holds(&store, "old", b"what it holds") && store.file("new").is_none(),
+            holds(store, "old", b"what it holds") && store.file("new").is_none(),
         ),
         _ => Outcome::Wrong,
-    })
+    }
 }

@@ -8,6 +8,7 @@ mod files;
 mod output;
 mod place;
 mod refused;
+mod screen;
 
 use cpm_flags::Cpu;
 use cpm_host::{
@@ -17,11 +18,17 @@ use files::{MachineFiles, check_outputs, read_file, write_file};
 use output::Outputs;
 use place::{check_apart, check_pair};
 use refused::{Behind, Refused};
+use screen::Screen;
 use std::env::Env;
-use std::io::{BufReader, BufWriter, ErrorKind};
+use std::io::{BufReader, BufWriter, ErrorKind, IsTerminal};
 use std::process::{self, ExitCode};
 use std::rt::Files;
 use std::{env, io};
+
+/// What stands behind the help.
+const HELP_ON_RAW: &str = "
+At a terminal, com and debug show control bytes of the program as ^[ and the like; with --raw behind com they go out as they are.
+";
 
 /// The words of the command line, of which the first is the program's own name.
 fn arguments(rt: &(impl Env + AllocGlobal)) -> Result<Vec<String>, HostError>
@@ -58,15 +65,22 @@ fn run_sessions(
     Ok(())
 }
 
-/// Runs a program by the keys of a script, if there is one, prints what it shows, and then how it ended.
+/// Runs a program by the keys of a script, if there is one, prints what it shows, and then how it ended. A screen gets its control bytes
+/// as text.
 fn play(
     rt: &(impl Print + Eprint + AllocGlobal),
     cpu: Cpu,
     program: Vec<u8>,
     script: Option<Script<'_>>,
     steps: u64,
+    is_screen: bool,
 ) -> Result<(), HostError> {
-    let ending = run_com(rt.alloc(), cpu, program, script, steps, &mut io::writer(rt))?;
+    let ending = if is_screen {
+        let mut screen = Screen::new(io::writer(rt));
+        run_com(rt.alloc(), cpu, program, script, steps, &mut screen)?
+    } else {
+        run_com(rt.alloc(), cpu, program, script, steps, &mut io::writer(rt))?
+    };
     // The program ran and its text is out, even where nobody reads how it ended.
     let _ = eprintln!(rt; "{ending}");
     Ok(())
@@ -79,13 +93,14 @@ fn play_script(
     program: Vec<u8>,
     name: &str,
     steps: u64,
+    is_screen: bool,
 ) -> Result<(), HostError> {
     let text = read_file(rt, name)?;
     let script = Script {
         name,
         text: text.as_slice(),
     };
-    play(rt, cpu, program, Some(script), steps)
+    play(rt, cpu, program, Some(script), steps, is_screen)
 }
 
 /// Runs the program in a file.
@@ -95,11 +110,12 @@ fn com(
     cpu: Cpu,
     keys: Option<&str>,
     steps: u64,
+    is_screen: bool,
 ) -> Result<(), HostError> {
     let program = read_file(rt, file)?;
     match keys {
-        None => play(rt, cpu, program, None, steps),
-        Some(name) => play_script(rt, cpu, program, name, steps),
+        None => play(rt, cpu, program, None, steps, is_screen),
+        Some(name) => play_script(rt, cpu, program, name, steps, is_screen),
     }
 }
 
@@ -131,27 +147,45 @@ fn debug(
     rt: &(impl Files + Input + Print + AllocGlobal),
     file: &str,
     cpu: Cpu,
+    is_screen: bool,
 ) -> Result<(), HostError> {
     let program = read_file(rt, file)?;
     let Ok(mut input) = BufReader::new(rt.alloc(), rt.reader()) else {
         return Err(HostError::OutOfMemory);
     };
-    run_debug(rt.alloc(), cpu, program, &mut input, &mut io::writer(rt))?;
+    if is_screen {
+        let mut screen = Screen::new(io::writer(rt));
+        run_debug(rt.alloc(), cpu, program, &mut input, &mut screen)?;
+    } else {
+        run_debug(rt.alloc(), cpu, program, &mut input, &mut io::writer(rt))?;
+    }
     Ok(())
+}
+
+/// Whether a word is `--raw` behind the command `com`, given the words before it.
+fn is_raw(before: &[&str], word: &str) -> bool {
+    word == "--raw" && before.get(1).is_some_and(|command| *command == "com")
 }
 
 /// Does what the words of the command line ask for.
 fn run(
     rt: &(impl Env + Files + Input + Print + Eprint + AllocGlobal),
     outputs: Outputs,
+    is_terminal: bool,
 ) -> Result<(), Refused> {
     let words = arguments(rt)?;
     let mut texts = Vec::new(rt.alloc());
+    let mut is_screen = is_terminal;
     for word in &words {
-        texts.push(word.as_str())?;
+        if is_raw(texts.as_slice(), word.as_str()) {
+            is_screen = false;
+        } else {
+            texts.push(word.as_str())?;
+        }
     }
     if let Some(text) = help(texts.as_slice()) {
         rt.print(text).map_err(HostError::OutputUnwritable)?;
+        rt.print(HELP_ON_RAW).map_err(HostError::OutputUnwritable)?;
         return Ok(());
     }
     match command(rt.alloc(), texts.as_slice()).map_err(HostError::from)? {
@@ -160,17 +194,18 @@ fn run(
             cpu,
             steps,
             keys,
-        } => com(rt, file, cpu, keys, steps)?,
+        } => com(rt, file, cpu, keys, steps, is_screen)?,
         Task::Asm { source, out } => asm(rt, outputs, source, out)?,
         Task::List { file } => list(rt, file)?,
         Task::Run { config } => run_sessions(rt, outputs, config)?,
-        Task::Debug { file, cpu } => debug(rt, file, cpu)?,
+        Task::Debug { file, cpu } => debug(rt, file, cpu, is_screen)?,
     }
     Ok(())
 }
 
 fn main(rt: HostRuntime) -> ExitCode {
-    match run(&rt, Outputs::new(process::id(rt.process()))) {
+    let is_terminal = rt.stdout().is_terminal();
+    match run(&rt, Outputs::new(process::id(rt.process())), is_terminal) {
         Ok(()) => ExitCode::SUCCESS,
         Err(refused) => {
             let _ = eprintln!(rt; "cpmhost: {refused}");
