@@ -3,6 +3,7 @@ ghost use Rattle.std.specs.Prelude.{◌≡◌};
 ghost use Rattle.cpm_host.specs.declared.error.HostError.TheVariants.{OutOfMemory};
 ghost use Rattle.cpm_host.specs.Refusals.{status_of, host_error_of, host_error_of_config, host_error_of_debug, host_error_of_opening, host_error_of_reading};
 
+use crate::damage::Damage;
 use cpm_asm::AsmErrorKind;
 use cpm_batch::ReadError;
 use cpm_command::{Fault, UsageError, Word};
@@ -25,6 +26,12 @@ pub enum HostError {
     /// The configuration is refused.
     #[error("HO2 {0}")]
     ConfigRefused(ConfigError),
+    /// The directory of the image in a file doesn't agree with itself.
+    #[error("HO6 '{name}': {damage}")]
+    ImageDamaged {
+        name: Word,
+        damage: Damage,
+    },
     /// A file of a run is refused: HO3 a key script, HO4 what can't be read, HO6 an image.
     #[error("{0}")]
     FileRefused(ReadError),
@@ -128,6 +135,7 @@ impl HostError {
             HostError::OutputUnwritable(_)
             | HostError::FileUnwritable { .. }
             | HostError::WriteFault(_) => 5,
+            HostError::ImageDamaged { .. } => 6,
             HostError::SourceRefused { .. } => 7,
             HostError::OutOfMemory => 8,
             HostError::OpeningRefused(_)
