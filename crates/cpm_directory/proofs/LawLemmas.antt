@@ -39,7 +39,7 @@ from_tests : (d : Dpb) (es : List Entry) (b : ℕ) → (is_directory_block d b |
 from_tests d es b h =
     elim (cases_lt b (d.last_block + 1)) [ inl lt ↦ within d es b lt ∙ h | inr ge ↦ past d es b ge ]
 
-number_within : (e : Entry) (s : ℕ) → block_number e.extent s ≢ 0 → s < length e.extent.blocks
+pub number_within : (e : Entry) (s : ℕ) → block_number e.extent s ≢ 0 → s < length e.extent.blocks
 unfolding block_number
 number_within e s h =
     elim (cases_lt s (length e.extent.blocks)) [
@@ -51,7 +51,7 @@ by_number : (e : Entry) (s : ℕ) → eqb (get_or e.extent.blocks s 0) (block_nu
 unfolding block_number
 by_number e s = eq-eqb _ _ refl
 
-has_number : (es : List Entry) (i s : ℕ) → InUse es i → block_number (entry_at es i).extent s ≢ 0 → has_block (block_number (entry_at es i).extent s) (entry_at es i) ≡ true
+pub has_number : (es : List Entry) (i s : ℕ) → InUse es i → block_number (entry_at es i).extent s ≢ 0 → has_block (block_number (entry_at es i).extent s) (entry_at es i) ≡ true
 unfolding has_block
 has_number es i s used h =
     and_from _ _ (ap not (ne_eqb _ _ used.used)) (list_any_at (λ number. eqb number (block_number (entry_at es i).extent s)) (entry_at es i).extent.blocks s 0 (number_within (entry_at es i) s h) (by_number (entry_at es i) s))

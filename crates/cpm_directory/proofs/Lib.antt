@@ -8,3 +8,5 @@ pub mod LoginLemmas
 pub mod ReservedLemmas
 pub mod TextLemmas
 pub mod LawLemmas
+pub mod CheckingLemmas
+pub mod CheckedLemmas

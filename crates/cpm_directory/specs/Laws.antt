@@ -1,12 +1,13 @@
 -- The laws of directories, over all disks.
-use Rattle.std.specs.Prelude.{◌≡◌, ◌≢◌, ◌⊎◌, ℕ, ◌+◌, ◌*◌, ◌<◌, ◌≤◌, true, List}
+use Rattle.std.specs.Prelude.{◌≡◌, ◌≢◌, ◌⊎◌, ◌↔◌, ℕ, ◌+◌, ◌*◌, ◌<◌, ◌≤◌, true, List, None}
 use Rattle.cpm_geom.specs.declared.dpb.Dpb.{Dpb}
 use Rattle.cpm_geom.specs.Geometry.{dpb_of, IsRecord, record_index}
 use Rattle.cpm_geom.specs.Disk.{Disk, IsDisk, with_sector}
 use Rattle.cpm_files.specs.declared.extent.Entry.{Entry}
-use Rattle.cpm_files.specs.Files.{entry_at, InUse, block_number, directory_records, is_reserved, IsFormat}
+use Rattle.cpm_files.specs.Files.{entry_at, InUse, block_number, directory_records, is_reserved, IsFormat, IsWellFormed}
 use Rattle.cpm_directory.specs.Directory.{entries_of}
 use Rattle.cpm_directory.specs.Login.{reserved_at_login}
+use Rattle.cpm_directory.specs.WellFormed.{fault_of}
 
 -- a record that is written outside the directory leaves the entries
 abbrev pub OutsideLaw : Type 0
@@ -23,3 +24,10 @@ pub record ReservesAtLogin (d : Dpb) (es : List Entry) : Type 0 where
 
 abbrev pub LoginLaw : Type 0
 LoginLaw = (d : Dpb) (es : List Entry) → IsFormat d → ReservesAtLogin d es
+
+-- the directory of a disk is checked without a fault exactly where the drive, logged in, agrees with itself: that is what the laws of files ask of it
+abbrev pub CheckedLaw : Type 0
+CheckedLaw =
+    (disk : Disk) → IsDisk disk
+    → (((i : ℕ) → fault_of (dpb_of disk.format) (entries_of disk) i ≡ None)
+    ↔ IsWellFormed (dpb_of disk.format) (entries_of disk) (reserved_at_login (dpb_of disk.format) (entries_of disk)))

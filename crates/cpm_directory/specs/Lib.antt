@@ -3,4 +3,5 @@ pub mod Matching
 pub mod Directory
 pub mod Login
 pub mod CommandLine
+pub mod WellFormed
 pub mod Laws

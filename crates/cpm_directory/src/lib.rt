@@ -3,8 +3,10 @@
 
 mod bits;
 pub mod block;
+pub mod checking;
 pub mod command_line;
 pub mod directory;
+pub mod fault;
 pub mod laws;
 pub mod lent;
 pub mod listed;
@@ -12,9 +14,11 @@ pub mod pattern;
 pub mod reserved;
 
 pub use block::block_at;
+pub use checking::well_formed;
 pub use command_line::parse_fcb;
 pub use cpm_files::{Entry, Extent, Fcb};
 pub use directory::{DirectoryError, entry, find, first_free, put_entry};
+pub use fault::DriveFault;
 pub use lent::LentImage;
 pub use listed::ListedImage;
 pub use pattern::{Pattern, is_named};

@@ -62,7 +62,7 @@ fn is_in_group(dpb: &Dpb, wanted: Option<u16>, number: u16) -> bool
 
 /// The group of an extent.
 #[tactic(auto, unfolding(cpm_files::specs::Files::group_of))]
-fn group_of(dpb: &Dpb, number: u16) -> u16
+pub(crate) fn group_of(dpb: &Dpb, number: u16) -> u16
     ensures { result ≡ group_of dpb.now number }
 {
     number / (u16::from(dpb.extent_mask) + 1)

@@ -110,14 +110,14 @@ fn directory_blocks(dpb: &Dpb) -> Bits
 
 /// Whether AL0 or AL1 has the block's bit.
 #[tactic(auto, unfolding(cpm_files::specs::Reserved::is_directory_block))]
-fn is_directory_block(dpb: &Dpb, block: u16) -> bool
+pub(crate) fn is_directory_block(dpb: &Dpb, block: u16) -> bool
     ensures { result ≡ is_directory_block dpb.now block }
 {
     block < 16 && (dpb.directory_bits >> (15 - block)) % 2 == 1
 }
 
 /// Marks the blocks of these numbers, of which 0 is none.
-fn mark(blocks: &mut Bits, numbers: &[u16])
+pub(crate) fn mark(blocks: &mut Bits, numbers: &[u16])
     requires { length blocks.old ≡ 512 }
     ensures size { length blocks.new ≡ 512 }
     ensures zero { slice_index_or blocks.new 0 true ≡ slice_index_or blocks.old 0 true }
