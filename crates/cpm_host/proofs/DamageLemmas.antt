@@ -105,8 +105,7 @@ told d es i fault h = go (eqb (entry_at es i).user deleted) refl h
     go : (b : Bool) → eqb (entry_at es i).user deleted ≡ b → cond b None (option_or (bad_block_in d es i) (option_or (twice_block_in es i) (twice_entry_in d es i))) ≡ Some fault → (i < length es) × IsToldOf i fault
     go true is e = absurd (none-some fault e)
     go false is e =
-        let used : (entry_at es i).user ≢ deleted = eqb-false _ _ is in
-        (
+        let used : (entry_at es i).user ≢ deleted = eqb-false _ _ is in (
           in_use_within es i used,
           first_told i _ _ fault (bad_told d es i fault) (first_told i _ _ fault (twice_told es i fault used) (entry_told d es i fault)) e,
         )

@@ -94,7 +94,10 @@ impl fmt::Display for Damage {
                 block,
                 owner,
             } if owner == entry => {
-                write!(f, "directory entry {entry}, {file}, has block {block} twice")
+                write!(
+                    f,
+                    "directory entry {entry}, {file}, has block {block} twice"
+                )
             }
             DriveFault::TwiceBlock {
                 entry,

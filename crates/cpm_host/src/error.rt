@@ -88,6 +88,7 @@ pub enum HostError {
 }
 
 /// What is wrong with a statement, with what stands in its line.
+#[derive(Clone, Copy)]
 struct SourceFault {
     kind: AsmErrorKind,
     found: Word,

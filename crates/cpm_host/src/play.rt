@@ -81,13 +81,13 @@ fn play_refusal(config: &Config, refusal: HostError) -> HostError
     ensures { (h : HostValue) (is : List SessionInput) → IsSlotRefusal h is refusal → IsPlayRefusal config.now h is result }
 {
     match refusal {
-        HostError::SessionRefused {
-            name,
-            fault: OpenError::NoFrames,
-        } => HostError::FramesExceeded {
-            name,
-            quotas: quotas_of(config),
-            frames: config.frames,
+        HostError::SessionRefused { name, fault } => match fault {
+            OpenError::NoFrames => HostError::FramesExceeded {
+                name,
+                quotas: quotas_of(config),
+                frames: config.frames,
+            },
+            fault => HostError::SessionRefused { name, fault },
         },
         other => other,
     }

@@ -9,7 +9,8 @@ mod output;
 
 use cpm_flags::Cpu;
 use cpm_host::{
-    Config, HostError, Script, Task, command, help, run_asm, run_com, run_debug, run_host, run_list,
+    Config, HostError, Script, Task, command, help, run_asm, run_check, run_com, run_debug,
+    run_host, run_list,
 };
 use files::{MachineFiles, check_outputs, read_file, write_file};
 use output::Outputs;
@@ -56,6 +57,9 @@ fn play(
 ) -> Result<(), HostError> {
     let ending = run_com(rt.alloc(), cpu, program, script, steps, &mut io::writer(rt))?;
     // The program ran and its text is out, even where nobody reads how it ended.
+    if let Some(bytes) = ending.illegal() {
+        let _ = eprintln!(rt; "{bytes}");
+    }
     let _ = eprintln!(rt; "{ending}");
     Ok(())
 }
@@ -112,6 +116,12 @@ fn list(rt: &(impl Files + Print + AllocGlobal), file: &str) -> Result<(), HostE
     }
 }
 
+/// Prints that the image in a file is in order.
+fn check(rt: &(impl Files + Print + AllocGlobal), file: &str) -> Result<(), HostError> {
+    let bytes = read_file(rt, file)?;
+    run_check(file, bytes, &mut io::writer(rt))
+}
+
 /// Runs the program in a file as the lines of standard input say, and prints what is answered.
 fn debug(
     rt: &(impl Files + Input + Print + AllocGlobal),
@@ -148,6 +158,7 @@ fn run(
         } => com(rt, file, cpu, keys, steps),
         Task::Asm { source, out } => asm(rt, outputs, source, out),
         Task::List { file } => list(rt, file),
+        Task::Check { image } => check(rt, image),
         Task::Run { config } => run_sessions(rt, outputs, config),
         Task::Debug { file, cpu } => debug(rt, file, cpu),
     }
