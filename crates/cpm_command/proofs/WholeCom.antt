@@ -1,5 +1,5 @@
 -- Words with no fault give the whole entries of a subcommand.
-use Rattle.std.proofs.Common.{◌≡◌, ◌∙◌, ◌&&◌, ◌||◌, ap, sym, subst, refl, inl, inr, Bool, true, false, cond, not, true≢false, List, [], ◌∷◌, Option, Some, None, IsSome, option_map, is_some, codes}
+use Rattle.std.proofs.Common.{◌≡◌, ◌∙◌, ◌&&◌, ◌||◌, ap, sym, subst, refl, inl, inr, Bool, true, false, cond, not, true≢false, List, [], Option, Some, None, IsSome, option_map, is_some, codes}
 use Rattle.std.specs.Option.{option_map_or}
 use Rattle.std.specs.Str.{bytes_eq}
 use Rattle.clap.specs.Walk.{Row, Rule, Text, finished, nothing_held, one_of, rows_after, settled, walk}
@@ -10,7 +10,7 @@ use Rattle.clap.specs.Kinds.{check_kinds}
 use Rattle.clap.specs.Faults.{check_fault, entered_fault, fault_of, level_fault}
 use Rattle.clap.specs.declared.builder.value_parser.ValueParser.TheVariants as parser
 use Rattle.clap.proofs.ValueTestLemmas.{accepts-Accepts}
-use Rattle.cpm_command.specs.CommandLine.{IsCount, IsPick, IsWhole, IsWholeAsm, IsWholeCom, IsWholeDebug, IsWholeList, IsWholeRun, asm_app, com_app, debug_app, host_app, list_app, operand, run_app, steps_option, z80_flag}
+use Rattle.cpm_command.specs.CommandLine.{IsCount, IsPick, IsWhole, IsWholeAsm, IsWholeCheck, IsWholeCom, IsWholeDebug, IsWholeList, IsWholeRun, asm_app, check_app, com_app, debug_app, host_app, list_app, operand, run_app, steps_option, z80_flag}
 use Rattle.cpm_flags.specs.declared.regs.Cpu.TheVariants.{I8080, Z80}
 use Rattle.cpm_command.proofs.FilledRows.{AllFilled, HasText, IsPlain, defaults_have, given_has, plain_by_ids, same_bytes, text_filled}
 use Rattle.cpm_command.proofs.WalkRows.{HasNoShorts, level_checked, level_filled}
@@ -31,6 +31,9 @@ asm_built = leaf asm_app.top
 
 abbrev list_built : Shape
 list_built = leaf list_app.top
+
+abbrev check_built : Shape
+check_built = leaf check_app.top
 
 abbrev run_built : Shape
 run_built = leaf run_app.top
@@ -150,6 +153,25 @@ asm_whole words e =
       out = subst IsSome (sym (text_filled asm_built.rules asm_plain out_rule (inr (inl refl)) rows all (given_has (codes "out") rows given.1)).first) refl;
     }
 
+check_plain : IsPlain check_built.rules
+check_plain = plain_by_ids check_built.rules refl (record { action = inl refl; values = inl refl }, tt)
+
+check_no_shorts : HasNoShorts check_built.rules
+check_no_shorts x = refl
+
+abbrev image_rule : Rule
+image_rule = with_index 1 (filled (operand (codes "image")))
+
+check_whole : (words : List Text) → level_fault check_built [] nothing_held words false [] ≡ [] → IsWholeCheck (rows_after check_built.rules [] words)
+check_whole words e =
+    let rows = rows_after check_built.rules [] words in
+    let all = level_filled check_built check_plain check_no_shorts [] nothing_held words false [] e tt in
+    let checked : check_fault check_built rows false ≡ [] = (level_checked check_built [] nothing_held words false [] e).1 in
+    record {
+      image = subst IsSome (sym (text_filled check_built.rules check_plain image_rule (inl refl) rows all
+          (given_has (codes "image") rows (given_word (is_given (codes "image") rows) checked))).first) refl;
+    }
+
 run_plain : IsPlain run_built.rules
 run_plain = plain_by_ids run_built.rules refl (record { action = inl refl; values = inl refl }, tt)
 
@@ -192,9 +214,9 @@ debug_whole words e =
 -- ---- the whole command line
 
 -- the subcommand that a word names, by whether it is the name of each
-abbrev found : Bool → Bool → Bool → Bool → Bool → Option Shape
-found a b d r g = cond a (Some com_built) (cond b (Some asm_built) (cond d (Some list_built)
-    (cond r (Some run_built) (cond g (Some debug_built) None))))
+abbrev found : Bool → Bool → Bool → Bool → Bool → Bool → Option Shape
+found a b d k r g = cond a (Some com_built) (cond b (Some asm_built) (cond d (Some list_built)
+    (cond k (Some check_built) (cond r (Some run_built) (cond g (Some debug_built) None)))))
 
 -- words with no fault name a subcommand, and give it whole entries
 pub faultless_whole : (words : List Text) → fault_of host_app words ≡ [] → IsWhole (subcommand_of host_app words)
@@ -208,17 +230,18 @@ faultless_whole words e =
     has true h = refl
     has false h = absurd (let bad : ⊥ = cc in bad)
 
-    named : (p : Text × List Text) (a b d r g : Bool) → is_some (option_map (λ s. rows_at s p.1) (found a b d r g)) ≡ true
-        → option_map_or (λ s. level_fault s [] nothing_held p.1 false []) (found a b d r g) [] ≡ []
-        → IsWhole (option_map (λ s. rows_at s p.1) (found a b d r g))
-    named p true b d r g some h = inl (refl, com_whole p.1 h)
-    named p false true d r g some h = inr (inl (refl, asm_whole p.1 h))
-    named p false false true r g some h = inr (inr (inl (refl, list_whole p.1 h)))
-    named p false false false true g some h = inr (inr (inr (inl (refl, run_whole p.1 h))))
-    named p false false false false true some h = inr (inr (inr (inr (refl, debug_whole p.1 h))))
-    named p false false false false false some h = absurd (true≢false (sym some))
+    named : (p : Text × List Text) (a b d k r g : Bool) → is_some (option_map (λ s. rows_at s p.1) (found a b d k r g)) ≡ true
+        → option_map_or (λ s. level_fault s [] nothing_held p.1 false []) (found a b d k r g) [] ≡ []
+        → IsWhole (option_map (λ s. rows_at s p.1) (found a b d k r g))
+    named p true b d k r g some h = inl (refl, com_whole p.1 h)
+    named p false true d k r g some h = inr (inl (refl, asm_whole p.1 h))
+    named p false false true k r g some h = inr (inr (inl (refl, list_whole p.1 h)))
+    named p false false false true r g some h = inr (inr (inr (inl (refl, check_whole p.1 h))))
+    named p false false false false true g some h = inr (inr (inr (inr (inl (refl, run_whole p.1 h)))))
+    named p false false false false false true some h = inr (inr (inr (inr (inr (refl, debug_whole p.1 h)))))
+    named p false false false false false false some h = absurd (true≢false (sym some))
 
     go : (at : Option (Text × List Text)) → is_some (entered host_built at) ≡ true → entered_fault host_built at ≡ [] → IsWhole (entered host_built at)
     go None some h = absurd (true≢false (sym some))
     go (Some p) some h = named p (answers_to p.0 (label_of com_built)) (answers_to p.0 (label_of asm_built)) (answers_to p.0 (label_of list_built))
-        (answers_to p.0 (label_of run_built)) (answers_to p.0 (label_of debug_built)) some h
+        (answers_to p.0 (label_of check_built)) (answers_to p.0 (label_of run_built)) (answers_to p.0 (label_of debug_built)) some h

@@ -10,7 +10,7 @@ use Rattle.clap.specs.declared.builder.value_parser.ValueParser.TheVariants as p
 use Rattle.cpm_flags.specs.declared.regs.Cpu.{Cpu}
 use Rattle.cpm_flags.specs.declared.regs.Cpu.TheVariants.{I8080, Z80}
 use Rattle.cpm_command.specs.declared.task.Task.{Task}
-use Rattle.cpm_command.specs.declared.task.Task.TheVariants.{Asm, Com, Debug, List as Listing, Run}
+use Rattle.cpm_command.specs.declared.task.Task.TheVariants.{Asm, Check, Com, Debug, List as Listing, Run}
 
 -- a word that has to be there, with a name in usage
 abbrev pub operand : List ℕ → Rule
@@ -48,6 +48,10 @@ asm_app = with_rule (with_rule (new_app (codes "asm")) (operand (codes "source")
 abbrev pub list_app : App
 list_app = with_rule (new_app (codes "list")) (operand (codes "file"))
 
+-- `check IMAGE`
+abbrev pub check_app : App
+check_app = with_rule (new_app (codes "check")) (operand (codes "image"))
+
 -- `run CONFIG`
 abbrev pub run_app : App
 run_app = with_rule (new_app (codes "run")) (operand (codes "config"))
@@ -67,8 +71,8 @@ top_app = record (new_app (codes "cpmhost")) {
 }
 
 abbrev pub host_app : App
-host_app = with_subcommand (with_subcommand (with_subcommand (with_subcommand (with_subcommand top_app
-    com_app.top) asm_app.top) list_app.top) run_app.top) debug_app.top
+host_app = with_subcommand (with_subcommand (with_subcommand (with_subcommand (with_subcommand (with_subcommand top_app
+    com_app.top) asm_app.top) list_app.top) check_app.top) run_app.top) debug_app.top
 
 -- an argument of clap with this rule, which is the command's own
 pub record IsArgumentOf (r : Rule) (a : Arg) : Type 0 where
@@ -106,6 +110,8 @@ HasEntriesOf given (Asm source out) =
     × (first_of (codes "out") given.1 ≡ Some out.now)
 HasEntriesOf given (Listing file) =
     (given.0 ≡ codes "list") × (first_of (codes "file") given.1 ≡ Some file.now)
+HasEntriesOf given (Check image) =
+    (given.0 ≡ codes "check") × (first_of (codes "image") given.1 ≡ Some image.now)
 HasEntriesOf given (Run config) =
     (given.0 ≡ codes "run") × (first_of (codes "config") given.1 ≡ Some config.now)
 HasEntriesOf given (Debug file cpu) =
@@ -141,6 +147,10 @@ pub record IsWholeAsm (rows : List Row) : Type 0 where
 pub record IsWholeList (rows : List Row) : Type 0 where
   pub file : IsSome (first_of (codes "file") rows)
 
+-- the entries of `check` are whole
+pub record IsWholeCheck (rows : List Row) : Type 0 where
+  pub image : IsSome (first_of (codes "image") rows)
+
 -- the entries of `run` are whole
 pub record IsWholeRun (rows : List Row) : Type 0 where
   pub config : IsSome (first_of (codes "config") rows)
@@ -153,8 +163,8 @@ pub record IsWholeDebug (rows : List Row) : Type 0 where
 -- the entries are whole as those of the subcommand of this name
 abbrev pub IsWholeOf : Text × List Row → Type 0
 IsWholeOf p = ((p.0 ≡ codes "com") × IsWholeCom p.1) ⊎ ((p.0 ≡ codes "asm") × IsWholeAsm p.1)
-    ⊎ ((p.0 ≡ codes "list") × IsWholeList p.1) ⊎ ((p.0 ≡ codes "run") × IsWholeRun p.1)
-    ⊎ ((p.0 ≡ codes "debug") × IsWholeDebug p.1)
+    ⊎ ((p.0 ≡ codes "list") × IsWholeList p.1) ⊎ ((p.0 ≡ codes "check") × IsWholeCheck p.1)
+    ⊎ ((p.0 ≡ codes "run") × IsWholeRun p.1) ⊎ ((p.0 ≡ codes "debug") × IsWholeDebug p.1)
 
 -- the subcommand is one of the program's, and its entries are whole
 abbrev pub IsWhole : Option (Text × List Row) → Type 0

@@ -10,7 +10,7 @@ is_help_flag word = bytes_eq word (codes "-h") || bytes_eq word (codes "--help")
 
 abbrev pub is_command_name : Text → Bool
 is_command_name word = bytes_eq word (codes "com") || (bytes_eq word (codes "asm") || (bytes_eq word (codes "list")
-    || (bytes_eq word (codes "run") || bytes_eq word (codes "debug"))))
+    || (bytes_eq word (codes "check") || (bytes_eq word (codes "run") || bytes_eq word (codes "debug")))))
 
 -- the first word is `help`
 abbrev pub begins_with_help : List Text → Bool

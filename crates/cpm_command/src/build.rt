@@ -1,7 +1,7 @@
 //! The command of `clap` that reads the words.
 ghost use Rattle.std.specs.Prelude.{◌≡◌, IfOk};
 ghost use Rattle.clap.specs.Words.{App, Rule, new_app, with_rule, with_subcommand};
-ghost use Rattle.cpm_command.specs.CommandLine.{IsArgumentOf, IsCommandOf, asm_app, com_app, debug_app, host_app, keys_option, list_app, operand, run_app, steps_option, top_app, z80_flag};
+ghost use Rattle.cpm_command.specs.CommandLine.{IsArgumentOf, IsCommandOf, asm_app, check_app, com_app, debug_app, host_app, keys_option, list_app, operand, run_app, steps_option, top_app, z80_flag};
 
 use clap::{Arg, ArgAction, Command};
 use std::alloc::{AllocError, Global};
@@ -107,6 +107,16 @@ fn list_command<'a>(alloc: Global) -> Result<Command<'a>, AllocError>
     with_argument(named(alloc, "list"), required_word(alloc, "file", "FILE"))
 }
 
+/// `check IMAGE`
+fn check_command<'a>(alloc: Global) -> Result<Command<'a>, AllocError>
+    ensures { IfOk result (IsCommandOf check_app) }
+{
+    with_argument(
+        named(alloc, "check"),
+        required_word(alloc, "image", "IMAGE"),
+    )
+}
+
 /// `run CONFIG`
 fn run_command<'a>(alloc: Global) -> Result<Command<'a>, AllocError>
     ensures { IfOk result (IsCommandOf run_app) }
@@ -132,6 +142,7 @@ pub(crate) fn host_command<'a>(alloc: Global) -> Result<Command<'a>, AllocError>
     let with_com = with_command(Ok(top_command(alloc)), com_command(alloc));
     let with_asm = with_command(with_com, asm_command(alloc));
     let with_list = with_command(with_asm, list_command(alloc));
-    let with_run = with_command(with_list, run_command(alloc));
+    let with_check = with_command(with_list, check_command(alloc));
+    let with_run = with_command(with_check, run_command(alloc));
     with_command(with_run, debug_command(alloc))
 }

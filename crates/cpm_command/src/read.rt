@@ -1,7 +1,7 @@
 //! Reading the entries that a command line gave.
 ghost use Rattle.std.specs.Prelude.{◌≡◌, [], IfOk, IfErr, IsSomeAnd, IsSome, Some, codes, map, option_map, true};
 ghost use Rattle.clap.specs.Words.{fault_of, first_of, found_of, one_of, rows_of, subcommand_of, subcommand_rows_of, takes};
-ghost use Rattle.cpm_command.specs.CommandLine.{HasEntriesOf, IsCount, IsPick, IsWhole, IsWholeAsm, IsWholeCom, IsWholeDebug, IsWholeList, IsWholeOf, IsWholeRun, ReadsCount, flag_text, host_app};
+ghost use Rattle.cpm_command.specs.CommandLine.{HasEntriesOf, IsCount, IsPick, IsWhole, IsWholeAsm, IsWholeCheck, IsWholeCom, IsWholeDebug, IsWholeList, IsWholeOf, IsWholeRun, ReadsCount, flag_text, host_app};
 ghost use Rattle.cpm_command.specs.Refusals.{IsRefusalOf};
 
 use crate::build::host_command;
@@ -80,6 +80,16 @@ fn list_task<'a>(matches: &ArgMatches<'a>) -> Task<'a>
     }
 }
 
+/// The task of `check`.
+fn check_task<'a>(matches: &ArgMatches<'a>) -> Task<'a>
+    requires { IsWholeCheck (rows_of (found_of matches.now)) }
+    ensures { HasEntriesOf (codes "check", rows_of (found_of matches.now)) result }
+{
+    Task::Check {
+        image: text_of(matches, "image"),
+    }
+}
+
 /// The task of `run`.
 fn run_task<'a>(matches: &ArgMatches<'a>) -> Task<'a>
     requires { IsWholeRun (rows_of (found_of matches.now)) }
@@ -111,6 +121,7 @@ fn task_named<'a>(name: &str, matches: &ArgMatches<'a>) -> Task<'a>
         "com" => com_task(matches),
         "asm" => asm_task(matches),
         "list" => list_task(matches),
+        "check" => check_task(matches),
         "run" => run_task(matches),
         _ => debug_task(matches),
     }

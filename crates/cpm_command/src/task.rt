@@ -22,6 +22,10 @@ pub enum Task<'a> {
     List {
         file: &'a str,
     },
+    /// `check IMAGE`: tell whether the directory of the drive in IMAGE agrees with itself.
+    Check {
+        image: &'a str,
+    },
     /// `run CONFIG`: run the sessions of the configuration in CONFIG.
     Run {
         config: &'a str,

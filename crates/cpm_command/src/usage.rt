@@ -20,6 +20,9 @@ Usage:
                    which begins at 0100h, to the file OUT
   cpmhost list FILE
                    list the program in FILE as instructions of the 8080
+  cpmhost check IMAGE
+                   print 'ok' if no two files in the image IMAGE of a drive
+                   share a block and each block can be a file's
   cpmhost debug FILE [--z80]
                    run the program in FILE as the lines of standard input say
   cpmhost --help   print this help
@@ -53,6 +56,7 @@ Examples:
   cpmhost com turbo.com --z80 --keys turbo.keys
   cpmhost asm hello.asm hello.com
   cpmhost list hello.com
+  cpmhost check work.img
 
 For com, standard output has what the program wrote to its console. The last
 line on standard error says how it ended, after how many steps, and where its
@@ -69,13 +73,14 @@ memory than its configuration allows.
 
 Exit status:
   0   the program or the sessions ran, however they ended, or OUT or the list
-      was written
+      was written, or the image is in order
   1   the command line is wrong
   2   the configuration is wrong; nothing is written
   3   a line of a key script is wrong; nothing is written
   4   a file can't be read, or has more than 16777216 bytes
   5   standard output or a file can't be written
-  6   the image of a drive is wrong; nothing is written
+  6   the image of a drive is wrong, or for check its directory; nothing is
+      written
   7   SOURCE has a fault, which is named with its line; OUT isn't touched
   8   memory ran out
   9   the program in FILE has more than 58112 bytes, or the quotas of all
@@ -95,7 +100,12 @@ fn is_flag(word: &str) -> bool
 fn is_command(word: &str) -> bool
     ensures { result ≡ is_command_name word.now }
 {
-    word == "com" || word == "asm" || word == "list" || word == "run" || word == "debug"
+    word == "com"
+        || word == "asm"
+        || word == "list"
+        || word == "check"
+        || word == "run"
+        || word == "debug"
 }
 
 /// Whether a flag for help stands before any `--`.

@@ -162,7 +162,7 @@ config_view c = record {
 abbrev pub IsJudged : Members → Result Config ConfigError → Type 0
 IsJudged ms (Ok c) = (config_in ms ≡ Ok (config_view c)) × (range_fault (config_view c) ≡ None)
     × (twice_fault (config_view c) ≡ None)
-IsJudged ms (Err (error.Key fault)) = config_in ms ≡ Err fault
+IsJudged ms (Err (error.Key refusal)) = config_in ms ≡ Err refusal.fault
 IsJudged ms (Err (error.Range p)) =
     (c : ConfigEntries) × (config_in ms ≡ Ok c) × (range_fault c ≡ Some p)
 IsJudged ms (Err (error.Twice p)) =

@@ -9,9 +9,10 @@ ghost use Rattle.cpm_config.specs.Rules.{IsJudged, IsRead};
 
 use crate::copies::config_of;
 use crate::draft::draft_of;
-use crate::fault::{ConfigError, Stop};
+use crate::fault::{ConfigError, KeyRefusal, Stop};
 use crate::names::twice_fault;
 use crate::ranges::range_fault;
+use crate::unknown::unknown_key;
 use cpm_flags::Cpu;
 use std::alloc::Global;
 use toml::Table;
@@ -77,14 +78,17 @@ fn text_fault(bytes: &[u8], fault: toml::de::Error) -> ConfigError
     }
 }
 
-/// Judges the entries of a document.
-fn judged(alloc: Global, table: &Table) -> Result<Config, ConfigError>
+/// Judges the entries of a document, which these bytes write.
+fn judged(alloc: Global, bytes: &[u8], table: &Table) -> Result<Config, ConfigError>
     ensures judged { IsJudged (table_view table.now) result }
     ensures memory { IsErrOf result ConfigError.OutOfMemory → table_view table.now ≡ no_members → ⊥ }
 {
     let draft = match draft_of(alloc, table) {
         Ok(draft) => draft,
-        Err(Stop::Fault(fault)) => return Err(ConfigError::Key(fault)),
+        Err(Stop::Fault(fault)) => {
+            let unknown = unknown_key(bytes, table, fault);
+            return Err(ConfigError::Key(KeyRefusal { fault, unknown }));
+        }
         Err(Stop::OutOfMemory) => return Err(ConfigError::OutOfMemory),
     };
     if let Some(place) = range_fault(&draft) {
@@ -114,7 +118,7 @@ impl Config {
         ensures memory { IsErrOf result ConfigError.OutOfMemory → IsBlank bytes.now → ⊥ }
     {
         match toml::table_from_slice(alloc, bytes) {
-            Ok(table) => judged(alloc, &table),
+            Ok(table) => judged(alloc, bytes, &table),
             Err(error) => Err(text_fault(bytes, error)),
         }
     }

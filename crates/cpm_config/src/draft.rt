@@ -7,7 +7,8 @@ ghost use Rattle.cpm_config.specs.Entries.{Reads, Text, config_in, draft_view, k
 use crate::fault::{KeyFault, Stop};
 use crate::field::{Field, Place};
 use crate::values::{
-    has_only, number_at, optional_text_at, optional_texts_at, text_at, texts_at, value_at,
+    SESSION_FIELDS, TOP_FIELDS, has_only, number_at, optional_text_at, optional_texts_at, text_at,
+    texts_at, value_at,
 };
 use std::alloc::Global;
 use toml::{Table, Value};
@@ -39,20 +40,7 @@ pub(crate) struct Draft<'a> {
 fn check_session_keys(table: &Table, session: u64) -> Result<(), KeyFault>
     ensures { result ≡ known_in_session session (table_view table.now) }
 {
-    let known = has_only(
-        table,
-        &[
-            Field::Name,
-            Field::Cpu,
-            Field::Quota,
-            Field::Steps,
-            Field::Drives,
-            Field::Console,
-            Field::Keys,
-            Field::List,
-            Field::Out,
-        ],
-    );
+    let known = has_only(table, &SESSION_FIELDS);
     if known {
         Ok(())
     } else {
@@ -211,15 +199,7 @@ fn sessions_at<'a>(alloc: Global, table: &'a Table) -> Result<Vec<SessionDraft<'
 fn check_top_keys(table: &Table) -> Result<(), KeyFault>
     ensures { result ≡ known_at_top (table_view table.now) }
 {
-    let known = has_only(
-        table,
-        &[
-            Field::Frames,
-            Field::Quantum,
-            Field::System,
-            Field::Sessions,
-        ],
-    );
+    let known = has_only(table, &TOP_FIELDS);
     if known {
         Ok(())
     } else {

@@ -4,7 +4,9 @@ ghost use Rattle.cpm_config.specs.declared.fault.Stop.TheVariants.{Fault, OutOfM
 ghost use Rattle.std.specs.Prelude.{◌≡◌};
 
 use crate::field::Place;
+use cpm_command::Word;
 use std::alloc::{AllocError, AllocFailed};
+use std::fmt;
 use thiserror::Error;
 
 /// What is wrong with the keys of a configuration.
@@ -21,6 +23,36 @@ pub enum KeyFault {
     Wanted(Place),
 }
 
+/// A key that is unknown where it stands.
+#[derive(Clone, Copy, Debug, PartialEq, Eq, Drop)]
+pub struct UnknownKey {
+    /// The key as it is shown in a message.
+    pub key: Word,
+    /// The line that writes it, from 1, where one is found.
+    pub line: Option<usize>,
+}
+
+/// What is wrong with the keys of a configuration, with the key that is unknown.
+#[derive(Clone, Copy, Debug, PartialEq, Eq, Drop)]
+pub struct KeyRefusal {
+    pub fault: KeyFault,
+    pub unknown: Option<UnknownKey>,
+}
+
+impl fmt::Display for KeyRefusal {
+    fn fmt<W: fmt::Write>(&self, f: &mut fmt::Formatter<W>) -> fmt::Result {
+        let fault = self.fault;
+        let Some(unknown) = self.unknown else {
+            return write!(f, "configuration: {fault}");
+        };
+        let key = unknown.key;
+        match unknown.line {
+            Some(line) => write!(f, "configuration, line {line}, '{key}': {fault}"),
+            None => write!(f, "configuration, '{key}': {fault}"),
+        }
+    }
+}
+
 /// Why a configuration is refused: the first kind of fault in the whole file, in this order.
 #[derive(Clone, Copy, Debug, PartialEq, Eq, Drop, Error)]
 pub enum ConfigError {
@@ -28,8 +60,8 @@ pub enum ConfigError {
     #[error("configuration, line {line}: {}", .fault.message())]
     Text { line: usize, fault: toml::de::Error },
     /// A key is missing, unknown or of another type.
-    #[error("configuration: {0}")]
-    Key(KeyFault),
+    #[error("{0}")]
+    Key(KeyRefusal),
     /// A value breaks a rule.
     #[error("configuration: {0} breaks a rule: {wanted} is wanted", wanted = .0.field.wanted())]
     Range(Place),

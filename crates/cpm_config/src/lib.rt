@@ -8,8 +8,9 @@ mod fault;
 mod field;
 mod names;
 mod ranges;
+mod unknown;
 mod values;
 
 pub use config::{Config, Session};
-pub use fault::{ConfigError, KeyFault};
+pub use fault::{ConfigError, KeyFault, KeyRefusal, UnknownKey};
 pub use field::{Field, Place};

@@ -13,6 +13,27 @@ use crate::field::{Field, Place};
 use std::alloc::Global;
 use toml::{Table, Value};
 
+/// The keys of a session.
+pub(crate) const SESSION_FIELDS: [Field; 9] = [
+    Field::Name,
+    Field::Cpu,
+    Field::Quota,
+    Field::Steps,
+    Field::Drives,
+    Field::Console,
+    Field::Keys,
+    Field::List,
+    Field::Out,
+];
+
+/// The keys at the top.
+pub(crate) const TOP_FIELDS: [Field; 4] = [
+    Field::Frames,
+    Field::Quantum,
+    Field::System,
+    Field::Sessions,
+];
+
 /// The value at a key.
 pub(crate) fn value_at<'a>(table: &'a Table, field: Field) -> Option<&'a Value>
     ensures { option_map (λ v. view v.now) result ≡ get_member (field_name field) (table_view table.now) }
@@ -110,7 +131,8 @@ pub(crate) fn optional_texts_at<'a>(
     }
 }
 
-fn is_one_of(key: &str, known: &[Field]) -> bool
+/// Whether a key is one of these.
+pub(crate) fn is_one_of(key: &str, known: &[Field]) -> bool
     ensures { result ≡ list_any (λ f. bytes_eq key.now (field_name f)) known.now }
 {
     known.iter().any(|field| key == field.name())

@@ -17,7 +17,10 @@ use Rattle.cpm_slots.specs.declared.opening.OpenError.TheVariants.{OutOfMemory}
 use Rattle.cpm_slots.specs.declared.opening.Opening.{Opening}
 use Rattle.cpm_slots.specs.declared.reply.Closed.{Closed}
 use Rattle.cpm_turns.specs.declared.scripted_slot.ScriptedSlot.{ScriptedSlot}
-use Rattle.cpm_host.specs.Playing.{IsClosed}
+use Rattle.cpm_config.specs.declared.config.Config.{Config}
+use Rattle.cpm_host.specs.Playing.{IsClosed, IsPlayRefusal, IsSlotRefusal}
+use Rattle.cpm_host.specs.declared.error.HostError.{HostError}
+use Rattle.cpm_host.specs.declared.error.HostError.TheVariants as refusal
 use Rattle.cpm_host.specs.Run.{IsFirstRefused, IsOpening}
 
 -- a fault that isn't the want of memory is the opening's
@@ -68,3 +71,9 @@ pub first_closes : (p q : ScriptedSlot) (ps rest all : List ScriptedSlot) (s : M
 first_closes p q ps rest all s h fault is first at r =
     let same : q ≡ p = cc in
     can_close h p.id.0 s fault at (subst (λ (x : ScriptedSlot). close_reply (Err fault) ≡ reply_at h x.id.0 Closes) same r)
+
+-- how playing is refused, where it is not for want of frames
+pub other_refused : (config : Config) (h : Host) (is : List SessionInput) (e : HostError) → ((name : _) (fault : OpenError) → e ≡ refusal.SessionRefused name fault → ⊥) → IsSlotRefusal h is e → IsPlayRefusal config h is e
+other_refused config h is (refusal.SessionRefused name fault) other r = absurd (other name fault refl)
+other_refused config h is refusal.OutOfMemory other r = tt
+other_refused config h is _ other r = absurd r

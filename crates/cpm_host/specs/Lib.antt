@@ -1,4 +1,5 @@
 pub mod Asm
+pub mod Check
 pub mod Com
 pub mod Listing
 pub mod Playing

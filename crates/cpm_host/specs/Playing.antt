@@ -3,6 +3,7 @@ use Rattle.std.specs.Prelude.{⊤, ◌≡◌, ◌≢◌, ℕ, List, [], ◌∷�
 use Rattle.cpm_batch.specs.Inputs.{SessionInput}
 use Rattle.cpm_batch.specs.Outputs.{SessionOutput, left_by}
 use Rattle.cpm_batch.specs.declared.output.SessionFiles.{SessionFiles}
+use Rattle.cpm_config.specs.declared.config.Config.{Config}
 use Rattle.cpm_config.specs.declared.config.Session.{Session}
 use Rattle.cpm_disks.specs.Disks.{images_of}
 use Rattle.cpm_geom.specs.Disk.{Disk}
@@ -10,11 +11,12 @@ use Rattle.cpm_sessions.specs.Host.{Host, SlotState, refusal_of, slot_at, with_o
 use Rattle.cpm_slots.specs.MachineState.{MachineState}
 use Rattle.cpm_slots.specs.Serve.{look_of}
 use Rattle.cpm_slots.specs.declared.opening.Opening.{Opening}
+use Rattle.cpm_slots.specs.declared.opening.OpenError.TheVariants.{NoFrames}
 use Rattle.cpm_slots.specs.declared.reply.Closed.{Closed}
 use Rattle.cpm_turns.specs.ScriptedSlots.{IsNew, keys_of, steps_of}
 use Rattle.cpm_turns.specs.Playing.{IsInOrder, IsPlayed}
 use Rattle.cpm_turns.specs.declared.scripted_slot.ScriptedSlot.{ScriptedSlot}
-use Rattle.cpm_host.specs.Run.{IsFirstRefused, IsOpening, Reported, files_left, report_view, reports_of, start_of}
+use Rattle.cpm_host.specs.Run.{IsFirstRefused, IsOpening, Reported, files_left, quotas_of, report_view, reports_of, start_of}
 use Rattle.cpm_host.specs.declared.report.SessionReport.{SessionReport}
 use Rattle.cpm_host.specs.declared.error.HostError.{HostError}
 use Rattle.cpm_host.specs.declared.error.HostError.TheVariants as refusal
@@ -66,6 +68,14 @@ abbrev pub IsSlotRefusal : Host → List SessionInput → HostError → Type 0
 IsSlotRefusal h is (refusal.SessionRefused name fault) = IsFirstRefused h is fault
 IsSlotRefusal h is refusal.OutOfMemory = ⊤
 IsSlotRefusal h is _ = ⊥
+
+-- how playing all sessions of a configuration is refused
+abbrev pub IsPlayRefusal : Config → Host → List SessionInput → HostError → Type 0
+IsPlayRefusal config h is (refusal.SessionRefused name fault) = (fault ≢ NoFrames) × IsFirstRefused h is fault
+IsPlayRefusal config h is (refusal.FramesExceeded name quotas frames) =
+    (quotas ≡ quotas_of config) × (frames ≡ config.frames) × IsFirstRefused h is NoFrames
+IsPlayRefusal config h is refusal.OutOfMemory = ⊤
+IsPlayRefusal config h is _ = ⊥
 
 -- the first of the scripted slots, with what is left of its slot, which was closed
 pub record IsClosed (p : ScriptedSlot) (ps : List ScriptedSlot) (s : MachineState) (old new : Host) (r : Option (ScriptedSlot × Closed)) (rest : List ScriptedSlot) : Type 0 where

@@ -3,7 +3,7 @@ use Rattle.std.specs.Prelude.{⊤, ℕ}
 use Rattle.cpm_command.specs.declared.fault.UsageError.{UsageError}
 use Rattle.cpm_command.specs.declared.fault.UsageError.TheVariants as usage
 use Rattle.cpm_host.specs.declared.error.HostError.{HostError}
-use Rattle.cpm_host.specs.declared.error.HostError.TheVariants.{Usage, NotText, ConfigRefused, FileRefused, FileUnreadable, FileUnwritable, InputUnreadable, OutputUnwritable, SessionRefused, SourceRefused, OutOfMemory, OpeningRefused, ProgramTooLong, WriteFault}
+use Rattle.cpm_host.specs.declared.error.HostError.TheVariants.{Usage, NotText, ConfigRefused, FileRefused, FileUnreadable, FileUnwritable, FramesExceeded, ImageDamaged, InputUnreadable, OutputUnwritable, SessionRefused, SourceRefused, OutOfMemory, OpeningRefused, ProgramTooLong, WriteFault}
 use Rattle.cpm_batch.specs.Inputs.{status_of_reading}
 use Rattle.cpm_batch.specs.declared.error.ReadError.{ReadError}
 use Rattle.cpm_batch.specs.declared.error.ReadError.TheVariants as read
@@ -25,10 +25,12 @@ status_of (InputUnreadable reason) = 4
 status_of (OutputUnwritable reason) = 5
 status_of (FileUnwritable name reason) = 5
 status_of (WriteFault name) = 5
+status_of (ImageDamaged name damage) = 6
 status_of (SourceRefused line kind found) = 7
 status_of OutOfMemory = 8
 status_of (OpeningRefused fault) = 9
 status_of (SessionRefused name fault) = 9
+status_of (FramesExceeded name quotas frames) = 9
 status_of (ProgramTooLong count) = 9
 
 -- what a file that is not read comes to

@@ -1,5 +1,5 @@
 -- What running the sessions of a configuration writes and reports, and when it is refused. All of it is own.
-use Rattle.std.specs.Prelude.{⊤, ◌≡◌, ◌⊎◌, ℕ, ◌==◌, ◌&&◌, not, nat_le, List, [], ◌∷◌, length, map, Option, Some, None, string_bytes, if◌then◌else◌}
+use Rattle.std.specs.Prelude.{⊤, ◌≡◌, ◌≢◌, ◌⊎◌, ℕ, sum_by, ◌==◌, ◌&&◌, not, nat_le, List, [], ◌∷◌, length, map, Option, Some, None, string_bytes, if◌then◌else◌}
 use Rattle.cpm_batch.specs.Inputs.{AreInputs, IsReadRefusal, SessionInput, needs_of_config}
 use Rattle.cpm_batch.specs.Outputs.{SessionOutput, files_of_all}
 use Rattle.cpm_batch.specs.Reads.{AreRead}
@@ -15,6 +15,7 @@ use Rattle.cpm_sessions.specs.Host.{Host, new_host, refusal_of, with_opened}
 use Rattle.cpm_slots.specs.MachineState.{MachineState, opened_machine}
 use Rattle.cpm_slots.specs.declared.opening.Opening.{Opening}
 use Rattle.cpm_slots.specs.declared.opening.OpenError.{OpenError}
+use Rattle.cpm_slots.specs.declared.opening.OpenError.TheVariants.{NoFrames}
 use Rattle.cpm_slots.specs.declared.reply.End.{End}
 use Rattle.cpm_store.specs.Files.{Files, Text, Told}
 use Rattle.cpm_store.specs.Log.{Access, AreNoWrites, AreWrites, RanBy, StopsAfter, Then}
@@ -116,6 +117,10 @@ IsFirstRefused h [] fault = ⊥
 IsFirstRefused h (i ∷ is) fault = (o : Opening) × IsOpening i o
     × ((refusal_of h o ≡ Some fault) ⊎ ((refusal_of h o ≡ None) × IsFirstRefused (with_opened h o) is fault))
 
+-- the pages that all sessions may write
+abbrev pub quotas_of : Config → ℕ
+quotas_of config = sum_by (λ (s : Session). s.quota) config.sessions.items
+
 -- the session's opening is refused
 pub record IsOpenRefusal (config : Config) (fault : OpenError) (old : Option Files) : Type 0 where
   pub system : Disk
@@ -141,7 +146,9 @@ IsWriteRefusal outputs old new _ = ⊥
 abbrev pub IsRunRefusal : Config → Option Files → Option Files → HostError → Type 0
 IsRunRefusal config old new (refusal.ConfigRefused (Range place)) = (place.session ≡ 0) × (top_fault config ≡ Some place.field) × (new ≡ old)
 IsRunRefusal config old new (refusal.FileRefused e) = IsReadRefusal old (needs_of_config config) e × (new ≡ old)
-IsRunRefusal config old new (refusal.SessionRefused name fault) = IsOpenRefusal config fault old × (new ≡ old)
+IsRunRefusal config old new (refusal.SessionRefused name fault) = (fault ≢ NoFrames) × IsOpenRefusal config fault old × (new ≡ old)
+IsRunRefusal config old new (refusal.FramesExceeded name quotas frames) =
+    (quotas ≡ quotas_of config) × (frames ≡ config.frames) × IsOpenRefusal config NoFrames old × (new ≡ old)
 IsRunRefusal config old new (refusal.WriteFault name) = StopsWriting config old new
 IsRunRefusal config old new refusal.OutOfMemory = (new ≡ old) ⊎ StopsWriting config old new
 IsRunRefusal config old new _ = ⊥

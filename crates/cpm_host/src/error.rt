@@ -3,6 +3,7 @@ ghost use Rattle.std.specs.Prelude.{◌≡◌};
 ghost use Rattle.cpm_host.specs.declared.error.HostError.TheVariants.{OutOfMemory};
 ghost use Rattle.cpm_host.specs.Refusals.{status_of, host_error_of, host_error_of_config, host_error_of_debug, host_error_of_opening, host_error_of_reading};
 
+use crate::damage::Damage;
 use cpm_asm::AsmErrorKind;
 use cpm_batch::ReadError;
 use cpm_command::{Fault, UsageError, Word};
@@ -10,7 +11,7 @@ use cpm_config::ConfigError;
 use cpm_debug::DebugError;
 use cpm_slots::OpenError;
 use std::alloc::{AllocError, AllocFailed};
-use std::io;
+use std::{fmt, io};
 use thiserror::Error;
 
 /// Why a command is refused. Its text is one line that begins with its code.
@@ -25,6 +26,12 @@ pub enum HostError {
     /// The configuration is refused.
     #[error("HO2 {0}")]
     ConfigRefused(ConfigError),
+    /// The directory of the image in a file doesn't agree with itself.
+    #[error("HO6 '{name}': {damage}")]
+    ImageDamaged {
+        name: Word,
+        damage: Damage,
+    },
     /// A file of a run is refused: HO3 a key script, HO4 what can't be read, HO6 an image.
     #[error("{0}")]
     FileRefused(ReadError),
@@ -50,7 +57,7 @@ pub enum HostError {
     #[error("HO5 can't write '{0}'")]
     WriteFault(Word),
     /// The source has a fault in this line, where this was found.
-    #[error("HO7 line {line}, '{found}': {kind}")]
+    #[error("HO7 line {line}, '{found}': {reason}", reason = SourceFault {kind: *.kind, found: *.found})]
     SourceRefused {
         line: u64,
         kind: AsmErrorKind,
@@ -68,10 +75,53 @@ pub enum HostError {
         name: Word,
         fault: OpenError,
     },
+    /// The session of this name can't be opened: the quotas of all sessions are more pages than there are frames.
+    #[error("HO9 session '{name}': quotas of {quotas} pages in all, and frames = {frames}")]
+    FramesExceeded {
+        name: Word,
+        quotas: u128,
+        frames: u16,
+    },
     /// The program has this many bytes, which is more than a machine takes.
     #[error("HO9 the program has {0} bytes, and a machine takes at most 58112")]
     ProgramTooLong(usize),
 }
+
+/// What is wrong with a statement, with what stands in its line.
+#[derive(Clone, Copy)]
+struct SourceFault {
+    kind: AsmErrorKind,
+    found: Word,
+}
+
+impl fmt::Display for SourceFault {
+    fn fmt<W: fmt::Write>(&self, f: &mut fmt::Formatter<W>) -> fmt::Result {
+        let kind = self.kind;
+        if kind == AsmErrorKind::Syntax && begins_with_register(self.found.as_str()) {
+            return write!(
+                f,
+                "AS1: a label that is a register's name (A B C D E H L M SP PSW)"
+            );
+        }
+        write!(f, "{kind}")
+    }
+}
+
+/// Whether the first word of a line, which is a label or an operation, is a register's name.
+fn begins_with_register(line: &str) -> bool {
+    let first = line.split(is_behind_word).next().unwrap_or("");
+    REGISTERS
+        .iter()
+        .any(|name| first.eq_ignore_ascii_case(name))
+}
+
+/// Whether a character ends a word of a source.
+fn is_behind_word(c: char) -> bool {
+    matches!(c, ' ' | ':' | ';' | '!')
+}
+
+/// The names that no label has.
+const REGISTERS: [&str; 10] = ["A", "B", "C", "D", "E", "H", "L", "M", "SP", "PSW"];
 
 impl HostError {
     /// The exit status: the number of the code.
@@ -86,10 +136,12 @@ impl HostError {
             HostError::OutputUnwritable(_)
             | HostError::FileUnwritable { .. }
             | HostError::WriteFault(_) => 5,
+            HostError::ImageDamaged { .. } => 6,
             HostError::SourceRefused { .. } => 7,
             HostError::OutOfMemory => 8,
             HostError::OpeningRefused(_)
             | HostError::SessionRefused { .. }
+            | HostError::FramesExceeded { .. }
             | HostError::ProgramTooLong(_) => 9,
         }
     }

@@ -3,7 +3,9 @@
 #![tactic(auto)]
 
 mod asm;
+mod check;
 mod com;
+mod damage;
 mod ending;
 mod error;
 mod input;
@@ -13,6 +15,7 @@ mod report;
 mod run;
 
 pub use asm::run_asm;
+pub use check::run_check;
 pub use com::{Script, run_com};
 pub use cpm_batch::ReadError;
 pub use cpm_command::{Fault, HELP_TEXT, Task, UsageError, Word, command, help, shown};
@@ -20,7 +23,8 @@ pub use cpm_config::{Config, ConfigError, Session};
 pub use cpm_debug::{DebugError, run_debug};
 pub use cpm_script::{Key, LineFault, ScriptError, read_keys};
 pub use cpm_store::{MemoryStore, Store, StoreError};
-pub use ending::Ending;
+pub use damage::{Damage, NamedFile};
+pub use ending::{Ending, IllegalBytes};
 pub use error::HostError;
 pub use input::{MOST_FILE, read_whole};
 pub use list::run_list;

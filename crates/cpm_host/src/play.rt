@@ -9,8 +9,8 @@ ghost use Rattle.cpm_slots.specs.Opening.{IsRefusal};
 ghost use Rattle.cpm_slots.specs.declared.opening.Opening.{Opening as OpeningValue};
 ghost use Rattle.cpm_turns.specs.ScriptedSlots.{AllDiffer};
 ghost use Rattle.cpm_turns.specs.declared.scripted_slot.ScriptedSlot.{ScriptedSlot};
-ghost use Rattle.cpm_host.specs.Playing.{HaveSlots, AreFinished, ArePressable, IsClosed, IsSlotRefusal, OpensSlot, files_by, report_by};
-ghost use Rattle.cpm_host.specs.Run.{AllAccepted, IsOpening, files_left, report_view, reports_of};
+ghost use Rattle.cpm_host.specs.Playing.{HaveSlots, AreFinished, ArePressable, IsClosed, IsPlayRefusal, IsSlotRefusal, OpensSlot, files_by, report_by};
+ghost use Rattle.cpm_host.specs.Run.{AllAccepted, IsOpening, files_left, quotas_of, report_view, reports_of};
 
 use crate::error::HostError;
 use crate::report::SessionReport;
@@ -62,6 +62,34 @@ fn open_slot(alloc: Global, host: &mut Host, input: Input<'_>) -> Result<Scripte
     match host.open(alloc, opening) {
         Ok(id) => Ok(ScriptedSlot::new(alloc, id, keys, session.steps)),
         Err((_, fault)) => Err(refused(session, fault)),
+    }
+}
+
+/// The pages that all sessions may write.
+fn quotas_of(config: &Config) -> u128
+    ensures { result ≡ quotas_of config.now }
+{
+    let mut quotas: u128 = 0;
+    for session in &config.sessions {
+        quotas += u128::from(session.quota);
+    }
+    quotas
+}
+
+/// Why the sessions of a configuration have no slots, if opening them is refused so: where the quotas exceed the frames, with both numbers.
+fn play_refusal(config: &Config, refusal: HostError) -> HostError
+    ensures { (h : HostValue) (is : List SessionInput) → IsSlotRefusal h is refusal → IsPlayRefusal config.now h is result }
+{
+    match refusal {
+        HostError::SessionRefused { name, fault } => match fault {
+            OpenError::NoFrames => HostError::FramesExceeded {
+                name,
+                quotas: quotas_of(config),
+                frames: config.frames,
+            },
+            fault => HostError::SessionRefused { name, fault },
+        },
+        other => other,
     }
 }
 
@@ -167,14 +195,17 @@ pub(crate) fn play_all<'a>(
     ensures reports { IfOk result (λ p. map report_view p.reports.items ≡ reports_of inputs.entry.system (map given inputs.entry.sessions.items)) }
     ensures files { IfOk result (λ p. map left_by p.files.items ≡ files_left inputs.entry.system (map given inputs.entry.sessions.items)) }
     ensures accepted { OnOk result (AllAccepted (new_host inputs.entry.system config.entry.now.frames) (map given inputs.entry.sessions.items)) }
-    ensures refusal { IfErr result (IsSlotRefusal (new_host inputs.entry.system config.entry.now.frames) (map given inputs.entry.sessions.items)) }
+    ensures refusal { IfErr result (IsPlayRefusal config.entry.now (new_host inputs.entry.system config.entry.now.frames) (map given inputs.entry.sessions.items)) }
 {
     let Inputs { system, sessions } = inputs;
     let mut host = match Host::new(alloc, system, config.frames) {
         Ok(host) => host,
         Err(_) => return Err(HostError::OutOfMemory),
     };
-    let mut scripted = open_slots(alloc, &mut host, sessions)?;
+    let mut scripted = match open_slots(alloc, &mut host, sessions) {
+        Ok(scripted) => scripted,
+        Err(error) => return Err(play_refusal(config, error)),
+    };
     play(&mut host, scripted.as_mut_slice(), config.quantum)?;
     let played = finish_all(alloc, &mut host, config.sessions.as_slice(), scripted)?;
     Ok(played)

@@ -12,7 +12,8 @@ mod screen;
 
 use cpm_flags::Cpu;
 use cpm_host::{
-    Config, HostError, Script, Task, command, help, run_asm, run_com, run_debug, run_host, run_list,
+    Config, HostError, Script, Task, command, help, run_asm, run_check, run_com, run_debug,
+    run_host, run_list,
 };
 use files::{MachineFiles, check_outputs, read_file, write_file};
 use output::Outputs;
@@ -82,6 +83,9 @@ fn play(
         run_com(rt.alloc(), cpu, program, script, steps, &mut io::writer(rt))?
     };
     // The program ran and its text is out, even where nobody reads how it ended.
+    if let Some(bytes) = ending.illegal() {
+        let _ = eprintln!(rt; "{bytes}");
+    }
     let _ = eprintln!(rt; "{ending}");
     Ok(())
 }
@@ -142,6 +146,12 @@ fn list(rt: &(impl Files + Print + AllocGlobal), file: &str) -> Result<(), HostE
     }
 }
 
+/// Prints that the image in a file is in order.
+fn check(rt: &(impl Files + Print + AllocGlobal), file: &str) -> Result<(), HostError> {
+    let bytes = read_file(rt, file)?;
+    run_check(file, bytes, &mut io::writer(rt))
+}
+
 /// Runs the program in a file as the lines of standard input say, and prints what is answered.
 fn debug(
     rt: &(impl Files + Input + Print + AllocGlobal),
@@ -167,6 +177,34 @@ fn is_raw(before: &[&str], word: &str) -> bool {
     word == "--raw" && before.get(1).is_some_and(|command| *command == "com")
 }
 
+/// Does what words ask for, which begin with the program's own name.
+fn do_words(
+    rt: &(impl Files + Input + Print + Eprint + AllocGlobal),
+    outputs: Outputs,
+    words: &[&str],
+    is_screen: bool,
+) -> Result<(), Refused> {
+    if let Some(text) = help(words) {
+        rt.print(text).map_err(HostError::OutputUnwritable)?;
+        rt.print(HELP_ON_RAW).map_err(HostError::OutputUnwritable)?;
+        return Ok(());
+    }
+    match command(rt.alloc(), words).map_err(HostError::from)? {
+        Task::Com {
+            file,
+            cpu,
+            steps,
+            keys,
+        } => com(rt, file, cpu, keys, steps, is_screen)?,
+        Task::Asm { source, out } => asm(rt, outputs, source, out)?,
+        Task::List { file } => list(rt, file)?,
+        Task::Check { image } => check(rt, image)?,
+        Task::Run { config } => run_sessions(rt, outputs, config)?,
+        Task::Debug { file, cpu } => debug(rt, file, cpu, is_screen)?,
+    }
+    Ok(())
+}
+
 /// Does what the words of the command line ask for.
 fn run(
     rt: &(impl Env + Files + Input + Print + Eprint + AllocGlobal),
@@ -183,24 +221,7 @@ fn run(
             texts.push(word.as_str())?;
         }
     }
-    if let Some(text) = help(texts.as_slice()) {
-        rt.print(text).map_err(HostError::OutputUnwritable)?;
-        rt.print(HELP_ON_RAW).map_err(HostError::OutputUnwritable)?;
-        return Ok(());
-    }
-    match command(rt.alloc(), texts.as_slice()).map_err(HostError::from)? {
-        Task::Com {
-            file,
-            cpu,
-            steps,
-            keys,
-        } => com(rt, file, cpu, keys, steps, is_screen)?,
-        Task::Asm { source, out } => asm(rt, outputs, source, out)?,
-        Task::List { file } => list(rt, file)?,
-        Task::Run { config } => run_sessions(rt, outputs, config)?,
-        Task::Debug { file, cpu } => debug(rt, file, cpu, is_screen)?,
-    }
-    Ok(())
+    do_words(rt, outputs, texts.as_slice(), is_screen)
 }
 
 fn main(rt: HostRuntime) -> ExitCode {

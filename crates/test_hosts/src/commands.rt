@@ -21,15 +21,15 @@ const LISTED: &[u8] = &[0x0E, 0x05, 0x1E, 0x41, 0xCD, 0x05, 0x00, 0xC3, 0x00, 0x
 /// Keeps what it is given, at most `most` bytes at a time, and fails once when it holds `fails_at`
 /// bytes.
 #[derive(Drop)]
-struct Recorder {
-    bytes: Vec<u8>,
-    most: usize,
-    fails_at: Option<usize>,
+pub struct Recorder {
+    pub bytes: Vec<u8>,
+    pub most: usize,
+    pub fails_at: Option<usize>,
 }
 
 impl Recorder {
     /// A writer that takes all.
-    fn new(alloc: Global) -> Recorder {
+    pub fn new(alloc: Global) -> Recorder {
         Recorder {
             bytes: Vec::new(alloc),
             most: usize::MAX,
@@ -117,6 +117,29 @@ fn says_how_a_program_ended(rt: HostRuntime) {
         let end = end.to_string(rt.alloc()).expect(&rt, "memory");
         same(&rt, end.as_str(), wanted);
         same(&rt, out.bytes.as_slice(), text.as_bytes());
+    }
+}
+
+#[test]
+fn says_which_bytes_are_no_instruction(rt: HostRuntime) {
+    let programs: [(&[u8], Option<&str>); 3] = [
+        (&[0x08], Some("illegal bytes 08 00 00 at 0100")),
+        (
+            &[0x00, 0xDD, 0x21, 0xFE],
+            Some("illegal bytes DD 21 FE at 0101"),
+        ),
+        (LETTER, None),
+    ];
+    for (program, wanted) in programs {
+        let mut out = Recorder::new(rt.alloc());
+        let end = ending(&rt, program, 1_000_000, &mut out);
+        match end.illegal() {
+            Some(bytes) => {
+                let text = bytes.to_string(rt.alloc()).expect(&rt, "memory");
+                same(&rt, Some(text.as_str()), wanted);
+            }
+            None => same(&rt, None, wanted),
+        }
     }
 }
 
@@ -271,6 +294,16 @@ fn names_the_line_and_what_stands_there(rt: HostRuntime) {
         &rt,
         b" DB '\xE9\x01",
         "HO7 line 1, 'DB '\u{E9}?': AS1: syntax: [label[:]] [operation [operands]] is wanted, each IF with its ENDIF, at most 8 deep",
+    );
+    is_refused(
+        &rt,
+        b" NOP\n\nl : NOP",
+        "HO7 line 3, 'l : NOP': AS1: a label that is a register's name (A B C D E H L M SP PSW)",
+    );
+    is_refused(
+        &rt,
+        b"PSW EQU 5",
+        "HO7 line 1, 'PSW EQU 5': AS1: a label that is a register's name (A B C D E H L M SP PSW)",
     );
     is_refused(
         &rt,

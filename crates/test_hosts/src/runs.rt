@@ -150,7 +150,7 @@ fn opens_all_or_nothing(rt: HostRuntime) {
     let both = joined(&rt, &[ONE, TWO]);
     let text = replaced(&rt, both.as_str(), "frames = 64", "frames = 16");
     let shown = refusal(&rt, text.as_str(), &mut filled(&rt));
-    let wanted = "HO9 session 'two': the quotas of all open slots exceed the frames";
+    let wanted = "HO9 session 'two': quotas of 32 pages in all, and frames = 16";
     same(&rt, shown.as_str(), wanted);
 }
 

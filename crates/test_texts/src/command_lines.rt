@@ -157,12 +157,18 @@ fn takes_a_source_and_a_file_to_list(rt: HostRuntime) {
     assert_eq!(rt; command(rt.alloc(), &["cpmhost", "list", "a.com"]), list);
 }
 
+#[test]
+fn takes_an_image_to_check(rt: HostRuntime) {
+    let wanted = Ok(Task::Check { image: "a.img" });
+    assert_eq!(rt; command(rt.alloc(), &["cpmhost", "check", "a.img"]), wanted);
+}
+
 /// What is said of a number of steps.
 const NUMBER: &str =
     "for '--steps': a number from 0 to 18446744073709551615 is wanted; try 'cpmhost --help'";
 
 /// Lines that are no task, and what is said of them, in two parts.
-const WRONG: [(&[&str], &str, &str); 35] = [
+const WRONG: [(&[&str], &str, &str); 38] = [
     (
         &[],
         "no command was given; try 'cpmhost com FILE' or 'cpmhost --help'",
@@ -304,6 +310,21 @@ const WRONG: [(&[&str], &str, &str); 35] = [
         "",
     ),
     (
+        &["cpmhost", "check"],
+        "the argument <IMAGE> is missing; try 'cpmhost --help'",
+        "",
+    ),
+    (
+        &["cpmhost", "check", "a", "b"],
+        "unexpected argument 'b'; try 'cpmhost --help'",
+        "",
+    ),
+    (
+        &["cpmhost", "check", "a", "--z80"],
+        "unexpected argument '--z80'; try 'cpmhost --help'",
+        "",
+    ),
+    (
         &["cpmhost", "com", "a", "--keys"],
         "a value is wanted for '--keys <SCRIPT>'; try 'cpmhost --help'",
         "",
@@ -364,10 +385,12 @@ fn cuts_a_long_word(rt: HostRuntime) {
 
 #[test]
 fn knows_who_asks_for_help(rt: HostRuntime) {
-    let lines: [(&[&str], bool); 23] = [
+    let lines: [(&[&str], bool); 25] = [
         (&["cpmhost", "asm", "--help"], true),
         (&["cpmhost", "list", "help"], true),
         (&["cpmhost", "list", "a.com", "help"], false),
+        (&["cpmhost", "check", "help"], true),
+        (&["cpmhost", "check", "a.img", "help"], false),
         (&["cpmhost", "run", "--help"], true),
         (&["cpmhost", "debug", "help"], true),
         (&["cpmhost", "run", "a.toml", "help"], false),

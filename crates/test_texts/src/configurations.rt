@@ -6,7 +6,7 @@ use cpm_flags::Cpu;
 use std::process::Abort;
 
 /// One session on blank drives.
-static GOOD: &str = "frames = 64
+pub static GOOD: &str = "frames = 64
 quantum = 1
 system = \"p.img\"
 
@@ -21,7 +21,7 @@ keys = \"one.keys\"
 ";
 
 /// A second session with all that may be left out.
-static SECOND: &str = "
+pub static SECOND: &str = "
 [[session]]
 name = \"two_-2\"
 cpu = \"z80\"
@@ -34,7 +34,7 @@ out = [\"a.out\", \"b.out\"]
 ";
 
 /// The texts one after another.
-fn joined(rt: &(impl Abort + AllocGlobal), parts: &[&str]) -> String {
+pub fn joined(rt: &(impl Abort + AllocGlobal), parts: &[&str]) -> String {
     let mut text = String::new(rt.alloc());
     for part in parts {
         text.push_str(part).expect(rt, "memory");
@@ -43,17 +43,25 @@ fn joined(rt: &(impl Abort + AllocGlobal), parts: &[&str]) -> String {
 }
 
 /// A text with the first `old` in it made `new`.
-fn replaced(rt: &(impl Abort + AllocGlobal), text: &str, old: &str, new: &str) -> String {
+pub fn replaced(rt: &(impl Abort + AllocGlobal), text: &str, old: &str, new: &str) -> String {
     match text.split_once(old) {
         Some((front, back)) => joined(rt, &[front, new, back]),
         None => panic!(rt; "{old} is not there"),
     }
 }
 
-fn refusal(rt: &(impl Abort + AllocGlobal), text: &str) -> ConfigError {
+pub fn refusal(rt: &(impl Abort + AllocGlobal), text: &str) -> ConfigError {
     match Config::read(rt.alloc(), text.as_bytes()) {
         Ok(_) => panic!(rt; "taken: {text}"),
         Err(error) => error,
+    }
+}
+
+/// What is wrong with the keys of a configuration.
+pub fn key_fault(rt: &(impl Abort + AllocGlobal), text: &str) -> KeyFault {
+    match refusal(rt, text) {
+        ConfigError::Key(refusal) => refusal.fault,
+        error => panic!(rt; "{error:?} at {text}"),
     }
 }
 
@@ -150,16 +158,6 @@ const WANTED: [(&str, &str, u64, Field); 15] = [
     ("keys = ", "out = \"o\"\nkeys = ", 1, Field::Out),
 ];
 
-/// The same for a key that there is not.
-const UNKNOWN: [(&str, &str, KeyFault); 2] = [
-    ("frames", "Frames", KeyFault::UnknownAtTop),
-    (
-        "keys = ",
-        "fork = \"one\"\nkeys = ",
-        KeyFault::UnknownInSession(1),
-    ),
-];
-
 /// Configurations that lack a key at the top, and the first one.
 const LACKING: [(&str, Field); 4] = [
     (
@@ -179,25 +177,11 @@ fn refuses_keys(rt: HostRuntime) {
     for (old, new, session, field) in WANTED {
         let text = replaced(&rt, GOOD, old, new);
         let wanted = KeyFault::Wanted(Place { session, field });
-        same_at(
-            &rt,
-            new,
-            refusal(&rt, text.as_str()),
-            ConfigError::Key(wanted),
-        );
-    }
-    for (old, new, wanted) in UNKNOWN {
-        let text = replaced(&rt, GOOD, old, new);
-        same_at(
-            &rt,
-            new,
-            refusal(&rt, text.as_str()),
-            ConfigError::Key(wanted),
-        );
+        same_at(&rt, new, key_fault(&rt, text.as_str()), wanted);
     }
     for (text, field) in LACKING {
         let wanted = KeyFault::Wanted(at_top(field));
-        same_at(&rt, text, refusal(&rt, text), ConfigError::Key(wanted));
+        same_at(&rt, text, key_fault(&rt, text), wanted);
     }
 }
 
@@ -325,8 +309,8 @@ fn kinds_of_fault_come_in_order(rt: HostRuntime) {
     same(&rt, refusal(&rt, range.as_str()), ConfigError::Range(place));
     let key = replaced(&rt, range.as_str(), "a.out", "a.out\", 5, \"");
     let place = second(Field::Out);
-    let wanted = ConfigError::Key(KeyFault::Wanted(place));
-    same(&rt, refusal(&rt, key.as_str()), wanted);
+    let wanted = KeyFault::Wanted(place);
+    same(&rt, key_fault(&rt, key.as_str()), wanted);
     let text = joined(&rt, &[key.as_str(), "x"]);
     assert!(rt;
         matches!(
@@ -357,7 +341,7 @@ fn refusals_say_what_is_wanted(rt: HostRuntime) {
         ),
         (
             "a = 1",
-            "configuration: the top has a key other than frames, quantum, system and session",
+            "configuration, line 1, 'a': the top has a key other than frames, quantum, system and session",
         ),
         (
             "frames = 1",

@@ -20,3 +20,5 @@ mod same;
 mod sources;
 #[cfg(test)]
 mod stores;
+#[cfg(test)]
+mod unknown_keys;

@@ -3,12 +3,24 @@ use Rattle.std.proofs.lemmas.Result.{err_from_is_err_and}
 use Rattle.cpm_batch.specs.Inputs.{given}
 use Rattle.cpm_batch.specs.Outputs.{files_of_all}
 use Rattle.cpm_store.specs.Writes.{named}
-use Rattle.cpm_host.proofs.RunLemmas.{fails_at_write, read_and_written, writing_stopped}
+use Rattle.cpm_host.proofs.RunLemmas.{fails_at_write, play_refused, play_stopped, read_and_written, writing_stopped}
 use Rattle.cpm_host.proofs.ScriptLemmas.{inputs_pressable}
 use Rattle.cpm_host.proofs.run.run_host.Goals as goal
 
 pub play_all-requires-clause-keys : goal.play_all-requires-clause-keys
 play_all-requires-clause-keys g c = inputs_pressable (g.S.Store.files c.args.store.now) (map given c.in_ok-inputs.inputs.sessions.items) c.in_ok-inputs.ensures.read.all
+
+pub returns-in_err-reports-clause-refusal : goal.returns-in_err-reports-clause-refusal
+returns-in_err-reports-clause-refusal g c =
+    let p = err_from_is_err_and c.from_residual-in_err-reports.result c.from_residual-in_err-reports.ensures.1 in
+    rw (p.1, p.2) (play_refused c.args.config.now c.in_ok-inputs.inputs.system (map given c.in_ok-inputs.inputs.sessions.items) (g.S.Store.files c.args.store.now)
+    (g.S.Store.files c.read_inputs.new.store) c.in_err-reports.field-0.0 c.in_ok-inputs.ensures.read c.read_inputs.ensures.same c.in_err-reports.ensures.refusal)
+
+pub returns-in_err-reports-clause-stopped_log : goal.returns-in_err-reports-clause-stopped_log
+returns-in_err-reports-clause-stopped_log g c =
+    let p = err_from_is_err_and c.from_residual-in_err-reports.result c.from_residual-in_err-reports.ensures.1 in
+    rw (p.1, p.2) (play_stopped g.S.Store.does c.args.config.now c.args.store.now c.read_inputs.new.store c.in_ok-inputs.inputs.system (map given c.in_ok-inputs.inputs.sessions.items)
+    c.in_err-reports.field-0.0 c.read_inputs.ensures.unwritten c.in_err-reports.ensures.refusal)
 
 pub returns-in_err-write_files-clause-stopped_log : goal.returns-in_err-write_files-clause-stopped_log
 returns-in_err-write_files-clause-stopped_log g c =

@@ -1,0 +1,11 @@
+-- What is summed so far, and how large it can be.
+use Rattle.std.proofs.Common.{◌≡◌, ◌≤◌, ◌*◌, take}
+use Rattle.std.specs.Prelude.{sum_by}
+use Rattle.cpm_config.specs.declared.config.Session.{Session}
+use Rattle.cpm_host.proofs.play.quotas_of.Given as goal
+
+abbrev pub invariant-loop-session : goal.invariant-loop-session
+invariant-loop-session l = record {
+  total : l.quotas ≡ sum_by (λ (s : Session). s.quota) (take l.session-index l.config.sessions.items);
+  small : l.quotas ≤ 65535 * l.session-index;
+}

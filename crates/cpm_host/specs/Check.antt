@@ -1,0 +1,70 @@
+-- Checking the image of a drive: what is written, and when it is refused. All of it is own.
+use Rattle.std.specs.Prelude.{◌≡◌, ℕ, List, [], ◌∷◌, ◌++◌, length, None, Ok, Err, chars, codes}
+use Rattle.cpm_batch.specs.Inputs.{IsImage}
+use Rattle.cpm_batch.specs.declared.error.ReadError.TheVariants as read
+use Rattle.cpm_command.specs.Shown.{shown_of}
+use Rattle.cpm_directory.specs.Directory.{entries_of}
+use Rattle.cpm_directory.specs.WellFormed.{IsChecked}
+use Rattle.cpm_directory.specs.declared.fault.DriveFault.{DriveFault}
+use Rattle.cpm_directory.specs.declared.fault.DriveFault.TheVariants.{BadBlock, TwiceBlock, TwiceEntry}
+use Rattle.cpm_files.specs.Files.{entry_at}
+use Rattle.cpm_files.specs.declared.extent.Entry.{Entry}
+use Rattle.cpm_geom.specs.Disk.{Disk}
+use Rattle.cpm_geom.specs.Geometry.{dpb_of, format_of_length}
+use Rattle.cpm_host.specs.declared.damage.Damage.{Damage}
+use Rattle.cpm_host.specs.declared.damage.NamedFile.{NamedFile}
+use Rattle.cpm_host.specs.declared.error.HostError.{HostError}
+use Rattle.cpm_host.specs.declared.error.HostError.TheVariants.{FileRefused, ImageDamaged, OutputUnwritable}
+
+-- what is written of an image that is in order
+abbrev pub ok_line : List ℕ
+ok_line = codes "ok" ++ 0x0A ∷ []
+
+-- the bytes are an image, whose directory has no fault
+pub record IsInOrder (bytes : List ℕ) : Type 0 where
+  pub disk : Disk
+  pub image : IsImage bytes disk
+  pub checked : IsChecked (dpb_of disk.format) (entries_of disk) (Ok tt)
+
+-- ---- what is told of a fault
+
+-- the file that an entry is of
+abbrev pub file_of : Entry → NamedFile
+file_of e = record { user = e.user; name = e.extent.name }
+
+-- the entry that has the fault, and the one that it is told beside
+abbrev pub entry_of : DriveFault → ℕ
+entry_of (BadBlock entry block) = entry
+entry_of (TwiceBlock entry block owner) = entry
+entry_of (TwiceEntry entry earlier) = entry
+
+abbrev pub other_of : DriveFault → ℕ
+other_of (BadBlock entry block) = entry
+other_of (TwiceBlock entry block owner) = owner
+other_of (TwiceEntry entry earlier) = earlier
+
+-- a fault of a disk, with the files that these entries are of and the disk's last block
+abbrev pub damage_of : Disk → DriveFault → Damage
+damage_of disk fault = record {
+  fault = fault;
+  file = file_of (entry_at (entries_of disk) (entry_of fault));
+  other = file_of (entry_at (entries_of disk) (other_of fault));
+  last_block = (dpb_of disk.format).last_block;
+}
+
+-- the bytes are an image, whose directory's first fault is told
+pub record IsDamaged (bytes : List ℕ) (damage : Damage) : Type 0 where
+  pub disk : Disk
+  pub image : IsImage bytes disk
+  pub checked : IsChecked (dpb_of disk.format) (entries_of disk) (Err damage.fault)
+  pub told : damage ≡ damage_of disk damage.fault
+
+-- When a check is refused: the bytes are no image, by their number; the directory has a fault; or the writer refused what is written of an image in
+-- order. The writer is as it was, but where it failed itself.
+abbrev pub IsCheckRefusal : {W : Type 0} → List ℕ → List ℕ → HostError → W → W → Type 0
+IsCheckRefusal {W} name bytes (FileRefused (read.Image shown count)) old new =
+    (shown.bytes ≡ shown_of (chars name)) × (count ≡ length bytes) × (format_of_length (length bytes) ≡ None) × (new ≡ old)
+IsCheckRefusal {W} name bytes (ImageDamaged shown damage) old new =
+    (shown.bytes ≡ shown_of (chars name)) × IsDamaged bytes damage × (new ≡ old)
+IsCheckRefusal {W} name bytes (OutputUnwritable reason) old new = IsInOrder bytes
+IsCheckRefusal {W} name bytes _ old new = ⊥
