@@ -1,5 +1,5 @@
 //! Reading what the sessions of a configuration need, in their order.
-ghost use Rattle.std.specs.Prelude.{◌≡◌, ◌≤◌, ◌∷◌, ◌⊎◌, [], IfErr, IfOk, OnErr, map};
+ghost use Rattle.std.specs.Prelude.{◌≡◌, ◌≤◌, ◌∷◌, ◌⊎◌, [], IfErr, IfOk, OnErr, OnOk, map};
 ghost use Rattle.cpm_store.specs.Files.{CountsFailure, Finds};
 ghost use Rattle.cpm_store.specs.Log.{AreNoWrites, Gave, Missed, RanBy};
 ghost use Rattle.cpm_batch.specs.Inputs.{AllImages, AllInputs, AreInputs, HasInput, HasKeys, ImageIn, IsFileFault, IsImageIn, IsReadRefusal, IsScriptIn, ScriptIn, given, image_needs, needs_of, needs_of_all, needs_of_config, script_needs};
@@ -41,6 +41,8 @@ fn read_bytes<S: Store>(alloc: Global, store: &mut S, name: &str) -> Result<Vec<
     ensures device { IfErr result (λ e. IsFileFault e → CountsFailure (S.failed store.old) (S.failed store.new)) }
     ensures same { S.files store.new ≡ S.files store.old }
     ensures unwritten { RanBy S.does AreNoWrites store.old store.new }
+    ensures uncounted { OnOk result (S.failed store.new ≡ S.failed store.old) }
+    ensures memory { IfErr result (λ e. e ≡ ReadError.OutOfMemory → S.failed store.new ≡ S.failed store.old) }
     ensures counted { S.failed store.old ≤ S.failed store.new }
 {
     match store.read(alloc, name) {
@@ -58,6 +60,8 @@ fn read_image<S: Store>(alloc: Global, store: &mut S, name: &str) -> Result<Imag
     ensures device { IfErr result (λ e. IsFileFault e → CountsFailure (S.failed store.old) (S.failed store.new)) }
     ensures same { S.files store.new ≡ S.files store.old }
     ensures unwritten { RanBy S.does AreNoWrites store.old store.new }
+    ensures uncounted { OnOk result (S.failed store.new ≡ S.failed store.old) }
+    ensures memory { IfErr result (λ e. e ≡ ReadError.OutOfMemory → S.failed store.new ≡ S.failed store.old) }
     ensures counted { S.failed store.old ≤ S.failed store.new }
 {
     let bytes = read_bytes(alloc, store, name)?;
@@ -82,6 +86,8 @@ fn read_images<S: Store>(
     ensures device { IfErr result (λ e. IsFileFault e → CountsFailure (S.failed store.old) (S.failed store.new)) }
     ensures same { S.files store.new ≡ S.files store.old }
     ensures unwritten { RanBy S.does AreNoWrites store.old store.new }
+    ensures uncounted { OnOk result (S.failed store.new ≡ S.failed store.old) }
+    ensures memory { IfErr result (λ e. e ≡ ReadError.OutOfMemory → S.failed store.new ≡ S.failed store.old) }
     ensures counted { S.failed store.old ≤ S.failed store.new }
 {
     let mut images = Vec::new(alloc);
@@ -99,6 +105,8 @@ fn read_script<S: Store>(alloc: Global, store: &mut S, name: &str) -> Result<Vec
     ensures device { IfErr result (λ e. IsFileFault e → CountsFailure (S.failed store.old) (S.failed store.new)) }
     ensures same { S.files store.new ≡ S.files store.old }
     ensures unwritten { RanBy S.does AreNoWrites store.old store.new }
+    ensures uncounted { OnOk result (S.failed store.new ≡ S.failed store.old) }
+    ensures memory { IfErr result (λ e. e ≡ ReadError.OutOfMemory → S.failed store.new ≡ S.failed store.old) }
     ensures counted { S.failed store.old ≤ S.failed store.new }
 {
     let text = read_bytes(alloc, store, name)?;
@@ -125,6 +133,8 @@ fn read_keys_of<S: Store>(
     ensures device { IfErr result (λ e. IsFileFault e → CountsFailure (S.failed store.old) (S.failed store.new)) }
     ensures same { S.files store.new ≡ S.files store.old }
     ensures unwritten { RanBy S.does AreNoWrites store.old store.new }
+    ensures uncounted { OnOk result (S.failed store.new ≡ S.failed store.old) }
+    ensures memory { IfErr result (λ e. e ≡ ReadError.OutOfMemory → S.failed store.new ≡ S.failed store.old) }
     ensures counted { S.failed store.old ≤ S.failed store.new }
 {
     match name {
@@ -146,6 +156,8 @@ fn read_session<'a, S: Store>(
     ensures device { IfErr result (λ e. IsFileFault e → CountsFailure (S.failed store.old) (S.failed store.new)) }
     ensures same { S.files store.new ≡ S.files store.old }
     ensures unwritten { RanBy S.does AreNoWrites store.old store.new }
+    ensures uncounted { OnOk result (S.failed store.new ≡ S.failed store.old) }
+    ensures memory { IfErr result (λ e. e ≡ ReadError.OutOfMemory → S.failed store.new ≡ S.failed store.old) }
     ensures counted { S.failed store.old ≤ S.failed store.new }
 {
     let drives = read_images(alloc, store, session.drives.as_slice())?;
@@ -170,6 +182,8 @@ fn read_sessions<'a, S: Store>(
     ensures device { IfErr result (λ e. IsFileFault e → CountsFailure (S.failed store.old) (S.failed store.new)) }
     ensures same { S.files store.new ≡ S.files store.old }
     ensures unwritten { RanBy S.does AreNoWrites store.old store.new }
+    ensures uncounted { OnOk result (S.failed store.new ≡ S.failed store.old) }
+    ensures memory { IfErr result (λ e. e ≡ ReadError.OutOfMemory → S.failed store.new ≡ S.failed store.old) }
     ensures counted { S.failed store.old ≤ S.failed store.new }
 {
     let mut inputs = Vec::new(alloc);
@@ -196,6 +210,8 @@ pub fn read_inputs<'a, S: Store>(
     ensures device { IfErr result (λ e. IsFileFault e → CountsFailure (S.failed store.old) (S.failed store.new)) }
     ensures same { S.files store.new ≡ S.files store.old }
     ensures unwritten { RanBy S.does AreNoWrites store.old store.new }
+    ensures uncounted { OnOk result (S.failed store.new ≡ S.failed store.old) }
+    ensures memory { IfErr result (λ e. e ≡ ReadError.OutOfMemory → S.failed store.new ≡ S.failed store.old) }
     ensures counted { S.failed store.old ≤ S.failed store.new }
 {
     let system = read_image(alloc, store, config.system.as_str())?;

@@ -1,4 +1,4 @@
-use Rattle.std.proofs.Common.{◌≡◌, sym, subst, List, arith}
+use Rattle.std.proofs.Common.{◌≡◌, ◌∙◌, sym, subst, List, arith}
 use Rattle.std.proofs.lemmas.Result.{err_from_is_err_and}
 use Rattle.std.specs.Prelude.{string_bytes}
 use Rattle.cpm_geom.specs.Disk.{Disk}
@@ -30,6 +30,7 @@ loop-name-preserved g c =
           c.in_ok-read_image.ensures.log);
       unwritten = unwritten_more g.S.Store.does c.args.store.now c.loop-name.store c.read_image.new.store i.unwritten c.in_ok-read_image.ensures.unwritten;
       same = let s = c.in_ok-read_image.ensures.same in let t = i.same in cc;
+      uncounted = c.in_ok-read_image.ensures.uncounted ∙ i.uncounted;
       counted = omega (arith, i.counted, c.in_ok-read_image.ensures.counted);
     }
 

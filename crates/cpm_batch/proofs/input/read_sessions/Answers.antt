@@ -29,6 +29,7 @@ loop-session-preserved g c =
           c.in_ok-read_session.ensures.log;
       unwritten = unwritten_more g.S.Store.does c.args.store.now c.loop-session.store c.read_session.new.store i.unwritten c.in_ok-read_session.ensures.unwritten;
       same = let s = c.in_ok-read_session.ensures.same in let t = i.same in cc;
+      uncounted = c.in_ok-read_session.ensures.uncounted ∙ i.uncounted;
       counted = omega (arith, i.counted, c.in_ok-read_session.ensures.counted);
     }
 
