@@ -3,7 +3,7 @@ ghost use Rattle.std.specs.Prelude.{◌≡◌, ◌≤◌, ◌∷◌, ◌⊎◌, 
 ghost use Rattle.cpm_store.specs.Files.{CountsFailure, Finds};
 ghost use Rattle.cpm_store.specs.Log.{AreNoWrites, Gave, Missed, RanBy};
 ghost use Rattle.cpm_batch.specs.Inputs.{AllImages, AllInputs, AreInputs, HasInput, HasKeys, ImageIn, IsFileFault, IsImageIn, IsReadRefusal, IsScriptIn, ScriptIn, given, image_needs, needs_of, needs_of_all, needs_of_config, script_needs};
-ghost use Rattle.cpm_batch.specs.Reads.{AreImagesRead, AreInputsRead, AreKeysRead, AreRead, IsImageRead, IsInputRead, IsScriptRead};
+ghost use Rattle.cpm_batch.specs.Reads.{AreImagesRead, AreInputsRead, AreKeysRead, AreRead, IsImageRead, IsInputRead, IsScriptRead, StopsReading};
 
 use crate::error::ReadError;
 use cpm_command::shown;
@@ -57,6 +57,7 @@ fn read_image<S: Store>(alloc: Global, store: &mut S, name: &str) -> Result<Imag
     ensures image { IfOk result (IsImageIn (S.files store.old) name.now) }
     ensures log { IfOk result (λ d. RanBy S.does (IsImageRead name.now d) store.old store.new) }
     ensures refusal { IfErr result (IsReadRefusal (S.files store.old) (ImageIn name.now ∷ [])) }
+    ensures refused_log { IfErr result (λ e. RanBy S.does (StopsReading (ImageIn name.now ∷ []) e) store.old store.new) }
     ensures device { IfErr result (λ e. IsFileFault e → CountsFailure (S.failed store.old) (S.failed store.new)) }
     ensures same { S.files store.new ≡ S.files store.old }
     ensures unwritten { RanBy S.does AreNoWrites store.old store.new }
@@ -83,6 +84,7 @@ fn read_images<S: Store>(
     ensures images { IfOk result (λ v. AllImages (S.files store.old) names.now v.items) }
     ensures log { IfOk result (λ v. RanBy S.does (AreImagesRead names.now v.items) store.old store.new) }
     ensures refusal { IfErr result (IsReadRefusal (S.files store.old) (image_needs names.now)) }
+    ensures refused_log { IfErr result (λ e. RanBy S.does (StopsReading (image_needs names.now) e) store.old store.new) }
     ensures device { IfErr result (λ e. IsFileFault e → CountsFailure (S.failed store.old) (S.failed store.new)) }
     ensures same { S.files store.new ≡ S.files store.old }
     ensures unwritten { RanBy S.does AreNoWrites store.old store.new }
@@ -102,6 +104,7 @@ fn read_script<S: Store>(alloc: Global, store: &mut S, name: &str) -> Result<Vec
     ensures keys { IfOk result (λ v. IsScriptIn (S.files store.old) name.now v.items) }
     ensures log { IfOk result (λ v. RanBy S.does (IsScriptRead name.now v.items) store.old store.new) }
     ensures refusal { IfErr result (IsReadRefusal (S.files store.old) (ScriptIn name.now ∷ [])) }
+    ensures refused_log { IfErr result (λ e. RanBy S.does (StopsReading (ScriptIn name.now ∷ []) e) store.old store.new) }
     ensures device { IfErr result (λ e. IsFileFault e → CountsFailure (S.failed store.old) (S.failed store.new)) }
     ensures same { S.files store.new ≡ S.files store.old }
     ensures unwritten { RanBy S.does AreNoWrites store.old store.new }
@@ -130,6 +133,7 @@ fn read_keys_of<S: Store>(
     ensures keys { IfOk result (λ v. HasKeys (S.files store.old) name.now v.items) }
     ensures log { IfOk result (λ v. RanBy S.does (AreKeysRead name.now v.items) store.old store.new) }
     ensures refusal { IfErr result (IsReadRefusal (S.files store.old) (script_needs name.now)) }
+    ensures refused_log { IfErr result (λ e. RanBy S.does (StopsReading (script_needs name.now) e) store.old store.new) }
     ensures device { IfErr result (λ e. IsFileFault e → CountsFailure (S.failed store.old) (S.failed store.new)) }
     ensures same { S.files store.new ≡ S.files store.old }
     ensures unwritten { RanBy S.does AreNoWrites store.old store.new }
@@ -153,6 +157,7 @@ fn read_session<'a, S: Store>(
     ensures log { IfOk result (λ i. RanBy S.does (IsInputRead (given i)) store.old store.new) }
     ensures session { IfOk result (λ i. i.session.now ≡ session.entry.now) }
     ensures refusal { IfErr result (IsReadRefusal (S.files store.old) (needs_of session.entry.now)) }
+    ensures refused_log { IfErr result (λ e. RanBy S.does (StopsReading (needs_of session.entry.now) e) store.old store.new) }
     ensures device { IfErr result (λ e. IsFileFault e → CountsFailure (S.failed store.old) (S.failed store.new)) }
     ensures same { S.files store.new ≡ S.files store.old }
     ensures unwritten { RanBy S.does AreNoWrites store.old store.new }
@@ -179,6 +184,7 @@ fn read_sessions<'a, S: Store>(
     ensures log { IfOk result (λ v. RanBy S.does (AreInputsRead (map given v.items)) store.old store.new) }
     ensures sessions { IfOk result (λ v. map (λ i. i.session) (map given v.items) ≡ sessions.entry.now) }
     ensures refusal { IfErr result (IsReadRefusal (S.files store.old) (needs_of_all sessions.entry.now)) }
+    ensures refused_log { IfErr result (λ e. RanBy S.does (StopsReading (needs_of_all sessions.entry.now) e) store.old store.new) }
     ensures device { IfErr result (λ e. IsFileFault e → CountsFailure (S.failed store.old) (S.failed store.new)) }
     ensures same { S.files store.new ≡ S.files store.old }
     ensures unwritten { RanBy S.does AreNoWrites store.old store.new }
@@ -207,6 +213,8 @@ pub fn read_inputs<'a, S: Store>(
     // The calls were these reads and no others, of whichever store.
     ensures log { IfOk result (λ i. RanBy S.does (AreRead config.entry.now i.system (map given i.sessions.items)) store.old store.new) }
     ensures refusal { IfErr result (IsReadRefusal (S.files store.old) (needs_of_config config.entry.now)) }
+    // It was refused at the first fault: no read but those before it and its own, of whichever store.
+    ensures refused_log { IfErr result (λ e. RanBy S.does (StopsReading (needs_of_config config.entry.now) e) store.old store.new) }
     ensures device { IfErr result (λ e. IsFileFault e → CountsFailure (S.failed store.old) (S.failed store.new)) }
     ensures same { S.files store.new ≡ S.files store.old }
     ensures unwritten { RanBy S.does AreNoWrites store.old store.new }
