@@ -1,19 +1,43 @@
 -- The calls that a run has made of a store.
-use Rattle.std.proofs.Common.{◌≡◌, subst, inr, ℕ, List}
+use Rattle.std.proofs.Common.{◌≡◌, ⊎_elim, subst, inl, inr, None, ℕ, List, [], ◌∷◌}
 use Rattle.std.specs.Prelude.{Option}
-use Rattle.cpm_batch.specs.Inputs.{SessionInput}
-use Rattle.cpm_batch.specs.Reads.{AreRead}
+use Rattle.cpm_batch.specs.Inputs.{ImageIn, IsReadRefusal, Need, ScriptIn, SessionInput, needs_of_config}
+use Rattle.cpm_batch.specs.Reads.{AreRead, StopsAtFault, StopsReading}
+use Rattle.cpm_batch.specs.declared.error.ReadError.{ReadError}
+use Rattle.cpm_batch.specs.declared.error.ReadError.TheVariants as reading
 use Rattle.cpm_config.specs.declared.config.Config.{Config}
 use Rattle.cpm_geom.specs.Disk.{Disk}
 use Rattle.cpm_store.specs.Files.{Files}
 use Rattle.cpm_store.specs.Log.{Access, AreWrites, RanBy, StopsAfter, Then}
 use Rattle.cpm_store.specs.Writes.{Named}
 use Rattle.cpm_store.proofs.LogLemmas.{ran_then}
-use Rattle.cpm_host.specs.Run.{FailsAtWrite, IsStoppedRun, IsWriteRefusal, outputs_of}
+use Rattle.cpm_host.specs.Refusals.{host_error_of_reading}
+use Rattle.cpm_host.specs.Run.{FailsAtWrite, IsRunRefusal, IsStoppedRun, IsWriteRefusal, outputs_of, top_fault}
 use Rattle.cpm_host.specs.declared.error.HostError.{HostError}
 use Rattle.cpm_host.specs.declared.error.HostError.TheVariants as refusal
 
+-- what is needed could not be read, or is not what it should be
+pub reading_refused : (config : Config) (old new : Option Files) (e : ReadError) → top_fault config ≡ None → IsReadRefusal old (needs_of_config config) e → new ≡ old
+    → IsRunRefusal config old new (host_error_of_reading e)
+reading_refused config old new (reading.File name) top h same = (top, ⊎_elim (λ m. absurd (cc)) (λ f. f) h, same)
+reading_refused config old new (reading.Image name count) top h same = (top, ⊎_elim (λ m. absurd (cc)) (λ f. f) h, same)
+reading_refused config old new (reading.Script name line fault) top h same = (top, ⊎_elim (λ m. absurd (cc)) (λ f. f) h, same)
+reading_refused config old new reading.OutOfMemory top h same = inl same
+
+-- want of memory is no fault of a file
+none_for_memory : (ns : List Need) (log : List Access) → StopsAtFault ns reading.OutOfMemory log → ⊥
+none_for_memory [] log h = h
+none_for_memory (ImageIn name ∷ ns) log h = ⊎_elim (λ f. f) (λ t. none_for_memory ns t.rest t.goes_on) h
+none_for_memory (ScriptIn name ∷ ns) log h = ⊎_elim (λ f. f) (λ t. none_for_memory ns t.rest t.goes_on) h
+
 module _ {S : Type 0} (does : S → Access → S → Type 0) (config : Config) (start end : S) where
+  -- where what is needed could not be read, or is not what it should be
+  pub reading_stopped : (e : ReadError) → RanBy does (StopsReading (needs_of_config config) e) start end → IsStoppedRun does config start end (host_error_of_reading e)
+  reading_stopped (reading.File name) h = (h.0, ⊎_elim (λ m. let is = m.0 in absurd (cc)) (λ f. f) h.1, h.2)
+  reading_stopped (reading.Image name count) h = (h.0, ⊎_elim (λ m. let is = m.0 in absurd (cc)) (λ f. f) h.1, h.2)
+  reading_stopped (reading.Script name line fault) h = (h.0, ⊎_elim (λ m. let is = m.0 in absurd (cc)) (λ f. f) h.1, h.2)
+  reading_stopped reading.OutOfMemory h = inl (h.0, ⊎_elim (λ m. m.1) (λ f. absurd (none_for_memory (needs_of_config config) h.0 f)) h.1, h.2)
+
   -- where a write is refused
   pub writing_stopped : (ps : List Named) (old new : Option Files) (e : HostError) → IsWriteRefusal ps old new e → FailsAtWrite does config start end → IsStoppedRun does config start end e
   writing_stopped ps old new (refusal.WriteFault name) r h = h
