@@ -85,7 +85,7 @@ name_read files names i name ds all d within is pushed done h =
     (subst (λ (ns : List (String Global)). AllImages files ns (ds ++ d ∷ [])) (sym more) (images_push files (take i names) ds name d done h))
 
 -- the sessions that were read are those in turn
-needs_append : (ss ts : List Session) → needs_of_all (ss ++ ts) ≡ needs_of_all ss ++ needs_of_all ts
+pub needs_append : (ss ts : List Session) → needs_of_all (ss ++ ts) ≡ needs_of_all ss ++ needs_of_all ts
 needs_append [] ts = refl
 needs_append (s ∷ ss) ts = ap (λ ns. needs_of s ++ ns) (needs_append ss ts) ∙ sym (append_assoc (needs_of s) (needs_of_all ss) (needs_of_all ts))
 

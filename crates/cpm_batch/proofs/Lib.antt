@@ -1,3 +1,4 @@
 pub mod InputLemmas
 pub mod OutputLemmas
 pub mod ReadLemmas
+pub mod StopLemmas

@@ -35,7 +35,7 @@ pub no_script : {S : Type 0} (does : S → Access → S → Type 0) (script : Op
 no_script does script keys s is none = subst (λ (o : Option (String Global)). RanBy does (AreKeysRead o keys) s s) (sym is) ([], (none, refl), refl)
 
 -- the reads of a list, and one more
-then_more : (Before After All : List Access → Type 0) (xs ys : List Access) (h : Then Before After xs) → All (h.rest ++ ys) → Then Before All (xs ++ ys)
+pub then_more : (Before After All : List Access → Type 0) (xs ys : List Access) (h : Then Before After xs) → All (h.rest ++ ys) → Then Before All (xs ++ ys)
 then_more Before After All xs ys h more = record {
   first = h.first;
   rest = h.rest ++ ys;

@@ -1,9 +1,9 @@
 //! Reading what the sessions of a configuration need, in their order.
-ghost use Rattle.std.specs.Prelude.{◌≡◌, ◌≤◌, ◌∷◌, ◌⊎◌, [], IfErr, IfOk, OnErr, map};
+ghost use Rattle.std.specs.Prelude.{◌≡◌, ◌≤◌, ◌∷◌, ◌⊎◌, [], IfErr, IfOk, OnErr, OnOk, map};
 ghost use Rattle.cpm_store.specs.Files.{CountsFailure, Finds};
 ghost use Rattle.cpm_store.specs.Log.{AreNoWrites, Gave, Missed, RanBy};
 ghost use Rattle.cpm_batch.specs.Inputs.{AllImages, AllInputs, AreInputs, HasInput, HasKeys, ImageIn, IsFileFault, IsImageIn, IsReadRefusal, IsScriptIn, ScriptIn, given, image_needs, needs_of, needs_of_all, needs_of_config, script_needs};
-ghost use Rattle.cpm_batch.specs.Reads.{AreImagesRead, AreInputsRead, AreKeysRead, AreRead, IsImageRead, IsInputRead, IsScriptRead};
+ghost use Rattle.cpm_batch.specs.Reads.{AreImagesRead, AreInputsRead, AreKeysRead, AreRead, IsImageRead, IsInputRead, IsScriptRead, StopsReading};
 
 use crate::error::ReadError;
 use cpm_command::shown;
@@ -41,6 +41,8 @@ fn read_bytes<S: Store>(alloc: Global, store: &mut S, name: &str) -> Result<Vec<
     ensures device { IfErr result (λ e. IsFileFault e → CountsFailure (S.failed store.old) (S.failed store.new)) }
     ensures same { S.files store.new ≡ S.files store.old }
     ensures unwritten { RanBy S.does AreNoWrites store.old store.new }
+    ensures uncounted { OnOk result (S.failed store.new ≡ S.failed store.old) }
+    ensures memory { IfErr result (λ e. e ≡ ReadError.OutOfMemory → S.failed store.new ≡ S.failed store.old) }
     ensures counted { S.failed store.old ≤ S.failed store.new }
 {
     match store.read(alloc, name) {
@@ -55,9 +57,12 @@ fn read_image<S: Store>(alloc: Global, store: &mut S, name: &str) -> Result<Imag
     ensures image { IfOk result (IsImageIn (S.files store.old) name.now) }
     ensures log { IfOk result (λ d. RanBy S.does (IsImageRead name.now d) store.old store.new) }
     ensures refusal { IfErr result (IsReadRefusal (S.files store.old) (ImageIn name.now ∷ [])) }
+    ensures refused_log { IfErr result (λ e. RanBy S.does (StopsReading (ImageIn name.now ∷ []) e) store.old store.new) }
     ensures device { IfErr result (λ e. IsFileFault e → CountsFailure (S.failed store.old) (S.failed store.new)) }
     ensures same { S.files store.new ≡ S.files store.old }
     ensures unwritten { RanBy S.does AreNoWrites store.old store.new }
+    ensures uncounted { OnOk result (S.failed store.new ≡ S.failed store.old) }
+    ensures memory { IfErr result (λ e. e ≡ ReadError.OutOfMemory → S.failed store.new ≡ S.failed store.old) }
     ensures counted { S.failed store.old ≤ S.failed store.new }
 {
     let bytes = read_bytes(alloc, store, name)?;
@@ -79,9 +84,12 @@ fn read_images<S: Store>(
     ensures images { IfOk result (λ v. AllImages (S.files store.old) names.now v.items) }
     ensures log { IfOk result (λ v. RanBy S.does (AreImagesRead names.now v.items) store.old store.new) }
     ensures refusal { IfErr result (IsReadRefusal (S.files store.old) (image_needs names.now)) }
+    ensures refused_log { IfErr result (λ e. RanBy S.does (StopsReading (image_needs names.now) e) store.old store.new) }
     ensures device { IfErr result (λ e. IsFileFault e → CountsFailure (S.failed store.old) (S.failed store.new)) }
     ensures same { S.files store.new ≡ S.files store.old }
     ensures unwritten { RanBy S.does AreNoWrites store.old store.new }
+    ensures uncounted { OnOk result (S.failed store.new ≡ S.failed store.old) }
+    ensures memory { IfErr result (λ e. e ≡ ReadError.OutOfMemory → S.failed store.new ≡ S.failed store.old) }
     ensures counted { S.failed store.old ≤ S.failed store.new }
 {
     let mut images = Vec::new(alloc);
@@ -96,9 +104,12 @@ fn read_script<S: Store>(alloc: Global, store: &mut S, name: &str) -> Result<Vec
     ensures keys { IfOk result (λ v. IsScriptIn (S.files store.old) name.now v.items) }
     ensures log { IfOk result (λ v. RanBy S.does (IsScriptRead name.now v.items) store.old store.new) }
     ensures refusal { IfErr result (IsReadRefusal (S.files store.old) (ScriptIn name.now ∷ [])) }
+    ensures refused_log { IfErr result (λ e. RanBy S.does (StopsReading (ScriptIn name.now ∷ []) e) store.old store.new) }
     ensures device { IfErr result (λ e. IsFileFault e → CountsFailure (S.failed store.old) (S.failed store.new)) }
     ensures same { S.files store.new ≡ S.files store.old }
     ensures unwritten { RanBy S.does AreNoWrites store.old store.new }
+    ensures uncounted { OnOk result (S.failed store.new ≡ S.failed store.old) }
+    ensures memory { IfErr result (λ e. e ≡ ReadError.OutOfMemory → S.failed store.new ≡ S.failed store.old) }
     ensures counted { S.failed store.old ≤ S.failed store.new }
 {
     let text = read_bytes(alloc, store, name)?;
@@ -122,9 +133,12 @@ fn read_keys_of<S: Store>(
     ensures keys { IfOk result (λ v. HasKeys (S.files store.old) name.now v.items) }
     ensures log { IfOk result (λ v. RanBy S.does (AreKeysRead name.now v.items) store.old store.new) }
     ensures refusal { IfErr result (IsReadRefusal (S.files store.old) (script_needs name.now)) }
+    ensures refused_log { IfErr result (λ e. RanBy S.does (StopsReading (script_needs name.now) e) store.old store.new) }
     ensures device { IfErr result (λ e. IsFileFault e → CountsFailure (S.failed store.old) (S.failed store.new)) }
     ensures same { S.files store.new ≡ S.files store.old }
     ensures unwritten { RanBy S.does AreNoWrites store.old store.new }
+    ensures uncounted { OnOk result (S.failed store.new ≡ S.failed store.old) }
+    ensures memory { IfErr result (λ e. e ≡ ReadError.OutOfMemory → S.failed store.new ≡ S.failed store.old) }
     ensures counted { S.failed store.old ≤ S.failed store.new }
 {
     match name {
@@ -143,9 +157,12 @@ fn read_session<'a, S: Store>(
     ensures log { IfOk result (λ i. RanBy S.does (IsInputRead (given i)) store.old store.new) }
     ensures session { IfOk result (λ i. i.session.now ≡ session.entry.now) }
     ensures refusal { IfErr result (IsReadRefusal (S.files store.old) (needs_of session.entry.now)) }
+    ensures refused_log { IfErr result (λ e. RanBy S.does (StopsReading (needs_of session.entry.now) e) store.old store.new) }
     ensures device { IfErr result (λ e. IsFileFault e → CountsFailure (S.failed store.old) (S.failed store.new)) }
     ensures same { S.files store.new ≡ S.files store.old }
     ensures unwritten { RanBy S.does AreNoWrites store.old store.new }
+    ensures uncounted { OnOk result (S.failed store.new ≡ S.failed store.old) }
+    ensures memory { IfErr result (λ e. e ≡ ReadError.OutOfMemory → S.failed store.new ≡ S.failed store.old) }
     ensures counted { S.failed store.old ≤ S.failed store.new }
 {
     let drives = read_images(alloc, store, session.drives.as_slice())?;
@@ -167,9 +184,12 @@ fn read_sessions<'a, S: Store>(
     ensures log { IfOk result (λ v. RanBy S.does (AreInputsRead (map given v.items)) store.old store.new) }
     ensures sessions { IfOk result (λ v. map (λ i. i.session) (map given v.items) ≡ sessions.entry.now) }
     ensures refusal { IfErr result (IsReadRefusal (S.files store.old) (needs_of_all sessions.entry.now)) }
+    ensures refused_log { IfErr result (λ e. RanBy S.does (StopsReading (needs_of_all sessions.entry.now) e) store.old store.new) }
     ensures device { IfErr result (λ e. IsFileFault e → CountsFailure (S.failed store.old) (S.failed store.new)) }
     ensures same { S.files store.new ≡ S.files store.old }
     ensures unwritten { RanBy S.does AreNoWrites store.old store.new }
+    ensures uncounted { OnOk result (S.failed store.new ≡ S.failed store.old) }
+    ensures memory { IfErr result (λ e. e ≡ ReadError.OutOfMemory → S.failed store.new ≡ S.failed store.old) }
     ensures counted { S.failed store.old ≤ S.failed store.new }
 {
     let mut inputs = Vec::new(alloc);
@@ -193,9 +213,13 @@ pub fn read_inputs<'a, S: Store>(
     // The calls were these reads and no others, of whichever store.
     ensures log { IfOk result (λ i. RanBy S.does (AreRead config.entry.now i.system (map given i.sessions.items)) store.old store.new) }
     ensures refusal { IfErr result (IsReadRefusal (S.files store.old) (needs_of_config config.entry.now)) }
+    // It was refused at the first fault: no read but those before it and its own, of whichever store.
+    ensures refused_log { IfErr result (λ e. RanBy S.does (StopsReading (needs_of_config config.entry.now) e) store.old store.new) }
     ensures device { IfErr result (λ e. IsFileFault e → CountsFailure (S.failed store.old) (S.failed store.new)) }
     ensures same { S.files store.new ≡ S.files store.old }
     ensures unwritten { RanBy S.does AreNoWrites store.old store.new }
+    ensures uncounted { OnOk result (S.failed store.new ≡ S.failed store.old) }
+    ensures memory { IfErr result (λ e. e ≡ ReadError.OutOfMemory → S.failed store.new ≡ S.failed store.old) }
     ensures counted { S.failed store.old ≤ S.failed store.new }
 {
     let system = read_image(alloc, store, config.system.as_str())?;

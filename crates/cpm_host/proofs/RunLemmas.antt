@@ -1,8 +1,10 @@
 -- The calls that a run has made of a store.
-use Rattle.std.proofs.Common.{◌≡◌, subst, inl, inr, ℕ, List}
+use Rattle.std.proofs.Common.{◌≡◌, ⊎_elim, subst, inl, inr, None, ℕ, List, [], ◌∷◌}
 use Rattle.std.specs.Prelude.{Option}
-use Rattle.cpm_batch.specs.Inputs.{AreInputs, SessionInput}
-use Rattle.cpm_batch.specs.Reads.{AreRead}
+use Rattle.cpm_batch.specs.Inputs.{AreInputs, ImageIn, IsReadRefusal, Need, ScriptIn, SessionInput, needs_of_config}
+use Rattle.cpm_batch.specs.Reads.{AreRead, StopsAtFault, StopsReading}
+use Rattle.cpm_batch.specs.declared.error.ReadError.{ReadError}
+use Rattle.cpm_batch.specs.declared.error.ReadError.TheVariants as reading
 use Rattle.cpm_config.specs.declared.config.Config.{Config}
 use Rattle.cpm_geom.specs.Disk.{Disk}
 use Rattle.cpm_store.specs.Files.{Files}
@@ -11,11 +13,33 @@ use Rattle.cpm_store.specs.Log.{Access, AreNoWrites, AreWrites, RanBy, StopsAfte
 use Rattle.cpm_store.specs.Writes.{Named}
 use Rattle.cpm_store.proofs.LogLemmas.{ran_then}
 use Rattle.cpm_host.specs.Playing.{IsPlayRefusal}
-use Rattle.cpm_host.specs.Run.{FailsAtWrite, IsRunRefusal, IsStoppedRun, IsWriteRefusal, outputs_of}
+use Rattle.cpm_host.specs.Refusals.{host_error_of_reading}
+use Rattle.cpm_host.specs.Run.{FailsAtWrite, IsRunRefusal, IsStoppedRun, IsWriteRefusal, outputs_of, top_fault}
 use Rattle.cpm_host.specs.declared.error.HostError.{HostError}
 use Rattle.cpm_host.specs.declared.error.HostError.TheVariants as refusal
 
+-- what is needed could not be read, or is not what it should be
+pub reading_refused : (config : Config) (old new : Option Files) (e : ReadError) → top_fault config ≡ None → IsReadRefusal old (needs_of_config config) e → new ≡ old
+    → IsRunRefusal config old new (host_error_of_reading e)
+reading_refused config old new (reading.File name) top h same = (top, ⊎_elim (λ m. absurd (cc)) (λ f. f) h, same)
+reading_refused config old new (reading.Image name count) top h same = (top, ⊎_elim (λ m. absurd (cc)) (λ f. f) h, same)
+reading_refused config old new (reading.Script name line fault) top h same = (top, ⊎_elim (λ m. absurd (cc)) (λ f. f) h, same)
+reading_refused config old new reading.OutOfMemory top h same = inl same
+
+-- want of memory is no fault of a file
+none_for_memory : (ns : List Need) (log : List Access) → StopsAtFault ns reading.OutOfMemory log → ⊥
+none_for_memory [] log h = h
+none_for_memory (ImageIn name ∷ ns) log h = ⊎_elim (λ f. f) (λ t. none_for_memory ns t.rest t.goes_on) h
+none_for_memory (ScriptIn name ∷ ns) log h = ⊎_elim (λ f. f) (λ t. none_for_memory ns t.rest t.goes_on) h
+
 module _ {S : Type 0} (does : S → Access → S → Type 0) (config : Config) (start end : S) where
+  -- where what is needed could not be read, or is not what it should be
+  pub reading_stopped : (e : ReadError) → RanBy does (StopsReading (needs_of_config config) e) start end → IsStoppedRun does config start end (host_error_of_reading e)
+  reading_stopped (reading.File name) h = (h.0, ⊎_elim (λ m. let is = m.0 in absurd (cc)) (λ f. f) h.1, h.2)
+  reading_stopped (reading.Image name count) h = (h.0, ⊎_elim (λ m. let is = m.0 in absurd (cc)) (λ f. f) h.1, h.2)
+  reading_stopped (reading.Script name line fault) h = (h.0, ⊎_elim (λ m. let is = m.0 in absurd (cc)) (λ f. f) h.1, h.2)
+  reading_stopped reading.OutOfMemory h = inl (h.0, ⊎_elim (λ m. m.1) (λ f. absurd (none_for_memory (needs_of_config config) h.0 f)) h.1, h.2)
+
   -- where a write is refused
   pub writing_stopped : (ps : List Named) (old new : Option Files) (e : HostError) → IsWriteRefusal ps old new e → FailsAtWrite does config start end → IsStoppedRun does config start end e
   writing_stopped ps old new (refusal.WriteFault name) r h = h
@@ -40,17 +64,18 @@ module _ {S : Type 0} (does : S → Access → S → Type 0) (config : Config) (
       ran_then does (AreRead config system inputs) (AreWrites (outputs_of system inputs)) start between end reads (subst (λ (qs : List Named). RanBy does (AreWrites qs) between end) is writes)
 
 -- where playing is refused
-pub play_refused : (config : Config) (system : Disk) (inputs : List SessionInput) (old new : Option Files) (e : HostError) → AreInputs old config system inputs → new ≡ old
+pub play_refused : (config : Config) (system : Disk) (inputs : List SessionInput) (old new : Option Files) (e : HostError) → top_fault config ≡ None → AreInputs old config system inputs → new ≡ old
     → IsPlayRefusal config (new_host system config.frames) inputs e → IsRunRefusal config old new e
-play_refused config system inputs old new (refusal.SessionRefused name fault) read same r =
-    (r.0, record { system = system; inputs = inputs; read = read; refused = r.1 }, same)
-play_refused config system inputs old new (refusal.FramesExceeded name quotas frames) read same r =
-    (r.0, r.1, record { system = system; inputs = inputs; read = read; refused = r.2 }, same)
-play_refused config system inputs old new refusal.OutOfMemory read same r = inl same
-play_refused config system inputs old new _ read same r = absurd r
+play_refused config system inputs old new (refusal.SessionRefused name fault) top read same r =
+    (top, r.0, record { system = system; inputs = inputs; read = read; refused = r.1 }, same)
+play_refused config system inputs old new (refusal.FramesExceeded name quotas frames) top read same r =
+    (top, r.0, r.1, record { system = system; inputs = inputs; read = read; refused = r.2 }, same)
+play_refused config system inputs old new refusal.OutOfMemory top read same r = inl same
+play_refused config system inputs old new _ top read same r = absurd r
 
 pub play_stopped : {S : Type 0} → (does : S → Access → S → Type 0) (config : Config) (old new : S) (system : Disk) (inputs : List SessionInput) (e : HostError) → RanBy does AreNoWrites old new
     → IsPlayRefusal config (new_host system config.frames) inputs e → IsStoppedRun does config old new e
 play_stopped does config old new system inputs (refusal.WriteFault name) calls r = absurd r
+play_stopped does config old new system inputs (refusal.FileRefused e) calls r = absurd r
 play_stopped does config old new system inputs refusal.OutOfMemory calls r = inl calls
 play_stopped does config old new system inputs _ calls r = calls

@@ -1,8 +1,8 @@
 -- What running the sessions of a configuration writes and reports, and when it is refused. All of it is own.
 use Rattle.std.specs.Prelude.{⊤, ◌≡◌, ◌≢◌, ◌⊎◌, ℕ, sum_by, ◌==◌, ◌&&◌, not, nat_le, List, [], ◌∷◌, length, map, Option, Some, None, string_bytes, if◌then◌else◌}
-use Rattle.cpm_batch.specs.Inputs.{AreInputs, IsReadRefusal, SessionInput, needs_of_config}
+use Rattle.cpm_batch.specs.Inputs.{AreInputs, IsFirstFault, SessionInput, needs_of_config}
 use Rattle.cpm_batch.specs.Outputs.{SessionOutput, files_of_all}
-use Rattle.cpm_batch.specs.Reads.{AreRead}
+use Rattle.cpm_batch.specs.Reads.{AreRead, StopsAtFault}
 use Rattle.cpm_batch.specs.declared.error.ReadError.TheVariants as reading
 use Rattle.cpm_config.specs.declared.config.Config.{Config}
 use Rattle.cpm_config.specs.declared.config.Session.{Session}
@@ -142,13 +142,13 @@ IsWriteRefusal outputs old new (refusal.WriteFault name) = (place : ℕ) × Told
 IsWriteRefusal outputs old new refusal.OutOfMemory = (place : ℕ) × Told old new (StopsAt outputs place)
 IsWriteRefusal outputs old new _ = ⊥
 
--- how a run is refused. But for want of memory and for a file that can't be written nothing was written
+-- how a run is refused: for a number at the top before anything is read, then for the first fault of what is needed, then for the first session whose opening is refused. But for want of memory and for a file that can't be written nothing was written
 abbrev pub IsRunRefusal : Config → Option Files → Option Files → HostError → Type 0
 IsRunRefusal config old new (refusal.ConfigRefused (Range place)) = (place.session ≡ 0) × (top_fault config ≡ Some place.field) × (new ≡ old)
-IsRunRefusal config old new (refusal.FileRefused e) = IsReadRefusal old (needs_of_config config) e × (new ≡ old)
-IsRunRefusal config old new (refusal.SessionRefused name fault) = (fault ≢ NoFrames) × IsOpenRefusal config fault old × (new ≡ old)
+IsRunRefusal config old new (refusal.FileRefused e) = (top_fault config ≡ None) × IsFirstFault old (needs_of_config config) e × (new ≡ old)
+IsRunRefusal config old new (refusal.SessionRefused name fault) = (top_fault config ≡ None) × (fault ≢ NoFrames) × IsOpenRefusal config fault old × (new ≡ old)
 IsRunRefusal config old new (refusal.FramesExceeded name quotas frames) =
-    (quotas ≡ quotas_of config) × (frames ≡ config.frames) × IsOpenRefusal config NoFrames old × (new ≡ old)
+    (top_fault config ≡ None) × (quotas ≡ quotas_of config) × (frames ≡ config.frames) × IsOpenRefusal config NoFrames old × (new ≡ old)
 IsRunRefusal config old new (refusal.WriteFault name) = StopsWriting config old new
 IsRunRefusal config old new refusal.OutOfMemory = (new ≡ old) ⊎ StopsWriting config old new
 IsRunRefusal config old new _ = ⊥
@@ -160,8 +160,9 @@ pub record FailsAtWrite {S : Type 0} (does : S → Access → S → Type 0) (con
   pub place : ℕ
   pub calls : RanBy does (Then (AreRead config system inputs) (StopsAfter (outputs_of system inputs) place)) old new
 
--- what calls a run that is refused has made of any store: where it was not at its writes, none that writes
+-- what calls a run that is refused has made of any store: where it was not at its writes, none that writes; and where a file is refused, the reads up to it and no others
 abbrev pub IsStoppedRun : {S : Type 0} → (S → Access → S → Type 0) → Config → S → S → HostError → Type 0
+IsStoppedRun {S} does config old new (refusal.FileRefused e) = RanBy does (StopsAtFault (needs_of_config config) e) old new
 IsStoppedRun {S} does config old new (refusal.WriteFault name) = FailsAtWrite does config old new
 IsStoppedRun {S} does config old new refusal.OutOfMemory = RanBy does AreNoWrites old new ⊎ FailsAtWrite does config old new
 IsStoppedRun {S} does config old new _ = RanBy does AreNoWrites old new

@@ -35,6 +35,7 @@ fn write_files<S: Store>(outputs: &[Output<'_>], store: &mut S) -> Result<(), Ho
     ensures log { OnOk result (RanBy S.does (AreWrites (map named outputs.now)) store.old store.new) }
     ensures stopped_log { IfErr result (λ _. (place : ℕ) × RanBy S.does (StopsAfter (map named outputs.now) place) store.old store.new) }
     ensures device { IfErr result (λ e. IsDeviceFault e → CountsFailure (S.failed store.old) (S.failed store.new)) }
+    ensures memory { IfErr result (λ e. e ≡ HostError.OutOfMemory → S.failed store.new ≡ S.failed store.old) }
     ensures counted { S.failed store.old ≤ S.failed store.new }
 {
     match write_all(outputs, store) {
@@ -64,6 +65,7 @@ pub fn run_host<S: Store>(
     ensures log { IfOk result (λ report. HasAccessed S.does config.now report.items store.old store.new) }
     ensures stopped_log { IfErr result (IsStoppedRun S.does config.now store.old store.new) }
     ensures device { IfErr result (λ e. IsDeviceFault e → CountsFailure (S.failed store.old) (S.failed store.new)) }
+    ensures memory { IfErr result (λ e. e ≡ HostError.OutOfMemory → S.failed store.new ≡ S.failed store.old) }
     ensures counted { S.failed store.old ≤ S.failed store.new }
 {
     if let Some(field) = top_fault(config) {

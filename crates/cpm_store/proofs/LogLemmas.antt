@@ -40,7 +40,7 @@ ran_missed does ps done p rest count s m t order before h missed = (
 
 -- ---- where nothing was written
 
-no_writes_more : (log more : List Access) → AreNoWrites log → AreNoWrites more → AreNoWrites (log ++ more)
+pub no_writes_more : (log more : List Access) → AreNoWrites log → AreNoWrites more → AreNoWrites (log ++ more)
 no_writes_more [] more h g = g
 no_writes_more (a ∷ log) more h g = (h.0, no_writes_more log more h.1 g)
 

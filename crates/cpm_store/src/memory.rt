@@ -123,6 +123,8 @@ impl Store for MemoryStore {
         ensures gave { IfOk result (λ v. Does (Gave name.now v.items) (files_in self.old) (files_in self.new)) }
         ensures missed { OnErr result (Does (Missed name.now) (files_in self.old) (files_in self.new)) }
         ensures device { IsErrOf result StoreError.Device → CountsFailure (failures_of self.old) (failures_of self.new) }
+        ensures uncounted { OnOk result (failures_of self.new ≡ failures_of self.old) }
+        ensures memory { IsErrOf result StoreError.OutOfMemory → failures_of self.new ≡ failures_of self.old }
         ensures counted { failures_of self.old ≤ failures_of self.new }
         // It fails exactly at the call that is to fail, or where there is no such file.
         ensures calls { calls_left self.new ≡ one_less (calls_left self.old) }
@@ -148,6 +150,8 @@ impl Store for MemoryStore {
         ensures wrote { OnOk result (Does (Wrote name.now bytes.now) (files_in self.old) (files_in self.new)) }
         ensures missed { OnErr result (Does (Missed name.now) (files_in self.old) (files_in self.new)) }
         ensures device { IsErrOf result StoreError.Device → CountsFailure (failures_of self.old) (failures_of self.new) }
+        ensures uncounted { OnOk result (failures_of self.new ≡ failures_of self.old) }
+        ensures memory { IsErrOf result StoreError.OutOfMemory → failures_of self.new ≡ failures_of self.old }
         ensures counted { failures_of self.old ≤ failures_of self.new }
         // It fails exactly at the call that is to fail, but for want of memory, and then changes no file.
         ensures calls { calls_left self.new ≡ one_less (calls_left self.old) }

@@ -35,6 +35,8 @@ pub fn write_all<S: Store>(outputs: &[Output<'_>], store: &mut S) -> Result<(), 
     ensures place { IfErr result (λ e. e.place < length outputs.now) }
     ensures device { IfErr result (λ e.
         e.cause ≡ StoreError.Device → CountsFailure (S.failed store.old) (S.failed store.new)) }
+    ensures uncounted { OnOk result (S.failed store.new ≡ S.failed store.old) }
+    ensures memory { IfErr result (λ e. e.cause ≡ StoreError.OutOfMemory → S.failed store.new ≡ S.failed store.old) }
     ensures counted { S.failed store.old ≤ S.failed store.new }
 {
     let mut place = 0;

@@ -1,4 +1,4 @@
-use Rattle.std.proofs.Common.{◌≡◌, sym, subst, List, arith}
+use Rattle.std.proofs.Common.{◌≡◌, ◌∙◌, sym, subst, List, arith}
 use Rattle.std.proofs.lemmas.Result.{err_from_is_err_and}
 use Rattle.std.specs.Prelude.{string_bytes}
 use Rattle.cpm_geom.specs.Disk.{Disk}
@@ -6,6 +6,8 @@ use Rattle.cpm_store.proofs.LogLemmas.{unwritten_more}
 use Rattle.cpm_batch.specs.Inputs.{AllImages}
 use Rattle.cpm_batch.proofs.InputLemmas.{image_as, image_refusal_as, name_read, name_refused}
 use Rattle.cpm_batch.proofs.ReadLemmas.{image_read_as, images_more}
+use Rattle.cpm_batch.specs.Inputs.{ImageIn, image_needs}
+use Rattle.cpm_batch.proofs.StopLemmas.{image_stopped_as, name_stopped, stopped_memory}
 use Rattle.cpm_batch.proofs.input.read_images.Goals as goal
 
 pub returns-in_err-read_image-clause-refusal : goal.returns-in_err-read_image-clause-refusal
@@ -30,6 +32,7 @@ loop-name-preserved g c =
           c.in_ok-read_image.ensures.log);
       unwritten = unwritten_more g.S.Store.does c.args.store.now c.loop-name.store c.read_image.new.store i.unwritten c.in_ok-read_image.ensures.unwritten;
       same = let s = c.in_ok-read_image.ensures.same in let t = i.same in cc;
+      uncounted = c.in_ok-read_image.ensures.uncounted ∙ i.uncounted;
       counted = omega (arith, i.counted, c.in_ok-read_image.ensures.counted);
     }
 
@@ -40,3 +43,17 @@ returns-in_err-read_image-clause-unwritten g c =
 pub returns-in_err-push-clause-unwritten : goal.returns-in_err-push-clause-unwritten
 returns-in_err-push-clause-unwritten g c =
     unwritten_more g.S.Store.does c.args.store.now c.loop-name.store c.read_image.new.store c.loop-name.invariant.unwritten c.in_ok-read_image.ensures.unwritten
+
+pub returns-in_err-read_image-clause-refused_log : goal.returns-in_err-read_image-clause-refused_log
+returns-in_err-read_image-clause-refused_log g c =
+    let p = err_from_is_err_and c.from_residual.result c.from_residual.ensures.1 in
+    let does = g.S.Store.does in
+    rw (p.1, p.2) (name_stopped does c.args.names.now c.loop-name.name-index c.name-item.result c.loop-name.images.items _ c.args.store.now c.loop-name.store c.read_image.new.store
+    c.loop-name-test.true c.name-item.is c.loop-name.invariant.log
+    (image_stopped_as does (string_bytes c.name-item.result) c.as_str.result.now _ c.loop-name.store c.read_image.new.store c.as_str.ensures.value c.in_err-read_image.ensures.refused_log))
+
+pub returns-in_err-push-clause-refused_log : goal.returns-in_err-push-clause-refused_log
+returns-in_err-push-clause-refused_log g c =
+    let p = err_from_is_err_and c.from_residual-in_err-push.result c.from_residual-in_err-push.ensures.1 in
+    rw (p.1, p.2) (stopped_memory g.S.Store.does (image_needs c.args.names.now) c.args.store.now c.read_image.new.store
+    (unwritten_more g.S.Store.does c.args.store.now c.loop-name.store c.read_image.new.store c.loop-name.invariant.unwritten c.in_ok-read_image.ensures.unwritten))

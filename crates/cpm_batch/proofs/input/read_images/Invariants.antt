@@ -10,5 +10,6 @@ invariant-loop-name g l = record {
   log : RanBy g.S.Store.does (AreImagesRead (take l.name-index l.names) l.images.items) l.fn.store l.store;
   unwritten : RanBy g.S.Store.does AreNoWrites l.fn.store l.store;
   same : g.S.Store.files l.store ≡ g.S.Store.files l.fn.store;
+  uncounted : g.S.Store.failed l.store ≡ g.S.Store.failed l.fn.store;
   counted : g.S.Store.failed l.fn.store ≤ g.S.Store.failed l.store;
 }

@@ -1,5 +1,7 @@
 use Rattle.std.proofs.lemmas.Result.{IfOk-weaker}
 use Rattle.cpm_batch.proofs.ReadLemmas.{no_script, script_named}
+use Rattle.std.proofs.lemmas.Result.{IfErr-weaker}
+use Rattle.cpm_batch.proofs.StopLemmas.{keys_stopped}
 use Rattle.cpm_batch.proofs.input.read_keys_of.Goals as goal
 
 pub returns-in-Some-clause-log : goal.returns-in-Some-clause-log
@@ -10,3 +12,9 @@ returns-in-Some-clause-log g c =
 
 pub returns-in-None-clause-log : goal.returns-in-None-clause-log
 returns-in-None-clause-log g c = no_script g.S.Store.does c.args.name.now c.new.result.items c.args.store.now c.in-None.is c.new.ensures.items
+
+pub returns-in-Some-clause-refused_log : goal.returns-in-Some-clause-refused_log
+returns-in-Some-clause-refused_log g c =
+    IfErr-weaker c.read_script.result _ _
+    (λ e log. keys_stopped g.S.Store.does c.args.name.now c.in-Some.name c.as_str.result.now e c.args.store.now c.read_script.new.store c.in-Some.is c.as_str.ensures.value log)
+    c.read_script.ensures.refused_log

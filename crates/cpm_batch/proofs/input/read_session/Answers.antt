@@ -7,6 +7,7 @@ use Rattle.cpm_store.proofs.LogLemmas.{ran_then, unwritten_more}
 use Rattle.cpm_batch.specs.Inputs.{AllImages, image_needs, script_needs}
 use Rattle.cpm_batch.specs.Reads.{AreImagesRead, AreKeysRead}
 use Rattle.cpm_batch.proofs.InputLemmas.{images_met, refusal_as, refused_behind, refused_front}
+use Rattle.cpm_batch.proofs.StopLemmas.{behind_images, stopped_as, stopped_front}
 use Rattle.cpm_batch.proofs.input.read_session.Goals as goal
 
 pub returns-in_err-drives-clause-refusal : goal.returns-in_err-drives-clause-refusal
@@ -42,3 +43,22 @@ returns-in_err-keys-clause-unwritten g c =
 pub returns-clause-unwritten : goal.returns-clause-unwritten
 returns-clause-unwritten g c =
     unwritten_more g.S.Store.does c.args.store.now c.read_images.new.store c.read_keys_of.new.store c.in_ok-drives.ensures.unwritten c.in_ok-keys.ensures.unwritten
+
+pub returns-in_err-drives-clause-refused_log : goal.returns-in_err-drives-clause-refused_log
+returns-in_err-drives-clause-refused_log g c =
+    let p = err_from_is_err_and c.from_residual.result c.from_residual.ensures.1 in
+    let does = g.S.Store.does in
+    let i = c.args.session.now in
+    rw (p.1, p.2) (stopped_front does (image_needs i.drives.items) (script_needs i.keys) _ c.args.store.now c.read_images.new.store
+    (stopped_as does (image_needs i.drives.items) (image_needs c.as_slice.result.now) _ c.args.store.now c.read_images.new.store (ap image_needs c.as_slice.ensures.value)
+    c.in_err-drives.ensures.refused_log))
+
+pub returns-in_err-keys-clause-refused_log : goal.returns-in_err-keys-clause-refused_log
+returns-in_err-keys-clause-refused_log g c =
+    let p = err_from_is_err_and c.from_residual-in_err-keys.result c.from_residual-in_err-keys.ensures.1 in
+    let i = c.args.session.now in
+    let does = g.S.Store.does in
+    let images = subst (λ (names : List (String Global)). RanBy does (AreImagesRead names c.in_ok-drives.drives.items) c.args.store.now c.read_images.new.store) c.as_slice.ensures.value
+    c.in_ok-drives.ensures.log in
+    rw (p.1, p.2) (behind_images does i.drives.items c.in_ok-drives.drives.items (script_needs i.keys) _ c.args.store.now c.read_images.new.store c.read_keys_of.new.store images
+    c.in_err-keys.ensures.refused_log)

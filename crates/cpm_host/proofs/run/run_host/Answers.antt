@@ -1,9 +1,9 @@
-use Rattle.std.proofs.Common.{◌∙◌, ap, map}
+use Rattle.std.proofs.Common.{◌∙◌, ap, map, sym}
 use Rattle.std.proofs.lemmas.Result.{err_from_is_err_and}
 use Rattle.cpm_batch.specs.Inputs.{given}
 use Rattle.cpm_batch.specs.Outputs.{files_of_all}
 use Rattle.cpm_store.specs.Writes.{named}
-use Rattle.cpm_host.proofs.RunLemmas.{fails_at_write, play_refused, play_stopped, read_and_written, writing_stopped}
+use Rattle.cpm_host.proofs.RunLemmas.{fails_at_write, play_refused, play_stopped, read_and_written, reading_refused, reading_stopped, writing_stopped}
 use Rattle.cpm_host.proofs.ScriptLemmas.{inputs_pressable}
 use Rattle.cpm_host.proofs.run.run_host.Goals as goal
 
@@ -14,7 +14,7 @@ pub returns-in_err-reports-clause-refusal : goal.returns-in_err-reports-clause-r
 returns-in_err-reports-clause-refusal g c =
     let p = err_from_is_err_and c.from_residual-in_err-reports.result c.from_residual-in_err-reports.ensures.1 in
     rw (p.1, p.2) (play_refused c.args.config.now c.in_ok-inputs.inputs.system (map given c.in_ok-inputs.inputs.sessions.items) (g.S.Store.files c.args.store.now)
-    (g.S.Store.files c.read_inputs.new.store) c.in_err-reports.field-0.0 c.in_ok-inputs.ensures.read c.read_inputs.ensures.same c.in_err-reports.ensures.refusal)
+    (g.S.Store.files c.read_inputs.new.store) c.in_err-reports.field-0.0 (sym c.in_default.ensures) c.in_ok-inputs.ensures.read c.read_inputs.ensures.same c.in_err-reports.ensures.refusal)
 
 pub returns-in_err-reports-clause-stopped_log : goal.returns-in_err-reports-clause-stopped_log
 returns-in_err-reports-clause-stopped_log g c =
@@ -51,3 +51,14 @@ returns-clause-log g c =
           c.in_ok-write_files.ensures.log;
       reported = c.in_ok-reports.ensures.reports;
     }
+
+pub returns-in_err-inputs-clause-refusal : goal.returns-in_err-inputs-clause-refusal
+returns-in_err-inputs-clause-refusal g c =
+    let p = err_from_is_err_and c.from_residual.result c.from_residual.ensures.1 in
+    rw (p.1, p.2) (reading_refused c.args.config.now (g.S.Store.files c.args.store.now) (g.S.Store.files c.read_inputs.new.store) c.in_err-inputs.field-0.0 (sym c.in_default.ensures) c.in_err-inputs.ensures.refusal
+    c.in_err-inputs.ensures.same)
+
+pub returns-in_err-inputs-clause-stopped_log : goal.returns-in_err-inputs-clause-stopped_log
+returns-in_err-inputs-clause-stopped_log g c =
+    let p = err_from_is_err_and c.from_residual.result c.from_residual.ensures.1 in
+    rw (p.1, p.2) (reading_stopped g.S.Store.does c.args.config.now c.args.store.now c.read_inputs.new.store c.in_err-inputs.field-0.0 c.in_err-inputs.ensures.refused_log)

@@ -28,6 +28,7 @@ loop-output-preserved g c =
           (told_more _ before after (map named (take i os)) (named o) c.loop-output.invariant.written write);
       log = subst (λ (ps : List Named). RanBy g.S.Store.does (AreWrites ps) c.args.store.now c.write.new.self) (sym (named-more os i o c.loop-output-test.true c.output-item.is))
           (ran_write g.S.Store.does (map named (take i os)) (named o) c.args.store.now c.loop-output.store c.write.new.self c.loop-output.invariant.log logged);
+      uncounted = c.in-Ok.ensures.uncounted ∙ c.loop-output.invariant.uncounted;
       counted = omega (arith, c.loop-output.invariant.counted, c.in-Ok.ensures.counted);
       place = omega (arith, c.loop-output.invariant.place);
     }

@@ -8,6 +8,7 @@ abbrev pub invariant-loop-output : goal.invariant-loop-output
 invariant-loop-output g l = record {
   written : Told (g.S.Store.files l.fn.store) (g.S.Store.files l.store) (WritesAll (map named (take l.output-index l.outputs)));
   log : RanBy g.S.Store.does (AreWrites (map named (take l.output-index l.outputs))) l.fn.store l.store;
+  uncounted : g.S.Store.failed l.store ≡ g.S.Store.failed l.fn.store;
   counted : g.S.Store.failed l.fn.store ≤ g.S.Store.failed l.store;
   place : l.place ≡ l.output-index;
 }
