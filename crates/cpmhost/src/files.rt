@@ -139,6 +139,7 @@ impl<'a, R: Files + AllocGlobal> MachineFiles<'a, R> {
     /// What a call answers that failed so, which is counted but for want of memory.
     fn fault(&mut self, reason: io::Error) -> StoreError
         ensures device { result ≡ StoreError.Device → CountsFailure self.old.failures self.new.failures }
+        ensures memory { result ≡ StoreError.OutOfMemory → self.new.failures ≡ self.old.failures }
         ensures rises { self.old.failures ≤ self.new.failures }
     {
         if reason.kind() == ErrorKind::OutOfMemory {
