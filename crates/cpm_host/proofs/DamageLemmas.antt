@@ -71,7 +71,7 @@ twice_told es i fault used h = go (position (λ s. stands_before es i s) (range_
     go None at e = absurd (none-some fault e)
     go (Some s) at e =
         let same : TwiceBlock i (block_number (entry_at es i).extent s) (owner_of es (block_number (entry_at es i).extent s)) ≡ fault = cc in
-        let within = position_within _ _ s at in
+        let within : s < length (range_with_len 0 (length (entry_at es i).extent.blocks)) = position_within (λ s. stands_before es i s) (range_with_len 0 (length (entry_at es i).extent.blocks)) s at in
         let short : s < length (entry_at es i).extent.blocks = rw (length-range_with_len 0 (length (entry_at es i).extent.blocks)) at within in
         subst (IsToldOf i) same (record { entry = refl; other = owner_below es i _ (has_at es i s used short) })
 

@@ -7,14 +7,10 @@ use Rattle.cpm_geom.specs.declared.format.Format.TheVariants.{Ibm3740}
 use Rattle.cpm_script.specs.Script.{script}
 use Rattle.cpm_script.specs.declared.fault.LineFault.{LineFault}
 use Rattle.cpm_script.specs.declared.script.Key.{Key}
-use Rattle.cpm_memory.specs.Contents.{run_at}
 use Rattle.cpm_slots.specs.MachineState.{MachineState, opened_with}
-use Rattle.cpm_slots.specs.declared.reply.End.{End}
-use Rattle.cpm_slots.specs.declared.reply.End.TheVariants.{Illegal}
 use Rattle.cpm_turns.specs.Playing.{HasText, alone_by}
 use Rattle.cpm_host.specs.declared.com.Script.{Script}
 use Rattle.cpm_host.specs.declared.ending.Ending.{Ending}
-use Rattle.cpm_host.specs.declared.ending.IllegalBytes.{IllegalBytes}
 use Rattle.cpm_host.specs.declared.error.HostError.{HostError}
 use Rattle.cpm_host.specs.declared.error.HostError.TheVariants.{FileRefused, OutputUnwritable, OutOfMemory, ProgramTooLong}
 
@@ -23,13 +19,7 @@ abbrev pub text_of : MachineState → List ℕ
 text_of s = s.cpm.console.screen
 
 abbrev pub ending_of : MachineState → Ending
-ending_of s =
-    record { ended = s.ended; count = s.count; pc = s.cpm.regs.pc; bytes = run_at s.memory s.cpm.regs.pc 3 }
-
--- the bytes that a run stopped at, where it stopped since they begin no instruction
-abbrev pub illegal_of : End → List ℕ → ℕ → Option IllegalBytes
-illegal_of Illegal bytes address = Some (record { bytes = bytes; address = address })
-illegal_of _ bytes address = None
+ending_of s = record { ended = s.ended; count = s.count; pc = s.cpm.regs.pc }
 
 -- these are the keys of the script, if there is one
 abbrev pub HasScript : Option Script → List Key → Type 0

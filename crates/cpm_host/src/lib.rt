@@ -24,7 +24,7 @@ pub use cpm_debug::{DebugError, run_debug};
 pub use cpm_script::{Key, LineFault, ScriptError, read_keys};
 pub use cpm_store::{MemoryStore, Store, StoreError};
 pub use damage::{Damage, NamedFile};
-pub use ending::{Ending, IllegalBytes};
+pub use ending::Ending;
 pub use error::HostError;
 pub use input::{MOST_FILE, read_whole};
 pub use list::run_list;

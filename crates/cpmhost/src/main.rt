@@ -83,9 +83,6 @@ fn play(
         run_com(rt.alloc(), cpu, program, script, steps, &mut io::writer(rt))?
     };
     // The program ran and its text is out, even where nobody reads how it ended.
-    if let Some(bytes) = ending.illegal() {
-        let _ = eprintln!(rt; "{bytes}");
-    }
     let _ = eprintln!(rt; "{ending}");
     Ok(())
 }

@@ -24,14 +24,22 @@ fn disk(rt: &(impl Abort + AllocGlobal), entries: &[(u8, u8)]) -> Vec<u8> {
     bytes
 }
 
+/// Writes a byte of a disk.
+fn put(rt: &impl Abort, bytes: &mut Vec<u8>, place: usize, value: u8) {
+    match bytes.get_mut(place) {
+        Some(byte) => *byte = value,
+        None => panic!(rt; "no byte {place}"),
+    }
+}
+
 /// What is written of an image, or why it is refused.
 fn checked(rt: &(impl Abort + AllocGlobal), bytes: Vec<u8>) -> String {
     let mut out = Recorder::new(rt.alloc());
     match run_check("d.img", bytes, &mut out) {
-        Ok(()) => match String::from_utf8(out.bytes) {
-            Ok(text) => text,
-            Err(_) => panic!(rt; "no text"),
-        },
+        Ok(()) => {
+            let Recorder { bytes, .. } = out;
+            String::from_utf8(bytes).expect(rt, "a text")
+        }
         Err(error) => {
             same(rt, error.status(), 6);
             same(rt, out.bytes.len(), 0);
@@ -76,10 +84,10 @@ fn names_who_has_a_block_too(rt: HostRuntime) {
     // The directory begins behind two tracks of 26 sectors of 128 bytes.
     let mut bytes = disk(&rt, &[(12, 0), (12, 0)]);
     let first = 2 * 26 * 128;
-    bytes[first] = 1;
-    bytes[first + 1] = b'U' | 0x80;
-    bytes[first + 32 + 2] = 0x01;
-    bytes[first + 32 + 4] = b'X';
+    put(&rt, &mut bytes, first, 1);
+    put(&rt, &mut bytes, first + 1, b'U' | 0x80);
+    put(&rt, &mut bytes, first + 32 + 2, 0x01);
+    put(&rt, &mut bytes, first + 32 + 4, b'X');
     let text = checked(&rt, bytes);
     let wanted =
         "HO6 'd.img': directory entry 1, T??X.TXT of user 0, has block 12, which entry 0, U.TXT of user 1, has too";

@@ -121,29 +121,6 @@ fn says_how_a_program_ended(rt: HostRuntime) {
 }
 
 #[test]
-fn says_which_bytes_are_no_instruction(rt: HostRuntime) {
-    let programs: [(&[u8], Option<&str>); 3] = [
-        (&[0x08], Some("illegal bytes 08 00 00 at 0100")),
-        (
-            &[0x00, 0xDD, 0x21, 0xFE],
-            Some("illegal bytes DD 21 FE at 0101"),
-        ),
-        (LETTER, None),
-    ];
-    for (program, wanted) in programs {
-        let mut out = Recorder::new(rt.alloc());
-        let end = ending(&rt, program, 1_000_000, &mut out);
-        match end.illegal() {
-            Some(bytes) => {
-                let text = bytes.to_string(rt.alloc()).expect(&rt, "memory");
-                same(&rt, Some(text.as_str()), wanted);
-            }
-            None => same(&rt, None, wanted),
-        }
-    }
-}
-
-#[test]
 fn writes_all_text_however_little_fits(rt: HostRuntime) {
     let mut out = Recorder::new(rt.alloc());
     out.most = 1000;
