@@ -363,7 +363,7 @@ fn refusals_say_what_is_wanted(rt: HostRuntime) {
         (
             "keys =",
             "key =",
-            "configuration: session 1 has a key other than name, cpu, quota, steps, drives, console, keys, list and out",
+            "configuration, line 12, 'key': session 1 has a key other than name, cpu, quota, steps, drives, console, keys, list and out",
         ),
         (
             "keys =",
