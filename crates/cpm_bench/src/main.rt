@@ -9,6 +9,7 @@
 //! one host, and prints a line of what each showed and left.
 #![tactic(auto)]
 
+mod digest;
 mod sessions;
 mod soak;
 

@@ -1,11 +1,12 @@
 //! Sessions of programs that nobody vouches for: each by itself on a machine, or all on one host by grants in turn, with keys that come at
 //! given counts; and a line of what each showed and left, so that the two can be compared.
 
+use crate::digest::Digest;
 use cpm_flags::Cpu;
 use cpm_geom::Image;
 use cpm_sessions::{Host, SlotId};
 use cpm_slots::{Closed, Granted, Machine, Opening, Why};
-use std::{fmt, fs, io};
+use std::fs;
 
 /// The most sessions of a host.
 const MOST_SESSIONS: u16 = 64;
@@ -18,35 +19,6 @@ const KEY_DISTANCE: u64 = 2503;
 
 /// The quotas of the sessions, in turn.
 const QUOTAS: [u16; 4] = [256, 64, 256, 24];
-
-/// How many bytes there were, and their digest by FNV-1a.
-#[derive(Clone, Copy, Drop)]
-struct Digest {
-    count: u64,
-    value: u64,
-}
-
-impl Digest {
-    fn new() -> Digest {
-        Digest {
-            count: 0,
-            value: 0xCBF2_9CE4_8422_2325,
-        }
-    }
-
-    fn add(&mut self, bytes: &[u8]) {
-        for byte in bytes {
-            self.count = self.count.saturating_add(1);
-            self.value = (self.value ^ u64::from(*byte)).wrapping_mul(0x0000_0100_0000_01B3);
-        }
-    }
-}
-
-impl fmt::Display for Digest {
-    fn fmt<W: fmt::Write>(&self, f: &mut fmt::Formatter<W>) -> fmt::Result {
-        write!(f, "{}:{:016x}", self.count, self.value)
-    }
-}
 
 /// How long sessions run, and by which turns.
 #[derive(Clone, Copy, Drop)]

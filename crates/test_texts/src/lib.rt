@@ -15,6 +15,8 @@ mod key_scripts;
 #[cfg(test)]
 mod lines;
 #[cfg(test)]
+mod refused_command_lines;
+#[cfg(test)]
 mod same;
 #[cfg(test)]
 mod sources;

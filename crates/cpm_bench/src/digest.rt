@@ -1,0 +1,32 @@
+//! Digests of bytes.
+
+use std::fmt;
+
+/// How many bytes there were, and their digest by FNV-1a.
+#[derive(Clone, Copy, Drop)]
+pub struct Digest {
+    count: u64,
+    value: u64,
+}
+
+impl Digest {
+    pub fn new() -> Digest {
+        Digest {
+            count: 0,
+            value: 0xCBF2_9CE4_8422_2325,
+        }
+    }
+
+    pub fn add(&mut self, bytes: &[u8]) {
+        for byte in bytes {
+            self.count = self.count.saturating_add(1);
+            self.value = (self.value ^ u64::from(*byte)).wrapping_mul(0x0000_0100_0000_01B3);
+        }
+    }
+}
+
+impl fmt::Display for Digest {
+    fn fmt<W: fmt::Write>(&self, f: &mut fmt::Formatter<W>) -> fmt::Result {
+        write!(f, "{}:{:016x}", self.count, self.value)
+    }
+}
