@@ -65,6 +65,22 @@ pub fn key_fault(rt: &(impl Abort + AllocGlobal), text: &str) -> KeyFault {
     }
 }
 
+/// The place that breaks a rule of a configuration.
+fn out_of_range(rt: &(impl Abort + AllocGlobal), text: &str) -> Place {
+    match refusal(rt, text) {
+        ConfigError::Range(place) => place,
+        error => panic!(rt; "{error:?} at {text}"),
+    }
+}
+
+/// The place of a name that a configuration gives twice.
+fn given_twice(rt: &(impl Abort + AllocGlobal), text: &str) -> Place {
+    match refusal(rt, text) {
+        ConfigError::Twice(place) => place,
+        error => panic!(rt; "{error:?} at {text}"),
+    }
+}
+
 /// The place of a field of the first session.
 fn first(field: Field) -> Place {
     Place { session: 1, field }
@@ -220,15 +236,11 @@ const OUT_OF_RANGE: [(&str, &str, u64, Field); 22] = [
 fn refuses_values(rt: HostRuntime) {
     for (old, new, session, field) in OUT_OF_RANGE {
         let text = replaced(&rt, GOOD, old, new);
-        let wanted = ConfigError::Range(Place { session, field });
-        same_at(&rt, new, refusal(&rt, text.as_str()), wanted);
+        let wanted = Place { session, field };
+        same_at(&rt, new, out_of_range(&rt, text.as_str()), wanted);
     }
     let text = "frames = 64\nquantum = 1\nsystem = \"p.img\"\nsession = []\n";
-    same(
-        &rt,
-        refusal(&rt, text),
-        ConfigError::Range(at_top(Field::Sessions)),
-    );
+    same(&rt, out_of_range(&rt, text), at_top(Field::Sessions));
 }
 
 #[test]
@@ -291,12 +303,7 @@ fn refuses_names_given_twice(rt: HostRuntime) {
     for (old, new, place) in edits {
         let text = joined(&rt, &[GOOD, SECOND]);
         let text = replaced(&rt, text.as_str(), old, new);
-        same_at(
-            &rt,
-            old,
-            refusal(&rt, text.as_str()),
-            ConfigError::Twice(place),
-        );
+        same_at(&rt, old, given_twice(&rt, text.as_str()), place);
     }
 }
 
@@ -306,7 +313,7 @@ fn kinds_of_fault_come_in_order(rt: HostRuntime) {
     let twice = replaced(&rt, two.as_str(), "two.txt", "one.txt");
     let range = replaced(&rt, twice.as_str(), "quota = 256", "quota = 257");
     let place = second(Field::Quota);
-    same(&rt, refusal(&rt, range.as_str()), ConfigError::Range(place));
+    same(&rt, out_of_range(&rt, range.as_str()), place);
     let key = replaced(&rt, range.as_str(), "a.out", "a.out\", 5, \"");
     let place = second(Field::Out);
     let wanted = KeyFault::Wanted(place);
