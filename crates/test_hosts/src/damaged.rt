@@ -32,15 +32,22 @@ fn there_is_no_seventh_call(rt: HostRuntime) {
     same(&rt, lines.as_str(), "one Running 50 21\n");
 }
 
+/// The status with which these bytes are refused as configuration, if they are.
+fn refused(rt: &(impl Abort + AllocGlobal), bytes: &[u8]) -> Option<u8> {
+    let Err(error) = Config::read(rt.alloc(), bytes) else {
+        return None;
+    };
+    Some(HostError::from(error).status())
+}
+
 /// The status of a run of these bytes as configuration.
 fn status_of(rt: &(impl Abort + AllocGlobal), bytes: &[u8]) -> u8 {
-    match Config::read(rt.alloc(), bytes) {
-        Ok(_) => match str::from_utf8(bytes) {
-            Ok(text) => status(rt, text, &mut filled(rt)),
-            Err(_) => panic!(rt; "a configuration that is no text"),
-        },
-        Err(error) => HostError::from(error).status(),
+    if let Some(refused) = refused(rt, bytes) {
+        return refused;
     }
+    let text = str::from_utf8(bytes).expect(rt, "a configuration that is text");
+    let mut store = filled(rt);
+    status(rt, text, &mut store)
 }
 
 #[test]
