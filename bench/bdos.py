@@ -3,7 +3,10 @@
 One bytearray stands for the memory and one for each disk; there is no cache, and nothing is shared with the Rattle code.
 """
 
-from disk import ANY, DSM, ENTRIES, P, SKEW, UNUSED, Disk, extent_number, name_matches
+from disk import ANY, LARGE, P, SKEW, SMALL, UNUSED, Disk, extent_number, name_matches
+
+# the formats in the order of their tables in memory, which lie 16 bytes apart
+TABLES = (SMALL, LARGE)
 
 FCB_CALLS = {15, 16, 17, 18, 19, 20, 21, 22, 23, 30, 33, 34, 35, 36, 40}
 
@@ -21,11 +24,14 @@ def memory_at_opening():
     for number in range(17):
         memory[0xFA00 + 3 * number : 0xFA03 + 3 * number] = bytes([0xC3, number, 0xFB])
     memory[0xFC00:0xFC1A] = bytes(SKEW)
-    memory[0xFC20:0xFC2F] = bytes([26, 0, 3, 7, 0, 242, 0, 63, 0, 0xC0, 0, 16, 0, 2, 0])
-    for place in range(5):
-        words = [0xFC00, 0, 0, 0, 0xFD00, 0xFC20, 0xFF40 + 16 * place, 0xFE00 + 64 * place]
-        header = b"".join(word.to_bytes(2, "little") for word in words)
-        memory[0xFC40 + 32 * place : 0xFC50 + 32 * place] = header
+    for number, form in enumerate(TABLES):
+        at = 0xFC20 + 16 * number
+        memory[at : at + 15] = form.block
+        for place in range(5):
+            words = [form.table, 0, 0, 0, 0xFD00, at, 0xFF40 + 16 * place, 0xFE00 + 64 * place]
+            header = b"".join(word.to_bytes(2, "little") for word in words)
+            start = 0xFC40 + 32 * place + 16 * number
+            memory[start : start + 16] = header
     return memory
 
 
@@ -105,7 +111,7 @@ class Session:
         elif function == 29:
             return vector(lambda disk: disk.is_protected) | 0x8000
         elif function == 31:
-            return 0xFC20
+            return 0xFC20 + 16 * TABLES.index(self.disks[self.current].format)
         elif function == 32:
             if e == 0xFF:
                 return self.user
@@ -120,9 +126,9 @@ class Session:
         disk = self.disks[self.current]
         disk.use()
         at = 0xFE00 + 64 * (4 if self.current == P else self.current)
-        bits = "".join("1" if block in disk.reserved else "0" for block in range(DSM + 1))
-        bits = bits.ljust(248, "0")
-        self.store(at, bytes(int(bits[place : place + 8], 2) for place in range(0, 248, 8)))
+        bits = "".join("1" if block in disk.reserved else "0" for block in range(disk.format.dsm + 1))
+        bits += "0" * (-len(bits) % 8)
+        self.store(at, bytes(int(bits[place : place + 8], 2) for place in range(0, len(bits), 8)))
         return at
 
     # ---- files
@@ -149,13 +155,14 @@ class Session:
         if self.number not in self.disks:
             raise Fault(b"Select", self.number)
         self.disk = self.disks[self.number]
+        self.form = self.disk.format
         self.disk.use()
         if function in {19, 21, 22, 23, 30, 34, 40} and self.is_read_only():
             raise Fault(b"R/O", self.number)
         if function in {21, 34, 40} and self.fcb[9] >= 128:
             raise Fault(b"File R/O", self.number)
         return {
-            15: lambda: self.code(self.open(self.fcb[12] % 32)),
+            15: lambda: self.code(self.open(self.fcb[12] % 32, to_read=True)),
             16: lambda: self.code(self.close()),
             17: self.search_first,
             19: self.erase,
@@ -183,37 +190,49 @@ class Session:
 
     def named(self):
         """The indices of the entries of the FCB's name."""
-        for index in range(ENTRIES):
+        for index in range(self.form.entries):
             entry = self.disk.entry(index)
             if entry[0] == self.user and name_matches(self.fcb[1:12], entry[1:12]):
                 yield index
 
     def find(self, x):
+        """The first entry of the name that has extent x, or may have it."""
         for index in self.named():
             entry = self.disk.entry(index)
-            if extent_number(entry[12], entry[14]) == x:
+            if extent_number(entry[12], entry[14]) // self.form.extents == x // self.form.extents:
                 return index
         return None
 
-    def open(self, x):
+    def open(self, x, to_read):
+        """An entry ends at the extent of its own number: those before it are full, those behind it are to be written yet."""
         index = self.find(x)
-        if index is not None:
-            self.fcb[1:32] = self.disk.entry(index)[1:32]
-            self.fcb[12], self.fcb[14] = x % 32, x // 32
+        if index is None:
+            return None
+        entry = self.disk.entry(index)
+        last = extent_number(entry[12], entry[14])
+        if to_read and last < x:
+            return None
+        self.fcb[1:32] = entry[1:32]
+        self.fcb[12], self.fcb[14] = x % 32, x // 32
+        if last != x:
+            self.fcb[15] = 128 if x < last else 0
         return index
 
     def close(self):
         index = self.find(self.x())
         if index is None:
             return None
-        if any(number > DSM for number in self.fcb[16:32]):
+        ours = self.form.numbers(self.fcb)
+        if any(number > self.form.dsm for number in ours):
             raise Fault(b"Bad Sector", self.number)
         entry = self.disk.entry(index)
-        if any(a and b and a != b for a, b in zip(self.fcb[16:32], entry[16:32])):
+        pairs = list(zip(ours, self.form.numbers(entry)))
+        if any(a and b and a != b for a, b in pairs):
             return None
-        merged = bytes(a or b for a, b in zip(self.fcb[16:32], entry[16:32]))
+        merged = self.form.map_of([a or b for a, b in pairs])
         after = bytearray(entry)
-        after[12], after[14], after[15] = self.fcb[12], self.fcb[14], self.fcb[15]
+        if self.x() >= extent_number(entry[12], entry[14]):
+            after[12], after[14], after[15] = self.fcb[12], self.fcb[14], self.fcb[15]
         after[16:32] = merged
         if after != entry:
             if self.is_read_only():
@@ -223,7 +242,7 @@ class Session:
         return index
 
     def make(self, x):
-        for index in range(ENTRIES):
+        for index in range(self.form.entries):
             if self.disk.entry(index)[0] == UNUSED:
                 self.fcb[12:16] = bytes([x % 32, 0, x // 32, 0])
                 self.fcb[16:32] = bytes(16)
@@ -244,15 +263,16 @@ class Session:
     def search_on(self):
         number, fcb, place = self.search
         disk = self.disks[number]
-        for index in range(place, ENTRIES):
+        group = fcb[12] % 32 // disk.format.extents
+        for index in range(place, disk.format.entries):
             entry = disk.entry(index)
             is_it = entry[0] == self.user and name_matches(fcb[1:12], entry[1:12])
-            is_it = is_it and (fcb[12] == ANY or extent_number(entry[12], entry[14]) == fcb[12] % 32)
+            is_it = is_it and (fcb[12] == ANY or extent_number(entry[12], entry[14]) // disk.format.extents == group)
             if is_it or fcb[0] == ANY:
                 self.search[2] = index + 1
                 self.buffer = bytearray(disk.read(index // 4))
                 return index % 4
-        self.search[2] = ENTRIES
+        self.search[2] = disk.format.entries
         return 0xFF
 
     def changeable(self):
@@ -265,7 +285,7 @@ class Session:
         found = self.changeable()
         for index in found:
             entry = self.disk.entry(index)
-            self.disk.reserved -= set(entry[16:]) - {0, 1}
+            self.disk.reserved -= set(self.form.numbers(entry)) - {0, 1}
             entry[0] = UNUSED
             self.disk.put_entry(index, entry)
         return self.code(found[0] if found else None)
@@ -291,7 +311,7 @@ class Session:
 
     def next_extent(self, x, access):
         """Whether extent x is had; a write makes it where there is none."""
-        if self.open(x) is not None:
+        if self.open(x, to_read=access == self.read) is not None:
             return True
         return access != self.read and self.make(x) is not None
 
@@ -319,32 +339,40 @@ class Session:
         return access()
 
     def block(self):
-        number = self.fcb[16 + self.fcb[32] // 8]
-        if number > DSM:
+        """Where in the map the current record's block is, and its number."""
+        record = 128 * (self.x() % self.form.extents) + self.fcb[32]
+        place = record // self.form.in_block
+        number = self.form.numbers(self.fcb)[place]
+        if number > self.form.dsm:
             raise Fault(b"Bad Sector", self.number)
-        return number
+        return place, number
+
+    def in_block(self, number):
+        return self.form.in_block * number + self.fcb[32] % self.form.in_block
 
     def read(self):
         if self.fcb[32] >= self.fcb[15]:
             return 1
-        block = self.block()
+        _, block = self.block()
         if block == 0:
             return 1
-        self.buffer = bytearray(self.disk.read(8 * block + self.fcb[32] % 8))
+        self.buffer = bytearray(self.disk.read(self.in_block(block)))
         return 0
 
     def write(self, is_cleared=False):
-        block = self.block()
+        place, block = self.block()
         if block == 0:
             block = self.disk.lowest()
             if block is None:
                 return 2
             self.disk.reserved.add(block)
-            self.fcb[16 + self.fcb[32] // 8] = block
+            numbers = self.form.numbers(self.fcb)
+            numbers[place] = block
+            self.form.put_numbers(self.fcb, numbers)
             if is_cleared:
-                for place in range(8):
-                    self.disk.write(8 * block + place, bytes(128))
-        self.disk.write(8 * block + self.fcb[32] % 8, self.buffer)
+                for number in range(self.form.in_block):
+                    self.disk.write(self.form.in_block * block + number, bytes(128))
+        self.disk.write(self.in_block(block), self.buffer)
         self.fcb[15] = max(self.fcb[15], self.fcb[32] + 1)
         return 0
 

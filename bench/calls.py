@@ -1,8 +1,8 @@
 #!/usr/bin/env python3
 """Compares calls of the BDOS on disks with the slow reading of its function table in bdos.py.
 
-Random sessions of random calls on random directories, well-formed and not, go to the program cpm_interop in batches. What it
-prints of each call, and the images that it leaves, must be what is read.
+Random sessions of random calls on random directories of small and large disks, well-formed and not, go to the program cpm_interop
+in batches. What it prints of each call, and the images that it leaves, must be what is read.
 """
 
 import argparse
@@ -15,7 +15,7 @@ import sys
 import tempfile
 
 from bdos import Session
-from disk import ENTRIES, P, SIZE, Disk
+from disk import FORMATS, LARGE, P, SMALL, Disk
 
 HERE = os.path.dirname(os.path.abspath(__file__))
 PROGRAM = os.path.join(HERE, "..", "crates", "cpm_interop", "out", "cpm_interop")
@@ -23,15 +23,17 @@ PROGRAM = os.path.join(HERE, "..", "crates", "cpm_interop", "out", "cpm_interop"
 NAMES = [b"A       TXT", b"AB      TXT", b"B       COM", b"DATA    BIN", b"X          "]
 USERS = [0, 0, 0, 3, 15, 31]
 FUNCTIONS = [*range(13, 38), 40]
+KINDS = {"small": [SMALL], "large": [LARGE], "both": [SMALL, LARGE]}
 ON_FILES = [15, 16, 17, 18, 19, 20, 20, 21, 21, 22, 23, 30, 33, 33, 34, 34, 35, 36, 40]
 
 
 class Maker:
     """Random images, file control blocks and calls."""
 
-    def __init__(self, seed):
+    def __init__(self, seed, formats):
         self.dice = random.Random(seed)
-        self.pattern = bytes(self.dice.randrange(256) for _ in range(SIZE))
+        self.formats = formats
+        self.pattern = self.dice.randbytes(LARGE.size)
 
     def pick(self, *choices):
         return self.dice.choice(choices)
@@ -59,26 +61,29 @@ class Maker:
     # ---- images
 
     def image(self):
-        image = bytearray(self.pattern)
+        form = self.dice.choice(self.formats)
+        image = bytearray(self.pattern[: form.size])
         disk = Disk(image)
-        for record in range(16):
+        for record in range(form.entries // 4):
             disk.write(record, 128 * b"\xe5")
         kind = self.dice.randrange(8)
         if kind == 0:
             return image
         if kind == 1:
-            self.fill(disk, ENTRIES, 0)
+            self.fill(disk, form.entries, 0)
         elif kind < 5:
             self.files(disk, self.dice.randrange(1, 24))
         elif kind == 5:
-            self.fill(disk, ENTRIES, self.pick(0, 1, 3))
+            self.fill(disk, form.entries, self.pick(0, 1, 3))
         else:
-            self.fill(disk, self.dice.randrange(1, ENTRIES + 1), self.dice.randrange(6))
+            self.fill(disk, self.dice.randrange(1, form.entries + 1), self.dice.randrange(6))
         return image
 
     def files(self, disk, count):
         """Entries of files that share no block, with all extents up to their last; now and then all blocks are taken."""
-        free = list(range(2, 243))
+        form = disk.format
+        whole = 128 * form.extents  # records of an entry
+        free = list(range(2, form.dsm + 1))
         if self.dice.random() < 0.5:
             self.dice.shuffle(free)
         index = 0
@@ -86,18 +91,19 @@ class Maker:
             name = bytearray(name)
             name[8] |= self.pick(0, 0, 0, 128)
             name[9] |= self.pick(0, 128)
-            records = self.dice.randrange(1, 400)
-            for x in range(records // 128 + 1):
-                here = min(128, records - 128 * x)
-                if index >= ENTRIES or len(free) < 16 or here == 0:
+            records = self.dice.randrange(1, 400 * form.extents)
+            for first in range(0, records, whole):
+                here = min(whole, records - first)
+                if index >= form.entries or len(free) < form.places:
                     break
-                blocks = bytes(free.pop(0) for _ in range(-(-here // 8)))
-                disk.put_entry(index, bytes([user]) + name + bytes([x, 0, 0, here]) + blocks.ljust(16, b"\0"))
+                blocks = [free.pop(0) for _ in range(-(-here // form.in_block))]
+                x = (first + here - 1) // 128
+                disk.put_entry(index, bytes([user]) + name + bytes([x, 0, 0, first + here - 128 * x]) + form.map_of(blocks))
                 index += self.pick(1, 1, 2)
         if self.dice.random() < 0.25:
-            while free and index < ENTRIES:
-                blocks = bytes(free.pop(0) for _ in range(min(16, len(free))))
-                disk.put_entry(index, b"\x07FULL    DSK\0\0\0\x80" + blocks.ljust(16, b"\0"))
+            while free and index < form.entries:
+                blocks = [free.pop(0) for _ in range(min(form.places, len(free)))]
+                disk.put_entry(index, b"\x07FULL    DSK\0\0\0\x80" + form.map_of(blocks))
                 index += 1
 
     def fill(self, disk, count, unused):
@@ -106,9 +112,9 @@ class Maker:
             if unused and self.dice.randrange(unused + 1) == 0:
                 continue
             user = self.pick(self.dice.choice(USERS), self.dice.choice(USERS), self.byte())
-            disk.put_entry(index, bytes([user]) + self.name() + self.extent())
+            disk.put_entry(index, bytes([user]) + self.name() + self.extent(disk.format))
 
-    def extent(self):
+    def extent(self, form):
         """EX, S1, S2, RC and the map, of an entry or a file control block."""
         ex = self.pick(0, 0, 0, 1, 2, 31, 0x3F, self.byte())
         s1 = self.pick(0, 0, self.byte())
@@ -122,10 +128,11 @@ class Maker:
         elif kind == 1:
             blocks = self.some(16)
         elif kind == 2:
-            blocks = bytes(self.pick(0, 1, 2, 3, 242, 243, 255) for _ in range(16))
+            edges = (0, 1, 2, 3, form.dsm, form.dsm + 1, 255, *((256, 257, 65535) if form.width == 2 else ()))
+            blocks = form.map_of([self.pick(*edges) for _ in range(form.places)])
         else:
-            first = self.dice.randrange(0, 226)
-            blocks = bytes(range(first, first + 16))[: self.dice.randrange(17)].ljust(16, b"\0")
+            first = self.dice.randrange(0, form.dsm - form.places)
+            blocks = form.map_of(list(range(first, first + form.places))[: self.dice.randrange(form.places + 1)])
         return bytes([ex, s1, s2, count]) + blocks
 
     # ---- calls
@@ -134,8 +141,9 @@ class Maker:
         """A file control block, of an entry, of nothing or of bytes of any kind, and the user of that entry."""
         kind = self.dice.randrange(10)
         user = None
+        form = FORMATS[len(image)]
         if kind < 6:
-            entry = Disk(image).entry(self.dice.randrange(self.pick(2, 4, 12, ENTRIES)))
+            entry = Disk(image).entry(self.dice.randrange(self.pick(2, 4, 12, form.entries)))
             user = entry[0] if entry[0] < 32 else None
             middle = entry[1:32]
             if kind < 2:
@@ -143,7 +151,7 @@ class Maker:
             if kind == 0:
                 middle[11:31] = bytes([entry[12], 0, entry[14], 0]) + bytes(16)
         elif kind < 9:
-            middle = self.name() + self.extent()
+            middle = self.name() + self.extent(form)
         else:
             middle = self.some(31)
         drive = self.pick(*11 * [0], *4 * [1], 2, 16, 16, 17, 0x3F, self.byte())
@@ -173,9 +181,9 @@ class Maker:
         if function == 26:
             return function, self.pick(0x80, 0x100, 0x5C, 0x60, 0xFFC0, 0xFE00, self.dice.randrange(65536)), None, None, None
         if function == 27:
-            return function, 0xFE00 + 64 * self.pick(0, 0, 1, 4), None, None, None
+            return function, 0xFE00 + 64 * self.pick(0, 0, 1, 4) + self.pick(0, 28), None, None, None
         if function in (13, 14, 24, 25, 28, 29, 31, 32, 37, 38, 39):
-            words = (0, 1, 2, 3, 15, 16, 0xFF, 0xFF, 0xFFFF, 0x8001, 0xFC20, 0xFC40, self.dice.randrange(65536))
+            words = (0, 1, 2, 3, 15, 16, 0xFF, 0xFF, 0xFFFF, 0x8001, 0xFC20, 0xFC40, 0xFC50 + 32 * self.dice.randrange(5), self.dice.randrange(65536))
             return function, self.pick(*words), None, None, None
         if function == 18:
             return function, self.dice.randrange(65536), None, self.some(128), self.pick(None, *USERS)
@@ -191,7 +199,7 @@ class Maker:
             if self.dice.random() < 0.2:
                 fcb[15] = self.pick(0, 1, 128, self.byte())
             if self.dice.random() < 0.1:
-                fcb[self.dice.randrange(16, 32)] = self.pick(0, 0, 2, 243, self.byte())
+                fcb[self.dice.randrange(16, 32)] = self.pick(0, 0, 1, 2, 243, self.byte())
             return function, at, bytes(fcb), record, None
         if self.dice.random() < 0.05:
             return function, at, None, record, None
@@ -250,8 +258,9 @@ class Batch:
         """The number of calls that differ, which are shown, and of images."""
         with tempfile.TemporaryDirectory(prefix="calls-") as folder:
             paths = [os.path.join(folder, name) for name in ("list.txt", "images.bin")]
+            letters = "".join("l" if len(image) == LARGE.size else "s" for image in self.images)
             with open(paths[0], "w", encoding="ascii") as it:
-                it.write("\n".join(self.lines) + "\n")
+                it.write("\n".join([f"images {letters}", *self.lines]) + "\n")
             with open(paths[1], "wb") as it:
                 it.write(b"".join(self.images))
             ran = subprocess.run([*program, "calls", *paths], capture_output=True, check=False)
@@ -272,10 +281,13 @@ class Batch:
         return count
 
     def images_differing(self, after):
-        if len(after) != SIZE * len(self.after):
+        if len(after) != sum(map(len, self.after)):
             raise SystemExit(f"calls.py: {len(after)} bytes of images came back")
-        here = [after[start : start + SIZE] for start in range(0, len(after), SIZE)]
-        return sum(a != b for a, b in zip(here, self.after))
+        start = differ = 0
+        for image in self.after:
+            differ += after[start : start + len(image)] != image
+            start += len(image)
+        return differ
 
 
 def parser():
@@ -284,6 +296,7 @@ def parser():
     it.add_argument("--pairs", type=int, default=600, help="sessions of one call on one directory, 600 unless given")
     it.add_argument("--sessions", type=int, default=480, help="sessions of 12 calls, 480 unless given")
     it.add_argument("--batch", type=int, default=60, help="sessions for each start of the program, 60 unless given")
+    it.add_argument("--disks", choices=KINDS, default="both", help="the formats of the disks, both unless given")
     it.add_argument("--program", default=PROGRAM, help="the words that start the program")
     return it
 
@@ -295,7 +308,7 @@ def main():
     tally = collections.defaultdict(collections.Counter)
     calls = images = wrong = wrong_images = 0
     for start in range(0, len(lengths), options.batch):
-        batch = Batch(Maker(f"{options.seed} {start}"))
+        batch = Batch(Maker(f"{options.seed} {start}", KINDS[options.disks]))
         for count in lengths[start : start + options.batch]:
             batch.add(count, tally)
         differing, images_differing = batch.run(program)

@@ -3,12 +3,11 @@ import os
 import shutil
 import subprocess
 
-from disk import SIZE, Disk
+from disk import SMALL, Disk
 
 BENCH = os.path.dirname(os.path.realpath(__file__))
 CRATE = f"{os.path.dirname(BENCH)}/crates/cpm_bench"
 FIRST_BLOCK = 2
-RECORDS_IN_BLOCK = 8
 
 
 def build(to):
@@ -22,19 +21,19 @@ def build(to):
     return True
 
 
-def system_drive(program, to):
-    """Writes a system drive that is blank but for this program, as RUN.COM of user 0."""
+def system_drive(program, to, form=SMALL):
+    """Writes a system drive of this format that is blank but for this program, as RUN.COM of user 0."""
     with open(program, "rb") as it:
         data = it.read()
     records = -(-len(data) // 128)
-    blocks = -(-records // RECORDS_IN_BLOCK)
+    blocks = -(-records // form.in_block)
     if records > 128:
-        raise ValueError(f"{program} needs more than one entry")
-    disk = Disk(bytearray([0xE5]) * SIZE)
-    numbers = bytes(range(FIRST_BLOCK, FIRST_BLOCK + blocks))
-    disk.put_entry(0, bytes([0]) + b"RUN     COM" + bytes([0, 0, 0, records]) + numbers.ljust(16, b"\0"))
+        raise ValueError(f"{program} needs more than one extent")
+    disk = Disk(bytearray([0xE5]) * form.size)
+    numbers = form.map_of(range(FIRST_BLOCK, FIRST_BLOCK + blocks))
+    disk.put_entry(0, bytes([0]) + b"RUN     COM" + bytes([0, 0, 0, records]) + numbers)
     padded = data.ljust(128 * records, b"\x1a")
     for number in range(records):
-        disk.write(FIRST_BLOCK * RECORDS_IN_BLOCK + number, padded[128 * number : 128 * number + 128])
+        disk.write(FIRST_BLOCK * form.in_block + number, padded[128 * number : 128 * number + 128])
     with open(to, "wb") as it:
         it.write(disk.image)

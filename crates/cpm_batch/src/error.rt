@@ -15,7 +15,7 @@ pub enum ReadError {
     #[error("HO4 can't read '{0}'")]
     File(Word),
     /// A file is no image, by its length.
-    #[error("HO6 '{name}' has {length} bytes, and the image of a drive has 256256")]
+    #[error("HO6 '{name}' has {length} bytes, and the image of a drive has 256256 or 2105344")]
     Image {
         name: Word,
         length: usize,

@@ -5,7 +5,7 @@ use Rattle.std.proofs.lemmas.List.{length-append}
 use Rattle.cpm_geom.specs.Disk.{Disk}
 use Rattle.cpm_geom.specs.Geometry.{dpb_of}
 use Rattle.cpm_geom.specs.declared.format.Format.{Format}
-use Rattle.cpm_geom.specs.declared.format.Format.TheVariants.{Ibm3740}
+use Rattle.cpm_geom.specs.declared.format.Format.TheVariants.{Ibm3740, Large}
 use Rattle.cpm_console.specs.Terminal.{Terminal, expanded, printed, key_read, said, IsWithin}
 use Rattle.cpm_console.specs.Draft.{Draft}
 use Rattle.cpm_console.specs.Editing.{Edited, begun, edited, key_into_line}
@@ -212,6 +212,7 @@ bounded_select_disk system s m =
 length-allocation_vector : (f : Format) (reserved : List Bool) → length (allocation_vector (dpb_of f) reserved) ≤ 256
 unfolding allocation_vector dpb_of
 length-allocation_vector Ibm3740 reserved = omega arith
+length-allocation_vector Large reserved = omega arith
 
 bounded_give_allocation : (system : Disk) (s : Cpm) (m : Contents) → IsBounded s m (give_allocation system s m)
 unfolding give_allocation
@@ -230,9 +231,9 @@ unfolding user_code
 bounded_user_code s m =
     bounded_if (s.regs.e == 255) s m _ _ (bounded_kept s m _ refl (IsWithin-same 4096 s.console)) (bounded_kept s m _ refl (IsWithin-same 4096 s.console))
 
-bounded_select_drive : (s : Cpm) (m : Contents) → IsBounded s m (select_drive s m)
+bounded_select_drive : (system : Disk) (s : Cpm) (m : Contents) → IsBounded s m (select_drive system s m)
 unfolding select_drive
-bounded_select_drive s m =
+bounded_select_drive system s m =
     bounded_if (is_there s.disks s.regs.c) s m _ _ (bounded_kept s m _ refl (IsWithin-same 4096 s.console)) (bounded_kept s m _ refl (IsWithin-same 4096 s.console))
 
 bounded_sector_got : (got : Option (List ℕ)) (s : Cpm) (m : Contents) → IsFit s → IsBounded s m (sector_got got s m)
@@ -326,7 +327,7 @@ bounded_bios entry.List system s m fit = bounded_kept s m _ refl (within_listed 
 bounded_bios entry.Punch system s m fit = bounded_quiet s m _ refl refl
 bounded_bios entry.Reader system s m fit = bounded_quiet s m _ refl refl
 bounded_bios entry.Home system s m fit = bounded_quiet s m _ refl refl
-bounded_bios entry.SelectDrive system s m fit = bounded_select_drive s m
+bounded_bios entry.SelectDrive system s m fit = bounded_select_drive system s m
 bounded_bios entry.SetTrack system s m fit = bounded_quiet s m _ refl refl
 bounded_bios entry.SetSector system s m fit = bounded_quiet s m _ refl refl
 bounded_bios entry.SetSectorBuffer system s m fit = bounded_quiet s m _ refl refl

@@ -220,9 +220,9 @@ takes_console_input : (k : Option ℕ) (s : Cpm) (m : Contents) → Takes s (con
 takes_console_input None s m = none_taken s.console.keys
 takes_console_input (Some k) s m = first_taken s.console.keys
 
-takes_select_drive : (s : Cpm) (m : Contents) → Takes s (select_drive s m)
+takes_select_drive : (system : Disk) (s : Cpm) (m : Contents) → Takes s (select_drive system s m)
 unfolding select_drive
-takes_select_drive s m = takes_if (is_there s.disks s.regs.c) s _ _ (none_taken s.console.keys) (none_taken s.console.keys)
+takes_select_drive system s m = takes_if (is_there s.disks s.regs.c) s _ _ (none_taken s.console.keys) (none_taken s.console.keys)
 
 takes_sector_got : (got : Option (List ℕ)) (s : Cpm) (m : Contents) → Takes s (sector_got got s m)
 takes_sector_got None s m = none_taken s.console.keys
@@ -256,7 +256,7 @@ takes_bios entry.List system s m = none_taken s.console.keys
 takes_bios entry.Punch system s m = none_taken s.console.keys
 takes_bios entry.Reader system s m = none_taken s.console.keys
 takes_bios entry.Home system s m = none_taken s.console.keys
-takes_bios entry.SelectDrive system s m = takes_select_drive s m
+takes_bios entry.SelectDrive system s m = takes_select_drive system s m
 takes_bios entry.SetTrack system s m = none_taken s.console.keys
 takes_bios entry.SetSector system s m = none_taken s.console.keys
 takes_bios entry.SetSectorBuffer system s m = none_taken s.console.keys

@@ -161,9 +161,9 @@ limit_console_input : (k : Option ℕ) (s : Cpm) (m : Contents) → KeepsLimit m
 limit_console_input None s m = refl
 limit_console_input (Some k) s m = refl
 
-limit_select_drive : (s : Cpm) (m : Contents) → KeepsLimit m (select_drive s m)
+limit_select_drive : (system : Disk) (s : Cpm) (m : Contents) → KeepsLimit m (select_drive system s m)
 unfolding select_drive
-limit_select_drive s m = limit_if (is_there s.disks s.regs.c) m _ _ refl refl
+limit_select_drive system s m = limit_if (is_there s.disks s.regs.c) m _ _ refl refl
 
 limit_sector_got : (got : Option (List ℕ)) (s : Cpm) (m : Contents) → KeepsLimit m (sector_got got s m)
 limit_sector_got None s m = refl
@@ -196,7 +196,7 @@ limit_bios entry.List system s m = refl
 limit_bios entry.Punch system s m = refl
 limit_bios entry.Reader system s m = refl
 limit_bios entry.Home system s m = refl
-limit_bios entry.SelectDrive system s m = limit_select_drive s m
+limit_bios entry.SelectDrive system s m = limit_select_drive system s m
 limit_bios entry.SetTrack system s m = refl
 limit_bios entry.SetSector system s m = refl
 limit_bios entry.SetSectorBuffer system s m = refl

@@ -103,9 +103,9 @@ goes_user_code : (s : Cpm) (m : Contents) → Goes (user_code s m)
 unfolding user_code
 goes_user_code s m = goes_if (s.regs.e == 255) _ _ (λ e. cc) (λ e. cc)
 
-goes_select_drive : (s : Cpm) (m : Contents) → Goes (select_drive s m)
+goes_select_drive : (system : Disk) (s : Cpm) (m : Contents) → Goes (select_drive system s m)
 unfolding select_drive
-goes_select_drive s m = goes_if (is_there s.disks s.regs.c) _ _ (λ e. cc) (λ e. cc)
+goes_select_drive system s m = goes_if (is_there s.disks s.regs.c) _ _ (λ e. cc) (λ e. cc)
 
 goes_sector_got : (got : Option (List ℕ)) (s : Cpm) (m : Contents) → Goes (sector_got got s m)
 goes_sector_got None s m = λ e. cc
@@ -222,7 +222,7 @@ bios_called_waits entry.List system s m = goes s m _ (λ e. cc)
 bios_called_waits entry.Punch system s m = goes s m _ (λ e. cc)
 bios_called_waits entry.Reader system s m = goes s m _ (λ e. cc)
 bios_called_waits entry.Home system s m = goes s m _ (λ e. cc)
-bios_called_waits entry.SelectDrive system s m = goes s m _ (goes_select_drive s m)
+bios_called_waits entry.SelectDrive system s m = goes s m _ (goes_select_drive system s m)
 bios_called_waits entry.SetTrack system s m = goes s m _ (λ e. cc)
 bios_called_waits entry.SetSector system s m = goes s m _ (λ e. cc)
 bios_called_waits entry.SetSectorBuffer system s m = goes s m _ (λ e. cc)

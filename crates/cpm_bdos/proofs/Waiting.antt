@@ -180,9 +180,9 @@ module _ (p q : List ℕ) where
   console_input-behind None s m = refl
   console_input-behind (Some k) s m = refl
 
-  select_drive-behind : (s : Cpm) (m : Contents) → select_drive (cpm_behind p q s) m ≡ did_behind p q (select_drive s m)
+  select_drive-behind : (system : Disk) (s : Cpm) (m : Contents) → select_drive system (cpm_behind p q s) m ≡ did_behind p q (select_drive system s m)
   unfolding select_drive
-  select_drive-behind s m = did-if (is_there s.disks s.regs.c) _ _ _ _ refl refl
+  select_drive-behind system s m = did-if (is_there s.disks s.regs.c) _ _ _ _ refl refl
 
   sector_got-behind : (got : Option (List ℕ)) (s : Cpm) (m : Contents) → sector_got got (cpm_behind p q s) m ≡ did_behind p q (sector_got got s m)
   sector_got-behind None s m = refl
@@ -216,7 +216,7 @@ module _ (p q : List ℕ) where
   bios_called-behind entry.Punch system s m = refl
   bios_called-behind entry.Reader system s m = refl
   bios_called-behind entry.Home system s m = refl
-  bios_called-behind entry.SelectDrive system s m = select_drive-behind s m
+  bios_called-behind entry.SelectDrive system s m = select_drive-behind system s m
   bios_called-behind entry.SetTrack system s m = refl
   bios_called-behind entry.SetSector system s m = refl
   bios_called-behind entry.SetSectorBuffer system s m = refl

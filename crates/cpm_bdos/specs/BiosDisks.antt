@@ -8,7 +8,7 @@ use Rattle.cpm_disks.specs.Disks.{is_there}
 use Rattle.cpm_disks.specs.Sectors.{sector_read, sector_written}
 use Rattle.cpm_bdos.specs.Registers.{de_of, bc_of, with_a, with_hl}
 use Rattle.cpm_bdos.specs.Did.{Did, returned}
-use Rattle.cpm_bdos.specs.Disks.{with_disks, record_size, record_stored, header_of}
+use Rattle.cpm_bdos.specs.Disks.{with_disks, record_size, record_stored, format_in, header_of}
 use Rattle.cpm_bdos.specs.declared.cpm.SectorPlace.{SectorPlace}
 use Rattle.cpm_bdos.specs.declared.cpm.Cpm.{Cpm}
 
@@ -27,9 +27,9 @@ abbrev pub home : Cpm → Contents → Did
 home s m = returned (at_place s (record s.place { track = 0 })) m
 
 -- SELDSK: the address of the drive's parameter header, 0 where there is no such drive
-unfoldable pub select_drive : Cpm → Contents → Did
-select_drive s m =
-    if is_there s.disks s.regs.c then returned_hl (at_place s (record s.place { drive = s.regs.c })) m (header_of s.regs.c) else returned_hl s m 0
+unfoldable pub select_drive : Disk → Cpm → Contents → Did
+select_drive system s m =
+    if is_there s.disks s.regs.c then returned_hl (at_place s (record s.place { drive = s.regs.c })) m (header_of (format_in s.disks system s.regs.c) s.regs.c) else returned_hl s m 0
 
 -- SETTRK, SETSEC, SETDMA
 abbrev pub set_track : Cpm → Contents → Did

@@ -1,7 +1,8 @@
 -- The functions on the drives of a session.
 -- CP/M 2.2 Operating System Manual, section 5.2, Operating System Call Conventions, functions 13 to 37 and 40.
-use Rattle.std.specs.Prelude.{ℕ, ◌*◌, ◌%◌, ◌==◌, List, [], ◌∷◌, Result, Ok, Err, if◌then◌else◌, slice_index, take}
+use Rattle.std.specs.Prelude.{ℕ, ◌%◌, ◌==◌, List, [], ◌∷◌, Result, Ok, Err, if◌then◌else◌, slice_index, take}
 use Rattle.cpm_geom.specs.Disk.{Disk}
+use Rattle.cpm_geom.specs.declared.format.Format.{Format}
 use Rattle.cpm_files.specs.declared.answer.Fault.{Fault}
 use Rattle.cpm_memory.specs.Contents.{Contents, run_at, after_run}
 use Rattle.cpm_memory.specs.Layout.{default_buffer_address}
@@ -67,9 +68,13 @@ table_of drive = if drive == 15 then 4 else drive
 abbrev pub vector_of : ℕ → ℕ
 vector_of drive = allocation_vector_address (table_of drive) % 65536
 
--- where the disk parameter header of a drive lies
-abbrev pub header_of : ℕ → ℕ
-header_of drive = header_address (table_of drive) % 65536
+-- where the disk parameter header of a drive lies, by the format of its disk
+abbrev pub header_of : Format → ℕ → ℕ
+header_of f drive = header_address f (table_of drive) % 65536
+
+-- the format of the disk in a drive that is there
+abbrev pub format_in : Disks → Disk → ℕ → Format
+format_in disks system drive = (drive_at disks system drive).image.format
 
 -- RESET DISK SYSTEM: the buffer is again at 0080h
 abbrev pub reset_disks : Disk → Cpm → Contents → Did

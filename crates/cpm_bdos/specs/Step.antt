@@ -4,7 +4,8 @@ use Rattle.cpm_geom.specs.Disk.{Disk}
 use Rattle.cpm_console.specs.Terminal.{Terminal}
 use Rattle.cpm_console.specs.Editing.{begun}
 use Rattle.cpm_memory.specs.Contents.{Contents, byte_at, after_run}
-use Rattle.cpm_memory.specs.Layout.{io_byte_address, default_buffer_address, parameter_block_address}
+use Rattle.cpm_memory.specs.Layout.{io_byte_address, default_buffer_address}
+use Rattle.cpm_memory.specs.DiskTables.{parameter_block_address}
 use Rattle.cpm_bdos.specs.Registers.{at_opening, de_of}
 use Rattle.cpm_bdos.specs.Function.{function_of, bios_call_of}
 use Rattle.cpm_bdos.specs.Did.{Did, did, returned, answered, rebooted}
@@ -18,7 +19,7 @@ use Rattle.cpm_files.specs.declared.fcb.Fcb.{Fcb}
 use Rattle.cpm_disks.specs.Disks.{opened_disks}
 use Rattle.cpm_disks.specs.Selecting.{drives_reset, protect}
 use Rattle.cpm_disks.specs.Vectors.{login_vector, read_only_vector}
-use Rattle.cpm_bdos.specs.Disks.{with_disks, reset_disks, select_disk, file_function, give_allocation, user_code}
+use Rattle.cpm_bdos.specs.Disks.{with_disks, reset_disks, select_disk, file_function, format_in, give_allocation, user_code}
 use Rattle.cpm_bdos.specs.BiosDisks.{returned_a, home, select_drive, set_track, set_sector, set_sector_buffer, read_sector, write_sector, translate}
 use Rattle.cpm_bdos.specs.declared.function.Function.{Function}
 use Rattle.cpm_bdos.specs.declared.function.Function.TheVariants.{WarmBoot, ReadKey, WriteByte, ReaderInput, PunchOutput, ListOutput, DirectConsole, GetIoByte, SetIoByte, WriteText, ReadLine, ConsoleStatus, Version, ResetDisks, SelectDisk, File, LoginVector, CurrentDisk, SetBuffer, AllocationVector, ProtectDisk, ReadOnlyVector, DiskParameters, UserCode, ResetDrives, Other}
@@ -78,7 +79,7 @@ called SetBuffer system s m = answered (record s { buffer = de_of s.regs }) m 0
 called AllocationVector system s m = give_allocation system s m
 called ProtectDisk system s m = answered (with_disks s (protect s.disks system)) m 0
 called ReadOnlyVector system s m = answered s m (read_only_vector s.disks)
-called DiskParameters system s m = answered s m parameter_block_address
+called DiskParameters system s m = answered s m (parameter_block_address (format_in s.disks system s.disks.current))
 called UserCode system s m = user_code s m
 called ResetDrives system s m = answered (with_disks s (drives_reset s.disks (de_of s.regs))) m 0
 called Other system s m = answered s m 0
@@ -115,7 +116,7 @@ bios_called entry.List system s m = returned (list_byte s s.regs.c) m
 bios_called entry.Punch system s m = returned s m
 bios_called entry.Reader system s m = returned_a s m 0x1A
 bios_called entry.Home system s m = home s m
-bios_called entry.SelectDrive system s m = select_drive s m
+bios_called entry.SelectDrive system s m = select_drive system s m
 bios_called entry.SetTrack system s m = set_track s m
 bios_called entry.SetSector system s m = set_sector s m
 bios_called entry.SetSectorBuffer system s m = set_sector_buffer s m

@@ -14,7 +14,7 @@ use crate::cpm::{Cpm, Held, Mode, Went};
 use crate::function::Function;
 use crate::registers::pair_de;
 use cpm_geom::Image;
-use cpm_memory::layout::{IO_BYTE, PARAMETER_BLOCK};
+use cpm_memory::layout::IO_BYTE;
 use cpm_memory::{Memory, change_run};
 
 /// What the reader gives: the end of a text.
@@ -90,7 +90,7 @@ impl Cpm {
             Function::AllocationVector => self.give_allocation(memory, system),
             Function::ProtectDisk => self.protect_disk(memory, system),
             Function::ReadOnlyVector => self.give_read_only_vector(memory),
-            Function::DiskParameters => self.answer(memory, PARAMETER_BLOCK),
+            Function::DiskParameters => self.give_parameters(memory, system),
             Function::UserCode => self.user_code(memory),
             Function::ResetDrives => self.reset_drives(memory),
             Function::PunchOutput | Function::Other => self.answer(memory, 0),

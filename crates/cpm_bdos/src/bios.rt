@@ -57,7 +57,7 @@ impl Cpm {
             BiosCall::List => self.list(memory),
             BiosCall::Reader => self.return_byte(memory, READER_BYTE),
             BiosCall::Home => self.home(memory),
-            BiosCall::SelectDrive => self.select_drive(memory),
+            BiosCall::SelectDrive => self.select_drive(memory, system),
             BiosCall::SetTrack => self.set_track(memory),
             BiosCall::SetSector => self.set_sector(memory),
             BiosCall::SetSectorBuffer => self.set_sector_buffer(memory),

@@ -36,15 +36,16 @@ impl Cpm {
 
     /// Selects the drive in C, if it is there, and gives the address of its parameter header.
     #[tactic(auto, unfolding(crate::specs::BiosDisks::select_drive))]
-    pub(crate) fn select_drive<M: Memory>(&mut self, memory: &M) -> Went
-        ensures { did self.new (M.contents memory.now) result ≡ select_drive self.old (M.contents memory.now) }
+    pub(crate) fn select_drive<M: Memory>(&mut self, memory: &M, system: &Image) -> Went
+        ensures { did self.new (M.contents memory.now) result ≡ select_drive system.now self.old (M.contents memory.now) }
     {
         let drive = self.regs.c;
         if !self.disks.is_there(drive) {
             return self.return_word(memory, 0);
         }
+        let format = self.disks.image_at(system, drive).format();
         self.place.drive = drive;
-        self.return_word(memory, header_of(drive))
+        self.return_word(memory, header_of(format, drive))
     }
 
     /// Sets the track to BC.

@@ -1,6 +1,6 @@
 //! A session: registers, console, and the call in progress. Its memory lies elsewhere.
 
-ghost use Rattle.std.specs.Prelude.{◌≡◌};
+ghost use Rattle.std.specs.Prelude.{◌≡◌, IfOk};
 ghost use Rattle.cpm_bdos.specs.Step.{no_file, opened};
 ghost use Rattle.cpm_bdos.specs.Bounds.{IsFit};
 
@@ -10,6 +10,7 @@ use cpm_disks::Disks;
 use cpm_files::{Extent, Fcb};
 use cpm_flags::Regs;
 use cpm_geom::Image;
+use std::alloc::{AllocError, Global};
 
 /// How a step of a call ended.
 #[derive(Clone, Copy, Debug, PartialEq, Eq)]
@@ -142,6 +143,22 @@ impl Cpm {
             },
             file: no_file(),
         }
+    }
+
+    /// An equal session; refused for want of memory.
+    pub fn copy(&self, alloc: Global) -> Result<Cpm, AllocError>
+        ensures { IfOk result (λ cpm. cpm ≡ self.now) }
+    {
+        Ok(Cpm {
+            regs: self.regs,
+            console: self.console.copy(alloc)?,
+            line: self.line.copied(),
+            mode: self.mode,
+            disks: self.disks.copy(alloc)?,
+            buffer: self.buffer,
+            place: self.place,
+            file: self.file,
+        })
     }
 
     /// Does nothing, and says of every session that its columns and its line's length are bytes, and its addresses words.

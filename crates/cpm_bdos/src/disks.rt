@@ -2,19 +2,23 @@
 
 ghost use Rattle.std.specs.Prelude.{◌≡◌, ◌≤◌, length};
 ghost use Rattle.cpm_memory.specs.Room.{HasRoom};
+ghost use Rattle.cpm_memory.specs.DiskTables.{parameter_block_address};
 ghost use Rattle.cpm_disks.specs.Selecting.{drives_reset, protect};
 ghost use Rattle.cpm_disks.specs.Vectors.{login_vector, read_only_vector};
 ghost use Rattle.cpm_bdos.specs.Did.{did, answered};
 ghost use Rattle.cpm_bdos.specs.Registers.{de_of};
-ghost use Rattle.cpm_bdos.specs.Disks.{with_disks, by_answer, file_function, table_of, vector_of, header_of, reset_disks, select_disk, give_allocation, user_code};
+ghost use Rattle.cpm_bdos.specs.Disks.{with_disks, by_answer, file_function, table_of, vector_of, format_in, header_of, reset_disks, select_disk, give_allocation, user_code};
 
 use crate::cpm::{Cpm, Went};
 use crate::registers::pair_de;
 use crate::transfer::{get_fcb, get_record, store_fcb, store_record};
 use cpm_disks::FileFunction;
 use cpm_files::Fault;
-use cpm_geom::Image;
-use cpm_memory::layout::{DEFAULT_BUFFER, FIRST_ALLOCATION_VECTOR, FIRST_HEADER};
+use cpm_geom::{Format, Image};
+use cpm_memory::disk_tables::format_offset;
+use cpm_memory::layout::{
+    DEFAULT_BUFFER, FIRST_ALLOCATION_VECTOR, FIRST_HEADER, FIRST_PARAMETER_BLOCK,
+};
 use cpm_memory::{Memory, change_run};
 
 /// The number of the system drive.
@@ -123,6 +127,14 @@ impl Cpm {
         self.answer(memory, at)
     }
 
+    /// Gives the address of the current drive's parameter block.
+    pub(crate) fn give_parameters<M: Memory>(&mut self, memory: &M, system: &Image) -> Went
+        ensures { did self.new (M.contents memory.now) result ≡ answered self.old (M.contents memory.now) (parameter_block_address (format_in self.old.disks system.now self.old.disks.current)) }
+    {
+        let format = self.disks.image_at(system, self.disks.current).format();
+        self.answer(memory, FIRST_PARAMETER_BLOCK + format_offset(format))
+    }
+
     /// Protects the current drive.
     pub(crate) fn protect_disk<M: Memory>(&mut self, memory: &M, system: &Image) -> Went
         ensures { did self.new (M.contents memory.now) result ≡ answered (with_disks self.old (protect self.old.disks system.now)) (M.contents memory.now) 0 }
@@ -166,9 +178,9 @@ fn vector_of(drive: u8) -> u16
     FIRST_ALLOCATION_VECTOR.wrapping_add(64 * table_of(drive))
 }
 
-/// The address of a drive's parameter header.
-pub(crate) fn header_of(drive: u8) -> u16
-    ensures { result ≡ header_of drive }
+/// The address of a drive's parameter header, by the format of its disk.
+pub(crate) fn header_of(format: Format, drive: u8) -> u16
+    ensures { result ≡ header_of format drive }
 {
-    FIRST_HEADER.wrapping_add(32 * table_of(drive))
+    FIRST_HEADER.wrapping_add(32 * table_of(drive) + format_offset(format))
 }

@@ -1,9 +1,11 @@
-//! Runs a program by one grant of a machine, `machine CPU FILE STEPS`, or RUN.COM of a system drive in the sessions of a host by
-//! grants in turn, `host CPU IMAGE SESSIONS QUOTA STEPS ROUNDS`, and prints how many steps were executed. CPU is `8080` or `z80`. Or it
-//! opens and closes a slot with a new blank drive, `slots TIMES`, or makes such a drive alone, `openings TIMES`.
+//! Runs a program by one grant of a machine, `machine CPU FILE STEPS`, or with IMAGE as its drive A, `machine CPU FILE STEPS IMAGE`, or
+//! RUN.COM of a system drive in the sessions of a host by grants in turn, `host CPU IMAGE SESSIONS QUOTA STEPS ROUNDS`, and prints how
+//! many steps were executed. CPU is `8080` or `z80`. Or it opens and closes a slot with a new blank drive, `slots TIMES`, or makes such a
+//! drive alone, `openings TIMES`.
 //!
 //! Or it makes memories to see what room they take: `sessions NUMBER` in one store, each with one written page, or `flats NUMBER` of
-//! their own. It prints what Linux says of its own memory then.
+//! their own; or a host with up to 16 sessions of four blank drives each, `drives small NUMBER` or `drives large NUMBER`. It prints what Linux says
+//! of its own memory then.
 //!
 //! Or it runs sessions of programs that nobody vouches for, `soak FOLDER NUMBER STEPS`, each by itself, or with a further word QUANTUM all on
 //! one host, and prints a line of what each showed and left.
@@ -14,9 +16,11 @@ mod sessions;
 mod soak;
 
 use cpm_flags::Cpu;
-use cpm_geom::Image;
+use cpm_geom::{Format, Image};
 use cpm_memory::{FlatMemory, FrameStore, has_room};
-use sessions::{Turns, make_openings, open_and_close, run_host, run_machine};
+use sessions::{
+    Turns, host_of_drives, make_openings, open_and_close, run_host, run_machine, run_machine_with,
+};
 use soak::soak;
 use std::process::ExitCode;
 use std::{env, fs};
@@ -67,6 +71,12 @@ fn own(rt: &HostRuntime, number: u16) -> Option<u64> {
     resident(rt)
 }
 
+/// Makes a host with so many sessions of four drives each, and keeps it to the end.
+fn hold(rt: &HostRuntime, format: Format, number: u16) -> Option<u64> {
+    let _host = host_of_drives(rt.alloc(), format, number)?;
+    resident(rt)
+}
+
 /// The processor of that name.
 fn cpu_of(name: &str) -> Option<Cpu> {
     match name {
@@ -76,8 +86,8 @@ fn cpu_of(name: &str) -> Option<Cpu> {
     }
 }
 
-/// The system drive in a file.
-fn system_of(rt: &HostRuntime, file: &str) -> Option<Image> {
+/// The drive in a file.
+fn drive_of(rt: &HostRuntime, file: &str) -> Option<Image> {
     Image::from_bytes(fs::read(rt, file).ok()?).ok()
 }
 
@@ -110,6 +120,19 @@ fn measure(rt: &HostRuntime, words: &[&str]) -> Option<u64> {
     match words {
         ["sessions", number] => share(rt, number.parse().ok()?),
         ["flats", number] => own(rt, number.parse().ok()?),
+        ["drives", "small", number] => hold(rt, Format::Ibm3740, number.parse().ok()?),
+        ["drives", "large", number] => hold(rt, Format::Large, number.parse().ok()?),
+        ["machine", cpu, file, steps, image] => {
+            let program = fs::read(rt, file).ok()?;
+            let drive = drive_of(rt, image)?;
+            run_machine_with(
+                rt.alloc(),
+                cpu_of(cpu)?,
+                program,
+                steps.parse().ok()?,
+                drive,
+            )
+        }
         ["machine", cpu, file, steps] => {
             let program = fs::read(rt, file).ok()?;
             run_machine(rt.alloc(), cpu_of(cpu)?, program, steps.parse().ok()?)
@@ -121,7 +144,7 @@ fn measure(rt: &HostRuntime, words: &[&str]) -> Option<u64> {
                 steps: steps.parse().ok()?,
                 rounds: rounds.parse().ok()?,
             };
-            run_host(rt.alloc(), cpu_of(cpu)?, system_of(rt, file)?, &turns)
+            run_host(rt.alloc(), cpu_of(cpu)?, drive_of(rt, file)?, &turns)
         }
         ["slots", times] => open_and_close(rt.alloc(), times.parse().ok()?),
         ["openings", times] => make_openings(rt.alloc(), times.parse().ok()?),

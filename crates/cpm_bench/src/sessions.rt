@@ -20,19 +20,57 @@ pub struct Turns {
 
 /// An opening with one blank drive.
 fn opening_of(alloc: Global, cpu: Cpu, quota: u16) -> Option<Opening> {
+    opening_with(
+        alloc,
+        cpu,
+        quota,
+        Image::blank(alloc, Format::Ibm3740).ok()?,
+    )
+}
+
+/// An opening with this drive.
+fn opening_with(alloc: Global, cpu: Cpu, quota: u16, drive: Image) -> Option<Opening> {
     let mut drives = Vec::new(alloc);
-    drives
-        .push(Image::blank(alloc, Format::Ibm3740).ok()?)
-        .ok()?;
+    drives.push(drive).ok()?;
     Some(Opening { cpu, quota, drives })
 }
 
-/// Runs a program by one grant, and says how many steps were executed.
+/// Runs a program by one grant, with a blank drive, and says how many steps were executed.
 pub fn run_machine(alloc: Global, cpu: Cpu, program: Vec<u8>, steps: u64) -> Option<u64> {
+    let drive = Image::blank(alloc, Format::Ibm3740).ok()?;
+    run_machine_with(alloc, cpu, program, steps, drive)
+}
+
+/// The same with this drive.
+pub fn run_machine_with(
+    alloc: Global,
+    cpu: Cpu,
+    program: Vec<u8>,
+    steps: u64,
+    drive: Image,
+) -> Option<u64> {
     let system = Image::blank(alloc, Format::Ibm3740).ok()?;
-    let opening = opening_of(alloc, cpu, 256)?;
+    let opening = opening_with(alloc, cpu, 256, drive)?;
     let mut machine = Machine::with_program(alloc, opening, program).ok()?;
     Some(machine.grant(&system, steps).executed)
+}
+
+/// A host with so many sessions, each with four blank drives of this format and a quota of 16 pages.
+pub fn host_of_drives(alloc: Global, format: Format, sessions: u16) -> Option<Host> {
+    let mut host = host_of(alloc, Image::blank(alloc, Format::Ibm3740).ok()?, 1)?;
+    for _ in 0..sessions {
+        let mut drives = Vec::new(alloc);
+        for _ in 0..4 {
+            drives.push(Image::blank(alloc, format).ok()?).ok()?;
+        }
+        let opening = Opening {
+            cpu: Cpu::I8080,
+            quota: 16,
+            drives,
+        };
+        host.open(alloc, opening).ok()?;
+    }
+    Some(host)
 }
 
 /// A host with this system drive, whose frames are enough for all pages of so many sessions.

@@ -39,6 +39,21 @@ impl Model for Console {
     ghost invariant = { λ c. (c.pending.capacity ≡ 4096) × (c.screen.capacity ≡ 8192) × (c.printer.capacity ≡ 8192) };
 }
 
+/// A ring with the same bytes and as much room.
+fn ring_copy(
+    alloc: Global,
+    ring: &HeapCircularBuffer<u8>,
+) -> Result<HeapCircularBuffer<u8>, AllocError>
+    ensures { IfOk result (λ copy. (copy.items ≡ ring.now.items) × (copy.capacity ≡ ring.now.capacity)) }
+{
+    let mut copy = HeapCircularBuffer::with_capacity(alloc, ring.capacity())?;
+    let _within = ring.len();
+    let (front, back) = ring.as_slices();
+    copy.fill_from_slice(front);
+    copy.fill_from_slice(back);
+    Ok(copy)
+}
+
 impl Console {
     /// A console on which nothing was done. All the memory that it ever takes is taken here; refused for want of it.
     pub fn new(alloc: Global) -> Result<Self, AllocError>
@@ -53,6 +68,22 @@ impl Console {
             printer,
             column: 0,
             list_echo: false,
+        })
+    }
+
+    /// An equal console; refused for want of memory.
+    pub fn copy(&self, alloc: Global) -> Result<Console, AllocError>
+        ensures { IfOk result (λ c. c ≡ self.now) }
+    {
+        let pending = ring_copy(alloc, &self.pending)?;
+        let screen = ring_copy(alloc, &self.screen)?;
+        let printer = ring_copy(alloc, &self.printer)?;
+        Ok(Console {
+            pending,
+            screen,
+            printer,
+            column: self.column,
+            list_echo: self.list_echo,
         })
     }
 

@@ -94,6 +94,20 @@ impl Line {
         }
     }
 
+    /// The same line.
+    pub fn copied(&self) -> Self
+        ensures { result ≡ self.now }
+    {
+        let mut characters = ArrayVec::new();
+        // It holds as many characters as this one.
+        let _ = characters.try_extend_from_slice(self.characters.as_slice());
+        Line {
+            start: self.start,
+            limit: self.limit,
+            characters,
+        }
+    }
+
     /// The characters now in the line.
     pub fn characters(&self) -> &[u8]
         ensures value { result.now ≡ self.now.characters }

@@ -1,11 +1,11 @@
 -- The directory of a drive, in its first records.
-use Rattle.std.specs.Prelude.{◌≡◌, ◌≢◌, ℕ, ◌+◌, ◌*◌, ◌/◌, ◌%◌, List, [], ◌++◌, map, take, drop, slice_range, slice_index_or, slice_set}
+use Rattle.std.specs.Prelude.{◌≡◌, ◌≢◌, ℕ, ◌+◌, ◌*◌, ◌/◌, ◌%◌, ◌≤◌, List, [], ◌++◌, length, map, take, drop, slice_range, slice_index_or, slice_set}
 use Rattle.std.specs.List.{range_with_len}
 use Rattle.cpm_geom.specs.declared.dpb.Dpb.{Dpb}
 use Rattle.cpm_geom.specs.Geometry.{dpb_of, record_index}
 use Rattle.cpm_geom.specs.Disk.{Disk, records_of, sector_at, with_sector}
 use Rattle.cpm_files.specs.declared.extent.Entry.{Entry}
-use Rattle.cpm_files.specs.Files.{entry_at}
+use Rattle.cpm_files.specs.Files.{entry_at, no_entry}
 use Rattle.cpm_files.specs.Encoding.{entry_of, entry_bytes, IsStorable}
 
 -- the bytes of an entry in its record
@@ -20,6 +20,11 @@ directory_of d records =
 -- the entries of a drive
 unfoldable pub entries_of : Disk → List Entry
 entries_of disk = directory_of (dpb_of disk.format) (records_of disk)
+
+-- own: of 256 places the first have the entries of a drive
+pub record Lists (places : List Entry) (disk : Disk) : Type 0 where
+  pub size : length places ≡ 256
+  pub at : (i : ℕ) → i ≤ (dpb_of disk.format).last_entry → slice_index_or places i no_entry ≡ entry_at (entries_of disk) i
 
 -- a record with the bytes of an entry in it
 unfoldable pub with_slot : List ℕ → ℕ → List ℕ → List ℕ

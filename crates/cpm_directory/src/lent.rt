@@ -4,9 +4,10 @@ ghost use Rattle.std.specs.Prelude.{◌≡◌, ◌≤◌, MatchResult, length};
 ghost use Rattle.cpm_geom.specs.Disk.{IsDisk, sector_at};
 ghost use Rattle.cpm_geom.specs.Geometry.{dpb_of, record_index, IsRecord};
 ghost use Rattle.cpm_files.specs.Files.{entry_at};
-ghost use Rattle.cpm_directory.specs.Directory.{entries_of};
+ghost use Rattle.cpm_directory.specs.Directory.{entries_of, Lists};
 
 use crate::directory::entry;
+use crate::listed::MOST_ENTRIES;
 use cpm_files::Entry;
 use cpm_geom::{Format, GeomError, Image};
 use std::marker::Model;
@@ -15,19 +16,19 @@ use std::marker::Model;
 #[derive(Drop)]
 pub struct LentImage<'a> {
     image: &'a Image,
-    entries: Option<&'a [Entry; 64]>,
+    entries: Option<&'a [Entry; MOST_ENTRIES]>,
 }
 
 impl<'a> Model for LentImage<'a> {
-    ghost use Rattle.std.specs.Prelude.{◌≡◌, IfSome};
+    ghost use Rattle.std.specs.Prelude.{IfSome};
     ghost use Rattle.cpm_geom.specs.Disk.{Disk};
-    ghost use Rattle.cpm_directory.specs.Directory.{entries_of};
+    ghost use Rattle.cpm_directory.specs.Directory.{Lists};
 
     ghost Value = { Disk };
 
     ghost view = { λ lent. lent.image.now };
 
-    ghost invariant = { λ lent. IfSome lent.entries (λ entries. entries.now ≡ entries_of lent.image.now) };
+    ghost invariant = { λ lent. IfSome lent.entries (λ entries. Lists entries.now lent.image.now) };
 }
 
 impl<'a> LentImage<'a> {
@@ -42,8 +43,11 @@ impl<'a> LentImage<'a> {
     }
 
     /// An image with the entries of its directory.
-    pub(crate) fn with_entries(image: &'a Image, entries: &'a [Entry; 64]) -> LentImage<'a>
-        requires { entries.now ≡ entries_of image.now }
+    pub(crate) fn with_entries(
+        image: &'a Image,
+        entries: &'a [Entry; MOST_ENTRIES],
+    ) -> LentImage<'a>
+        requires { Lists entries.now image.now }
         ensures { result ≡ image.now }
     {
         LentImage {

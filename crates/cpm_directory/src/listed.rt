@@ -1,34 +1,37 @@
 //! An image whose directory is kept beside it as a list of entries.
 
-ghost use Rattle.std.specs.Prelude.{◌≡◌, ◌≤◌, MatchResult, length};
+ghost use Rattle.std.specs.Prelude.{◌≡◌, ◌≤◌, IfOk, MatchResult, length};
 ghost use Rattle.cpm_geom.specs.Disk.{IsDisk, sector_at, with_sector};
 ghost use Rattle.cpm_geom.specs.Geometry.{dpb_of, sector_index, record_index, IsSector, IsRecord};
 ghost use Rattle.cpm_files.specs.Files.{entry_at};
-ghost use Rattle.cpm_directory.specs.Directory.{entries_of, PutsEntry};
+ghost use Rattle.cpm_directory.specs.Directory.{entries_of, Lists, PutsEntry};
 
 use crate::directory;
 use crate::lent::LentImage;
 use cpm_files::Entry;
 use cpm_geom::{Format, GeomError, Image};
+use std::alloc::{AllocError, Global};
 use std::marker::Model;
+
+/// The most entries that the directory of a format has.
+pub(crate) const MOST_ENTRIES: usize = 256;
 
 /// An image, seen as its disk, with the entries of its directory. They are those in its records at all times.
 #[derive(Drop)]
 pub struct ListedImage {
     image: Image,
-    entries: [Entry; 64],
+    entries: [Entry; MOST_ENTRIES],
 }
 
 impl Model for ListedImage {
-    ghost use Rattle.std.specs.Prelude.{◌≡◌};
     ghost use Rattle.cpm_geom.specs.Disk.{Disk};
-    ghost use Rattle.cpm_directory.specs.Directory.{entries_of};
+    ghost use Rattle.cpm_directory.specs.Directory.{Lists};
 
     ghost Value = { Disk };
 
     ghost view = { λ listed. listed.image };
 
-    ghost invariant = { λ listed. listed.entries ≡ entries_of listed.image };
+    ghost invariant = { λ listed. Lists listed.entries listed.image };
 }
 
 impl ListedImage {
@@ -38,6 +41,17 @@ impl ListedImage {
     {
         let entries = entries_in(&image);
         ListedImage { image, entries }
+    }
+
+    /// An equal image, with its entries; refused for want of memory.
+    pub fn copy(&self, alloc: Global) -> Result<ListedImage, AllocError>
+        ensures { IfOk result (λ listed. listed ≡ self.now) }
+    {
+        let image = self.image.copy(alloc)?;
+        Ok(ListedImage {
+            image,
+            entries: self.entries,
+        })
     }
 
     /// The image alone.
@@ -126,12 +140,12 @@ impl ListedImage {
     }
 }
 
-/// The entries of an image.
-fn entries_in(image: &Image) -> [Entry; 64]
-    ensures { result ≡ entries_of image.now }
+/// The entries of an image. The places behind them have the first one again.
+fn entries_in(image: &Image) -> [Entry; MOST_ENTRIES]
+    ensures { Lists result image.now }
 {
-    let mut entries = [directory::entry(image, 0); 64];
-    for index in 1..64u16 {
+    let mut entries = [directory::entry(image, 0); MOST_ENTRIES];
+    for index in 1..image.format().dpb().last_entry + 1 {
         entries[usize::from(index)] = directory::entry(image, index);
     }
     entries

@@ -43,6 +43,16 @@ impl Reserved {
         }
     }
 
+    /// The same blocks.
+    pub fn copied(&self) -> Reserved
+        ensures { result ≡ self.now }
+    {
+        Reserved {
+            blocks: self.blocks.copied(),
+            count: self.count,
+        }
+    }
+
     /// Whether the block is reserved; a number above the last block is.
     pub fn contains(&self, block: u16) -> bool
         ensures { result ≡ is_reserved self.now block }

@@ -1,7 +1,7 @@
 -- The drives of a session.
 use Rattle.std.specs.Prelude.{ℕ, ◌==◌, ◌||◌, Bool, true, false, List, [], ◌∷◌, Option, Some, None, is_some, if◌then◌else◌, map, slice_get, slice_index_or, slice_set}
 use Rattle.cpm_geom.specs.Disk.{Disk}
-use Rattle.cpm_geom.specs.declared.format.Format.TheVariants.{Ibm3740}
+use Rattle.cpm_geom.specs.declared.format.Format.TheVariants.{Large}
 use Rattle.cpm_drive.specs.declared.drive.Drive.{Drive}
 use Rattle.cpm_drive.specs.Drive.{new_marks}
 use Rattle.cpm_drive.specs.Reads.{lent_drive}
@@ -36,12 +36,12 @@ abbrev pub new_drive : Option Disk → Option Drive
 new_drive None = None
 new_drive (Some image) = Some (record { image = image; marks = new_marks image.format false })
 
--- the first four images are the drives A to D
+-- the first four images are the drives A to D; own: of the system drive, which is not seen yet, no block is reserved, of as many as a format has
 unfoldable pub opened_disks : List Disk → Disks
 opened_disks images =
     record {
       drives = map (λ n. new_drive (slice_get images n)) (0 ∷ 1 ∷ 2 ∷ 3 ∷ []);
-      system = new_marks Ibm3740 false;
+      system = new_marks Large false;
       current = 0;
       user = 0;
       sought = None;

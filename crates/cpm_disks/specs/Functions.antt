@@ -1,24 +1,22 @@
 -- The functions on a file control block as bytes of memory.
-use Rattle.std.specs.Prelude.{ℕ, List, Result, slice_range}
+use Rattle.std.specs.Prelude.{ℕ, List, Result, slice_index, slice_range}
 use Rattle.cpm_geom.specs.Disk.{Disk}
 use Rattle.cpm_geom.specs.Geometry.{dpb_of}
-use Rattle.cpm_geom.specs.declared.format.Format.TheVariants.{Ibm3740}
+use Rattle.cpm_geom.specs.declared.dpb.Dpb.{Dpb}
 use Rattle.cpm_files.specs.declared.fcb.Fcb.{Fcb}
 use Rattle.cpm_files.specs.declared.answer.Fault.{Fault}
 use Rattle.cpm_files.specs.Encoding.{fcb_of, fcb_bytes}
 use Rattle.cpm_disks.specs.declared.disks.Disks.{Disks}
 use Rattle.cpm_disks.specs.declared.function.FileFunction.{FileFunction}
 use Rattle.cpm_disks.specs.declared.function.FileFunction.TheVariants.{OpenFile, CloseFile, SearchFirst, SearchNext, EraseFiles, ReadNext, WriteNext, MakeFile, RenameFiles, SetAttributes, ReadRandom, WriteRandom, ComputeSize, SetRandomRecord, WriteRandomCleared}
-use Rattle.cpm_disks.specs.Calls.{FileCall}
+use Rattle.cpm_disks.specs.Disks.{drive_at}
+use Rattle.cpm_disks.specs.Calls.{FileCall, drive_named}
 use Rattle.cpm_disks.specs.Files.{open_file, close_file, make_file, erase_files, rename_files, set_attributes, read_next, write_next, read_random, write_random, write_random_cleared, compute_size, set_random_record}
 use Rattle.cpm_disks.specs.Search.{search_first, search_next}
 
--- own: a file control block in memory has the block numbers of the standard disk, bytes
-abbrev pub fcb_in_memory : List ℕ → Fcb
-fcb_in_memory bytes = fcb_of (dpb_of Ibm3740) bytes
-
-abbrev pub bytes_in_memory : Fcb → List ℕ
-bytes_in_memory fcb = fcb_bytes (dpb_of Ibm3740) fcb
+-- CP/M 2.2 Operating System Manual, section 6.10, Disk Parameter Tables: the block numbers in a file control block are those of the drive that it names, bytes or words; own: where there is no such drive they are read as the system drive's, and stay as they are
+unfoldable pub dpb_named : Disks → Disk → ℕ → Dpb
+dpb_named disks system dr = dpb_of (drive_at disks system (drive_named disks dr)).image.format
 
 -- RENAME FILE: the new name is that of a second block, 16 bytes behind the first
 abbrev pub new_name : List ℕ → List ℕ
@@ -52,8 +50,10 @@ pub record BytesCall : Type 0 where
 abbrev pub bytes_call : Result ℕ Fault → Disks → List ℕ → List ℕ → BytesCall
 bytes_call answer disks bytes buffer = record { answer = answer; disks = disks; bytes = bytes; buffer = buffer }
 
-abbrev pub in_bytes : FileCall → BytesCall
-in_bytes c = bytes_call c.answer c.disks (bytes_in_memory c.fcb) c.buffer
+abbrev pub in_bytes : Dpb → FileCall → BytesCall
+in_bytes d c = bytes_call c.answer c.disks (fcb_bytes d c.fcb) c.buffer
 
 unfoldable pub file_function_bytes : FileFunction → Disks → Disk → List ℕ → List ℕ → BytesCall
-file_function_bytes f disks system bytes buffer = in_bytes (file_function f bytes disks system (fcb_in_memory bytes) buffer)
+file_function_bytes f disks system bytes buffer =
+    let d = dpb_named disks system (slice_index bytes 0) in
+    in_bytes d (file_function f bytes disks system (fcb_of d bytes) buffer)

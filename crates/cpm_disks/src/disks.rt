@@ -1,6 +1,6 @@
 //! The drives of a session.
 
-ghost use Rattle.std.specs.Prelude.{◌≡◌, ◌<◌, IsTrue, None, Some, true, is_some, slice_index_or, drop};
+ghost use Rattle.std.specs.Prelude.{◌≡◌, ◌<◌, IfOk, IsTrue, None, Some, true, is_some, slice_index_or, drop};
 ghost use Rattle.std.specs.List.{slice_get};
 ghost use Rattle.std.specs.Borrow.{sem};
 ghost use Rattle.cpm_disks.specs.Lending.{LendsDrive};
@@ -9,6 +9,7 @@ ghost use Rattle.cpm_disks.specs.Disks.{new_drive, opened_disks, image_of, image
 use crate::search::Search;
 use cpm_drive::{Drive, Marks};
 use cpm_geom::{Format, Image};
+use std::alloc::{AllocError, Global};
 use std::vec::IntoIter;
 
 /// The drives of a session: its own, and what it keeps of the system drive that all sessions share.
@@ -37,11 +38,30 @@ impl Disks {
                 next_drive(&mut images),
                 next_drive(&mut images),
             ],
-            system: Marks::new(Format::Ibm3740, false),
+            // Its image is seen when it is first used; no format has more blocks.
+            system: Marks::new(Format::Large, false),
             current: 0,
             user: 0,
             sought: None,
         }
+    }
+
+    /// Equal drives; refused for want of memory.
+    pub fn copy(&self, alloc: Global) -> Result<Disks, AllocError>
+        ensures { IfOk result (λ disks. disks ≡ self.now) }
+    {
+        Ok(Disks {
+            drives: [
+                drive_copy(alloc, &self.drives[0])?,
+                drive_copy(alloc, &self.drives[1])?,
+                drive_copy(alloc, &self.drives[2])?,
+                drive_copy(alloc, &self.drives[3])?,
+            ],
+            system: self.system.copied(),
+            current: self.current,
+            user: self.user,
+            sought: self.sought,
+        })
     }
 
     /// What is left of the drives A to D.
@@ -58,6 +78,16 @@ fn next_drive(images: &mut IntoIter<Image>) -> Option<Drive>
     ensures rest { images.new.rest.items ≡ drop 1 images.old.rest.items }
 {
     Some(Drive::new(images.next()?))
+}
+
+/// An equal drive, where there is one.
+fn drive_copy(alloc: Global, drive: &Option<Drive>) -> Result<Option<Drive>, AllocError>
+    ensures { IfOk result (λ copy. copy ≡ drive.now) }
+{
+    match drive {
+        Some(own) => Ok(Some(own.copy(alloc)?)),
+        None => Ok(None),
+    }
 }
 
 /// What is left of a drive.

@@ -2,11 +2,11 @@
 
 ghost use Rattle.std.specs.Prelude.{◌≡◌};
 ghost use Rattle.cpm_disks.specs.Calls.{file_call};
-ghost use Rattle.cpm_disks.specs.Functions.{new_name, file_function, file_function_bytes, bytes_call};
+ghost use Rattle.cpm_disks.specs.Functions.{dpb_named, new_name, file_function, file_function_bytes, bytes_call};
 
 use crate::disks::Disks;
 use cpm_files::{Fault, Fcb};
-use cpm_geom::{Format, Image};
+use cpm_geom::{Dpb, Image};
 
 /// A function of the BDOS on a file control block.
 #[derive(Clone, Copy, Debug, PartialEq, Eq)]
@@ -40,11 +40,20 @@ impl Disks {
     ) -> Result<u8, Fault>
         ensures { bytes_call result self.new bytes.new buffer.new ≡ file_function_bytes function self.old system.now bytes.old buffer.old }
     {
-        let dpb = Format::Ibm3740.dpb();
+        let dpb = self.dpb_named(system, bytes[0]);
         let mut fcb = Fcb::from_bytes(&dpb, bytes);
         let answer = self.file_function(system, function, bytes, &mut fcb, buffer);
         *bytes = fcb.to_bytes(&dpb);
         answer
+    }
+
+    /// The parameters of the drive that a file control block names; of the system drive where there is none.
+    #[tactic(auto, unfolding(crate::specs::Functions::dpb_named))]
+    fn dpb_named(&self, system: &Image, name: u8) -> Dpb
+        ensures { result ≡ dpb_named self.now system.now name }
+    {
+        let drive = self.drive_named(name);
+        self.image_at(system, drive).format().dpb()
     }
 
     fn file_function(

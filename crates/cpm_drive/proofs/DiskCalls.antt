@@ -7,7 +7,7 @@ use Rattle.std.proofs.lemmas.List.Sums.{passes_at_first}
 use Rattle.std.proofs.lemmas.Nat.{mod_below}
 use Rattle.std.proofs.lemmas.Bool.{false≢true, cases_lt, cond_both, ltb-true, eqb-false, not-true, not-false}
 use Rattle.cpm_geom.specs.declared.format.Format.{Format}
-use Rattle.cpm_geom.specs.declared.format.Format.TheVariants.{Ibm3740}
+use Rattle.cpm_geom.specs.declared.format.Format.TheVariants.{Ibm3740, Large}
 use Rattle.cpm_geom.specs.Geometry.{dpb_of, tracks_of, sectors_per_track}
 use Rattle.cpm_geom.specs.Disk.{record_count}
 use Rattle.cpm_files.specs.declared.extent.Extent.{Extent}
@@ -22,12 +22,13 @@ use Rattle.cpm_files.specs.Operations.{Outcome, ends, gives, with_entry, merged,
 use Rattle.cpm_files.proofs.Closing.{closed_user}
 use Rattle.cpm_files.proofs.Moving.{closed_volume, closes_free, goes_on, number_below}
 use Rattle.cpm_drive.specs.Laws.{IsOfBytes, Fits, AllFit}
-use Rattle.cpm_drive.proofs.DiskFits.{VolumeFits, put_fits, fit_append, merged_fits, closed_fits, made_fits, opened_fits, counting_fits, with_block_fits}
+use Rattle.cpm_drive.proofs.DiskFits.{VolumeFits, put_fits, fit_append, merged_fits, closed_fits, made_fits, opened_fits, counting_fits, place_within, with_block_fits}
 
 -- a record of a block is one of the disk's
 on_disk : (f : Format) (b rest : ℕ) → b ≤ (dpb_of f).last_block → rest < (dpb_of f).block_mask + 1 → b * ((dpb_of f).block_mask + 1) + rest < record_count f
 unfolding dpb_of record_count tracks_of sectors_per_track
 on_disk Ibm3740 b rest h below = omega arith
+on_disk Large b rest h below = omega arith
 
 zero_past : (k : ℕ) → 128 ≤ k → get_or (replicate 128 0) k 0 < 256
 zero_past k h =
@@ -254,7 +255,7 @@ module _ (f : Format) where
       (log_with v _ (record_put (record_in_block (dpb_of f) b current) bytes ∷ []) fit refl refl (one_fits b current bytes there are), counting_fits (dpb_of f) x current small extent)
   puts_found clears v x current next bytes (new_block b) small are fit extent there = (
     log_with v _ (taken_writes (dpb_of f) clears b ++ record_put (record_in_block (dpb_of f) b current) bytes ∷ []) fit refl (append_assoc v.written (taken_writes (dpb_of f) clears b) (record_put (record_in_block (dpb_of f) b current) bytes ∷ [])) (fit_append f (taken_writes (dpb_of f) clears b) (record_put (record_in_block (dpb_of f) b current) bytes ∷ []) (taken_fit clears b there) (one_fits b current bytes there are)),
-    counting_fits (dpb_of f) (with_block x (place_of (dpb_of f) x current) b) current small (with_block_fits f x (place_of (dpb_of f) x current) b there.0 extent),
+    counting_fits (dpb_of f) (with_block x (place_of (dpb_of f) x current) b) current small (with_block_fits f x (place_of (dpb_of f) x current) b there.0 (place_within f x current small) extent),
   )
 
   puts : (clears : Bool) (v : Volume) (user : ℕ) (x : Extent) (current next : ℕ) (bytes : List ℕ) → IsSound (dpb_of f) v user x → current < 128 → AreBytes 128 bytes → VolumeFits f v → IsOfBytes (dpb_of f) x → OutcomeFits (put_record (dpb_of f) clears v x current next bytes)

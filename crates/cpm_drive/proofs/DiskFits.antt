@@ -1,14 +1,14 @@
 -- What calls write has room on the disk: entries and extents of bytes.
-use Rattle.std.proofs.Common.{◌≡◌, ℕ, zero, suc, ◌+◌, ◌<◌, ◌≤◌, cond, eqb, ltb, List, [], ◌∷◌, ◌++◌, length, get_or, set, refl, ap, ◌∙◌, inl, inr, arith}
+use Rattle.std.proofs.Common.{◌≡◌, ℕ, zero, suc, ◌+◌, ◌*◌, ◌/◌, ◌%◌, ◌<◌, ◌≤◌, cond, eqb, ltb, List, [], ◌∷◌, ◌++◌, length, get_or, set, refl, ap, ◌∙◌, inl, inr, arith}
 use Rattle.std.proofs.lemmas.List.{length-set, length-replicate, get_or-set_same, get_or-set_other, get_or-replicate}
-use Rattle.std.proofs.lemmas.Bool.{cases_eq, cases_lt, cond_both}
+use Rattle.std.proofs.lemmas.Bool.{cases_eq, cases_lt, cond_both, lt-ltb}
 use Rattle.cpm_geom.specs.declared.dpb.Dpb.{Dpb}
 use Rattle.cpm_geom.specs.declared.format.Format.{Format}
-use Rattle.cpm_geom.specs.declared.format.Format.TheVariants.{Ibm3740}
+use Rattle.cpm_geom.specs.declared.format.Format.TheVariants.{Ibm3740, Large}
 use Rattle.cpm_geom.specs.Geometry.{dpb_of}
 use Rattle.cpm_files.specs.declared.extent.Extent.{Extent}
 use Rattle.cpm_files.specs.declared.extent.Entry.{Entry}
-use Rattle.cpm_files.specs.Files.{extent_number, entry_at, record_count_of, Volume, Write, entry_put}
+use Rattle.cpm_files.specs.Files.{extent_number, entry_at, place_of, record_count_of, Volume, Write, entry_put}
 use Rattle.cpm_files.specs.Encoding.{place_limit}
 use Rattle.cpm_files.specs.Operations.{with_entry, merged, closed_entry, opened, made, with_block, counting}
 use Rattle.cpm_files.proofs.Entries.{entry_at-set_same, entry_at-set_other}
@@ -102,19 +102,30 @@ counting_fits d x current small fit = record {
   records = omega (arith, fit.records);
 }
 
--- a block of the drive has room in a map
-block_limit : (f : Format) (b place : ℕ) → b ≤ (dpb_of f).last_block → b < place_limit (dpb_of f) place
-unfolding dpb_of place_limit
-block_limit Ibm3740 b place h = omega arith
+-- a record of an extent has its place in the map
+place_in_map : (f : Format) (n current : ℕ) → current < 128 → (n % ((dpb_of f).extent_mask + 1)) * (128 / ((dpb_of f).block_mask + 1)) + current / ((dpb_of f).block_mask + 1) < ((dpb_of f).extent_mask + 1) * (128 / ((dpb_of f).block_mask + 1))
+unfolding dpb_of
+place_in_map Ibm3740 n current h = omega arith
+place_in_map Large n current h = omega arith
 
-pub with_block_fits : (f : Format) (x : Extent) (place b : ℕ) → b ≤ (dpb_of f).last_block → IsOfBytes (dpb_of f) x → IsOfBytes (dpb_of f) (with_block x place b)
+pub place_within : (f : Format) (x : Extent) (current : ℕ) → current < 128 → place_of (dpb_of f) x current < ((dpb_of f).extent_mask + 1) * (128 / ((dpb_of f).block_mask + 1))
+unfolding place_of
+place_within f x current h = place_in_map f (extent_number x) current h
+
+-- a block of the drive has room there
+block_limit : (f : Format) (b place : ℕ) → b ≤ (dpb_of f).last_block → place < ((dpb_of f).extent_mask + 1) * (128 / ((dpb_of f).block_mask + 1)) → b < place_limit (dpb_of f) place
+unfolding dpb_of place_limit
+block_limit Ibm3740 b place h there = omega arith
+block_limit Large b place h there = rw (lt-ltb place 8 (omega arith)) (omega arith)
+
+pub with_block_fits : (f : Format) (x : Extent) (place b : ℕ) → b ≤ (dpb_of f).last_block → place < ((dpb_of f).extent_mask + 1) * (128 / ((dpb_of f).block_mask + 1)) → IsOfBytes (dpb_of f) x → IsOfBytes (dpb_of f) (with_block x place b)
 unfolding with_block
-with_block_fits f x place b h fit = record {
+with_block_fits f x place b h there fit = record {
   storable = record {
     name = fit.storable.name;
     map = length-set x.blocks place b ∙ fit.storable.map;
     numbers = λ k below. elim (cases_eq k place) [
-      | inl e ↦ rw (e, get_or-set_same x.blocks place b 0 (let m = fit.storable.map in omega arith)) (block_limit f b place h)
+      | inl e ↦ rw (e, get_or-set_same x.blocks place b 0 (let m = fit.storable.map in omega arith)) (block_limit f b place h there)
       | inr n ↦ rw (get_or-set_other x.blocks place k b 0 n) (fit.storable.numbers k below)
     ];
   };

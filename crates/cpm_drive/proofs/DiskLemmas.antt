@@ -7,7 +7,7 @@ use Rattle.std.proofs.lemmas.Bool.{cases_eq, cases_lt, eq-eqb, ne_eqb, lt-ltb, l
 use Rattle.std.proofs.lemmas.List.FromFn.{length-map-range_with_len, get_or-map-range_with_len}
 use Rattle.cpm_geom.specs.declared.dpb.Dpb.{Dpb}
 use Rattle.cpm_geom.specs.declared.format.Format.{Format}
-use Rattle.cpm_geom.specs.declared.format.Format.TheVariants.{Ibm3740}
+use Rattle.cpm_geom.specs.declared.format.Format.TheVariants.{Ibm3740, Large}
 use Rattle.cpm_geom.specs.Geometry.{dpb_of, tracks_of, sectors_per_track, IsRecord, record_index}
 use Rattle.cpm_geom.specs.Disk.{Disk, IsDisk, record_count, records_of, sector_at, with_sector}
 use Rattle.cpm_geom.proofs.GeometryLemmas.{record_within}
@@ -157,6 +157,7 @@ entry_fits disk i is bytes h =
 space : (f : Format) → ((dpb_of f).last_block + 1) * ((dpb_of f).block_mask + 1) ≤ record_count f
 unfolding dpb_of record_count tracks_of sectors_per_track
 space Ibm3740 = omega arith
+space Large = omega arith
 
 pub disk_is_volume : (disk : Disk) (reserved : List Bool) → length reserved ≡ (dpb_of disk.format).last_block + 1 → IsVolume (dpb_of disk.format) (volume_of disk reserved)
 unfolding volume_of

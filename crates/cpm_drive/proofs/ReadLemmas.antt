@@ -3,7 +3,7 @@ use Rattle.std.proofs.Common.{◌≡◌, ◌≢◌, ℕ, ◌+◌, ◌*◌, ◌/�
 use Rattle.std.proofs.lemmas.Bool.{lt-ltb, le-ltb, eq-eqb, ne_eqb}
 use Rattle.cpm_geom.specs.declared.dpb.Dpb.{Dpb}
 use Rattle.cpm_geom.specs.declared.format.Format.{Format}
-use Rattle.cpm_geom.specs.declared.format.Format.TheVariants.{Ibm3740}
+use Rattle.cpm_geom.specs.declared.format.Format.TheVariants.{Ibm3740, Large}
 use Rattle.cpm_geom.specs.Geometry.{dpb_of, tracks_of, sectors_per_track, track_of, IsRecord}
 use Rattle.cpm_geom.specs.Disk.{records_of}
 use Rattle.cpm_files.specs.declared.extent.Extent.{Extent}
@@ -27,10 +27,12 @@ use Rattle.cpm_drive.specs.Reads.{RecordRead, record_found, answer_of, read_of, 
 pub in_block_small : (f : Format) (b current : ℕ) → b ≤ (dpb_of f).last_block → b * ((dpb_of f).block_mask + 1) + current % ((dpb_of f).block_mask + 1) < 65536
 unfolding dpb_of
 in_block_small Ibm3740 b current h = omega arith
+in_block_small Large b current h = omega arith
 
 in_block_track : (f : Format) (b current : ℕ) → b ≤ (dpb_of f).last_block → track_of f (record_in_block (dpb_of f) b current) < tracks_of f
 unfolding dpb_of track_of tracks_of sectors_per_track record_in_block
 in_block_track Ibm3740 b current h = omega arith
+in_block_track Large b current h = omega arith
 
 pub in_block_there : (f : Format) (b current : ℕ) → b ≤ (dpb_of f).last_block → IsRecord f (record_in_block (dpb_of f) b current)
 in_block_there f b current h = record { track_there = in_block_track f b current h }
@@ -177,10 +179,12 @@ module _ (old new : Drive) (user : ℕ) (fcb fcb' : Fcb) (before after : List �
 pub mask_small : (f : Format) → (dpb_of f).block_mask < 128
 unfolding dpb_of
 mask_small Ibm3740 = omega arith
+mask_small Large = omega arith
 
 pub place_small : (f : Format) (n current : ℕ) → current < 128 → (n % ((dpb_of f).extent_mask + 1)) * (128 / ((dpb_of f).block_mask + 1)) + current / ((dpb_of f).block_mask + 1) < 16
 unfolding dpb_of
 place_small Ibm3740 n current h = omega arith
+place_small Large n current h = omega arith
 
 -- what a read comes to is what it would give
 pub peeked : (drive : Drive) (user : ℕ) (fcb new : Fcb) (found : Result ℕ Answer) → record_found found new ≡ after_record fcb (read_next (dpb_of drive.image.format) drive.marks.is_protected (volume_of drive.image drive.marks.reserved) user fcb.extent fcb.current_record) → record_ahead drive.image (answer_of found) (read_of found) ≡ ahead drive user fcb

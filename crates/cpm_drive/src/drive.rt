@@ -1,6 +1,6 @@
 //! A drive and its marks.
 
-ghost use Rattle.std.specs.Prelude.{◌≡◌, ◌≤◌, ℕ, [], false, slice_index_or};
+ghost use Rattle.std.specs.Prelude.{IfOk, ◌≡◌, ◌≤◌, ℕ, [], false, slice_index_or};
 ghost use Rattle.cpm_geom.specs.Geometry.{dpb_of};
 ghost use Rattle.cpm_geom.specs.Disk.{records_of};
 ghost use Rattle.cpm_files.specs.Files.{directory_records};
@@ -12,6 +12,7 @@ ghost use Rattle.cpm_drive.specs.Reads.{lent_drive};
 use crate::change::Change;
 use cpm_directory::{LentImage, ListedImage, Reserved, login};
 use cpm_geom::{Format, Image};
+use std::alloc::{AllocError, Global};
 
 /// What the system keeps of a drive beside its image.
 #[derive(Drop)]
@@ -49,6 +50,17 @@ impl Marks {
         }
     }
 
+    /// The same marks.
+    pub fn copied(&self) -> Marks
+        ensures { result ≡ self.now }
+    {
+        Marks {
+            reserved: self.reserved.copied(),
+            is_logged_in: self.is_logged_in,
+            is_protected: self.is_protected,
+        }
+    }
+
     /// Logs the drive of an image in: its directory's blocks and those of its files are reserved.
     pub fn log_in(&mut self, image: &LentImage<'_>)
         ensures { self.new ≡ logged_in_marks image.now self.old }
@@ -66,6 +78,16 @@ impl Drive {
         let marks = Marks::new(image.format(), false);
         let image = ListedImage::new(image);
         Drive { image, marks }
+    }
+
+    /// An equal drive; refused for want of memory.
+    pub fn copy(&self, alloc: Global) -> Result<Drive, AllocError>
+        ensures { IfOk result (λ drive. drive ≡ self.now) }
+    {
+        Ok(Drive {
+            image: self.image.copy(alloc)?,
+            marks: self.marks.copied(),
+        })
     }
 
     /// Logs the drive in: its directory's blocks and those of its files are reserved.

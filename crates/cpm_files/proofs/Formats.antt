@@ -1,12 +1,11 @@
--- The parameters of both disks are those of formats.
+-- The parameters of each format are those of a drive that serves files.
 use Rattle.std.proofs.Common.{◌≡◌, ℕ, zero, suc, ◌<◌, true, refl, arith}
 use Rattle.std.proofs.lemmas.Bool.{false≢true, and_parts, ltb-true}
 use Rattle.cpm_geom.specs.declared.dpb.Dpb.{Dpb}
 use Rattle.cpm_geom.specs.declared.format.Format.{Format}
-use Rattle.cpm_geom.specs.declared.format.Format.TheVariants.{Ibm3740}
+use Rattle.cpm_geom.specs.declared.format.Format.TheVariants.{Ibm3740, Large}
 use Rattle.cpm_geom.specs.Geometry.{dpb_of}
 use Rattle.cpm_files.specs.Files.{is_directory_block, directory_records, IsFormat}
-use Rattle.cpm_files.specs.Rows.{large}
 
 -- AL0 C0h and AL1 00h are blocks 0 and 1
 below_two : (d : Dpb) (b : ℕ) → d.directory_bits ≡ 0xC000 → b < 16 → is_directory_block d b ≡ true → b < 2
@@ -51,13 +50,10 @@ each_format Ibm3740 = record {
   whole_blocks = refl;
   places = omega arith;
 }
-
-pub large_format : IsFormat large
-unfolding large directory_records
-large_format = record {
+each_format Large = record {
   has_directory = omega arith;
   whole_records = refl;
-  reserves = λ b. (λ h. let low = two_blocks large b refl h in omega arith, λ h. from_two large b refl (omega arith));
+  reserves = λ b. (λ h. let low = two_blocks (dpb_of Large) b refl h in omega arith, λ h. from_two (dpb_of Large) b refl (omega arith));
   whole_blocks = refl;
   places = omega arith;
 }

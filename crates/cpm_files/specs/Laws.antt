@@ -7,7 +7,6 @@ use Rattle.cpm_files.specs.declared.extent.Extent.{Extent}
 use Rattle.cpm_files.specs.declared.extent.Entry.{Entry}
 use Rattle.cpm_files.specs.Files.{extent_number, group_of, is_of, entry_at, InUse, same_name, deleted, is_reserved, first_free, file_block, open_file_block, directory_records, file_record, open_file_record, IsWellFormed, IsKept, IsFormat, IsVolume, IsSound, IsSoundDrive, Volume, has_wildcard}
 use Rattle.cpm_files.specs.Operations.{read_only, done, no_record, no_block, no_extent, no_entry_free, fault, Outcome, with_entry, closed, close_fault, close_file, open_file, make_file, read_next, write_next, read_random, write_random, write_random_cleared}
-use Rattle.cpm_files.specs.Rows.{large}
 
 -- ---- what a call leaves
 
@@ -193,7 +192,7 @@ MakesFile d user v x =
 
 -- the parameters of both disks serve files
 abbrev pub FormatsLaw : Type 0
-FormatsLaw = ((f : Format) → IsFormat (dpb_of f)) × IsFormat large
+FormatsLaw = (f : Format) → IsFormat (dpb_of f)
 
 abbrev pub CloseLaw : Type 0
 CloseLaw =

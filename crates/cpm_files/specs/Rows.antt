@@ -3,7 +3,7 @@
 use Rattle.std.specs.Prelude.{◌≡◌, ℕ, zero, suc, Bool, true, false, List, [], ◌∷◌, ◌++◌, Option, Some, None, replicate, map, take, slice_index_or}
 use Rattle.std.specs.Option.{option_map}
 use Rattle.cpm_geom.specs.declared.dpb.Dpb.{Dpb}
-use Rattle.cpm_geom.specs.declared.format.Format.TheVariants.{Ibm3740}
+use Rattle.cpm_geom.specs.declared.format.Format.TheVariants.{Ibm3740, Large}
 use Rattle.cpm_geom.specs.Geometry.{dpb_of}
 use Rattle.cpm_files.specs.declared.extent.Extent.{Extent}
 use Rattle.cpm_files.specs.declared.extent.Entry.{Entry}
@@ -14,20 +14,9 @@ use Rattle.cpm_files.specs.Operations.{Answer, done, no_record, no_block, no_ext
 unfoldable pub standard : Dpb
 standard = dpb_of Ibm3740
 
--- own: a larger disk, of 257 tracks of 64 records, 32 records to a block and two extents to an entry
+-- the large disk, of two extents to an entry
 unfoldable pub large : Dpb
-large =
-    record {
-      sectors_per_track = 64;
-      block_shift = 5;
-      block_mask = 31;
-      extent_mask = 1;
-      last_block = 511;
-      last_entry = 255;
-      directory_bits = 0xC000;
-      checksum_size = 0;
-      track_offset = 1;
-    }
+large = dpb_of Large
 
 -- a blank drive whose first two blocks are the directory's
 unfoldable pub blank : ℕ → ℕ → List (List ℕ) → Volume
@@ -82,7 +71,7 @@ Row129 =
     directory_bytes standard 3 file_of_129 ≡ (0 ∷ 0 ∷ 0x80 ∷ 0x02 ∷ 0x03 ∷ 0x04 ∷ 0x05 ∷ 0x06 ∷ 0x07 ∷ 0x08 ∷ 0x09 ∷ 0x0A ∷ 0x0B ∷ 0x0C ∷ 0x0D ∷ 0x0E ∷ 0x0F ∷ 0x10 ∷ 0x11 ∷ [])
     ∷ (0 ∷ 1 ∷ 0x01 ∷ 0x12 ∷ replicate 15 0) ∷ seen no_entry ∷ []
 
--- 300 records on the larger disk: two extents to an entry
+-- 300 records on the large disk: two extents to an entry
 abbrev pub Row300 : Type 0
 Row300 =
     directory_bytes large 3 (writes large 300 (made_on (blank 256 510 []))) ≡ (0 ∷ 1 ∷ 0x80 ∷ 2 ∷ 3 ∷ 4 ∷ 5 ∷ 6 ∷ 7 ∷ 8 ∷ 9 ∷ replicate 8 0)
@@ -108,7 +97,7 @@ abbrev pub Row1928 : Type 0
 Row1928 =
     ((writes standard 1928 (made_on (blank 64 241 []))).answer ≡ done) × ((writes standard 1929 (made_on (blank 64 241 []))).answer ≡ no_block)
 
--- 16,320 records fit one file on the larger disk, and no more
+-- 16,320 records fit one file on the large disk, and no more
 abbrev pub Row16320 : Type 0
 Row16320 =
     ((writes large 16320 (made_on (blank 256 510 []))).answer ≡ done) × ((writes large 16321 (made_on (blank 256 510 []))).answer ≡ no_block)
@@ -131,7 +120,7 @@ abbrev pub Row64 : Type 0
 Row64 =
     (is_made (makes 64 (Some (replicate 64 no_entry, t_dat))) ≡ true) × (is_made (makes 65 (Some (replicate 64 no_entry, t_dat))) ≡ false)
 
--- 256 on the larger disk, and no more
+-- 256 on the large disk, and no more
 abbrev pub Row256 : Type 0
 Row256 =
     (is_made (makes 256 (Some (replicate 256 no_entry, t_dat))) ≡ true) × (is_made (makes 257 (Some (replicate 256 no_entry, t_dat))) ≡ false)

@@ -50,7 +50,7 @@ pub fn make_changes_no_file()
     ensures { MakeLaw }
 {}
 
-/// The parameters of both disks are those of a drive that serves files.
+/// The parameters of each format are those of a drive that serves files.
 pub fn formats_serve_files()
     ensures { FormatsLaw }
 {}

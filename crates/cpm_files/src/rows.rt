@@ -8,7 +8,7 @@ pub fn a_full_extent_is_closed_and_the_next_made()
     ensures { Row129 }
 {}
 
-/// 300 records fill one entry of the larger disk and begin another.
+/// 300 records fill one entry of the large disk and begin another.
 pub fn two_extents_share_an_entry()
     ensures { Row300 }
 {}
@@ -23,8 +23,8 @@ pub fn the_last_block_is_taken()
     ensures { Row1928 }
 {}
 
-/// 16,320 records fit one file on the larger disk.
-pub fn the_larger_disks_last_block_is_taken()
+/// 16,320 records fit one file on the large disk.
+pub fn the_large_disks_last_block_is_taken()
     ensures { Row16320 }
 {}
 
@@ -33,8 +33,8 @@ pub fn the_last_entry_is_taken()
     ensures { Row64 }
 {}
 
-/// 256 files fit the larger disk's directory.
-pub fn the_larger_disks_last_entry_is_taken()
+/// 256 files fit the large disk's directory.
+pub fn the_large_disks_last_entry_is_taken()
     ensures { Row256 }
 {}
 

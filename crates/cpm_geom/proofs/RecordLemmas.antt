@@ -4,7 +4,7 @@ use Rattle.std.proofs.lemmas.Bool.{cases_eq}
 use Rattle.std.proofs.lemmas.List.{length-set, get_or-set_same, get_or-set_other, same_lists}
 use Rattle.std.proofs.lemmas.List.FromFn.{length-map-range_with_len, get_or-map-range_with_len}
 use Rattle.cpm_geom.specs.declared.format.Format.{Format}
-use Rattle.cpm_geom.specs.declared.format.Format.TheVariants.{Ibm3740}
+use Rattle.cpm_geom.specs.declared.format.Format.TheVariants.{Ibm3740, Large}
 use Rattle.cpm_geom.specs.Geometry.{dpb_of, tracks_of, sectors_per_track, track_of, IsRecord, record_index}
 use Rattle.cpm_geom.specs.Disk.{Disk, IsDisk, sector_at, with_sector, record_count, records_of}
 use Rattle.cpm_geom.specs.Laws.{AreSectors, AreRecords, IsListOfRecords}
@@ -13,10 +13,12 @@ use Rattle.cpm_geom.proofs.GeometryLemmas.{sector_within, sectors_apart, record_
 counted : (f : Format) (n : ℕ) → track_of f n < tracks_of f → n < record_count f
 unfolding track_of record_count sectors_per_track tracks_of dpb_of
 counted Ibm3740 n h = omega arith
+counted Large n h = omega arith
 
 there : (f : Format) (n : ℕ) → n < record_count f → track_of f n < tracks_of f
 unfolding track_of record_count sectors_per_track tracks_of dpb_of
 there Ibm3740 n h = omega arith
+there Large n h = omega arith
 
 pub are_sectors : (f : Format) → AreSectors f
 are_sectors f = record { within = sector_within f; apart = sectors_apart f }

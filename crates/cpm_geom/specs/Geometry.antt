@@ -2,13 +2,13 @@
 use Rattle.std.specs.Prelude.{ℕ, ◌+◌, ◌-◌, ◌*◌, ◌/◌, ◌%◌, ◌<◌, ◌≤◌, ◌==◌, if◌then◌else◌, List, [], ◌∷◌, Option, Some, None, slice_index}
 use Rattle.cpm_geom.specs.declared.dpb.Dpb.{Dpb}
 use Rattle.cpm_geom.specs.declared.format.Format.{Format}
-use Rattle.cpm_geom.specs.declared.format.Format.TheVariants.{Ibm3740}
+use Rattle.cpm_geom.specs.declared.format.Format.TheVariants.{Ibm3740, Large}
 
 -- own: an image is a raw dump, and its length says which format it has
 unfoldable pub format_of_length : ℕ → Option Format
-format_of_length n = if n == 256256 then Some Ibm3740 else None
+format_of_length n = if n == 256256 then Some Ibm3740 else (if n == 2105344 then Some Large else None)
 
--- CP/M 2.2 Operating System Manual, section 6.10, Disk Parameter Tables: the parameter block; own: these numbers, of the standard 8-inch single density disk
+-- CP/M 2.2 Operating System Manual, section 6.10, Disk Parameter Tables: the parameter block; own: these numbers, of the standard 8-inch single density disk and of this project's large disk
 unfoldable pub dpb_of : Format → Dpb
 dpb_of Ibm3740 =
     record {
@@ -22,22 +22,37 @@ dpb_of Ibm3740 =
       checksum_size = 16;
       track_offset = 2;
     }
+dpb_of Large =
+    record {
+      sectors_per_track = 64;
+      block_shift = 5;
+      block_mask = 31;
+      extent_mask = 1;
+      last_block = 511;
+      last_entry = 255;
+      directory_bits = 0xC000;
+      checksum_size = 0;
+      track_offset = 1;
+    }
 
 unfoldable pub tracks_of : Format → ℕ
 tracks_of Ibm3740 = 77
+tracks_of Large = 257
 
 -- the number of a track's first sector
 unfoldable pub first_sector_of : Format → ℕ
 first_sector_of Ibm3740 = 1
+first_sector_of Large = 0
 
 -- CP/M 2.2 Operating System Manual, section 6.10, Disk Parameter Tables: the sector translation vector, the sectors of a track in the order of its records
 unfoldable pub skew : List ℕ
 skew =
     1 ∷ 7 ∷ 13 ∷ 19 ∷ 25 ∷ 5 ∷ 11 ∷ 17 ∷ 23 ∷ 3 ∷ 9 ∷ 15 ∷ 21 ∷ 2 ∷ 8 ∷ 14 ∷ 20 ∷ 26 ∷ 6 ∷ 12 ∷ 18 ∷ 24 ∷ 4 ∷ 10 ∷ 16 ∷ 22 ∷ []
 
--- the sector of a track's record
+-- the sector of a track's record; own: the large disk has no translation
 unfoldable pub sector_of : Format → ℕ → ℕ
 sector_of Ibm3740 place = slice_index skew place
+sector_of Large place = place
 
 unfoldable pub sectors_per_track : Format → ℕ
 sectors_per_track f = (dpb_of f).sectors_per_track

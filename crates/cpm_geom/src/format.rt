@@ -13,8 +13,10 @@ const SKEW: [u8; 26] = [
 /// A format of disk images.
 #[derive(Clone, Copy, PartialEq, Eq, Debug)]
 pub enum Format {
-    /// IBM 3740, single density: 77 tracks of 26 sectors.
+    /// IBM 3740, single density: 77 tracks of 26 sectors, 256,256 bytes.
     Ibm3740,
+    /// This project's large disk: 257 tracks of 64 sectors, 2,105,344 bytes.
+    Large,
 }
 
 impl Format {
@@ -25,6 +27,7 @@ impl Format {
     {
         match length {
             256_256 => Some(Format::Ibm3740),
+            2_105_344 => Some(Format::Large),
             _ => None,
         }
     }
@@ -46,6 +49,17 @@ impl Format {
                 checksum_size: 16,
                 track_offset: 2,
             },
+            Format::Large => Dpb {
+                sectors_per_track: 64,
+                block_shift: 5,
+                block_mask: 31,
+                extent_mask: 1,
+                last_block: 511,
+                last_entry: 255,
+                directory_bits: 0xC000,
+                checksum_size: 0,
+                track_offset: 1,
+            },
         }
     }
 
@@ -56,6 +70,7 @@ impl Format {
     {
         match self {
             Format::Ibm3740 => 77,
+            Format::Large => 257,
         }
     }
 
@@ -66,6 +81,7 @@ impl Format {
     {
         match self {
             Format::Ibm3740 => 1,
+            Format::Large => 0,
         }
     }
 
@@ -94,6 +110,7 @@ impl Format {
     {
         match self {
             Format::Ibm3740 => SKEW[usize::from(place)],
+            Format::Large => place as u8,
         }
     }
 

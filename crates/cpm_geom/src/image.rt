@@ -64,6 +64,18 @@ impl Image {
         Ok(Image { format, bytes })
     }
 
+    /// An equal image; refused for want of memory.
+    pub fn copy(&self, alloc: Global) -> Result<Image, AllocError>
+        ensures { IfOk result (λ image. image ≡ self.now) }
+    {
+        let mut bytes = Vec::with_capacity(alloc, self.bytes.len())?;
+        bytes.extend_from_slice(&self.bytes)?;
+        Ok(Image {
+            format: self.format,
+            bytes,
+        })
+    }
+
     /// The image's bytes: its sectors one after the other.
     pub fn into_bytes(self) -> Vec<u8>
         ensures { result.items ≡ concat self.sectors }

@@ -17,8 +17,8 @@ const NONE: u8 = 0xFF;
 /// The records that a disk can hold at most, and more.
 const MOST_RECORDS: usize = 65_536;
 
-/// The entries of a directory.
-const MOST_ENTRIES: usize = 64;
+/// The most entries of a directory.
+const MOST_ENTRIES: usize = 256;
 
 /// A disk image as drive A, and a blank system drive.
 #[derive(Drop)]

@@ -16,6 +16,8 @@ pub struct Call {
 /// A line of a list.
 #[derive(Clone, Copy, Debug, PartialEq, Eq)]
 pub enum Line {
+    /// `images LETTERS`, the first line: a letter for each image, `s` for a small disk and `l` for a large one.
+    Images,
     /// `session N`: a new session, whose drives are the next images, one to four.
     Session(usize),
     /// `call FUNCTION PARAMETER FCB RECORD`, each in hexadecimal digits. `-` puts nothing, and a record of two digits is 128
@@ -28,6 +30,10 @@ impl Line {
     pub fn of(text: &str) -> Option<Line> {
         let mut words = text.split_whitespace();
         let line = match words.next()? {
+            "images" => {
+                words.next()?;
+                Line::Images
+            }
             "session" => Line::Session(count_of(words.next()?)?),
             "call" => Line::Call(Call {
                 function: byte_of(words.next()?)?,
@@ -41,6 +47,15 @@ impl Line {
             return None;
         }
         Some(line)
+    }
+}
+
+/// The letters of the first line, if it is one of images.
+pub fn letters_of(line: &str) -> Option<&str> {
+    let mut words = line.split_whitespace();
+    match words.next()? {
+        "images" => words.next(),
+        _ => None,
     }
 }
 

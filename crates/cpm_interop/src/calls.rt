@@ -4,7 +4,7 @@ ghost use Rattle.std.specs.Prelude.{◌≡◌, IfErr};
 ghost use Rattle.cpm_interop.specs.declared.error.InteropError.TheVariants.{NoImage, OutOfMemory};
 ghost use Rattle.cpm_interop.specs.Refusals.{IsCallsRefusal, IsListRefusal};
 
-use crate::call::{Call, Line};
+use crate::call::{Call, Line, letters_of};
 use crate::error::InteropError;
 use crate::files::{read_images, write_file};
 use crate::trial::{Left, Trial};
@@ -106,6 +106,7 @@ fn do_line(
     ensures { IfErr result IsListRefusal }
 {
     match Line::of(text) {
+        Some(Line::Images) => Ok(Some(())),
         Some(Line::Session(count)) => sessions.begin(rt.alloc(), count),
         Some(Line::Call(call)) => match sessions.call(&call) {
             Some(left) => {
@@ -128,7 +129,10 @@ pub fn run_calls(
     ensures { IfErr result IsCallsRefusal }
 {
     let text = fs::read_to_string(rt, list).map_err(InteropError::Unreadable)?;
-    let mut sessions = Sessions::new(rt.alloc(), read_images(rt, images)?)?;
+    let Some(letters) = letters_of(text.as_str().lines().next().unwrap_or("")) else {
+        return Err(InteropError::NoCall(0));
+    };
+    let mut sessions = Sessions::new(rt.alloc(), read_images(rt, images, letters)?)?;
     for (place, line) in text.as_str().lines().enumerate() {
         if do_line(rt, &mut sessions, line)?.is_none() {
             return Err(InteropError::NoCall(place));

@@ -24,8 +24,8 @@ pub enum InteropError {
     /// A file or standard output can't be written.
     #[error("a file can't be written: {0}")]
     Unwritable(io::Error),
-    /// A file is not one or more disk images.
-    #[error("not an image of 256,256 bytes")]
+    /// A file is no disk image, or not those that a list names.
+    #[error("not an image of 256,256 or 2,105,344 bytes, or not those of the list")]
     NoImage,
     /// A function of the BDOS answers this code where it should do its work.
     #[error("function {0} answers {1:02X}h")]

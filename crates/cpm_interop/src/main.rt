@@ -16,7 +16,7 @@ mod trial;
 use archive::Archive;
 use calls::run_calls;
 use error::InteropError;
-use files::{first_image, read_file, write_file};
+use files::{read_file, read_image, write_file};
 use std::env;
 use std::env::Env;
 use std::process::ExitCode;
@@ -42,7 +42,7 @@ fn user_of(word: &str) -> Result<u8, InteropError>
 }
 
 fn names(rt: &(impl Files + Print + AllocGlobal), image: &str) -> Result<(), InteropError> {
-    let mut archive = Archive::of(rt.alloc(), first_image(rt, image)?)?;
+    let mut archive = Archive::of(rt.alloc(), read_image(rt, image)?)?;
     archive.print_names(rt)
 }
 
@@ -53,7 +53,7 @@ fn get(
     name: &str,
     out: &str,
 ) -> Result<(), InteropError> {
-    let mut archive = Archive::of(rt.alloc(), first_image(rt, image)?)?;
+    let mut archive = Archive::of(rt.alloc(), read_image(rt, image)?)?;
     let bytes = archive.get(rt.alloc(), user_of(user)?, name)?;
     write_file(rt, out, bytes.as_slice())
 }
@@ -66,7 +66,7 @@ fn put(
     file: &str,
     attributes: &[&str],
 ) -> Result<(), InteropError> {
-    let mut archive = Archive::of(rt.alloc(), first_image(rt, image)?)?;
+    let mut archive = Archive::of(rt.alloc(), read_image(rt, image)?)?;
     let bytes = read_file(rt, file)?;
     archive.put(user_of(user)?, name, bytes.as_slice(), attributes)?;
     let Some(after) = archive.into_image() else {

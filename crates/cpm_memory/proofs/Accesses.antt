@@ -2,14 +2,13 @@
 use Rattle.std.proofs.Common.{◌≡◌, ◌≢◌, ℕ, ◌+◌, ◌<◌, ◌≤◌, ◌/◌, ◌%◌, Bool, true, false, List, length, get_or, set, refl, arith, ap, sym, ◌∙◌, is_some, unwrap_or, ⊎_elim, subst, []}
 use Rattle.std.proofs.lemmas.List.{get_or-set_same, get_or-set_other}
 use Rattle.std.proofs.lemmas.Bool.{cases_eq}
-use Rattle.cpm_memory.specs.Contents.{is_written, touched_of, after_set, page_of, byte_at}
-use Rattle.cpm_memory.specs.Room.{touched_of-unwritten}
-use Rattle.cpm_memory.specs.Frames.{Frames, IsSound, HasReservation, ChangesTable, KeepsStamps, MovesAtMost, stamps_at, table_at, private_at, frame_of, place_of, memory_of, reserved_by}
+use Rattle.cpm_memory.specs.Contents.{touched_of, byte_at}
+use Rattle.cpm_memory.specs.Frames.{Frames, IsSound, IsAlone, HasReservation, ChangesTable, KeepsStamps, MovesAtMost, stamps_at, table_at, frame_of, place_of, memory_of, reserved_by}
 use Rattle.cpm_memory.specs.Kept.{with_byte, with_stamp}
 use Rattle.cpm_memory.specs.Stamps.{after_stamp}
 use Rattle.cpm_memory.specs.Memories.{IsContents-memory_of}
 use Rattle.cpm_memory.proofs.Bytes.{Written, Written-from, place_of-cases, byte_at-table}
-use Rattle.cpm_memory.proofs.Copies.{written-place, place-written, place_of-lt}
+use Rattle.cpm_memory.proofs.Copies.{place_of-lt}
 
 -- a table of which the reservation stayed is taken as it was, and has its limit
 pub taken-kept : (s s' : Frames) (t : ℕ) → ChangesTable s s' t → HasReservation s t → HasReservation s' t
@@ -29,28 +28,22 @@ byte-placed s t address frame bytes l e b =
 pub frame-within : (s : Frames) (t page frame : ℕ) → IsSound s → frame ≡ place_of s t page → frame < s.private + 4
 frame-within s t page frame ok e = omega (arith, e, place_of-lt s ok t page)
 
--- a page that has no private frame was not written
-pub not-written : (s : Frames) (t page frame : ℕ) → IsSound s → t < 64 → page < 256 → frame ≡ place_of s t page → (frame < s.private → ⊥) → is_written (memory_of s t) page ≡ false
-not-written s t page frame ok lt lp e shared = by (is_some (private_at s t page)) refl
-  where
-    by : (b : Bool) → is_some (private_at s t page) ≡ b → is_written (memory_of s t) page ≡ false
-    by true q = absurd (shared (omega (arith, e, place-written s t page ok q)))
-    by false q = written-place s t page ok lt lp ∙ q
-
 -- what a byte that is stored in a private frame leaves
 pub record Stored (s s' : Frames) (t address value : ℕ) : Type 0 where
   pub written : Written s s' t address value
   pub places : (t' page : ℕ) → place_of s' t' page ≡ place_of s t' page
+  pub alone : (page : ℕ) → IsAlone s t page → IsAlone s' t page
   pub touched : touched_of (memory_of s' t) ≡ touched_of (memory_of s t)
 
 stays : (s : Frames) (t f offset value : ℕ) → touched_of (memory_of (with_byte s f offset value) t) ≡ touched_of (memory_of s t)
 unfolding touched_of
 stays s t f offset value = refl
 
-pub Stored-from : (s s' : Frames) (t address frame value : ℕ) → IsSound s → address < 65536 → frame ≡ place_of s t (address / 256) → frame < s.private → s' ≡ with_byte s frame (address % 256) value → Stored s s' t address value
-Stored-from s s' t address frame value ok la e private q = record {
-  written = Written-from s s' t address frame value ok (ok.single frame) la (place_of-cases s t (address / 256) frame private (sym e)) q;
+pub Stored-from : (s s' : Frames) (t address frame value : ℕ) → IsSound s → address < 65536 → frame ≡ place_of s t (address / 256) → IsAlone s t (address / 256) → s' ≡ with_byte s frame (address % 256) value → Stored s s' t address value
+Stored-from s s' t address frame value ok la e alone q = record {
+  written = Written-from s s' t address frame value ok alone la (place_of-cases s t (address / 256) frame (omega (arith, e, alone.private)) (sym e)) q;
   places = λ t' page. ap (λ x. place_of x t' page) q;
+  alone = λ page h. subst (λ x. IsAlone x t page) (sym q) (record { private = h.private; alone = h.alone });
   touched = ap (λ x. touched_of (memory_of x t)) q ∙ stays s t frame (address % 256) value;
 }
 
@@ -63,10 +56,37 @@ placed-after s s' t page place places size lp placed moves here k l =
     (λ (q : k ≢ page). get_or-set_other places page k place 0 q ∙ placed k l ∙ sym (moves t k (λ _ e. q e)))
     (cases_eq k page)
 
--- a page more is written
-pub counted-after : (s s' : Frames) (t address value touched : ℕ) → IsSound s → t < 64 → address < 65536 → touched ≡ touched_of (memory_of s t) → is_written (memory_of s t) (page_of address) ≡ false → memory_of s' t ≡ after_set (memory_of s t) address value → touched + 1 ≡ touched_of (memory_of s' t)
-counted-after s s' t address value touched ok lt la counted first e =
-    omega (arith, counted, ap touched_of e, touched_of-unwritten (memory_of s t) address value (omega (arith, (IsContents-memory_of s t ok lt).pages, la)) first)
+-- a page that is alone stays so, where no page but another of its table moves, and that one to a frame of its own
+pub alone-moved : (s s' : Frames) (t page k : ℕ) → MovesAtMost s s' t page → s'.private ≡ s.private → IsAlone s' t page → IsAlone s t k → IsAlone s' t k
+alone-moved s s' t page k moves same here alone =
+    ⊎_elim
+    (λ (q : k ≡ page). subst (IsAlone s' t) (sym q) here)
+    (λ (q : k ≢ page).
+    let stays : place_of s' t k ≡ place_of s t k = moves t k (λ _ e. q e) in
+    record {
+      private = omega (arith, stays, same, alone.private);
+      alone = λ t' k' e. other q stays t' k' e;
+    })
+    (cases_eq k page)
+  where
+    other : k ≢ page → place_of s' t k ≡ place_of s t k → (t' k' : ℕ) → place_of s' t' k' ≡ place_of s' t k → (t' ≡ t) × (k' ≡ k)
+    other q stays t' k' e =
+        ⊎_elim
+        (λ (u : t' ≡ t). ⊎_elim
+        (λ (r : k' ≡ page). absurd (q (here.alone t k (sym e ∙ ap (λ x. place_of s' x k') u ∙ ap (place_of s' t) r)).1))
+        (λ (r : k' ≢ page). alone.alone t' k' (sym (moves t' k' (λ _ z. r z)) ∙ e ∙ stays))
+        (cases_eq k' page))
+        (λ (u : t' ≢ t). alone.alone t' k' (sym (moves t' k' (λ z _. u z)) ∙ e ∙ stays))
+        (cases_eq t' t)
+
+-- the pages that are alone after a page got a frame of its own
+pub alone-marked : (s s' : Frames) (t page : ℕ) (owned : List Bool) → length owned ≡ 256 → page < 256 → MovesAtMost s s' t page → s'.private ≡ s.private → IsAlone s' t page → ((k : ℕ) → k < 256 → get_or owned k false ≡ true → IsAlone s t k)
+    → (k : ℕ) → k < 256 → get_or (set owned page true) k false ≡ true → IsAlone s' t k
+alone-marked s s' t page owned size lp moves same here before k l marked =
+    ⊎_elim
+    (λ (q : k ≡ page). subst (IsAlone s' t) (sym q) here)
+    (λ (q : k ≢ page). alone-moved s s' t page k moves same here (before k l (sym (get_or-set_other owned page k true false q) ∙ marked)))
+    (cases_eq k page)
 
 -- no more pages are written than may be, and than there are
 pub touched-within : (s : Frames) (t touched limit : ℕ) → IsSound s → t < 64 → touched ≡ touched_of (memory_of s t) → limit ≡ reserved_by (table_at s t) → (touched ≤ limit) × (limit ≤ 256)
@@ -94,6 +114,9 @@ pub ChangesTable-raised : (s s' s'' : Frames) (t t' page : ℕ) → ChangesTable
 ChangesTable-raised s s' s'' t t' page h q =
     subst (λ x. ChangesTable s x t) (sym q) (record { others = h.others; private = h.private; reservation = h.reservation })
 
+pub IsAlone-raised : (s s' : Frames) (t page t' page' : ℕ) → IsAlone s t page → s' ≡ with_stamp s t' page' → IsAlone s' t page
+IsAlone-raised s s' t page t' page' h q = subst (λ x. IsAlone x t page) (sym q) (record { private = h.private; alone = h.alone })
+
 touched-raised : (s s' : Frames) (t t' page : ℕ) → touched_of (memory_of s' t) ≡ touched_of (memory_of s t) → touched_of (memory_of (with_stamp s' t' page) t) ≡ touched_of (memory_of s t)
 unfolding touched_of
 touched-raised s s' t t' page e = e
@@ -103,5 +126,6 @@ Stored-raised s s' s'' t address value t' page h q =
     subst (λ x. Stored s x t address value) (sym q) (record {
       written = record { memory = h.written.memory; others = ChangesTable-raised s s' (with_stamp s' t' page) t t' page h.written.others refl };
       places = h.places;
+      alone = λ p k. let a = h.alone p k in record { private = a.private; alone = a.alone };
       touched = touched-raised s s' t t' page h.touched;
     })

@@ -4,7 +4,7 @@ use Rattle.std.proofs.lemmas.List.{get_or-set_same, get_or-set_other, set-get_or
 use Rattle.std.proofs.lemmas.Bool.{cases_eq}
 use Rattle.cpm_memory.specs.Contents.{Contents, after_set, byte_at}
 use Rattle.cpm_memory.specs.Tabulated.{tabulated, same_tabulated, tabulated-set, get_or-tabulated}
-use Rattle.cpm_memory.specs.Frames.{Frames, Table, IsSound, blank_table, table_at, private_at, place_of, frame_of, boot_of, table_byte, memory_of, ChangesTable, memory_at, owners_of}
+use Rattle.cpm_memory.specs.Frames.{Frames, Table, IsSound, blank_table, table_at, private_at, place_of, frame_of, boot_of, table_byte, memory_of, ChangesTable, memory_at, owners_of, owners_at, IsAlone}
 use Rattle.cpm_memory.specs.Kept.{with_place, with_private, with_byte, with_table}
 use Rattle.cpm_memory.proofs.Places.{owners_of-at, same_table, same_page}
 
@@ -40,9 +40,28 @@ place_of-cases s t page f l e = cases (private_at s t page) e
     cases None q = absurd (omega (arith, q))
     cases (Some g) q = ap Some q
 
+-- a page whose private frame has one owner is alone with it
+pub IsAlone-from : (s : Frames) (t page f : ℕ) → f < s.private → owners_of s f ≤ 1 → private_at s t page ≡ Some f → IsAlone s t page
+IsAlone-from s t page f private one at =
+    let here : place_of s t page ≡ f = ap (λ o. unwrap_or o (s.private + boot_of page)) at in
+    record {
+      private = omega (arith, private, here);
+      alone = λ t' page' q.
+          let there : private_at s t' page' ≡ Some f = place_of-cases s t' page' f private (q ∙ here) in
+          let table : t' ≡ t = same_table s t' page' t page f one there at in
+          (table, same_page s t page' page f one (ap (λ x. private_at s x page') (sym table) ∙ there) at);
+    }
+
+pub IsAlone-counted : (s : Frames) (t page : ℕ) → IsSound s → owners_at s t page ≡ 1 → IsAlone s t page
+IsAlone-counted s t page ok one = cases (private_at s t page) refl one
+  where
+    cases : (o : Option ℕ) → private_at s t page ≡ o → unwrap_or (option_map (owners_of s) o) 0 ≡ 1 → IsAlone s t page
+    cases None at e = absurd (omega (arith, e))
+    cases (Some f) at e = IsAlone-from s t page f (ok.numbers t page f at) (omega (arith, e)) at
+
 -- ---- a copy of a page
 
-module _ (s : Frames) (t page f : ℕ) (private : f < s.private) (free : owners_of s f ≡ 0) (shared : private_at s t page ≡ None) (fits : length s.frames ≡ s.private + 4) (lt : t < length s.tables) (lp : page < length (table_at s t).places) where
+module _ (s : Frames) (t page f : ℕ) (private : f < s.private) (free : owners_of s f ≡ 0) (fits : length s.frames ≡ s.private + 4) (lt : t < length s.tables) (lp : page < length (table_at s t).places) where
   -- no page is made of the free frame
   not_at : (t' page' : ℕ) → place_of s t' page' ≢ f
   not_at t' page' e = absurd (omega (arith, free, owners_of-at s t' page' f (place_of-cases s t' page' f private e)))
@@ -78,7 +97,7 @@ module _ (s : Frames) (t page f : ℕ) (private : f < s.private) (free : owners_
 
 -- ---- a write of a byte
 
-module _ (s : Frames) (t address f value : ℕ) (private : f < s.private) (at : private_at s t (address / 256) ≡ Some f) (single : owners_of s f ≤ 1) (fits : length s.frames ≡ s.private + 4) (size : length (frame_of s f) ≡ 256) where
+module _ (s : Frames) (t address f value : ℕ) (private : f < s.private) (at : private_at s t (address / 256) ≡ Some f) (single : (t' page' : ℕ) → place_of s t' page' ≡ f → (t' ≡ t) × (page' ≡ address / 256)) (fits : length s.frames ≡ s.private + 4) (size : length (frame_of s f) ≡ 256) where
   written-same : frame_of (with_byte s f (address % 256) value) f ≡ set (frame_of s f) (address % 256) value
   written-same = get_or-set_same s.frames f (set (frame_of s f) (address % 256) value) [] (omega (arith, fits, private))
 
@@ -96,9 +115,8 @@ module _ (s : Frames) (t address f value : ℕ) (private : f < s.private) (at : 
   byte-kept t' k other =
       ⊎_elim
       (λ (q : place_of s t' (k / 256) ≡ f).
-      let there : private_at s t' (k / 256) ≡ Some f = place_of-cases s t' (k / 256) f private q in
-      let one_table : t' ≡ t = same_table s t' (k / 256) t (address / 256) f single there at in
-      let one_page : k / 256 ≡ address / 256 = same_page s t (k / 256) (address / 256) f single (ap (λ x. private_at s x (k / 256)) (sym one_table) ∙ there) at in
+      let one_table : t' ≡ t = (single t' (k / 256) q).0 in
+      let one_page : k / 256 ≡ address / 256 = (single t' (k / 256) q).1 in
       let apart : k % 256 ≢ address % 256 = (λ e. other one_table (omega (arith, one_page, e))) in
       ap (λ x. get_or (frame_of (with_byte s f (address % 256) value) x) (k % 256) 0) q
       ∙ ap (λ x. get_or x (k % 256) 0) written-same
@@ -120,18 +138,18 @@ memory_of-same s s' t bytes e =
     ∙ ap (λ (x : Table). record { bytes = tabulated 65536 (table_byte s t); written = map is_some x.places; limit = unwrap_or x.reservation 0 }) e
 
 -- after a copy the page is written
-pub memory_of-copied : (s : Frames) (t page f : ℕ) → f < s.private → owners_of s f ≡ 0 → private_at s t page ≡ None → length s.frames ≡ s.private + 4 → t < length s.tables → page < length (table_at s t).places
+pub memory_of-copied : (s : Frames) (t page f : ℕ) → f < s.private → owners_of s f ≡ 0 → length s.frames ≡ s.private + 4 → t < length s.tables → page < length (table_at s t).places
     → memory_of (with_private s t page f) t ≡ record (memory_of s t) { written = set (memory_of s t).written page true }
-memory_of-copied s t page f private free shared fits lt lp =
+memory_of-copied s t page f private free fits lt lp =
     ap (λ xs. record { bytes = xs; written = map is_some (table_at (with_private s t page f) t).places; limit = unwrap_or (table_at (with_private s t page f) t).reservation 0 })
-    (same_tabulated 65536 (table_byte (with_private s t page f) t) (table_byte s t) 0 (λ k _. byte-copied s t page f private free shared fits lt lp t k))
+    (same_tabulated 65536 (table_byte (with_private s t page f) t) (table_byte s t) 0 (λ k _. byte-copied s t page f private free fits lt lp t k))
     ∙ ap (λ (x : Table). record { bytes = tabulated 65536 (table_byte s t); written = map is_some x.places; limit = unwrap_or x.reservation 0 }) (table_at-same s t (with_place (table_at s t) page (Some f)) lt)
     ∙ ap (λ w. record { bytes = tabulated 65536 (table_byte s t); written = w; limit = unwrap_or (table_at s t).reservation 0 }) (map-set is_some (table_at s t).places page (Some f))
 
-pub ChangesTable-copied : (s : Frames) (t page f : ℕ) → f < s.private → owners_of s f ≡ 0 → private_at s t page ≡ None → length s.frames ≡ s.private + 4 → t < length s.tables → page < length (table_at s t).places → ChangesTable s (with_private s t page f) t
-ChangesTable-copied s t page f private free shared fits lt lp = record {
+pub ChangesTable-copied : (s : Frames) (t page f : ℕ) → f < s.private → owners_of s f ≡ 0 → length s.frames ≡ s.private + 4 → t < length s.tables → page < length (table_at s t).places → ChangesTable s (with_private s t page f) t
+ChangesTable-copied s t page f private free fits lt lp = record {
   others = λ t' ne. same_memory s (with_private s t page f) t' (ap (λ (x : Table). x.reservation) (table_at-other s t t' (with_place (table_at s t) page (Some f)) ne))
-      (memory_of-same s (with_private s t page f) t' (byte-copied s t page f private free shared fits lt lp t') (table_at-other s t t' (with_place (table_at s t) page (Some f)) ne));
+      (memory_of-same s (with_private s t page f) t' (byte-copied s t page f private free fits lt lp t') (table_at-other s t t' (with_place (table_at s t) page (Some f)) ne));
   private = refl;
   reservation = ap (λ (x : Table). x.reservation) (table_at-same s t (with_place (table_at s t) page (Some f)) lt);
 }
@@ -144,7 +162,7 @@ is_written-at s t page f at =
     ∙ ap (map is_some) (set-get_or (table_at s t).places page None)
 
 -- after a write the byte is stored
-pub memory_of-written : (s : Frames) (t address f value : ℕ) → address < 65536 → f < s.private → private_at s t (address / 256) ≡ Some f → owners_of s f ≤ 1 → length s.frames ≡ s.private + 4 → length (frame_of s f) ≡ 256
+pub memory_of-written : (s : Frames) (t address f value : ℕ) → address < 65536 → f < s.private → private_at s t (address / 256) ≡ Some f → ((t' page' : ℕ) → place_of s t' page' ≡ f → (t' ≡ t) × (page' ≡ address / 256)) → length s.frames ≡ s.private + 4 → length (frame_of s f) ≡ 256
     → memory_of (with_byte s f (address % 256) value) t ≡ after_set (memory_of s t) address value
 unfolding after_set
 memory_of-written s t address f value la private at single fits size =
@@ -154,7 +172,7 @@ memory_of-written s t address f value la private at single fits size =
     (λ k _ ne. byte-kept s t address f value private at single fits size t k (λ _ e. ne e)))
     ∙ ap (λ w. record { bytes = set (memory_of s t).bytes address value; written = w; limit = (memory_of s t).limit }) (sym (is_written-at s t (address / 256) f at))
 
-pub ChangesTable-written : (s : Frames) (t address f value : ℕ) → f < s.private → private_at s t (address / 256) ≡ Some f → owners_of s f ≤ 1 → length s.frames ≡ s.private + 4 → length (frame_of s f) ≡ 256 → ChangesTable s (with_byte s f (address % 256) value) t
+pub ChangesTable-written : (s : Frames) (t address f value : ℕ) → f < s.private → private_at s t (address / 256) ≡ Some f → ((t' page' : ℕ) → place_of s t' page' ≡ f → (t' ≡ t) × (page' ≡ address / 256)) → length s.frames ≡ s.private + 4 → length (frame_of s f) ≡ 256 → ChangesTable s (with_byte s f (address % 256) value) t
 ChangesTable-written s t address f value private at single fits size = record {
   others = λ t' ne. same_memory s (with_byte s f (address % 256) value) t' refl
       (memory_of-same s (with_byte s f (address % 256) value) t' (λ k. byte-kept s t address f value private at single fits size t' k (λ e _. ne e)) refl);
@@ -171,12 +189,14 @@ pub record Written (s s' : Frames) (t address value : ℕ) : Type 0 where
   pub memory : memory_of s' t ≡ after_set (memory_of s t) address value
   pub others : ChangesTable s s' t
 
-pub Written-from : (s s' : Frames) (t address f value : ℕ) → IsSound s → owners_of s f ≤ 1 → address < 65536 → private_at s t (address / 256) ≡ Some f → s' ≡ with_byte s f (address % 256) value → Written s s' t address value
+pub Written-from : (s s' : Frames) (t address f value : ℕ) → IsSound s → IsAlone s t (address / 256) → address < 65536 → private_at s t (address / 256) ≡ Some f → s' ≡ with_byte s f (address % 256) value → Written s s' t address value
 Written-from s s' t address f value ok alone la at e =
     let private : f < s.private = ok.numbers t (address / 256) f at in
+    let here : f ≡ place_of s t (address / 256) = sym (ap (λ o. unwrap_or o (s.private + boot_of (address / 256))) at) in
+    let single : (t' page' : ℕ) → place_of s t' page' ≡ f → (t' ≡ t) × (page' ≡ address / 256) = (λ t' page' q. alone.alone t' page' (q ∙ here)) in
     subst (λ x. Written s x t address value) (sym e) (record {
-      memory = memory_of-written s t address f value la private at alone ok.frames (ok.sizes f (omega (arith, private)));
-      others = ChangesTable-written s t address f value private at alone ok.frames (ok.sizes f (omega (arith, private)));
+      memory = memory_of-written s t address f value la private at single ok.frames (ok.sizes f (omega (arith, private)));
+      others = ChangesTable-written s t address f value private at single ok.frames (ok.sizes f (omega (arith, private)));
     })
 
 -- a page that is marked twice

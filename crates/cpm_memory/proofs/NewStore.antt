@@ -169,7 +169,6 @@ module _ (s : Frames) (most : s.private ≤ 16384) (new : AreNewFrames s.frames 
     limits = λ t. omega (arith, ap (λ o. unwrap_or o 0) (no_reservation t));
     stamped = stamped;
     reserved = omega (arith, none_reserved);
-    single = λ f. omega (arith, no_owner f);
   }
 
   pub IsKept-new : (counts : List ℕ) → counts ≡ replicate s.private 0 → IsKept s counts 0

@@ -1,5 +1,5 @@
 -- Tables that are taken and given up, and pages that are made of their boot frames again.
-use Rattle.std.proofs.Common.{◌≡◌, ◌≢◌, ℕ, zero, suc, ◌+◌, ◌-◌, ◌<◌, ◌≤◌, ◌/◌, ◌%◌, Bool, true, false, cond, List, [], ◌∷◌, length, map, get_or, set, count_by, refl, arith, ap, sym, ◌∙◌, Option, Some, None, is_some, unwrap_or, option_map, ⊎_elim, ◌==◌}
+use Rattle.std.proofs.Common.{◌≡◌, ◌≢◌, ℕ, zero, suc, ◌+◌, ◌-◌, ◌<◌, ◌≤◌, ◌/◌, ◌%◌, false, cond, List, [], ◌∷◌, length, map, get_or, set, count_by, refl, arith, ap, sym, ◌∙◌, Option, Some, None, is_some, unwrap_or, option_map, ⊎_elim, ◌==◌}
 use Rattle.std.proofs.lemmas.List.{get_or-set_same, get_or-set_other, length-set, get_or-map, length-map}
 use Rattle.std.proofs.lemmas.List.Sums.{sum_by-set, sum_by-cons, get_or-le-sum_by}
 use Rattle.std.proofs.lemmas.Option.{none-some}
@@ -30,7 +30,7 @@ memories-with_table s t table c lt e = tabulated-set 64 (memory_at s) (memory_at
 -- ---- a table without private frames
 
 -- no item passes where the count is 0
-none_pass : (xs : List (Option ℕ)) (k : ℕ) → count_by is_some xs ≡ 0 → get_or xs k None ≡ None
+pub none_pass : (xs : List (Option ℕ)) (k : ℕ) → count_by is_some xs ≡ 0 → get_or xs k None ≡ None
 none_pass [] k e = refl
 none_pass (None ∷ xs) zero e = refl
 none_pass (None ∷ xs) (suc k) e = none_pass xs k (omega (arith, e, sum_by-cons (λ (o : Option ℕ). cond {A = ℕ} (is_some o) 1 0) None xs))
@@ -82,7 +82,6 @@ module _ (s : Frames) (t : ℕ) (pages : Option ℕ) (ok : IsSound s) (lt : t < 
     limits = λ t'. each_table s t reserving (λ x. reserved_by x ≤ 256) in_tables most t' (λ _. ok.limits t');
     stamped = ok.stamped;
     reserved = omega (arith, reserved-after, fits);
-    single = λ g. omega (arith, owners-same g, ok.single g);
   }
 
   pub IsKept-reservation : (counts : List ℕ) (reservations after : ℕ) → IsKept s counts reservations → after + reserved_by (table_at s t) ≡ reservations + unwrap_or pages 0 → IsKept (with_reservation s t pages) counts after
@@ -139,7 +138,6 @@ module _ (s : Frames) (t page : ℕ) (ok : IsSound s) (lt : t < 64) (lp : page <
     limits = λ t'. each_table s t cleared (λ x. reserved_by x ≤ 256) in_range (ok.limits t) t' (λ _. ok.limits t');
     stamped = ok.stamped;
     reserved = omega (arith, ok.reserved, sum_by-set reserved_by s.tables t cleared blank_table in_range);
-    single = λ g. omega (arith, owners-cleared g, ok.single g);
   }
 
   -- where the page had a private frame

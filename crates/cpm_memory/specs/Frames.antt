@@ -82,11 +82,20 @@ pages_on frame t = count_by (names frame) t.places
 abbrev pub owners_of : Frames → ℕ → ℕ
 owners_of s frame = sum_by (pages_on frame) s.tables
 
--- how many private frames a table's pages are made of (own)
+-- how many pages of all tables are made of the private frame of a table's page; none where the page has no private frame (own)
+abbrev pub owners_at : Frames → ℕ → ℕ → ℕ
+owners_at s t page = unwrap_or (option_map (owners_of s) (private_at s t page)) 0
+
+-- A page is made of a private frame, of which no other page of any table is made. (own)
+pub record IsAlone (s : Frames) (t page : ℕ) : Type 0 where
+  pub private : place_of s t page < s.private
+  pub alone : (t' page' : ℕ) → place_of s t' page' ≡ place_of s t page → (t' ≡ t) × (page' ≡ page)
+
+-- how many pages of a table are made of private frames (own)
 abbrev pub used_by : Table → ℕ
 used_by t = count_by is_some t.places
 
--- how many private frames they may be made of (own)
+-- how many of its pages may be (own)
 abbrev pub reserved_by : Table → ℕ
 reserved_by t = unwrap_or t.reservation 0
 
@@ -116,8 +125,6 @@ pub record IsSound (s : Frames) : Type 0 where
   pub limits : (t : ℕ) → reserved_by (table_at s t) ≤ 256
   pub reserved : reserved_of s ≤ s.private
   pub stamped : AreTablesStamps s.stamps
-  -- no private frame is at two pages
-  pub single : (f : ℕ) → owners_of s f ≤ 1
 
 -- At most the memory of one table changes, and not how much it has reserved. (own)
 pub record ChangesTable (old new : Frames) (t : ℕ) : Type 0 where

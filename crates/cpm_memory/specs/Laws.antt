@@ -2,9 +2,10 @@
 use Rattle.std.specs.Prelude.{◌≡◌, ◌≢◌, ℕ, ◌+◌, ◌*◌, ◌/◌, ◌%◌, ◌<◌, List, Some, slice_index, slice_set}
 use Rattle.cpm_memory.specs.Contents.{Write, byte_at, word_at, touched_of, after_sets}
 use Rattle.cpm_geom.specs.Geometry.{dpb_of, sector_of}
+use Rattle.cpm_geom.specs.declared.format.Format.{Format}
 use Rattle.cpm_geom.specs.declared.format.Format.TheVariants.{Ibm3740}
-use Rattle.cpm_memory.specs.Layout.{skew_address, parameter_block_address}
-use Rattle.cpm_memory.specs.DiskTables.{parameter_block, parameter_header, header_address}
+use Rattle.cpm_memory.specs.Layout.{skew_address}
+use Rattle.cpm_memory.specs.DiskTables.{parameter_block, parameter_block_address, parameter_header, header_address}
 use Rattle.cpm_memory.specs.Opening.{opening, opening_byte}
 use Rattle.cpm_memory.specs.Frames.{Frames, IsTaken, place_of, frame_of, stamps_at, memory_of, memories}
 use Rattle.cpm_memory.specs.View.{ViewLeads, store_of, table_of, contents_of}
@@ -16,11 +17,11 @@ OpensBlank = (limit : ℕ) →
     (touched_of (opening limit) ≡ 0)
     × ((address : ℕ) → address < 65536 → byte_at (opening limit) address ≡ opening_byte (address / 256) (address % 256))
 
--- A memory at its opening has the disk tables: the skew and the parameter block byte by byte, and the header of each of five drives word by word. (own)
+-- A memory at its opening has the disk tables: the skew, and of each format the parameter block byte by byte and the header of each of five drives word by word. (own)
 pub record HasDiskTables (limit : ℕ) : Type 0 where
   pub sectors : (k : ℕ) → k < 26 → byte_at (opening limit) (skew_address + k) ≡ sector_of Ibm3740 k
-  pub parameters : (k : ℕ) → k < 15 → byte_at (opening limit) (parameter_block_address + k) ≡ slice_index (parameter_block (dpb_of Ibm3740)) k
-  pub headers : (drive k : ℕ) → drive < 5 → k < 8 → word_at (opening limit) (header_address drive + 2 * k) ≡ slice_index (parameter_header drive) k
+  pub parameters : (f : Format) (k : ℕ) → k < 15 → byte_at (opening limit) (parameter_block_address f + k) ≡ slice_index (parameter_block (dpb_of f)) k
+  pub headers : (f : Format) (drive k : ℕ) → drive < 5 → k < 8 → word_at (opening limit) (header_address f drive + 2 * k) ≡ slice_index (parameter_header f drive) k
 
 abbrev pub OpensWithDiskTables : Type 0
 OpensWithDiskTables = (limit : ℕ) → HasDiskTables limit

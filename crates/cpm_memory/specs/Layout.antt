@@ -38,12 +38,12 @@ console_input_address = 0xFB03
 abbrev pub last_bios_address : ℕ
 last_bios_address = 0xFB10
 
--- own: the tables of the disks: the sector translation vector, the disk parameter block, the first of the disk parameter headers, the directory's buffer, the first of the allocation vectors and the first of the check vectors
+-- own: the tables of the disks: the sector translation vector, the first of the disk parameter blocks, the first of the disk parameter headers, the directory's buffer, the first of the allocation vectors and the first of the check vectors
 abbrev pub skew_address : ℕ
 skew_address = 0xFC00
 
-abbrev pub parameter_block_address : ℕ
-parameter_block_address = 0xFC20
+abbrev pub first_parameter_block_address : ℕ
+first_parameter_block_address = 0xFC20
 
 abbrev pub first_header_address : ℕ
 first_header_address = 0xFC40

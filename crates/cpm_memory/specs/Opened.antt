@@ -1,10 +1,8 @@
 -- What a memory at its opening has.
-use Rattle.std.specs.Prelude.{◌≡◌, ℕ, ◌/◌, ◌%◌, ◌<◌, ◌≤◌, Bool, false, refl}
-use Rattle.std.proofs.Common.{arith, inl}
-use Rattle.cpm_memory.specs.Contents.{IsContents, byte_at, touched_of}
-use Rattle.cpm_memory.specs.Tabulated.{length-tabulated, get_or-tabulated, count_by-tabulated_none}
+use Rattle.std.specs.Prelude.{◌≡◌, ℕ, ◌/◌, ◌%◌, ◌<◌, Bool, false, refl}
+use Rattle.cpm_memory.specs.Contents.{byte_at, touched_of}
+use Rattle.cpm_memory.specs.Tabulated.{get_or-tabulated, count_by-tabulated_none}
 use Rattle.cpm_memory.specs.Opening.{opening, opening_byte}
-use Rattle.cpm_memory.specs.Room.{HasRoomFor}
 
 -- its bytes
 pub byte_at-opening : (limit address : ℕ) → address < 65536 → byte_at (opening limit) address ≡ opening_byte (address / 256) (address % 256)

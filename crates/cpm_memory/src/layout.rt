@@ -36,10 +36,10 @@ pub const LAST_BIOS: u16 = 0xFB10;
 /// The sector translation vector.
 pub const SKEW: u16 = 0xFC00;
 
-/// The disk parameter block.
-pub const PARAMETER_BLOCK: u16 = 0xFC20;
+/// The disk parameter blocks, of 16 bytes each.
+pub const FIRST_PARAMETER_BLOCK: u16 = 0xFC20;
 
-/// The disk parameter headers, of 32 bytes each.
+/// The disk parameter headers, 32 bytes for each drive.
 pub const FIRST_HEADER: u16 = 0xFC40;
 
 /// The directory's buffer.

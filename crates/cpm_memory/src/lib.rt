@@ -2,7 +2,7 @@
 #![tactic(auto)]
 
 pub mod access;
-mod disk_tables;
+pub mod disk_tables;
 pub mod flat;
 mod frames;
 pub mod laws;
@@ -10,6 +10,7 @@ pub mod layout;
 pub mod memory;
 pub mod opening;
 pub mod pages;
+pub mod sharing;
 pub mod store;
 pub mod view;
 

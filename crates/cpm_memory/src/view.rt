@@ -1,8 +1,8 @@
 //! The memory of one table of a store.
 
-ghost use Rattle.std.specs.Prelude.{◌≡◌, ◌<◌, ℕ, length, slice_index};
+ghost use Rattle.std.specs.Prelude.{◌≡◌, ◌<◌, ℕ, true, false, length, slice_index, slice_index_or};
 ghost use Rattle.cpm_memory.specs.Contents.{touched_of};
-ghost use Rattle.cpm_memory.specs.Frames.{IsSound, HasReservation, memory_of, place_of, reserved_by, table_at};
+ghost use Rattle.cpm_memory.specs.Frames.{IsSound, IsAlone, HasReservation, memory_of, place_of, reserved_by, table_at};
 
 use crate::memory::Memory;
 use crate::pages::TableId;
@@ -10,13 +10,15 @@ use crate::store::FrameStore;
 
 /// The memory of one table. It lends the store, and changes no other memory.
 ///
-/// It has its own copy of where the pages are, so that no access but the first store to a page looks into the table.
+/// It has its own copy of where the pages are, so that no access but its first store to a page looks into the table.
 #[derive(Drop)]
 pub struct View<'a> {
     pub(crate) store: &'a mut FrameStore,
     pub(crate) table: TableId,
     /// The frame of each page.
     pub(crate) places: [u16; 256],
+    /// The pages that it has stored to. They have private frames that are at no other page.
+    pub(crate) owned: [bool; 256],
     /// How many pages were written, and how many may be.
     pub(crate) touched: u16,
     pub(crate) limit: u16,
@@ -24,24 +26,25 @@ pub struct View<'a> {
     ghost within: { table < 64 },
     ghost sound: { IsSound store.now },
     ghost pages: { length places ≡ 256 },
+    ghost marks: { length owned ≡ 256 },
     ghost placed: { (page : ℕ) → page < 256 → slice_index places page ≡ place_of store.now table page },
+    ghost alone: { (page : ℕ) → page < 256 → slice_index_or owned page false ≡ true → IsAlone store.now table page },
     ghost counted: { touched ≡ touched_of (memory_of store.now table) },
     ghost limited: { limit ≡ reserved_by (table_at store.now table) },
 }
 
 impl View<'_> {
-    ghost use Rattle.std.specs.Prelude.{false, ◌/◌};
-    ghost use Rattle.cpm_memory.specs.Contents.{CanSet, after_set, is_written, page_of};
+    ghost use Rattle.std.specs.Prelude.{◌/◌};
+    ghost use Rattle.cpm_memory.specs.Contents.{CanSet, after_set, page_of};
     ghost use Rattle.cpm_memory.specs.Frames.{MovesAtMost};
     ghost use Rattle.cpm_memory.specs.View.{contents_of, stamps_of, store_of, table_of, ViewLeads};
     ghost use Rattle.cpm_memory.specs.Stamps.{after_stamp};
 
-    /// Stores the first byte of a page, which is copied into a frame of its own.
+    /// Stores its first byte of a page, which is copied into a frame of its own, if it has none.
     #[cold]
     #[inline(never)]
     fn set_first(&mut self, address: u16, value: u8)
-        requires room { CanSet (contents_of self.old) address }
-        requires first { is_written (contents_of self.old) (page_of address) ≡ false }
+        requires { CanSet (contents_of self.old) address }
         ensures contents { contents_of self.new ≡ after_set (contents_of self.old) address value }
         ensures stamps { stamps_of self.new ≡ after_stamp (stamps_of self.old) (page_of address) }
         ensures moves { MovesAtMost (store_of self.old) (store_of self.new) (table_of self.old) (page_of address) }
@@ -52,7 +55,8 @@ impl View<'_> {
         self.store.set_byte(table, address, value);
         self.store.raise_stamp(table, page);
         self.places[page as usize] = self.store.place_at(table, page);
-        self.touched += 1;
+        self.owned[page as usize] = true;
+        self.touched = self.store.touched(table);
     }
 }
 
@@ -83,12 +87,13 @@ impl Memory for View<'_> {
         ensures moves { MovesAtMost (store_of self.old) (store_of self.new) (table_of self.old) (page_of address) }
         ensures leads { ViewLeads self.old self.new }
     {
-        let frame = self.places[(address / 256) as usize];
-        if !self.store.is_private(frame) {
+        let page = (address / 256) as usize;
+        if !self.owned[page] {
             self.set_first(address, value);
             return;
         }
-        self.store.write(frame, (address % 256) as u8, value);
+        self.store
+            .write(self.places[page], (address % 256) as u8, value);
         self.store
             .raise_stamp(self.table.index(), (address / 256) as u8);
     }

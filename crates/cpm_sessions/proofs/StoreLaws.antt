@@ -1,13 +1,15 @@
 -- A host with its store is what it is to be.
-use Rattle.std.proofs.Common.{◌≡◌, ℕ, ◌<◌, List, Option, None, Some, sym, ap, ◌∙◌, subst}
+use Rattle.std.proofs.Common.{◌≡◌, ℕ, ◌<◌, ◌≤◌, true, cond, List, Option, None, Some, is_some, refl, arith, sym, ap, ◌∙◌, subst}
+use Rattle.std.proofs.lemmas.List.Sums.{get_or-le-sum_by}
 use Rattle.std.specs.Prelude.{IfSome}
 use Rattle.cpm_geom.specs.Disk.{Disk}
 use Rattle.cpm_memory.specs.Contents.{is_written, byte_at}
-use Rattle.cpm_memory.specs.Frames.{Frames, IsSound, IsTaken, memories, memory_at, memory_of, place_of}
+use Rattle.cpm_memory.specs.Frames.{Frames, IsSound, IsTaken, memories, memory_at, memory_of, place_of, private_at, table_at, owners_of, used_by}
 use Rattle.cpm_memory.specs.Tabulated.{length-tabulated}
-use Rattle.cpm_memory.proofs.Bytes.{byte_at-table, place_of-cases}
+use Rattle.cpm_memory.proofs.Bytes.{byte_at-table, place_of-cases, IsAlone-from}
 use Rattle.cpm_memory.proofs.Copies.{boot-lt, written-place, place-written, place-boot}
-use Rattle.cpm_memory.proofs.Places.{boot-bytes, same_table, same_page}
+use Rattle.cpm_memory.proofs.Places.{boot-bytes, page_within, table_within}
+use Rattle.cpm_memory.specs.Memories.{is_some-memory}
 use Rattle.cpm_slots.specs.MachineState.{MachineState}
 use Rattle.cpm_sessions.specs.declared.slots.Slot.{Slot}
 use Rattle.cpm_sessions.specs.Host.{slot_at}
@@ -48,12 +50,27 @@ in_table-there h id table ok named k =
     subst (IsInTable h id s) same (in_table-in h id s there.0 ok there.1 there.2 there.3))
     k
 
-single-frame : (s : Frames) (frame t page t' page' : ℕ) → IsSound s → frame < s.private → place_of s t page ≡ frame → place_of s t' page' ≡ frame → (t ≡ t') × (page ≡ page')
-single-frame s frame t page t' page' ok private e f =
-    let here = place_of-cases s t page frame private e in
-    let there = place_of-cases s t' page' frame private f in
-    let table : t ≡ t' = same_table s t page t' page' frame (ok.single frame) here there in
-    (table, same_page s t' page page' frame (ok.single frame) (place_of-cases s t' page frame private (ap (λ x. place_of s x page) (sym table) ∙ e)) there)
+single-frame : (s : Frames) (frame t page t' page' : ℕ) → frame < s.private → owners_of s frame ≡ 1 → place_of s t page ≡ frame → place_of s t' page' ≡ frame → (t ≡ t') × (page ≡ page')
+single-frame s frame t page t' page' private one e f =
+    let alone = IsAlone-from s t' page' frame private (omega (arith, one)) (place_of-cases s t' page' frame private f) in
+    alone.alone t page (e ∙ sym f)
+
+-- a table of which a page has a private frame is taken
+named-taken : (s : Frames) (frame t page : ℕ) → IsSound s → frame < s.private → place_of s t page ≡ frame → IsTaken s t
+named-taken s frame t page ok private e = is_some-memory s t within ∙ held (table_at s t).reservation refl
+  where
+    at : private_at s t page ≡ Some frame
+    at = place_of-cases s t page frame private e
+
+    within : t < 64
+    within = omega (arith, table_within s t page frame at, ok.tables)
+
+    used : 1 ≤ used_by (table_at s t)
+    used = omega (arith, get_or-le-sum_by (λ x. cond {A = ℕ} (is_some x) 1 0) (table_at s t).places page None (page_within s t page frame at), ap (λ o. cond {A = ℕ} (is_some o) 1 0) at)
+
+    held : (o : Option ℕ) → (table_at s t).reservation ≡ o → is_some o ≡ true
+    held None q = absurd (omega (arith, used, ok.blank t q))
+    held (Some n) q = refl
 
 module _ (system : Disk) (frames openings : ℕ) (store : Frames) (slots : List Slot) (ok : IsSound store) (k : HaveTables (memories store) slots) (bound : store.private ≡ frames) where
   abbrev now : HostWithStore
@@ -66,6 +83,7 @@ module _ (system : Disk) (frames openings : ℕ) (store : Frames) (slots : List 
     others = λ id none. no-table (memories store) slots id none;
     apart = λ id other table e f. tables-apart (memories store) slots id other table k.all e f;
     boot_frames = λ page l. boot-bytes store page ok l (boot-lt page);
-    single = λ frame t page t' page' l e f. single-frame store frame t page t' page' ok l e f;
+    taken = λ frame t page l e. named-taken store frame t page ok l e;
+    single = λ frame t page t' page' l one e f. single-frame store frame t page t' page' l one e f;
     free = free-frames store slots ok k.all;
   }

@@ -1,7 +1,7 @@
 -- A host with its store, and where the memories of its slots lie. (own)
 use Rattle.std.specs.Prelude.{◌≡◌, ℕ, ◌+◌, ◌/◌, ◌%◌, ◌<◌, ◌≤◌, true, false, ◌==◌, if◌then◌else◌, List, [], ◌∷◌, sum_by, Option, Some, None, IfSome, Result, Ok, Err, slice_index}
 use Rattle.cpm_memory.specs.Contents.{byte_at, is_written, room_of}
-use Rattle.cpm_memory.specs.Frames.{Frames, IsTaken, boot_of, place_of, frame_of, memory_of, used_of}
+use Rattle.cpm_memory.specs.Frames.{Frames, IsTaken, boot_of, place_of, frame_of, memory_of, owners_of, used_of}
 use Rattle.cpm_memory.specs.Opening.{opening_byte}
 use Rattle.cpm_memory.specs.Tabulated.{tabulated}
 use Rattle.cpm_slots.specs.MachineState.{MachineState}
@@ -62,8 +62,10 @@ pub record IsHostWithStore (h : HostWithStore) : Type 0 where
   pub apart : (id other table : ℕ) → table_of id h.tables ≡ Some table → table_of other h.tables ≡ Some table → id ≡ other
   -- the boot frames have their bytes at opening, and so never change
   pub boot_frames : (page : ℕ) → page < 256 → frame_of h.store (h.store.private + boot_of page) ≡ tabulated 256 (opening_byte page)
-  -- a private frame is in one table only, at one page
-  pub single : (frame table page other_table other_page : ℕ) → frame < h.store.private → place_of h.store table page ≡ frame
+  -- a private frame is at pages of tables that are taken, and of no other
+  pub taken : (frame table page : ℕ) → frame < h.store.private → place_of h.store table page ≡ frame → IsTaken h.store table
+  -- one that a single page is made of is in one table only, at one page
+  pub single : (frame table page other_table other_page : ℕ) → frame < h.store.private → owners_of h.store frame ≡ 1 → place_of h.store table page ≡ frame
       → place_of h.store other_table other_page ≡ frame → (table ≡ other_table) × (page ≡ other_page)
-  -- the private frames that no table names are enough for all pages that the slots may still write
+  -- the private frames that no table names are at least what the slots have reserved and not used: enough for all pages that they may still write
   pub free : used_of h.store + unused_of h.host.slots ≤ h.store.private

@@ -36,7 +36,7 @@ pub enum OpenError {
     #[error("the quota is not 16 to 256 pages, or with a program not 256")]
     BadQuota,
     /// There is no drive, or there are more than four.
-    #[error("the cpm has no drive, or more than 4")]
+    #[error("the session has no drive, or more than 4")]
     BadDrives,
     /// The program has more than 58,112 bytes.
     #[error("the program has more than 58112 bytes")]

@@ -4,6 +4,7 @@
 #![tactic(auto)]
 
 mod commands;
+mod copies;
 mod hosts;
 mod machines;
 mod stores;
@@ -27,6 +28,15 @@ pub enum Outcome {
 }
 
 impl Outcome {
+    /// That of a call that was made, where what it gave is right.
+    pub fn made_if(is_right: bool) -> Outcome {
+        if is_right {
+            Outcome::Made
+        } else {
+            Outcome::Wrong
+        }
+    }
+
     /// That of a call that was refused for want of memory, where the rest is as it should be.
     pub fn refused_if(is_right: bool) -> Outcome {
         if is_right {
@@ -48,11 +58,14 @@ impl Outcome {
 }
 
 /// The calls, as they are named on the command line.
-const NAMES: [&str; 18] = [
+const NAMES: [&str; 21] = [
     "command",
     "FlatMemory::new",
     "FrameStore::new",
     "Console::new",
+    "Image::copy",
+    "Console::copy",
+    "Cpm::copy",
     "Machine::new",
     "Machine::with_program",
     "Host::new",
@@ -76,6 +89,9 @@ fn make(alloc: Global, name: &str) -> Result<Outcome, AllocError> {
         "FlatMemory::new" => Ok(machines::flat_memory(alloc)),
         "FrameStore::new" => Ok(machines::frame_store(alloc)),
         "Console::new" => Ok(machines::console(alloc)),
+        "Image::copy" => copies::image(alloc),
+        "Console::copy" => copies::console(alloc),
+        "Cpm::copy" => copies::session(alloc),
         "Machine::new" => machines::machine(alloc),
         "Machine::with_program" => machines::machine_with_program(alloc),
         "Host::new" => hosts::new(alloc),

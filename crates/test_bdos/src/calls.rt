@@ -7,6 +7,7 @@ mod drives;
 mod faults;
 mod forged;
 mod input;
+mod large;
 mod lines;
 mod output;
 mod reading;

@@ -9,12 +9,13 @@ use std::alloc::Global;
 use std::process::Abort;
 
 /// An entry: its index, user, name, extent and first three blocks.
-type Row = (u16, u8, [u8; 11], u8, [u16; 3]);
+pub type Row = (u16, u8, [u8; 11], u8, [u16; 3]);
 
 /// The entry of a text file in block 2.
 const TEXT: Row = (0, 0, *b"T       TXT", 0, [2, 0, 0]);
 
-fn put(rt: &impl Abort, image: &mut Image, (index, user, name, ex, first): Row) {
+/// Puts an entry into a directory.
+pub fn put(rt: &impl Abort, image: &mut Image, (index, user, name, ex, first): Row) {
     assert!(rt; index <= image.format().dpb().last_entry);
     let mut blocks = [0; 16];
     blocks[..3].copy_from_slice(&first);

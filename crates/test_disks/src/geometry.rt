@@ -1,7 +1,7 @@
 //! Worked images.
 
 use crate::same::same;
-use cpm_geom::{Dpb, Format, GeomError, Image, records_lie_apart};
+use cpm_geom::{Format, GeomError, Image, records_lie_apart};
 use std::alloc::{AllocError, Global};
 use std::process::Abort;
 use std::test::Fail;
@@ -40,7 +40,7 @@ fn numbered(alloc: Global, length: usize) -> Result<Vec<u8>, AllocError> {
 
 #[test]
 fn other_lengths_come_back(rt: HostRuntime) -> Result<(), Fail> {
-    for length in [0, 1, 256_255, 256_257] {
+    for length in [0, 1, 256_255, 256_257, 2_105_343, 2_105_345] {
         match Image::from_bytes(numbered(rt.alloc(), length)?) {
             Ok(_) => panic!(&rt; "{length} bytes are accepted"),
             Err((bytes, error)) => {

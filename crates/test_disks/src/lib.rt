@@ -14,6 +14,8 @@ mod geometry;
 #[cfg(test)]
 mod images;
 #[cfg(test)]
+mod large;
+#[cfg(test)]
 mod same;
 #[cfg(test)]
 mod session;

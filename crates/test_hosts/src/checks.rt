@@ -33,7 +33,7 @@ fn put(rt: &impl Abort, bytes: &mut Vec<u8>, place: usize, value: u8) {
 }
 
 /// What is written of an image, or why it is refused.
-fn checked(rt: &(impl Abort + AllocGlobal), bytes: Vec<u8>) -> String {
+pub fn checked(rt: &(impl Abort + AllocGlobal), bytes: Vec<u8>) -> String {
     let mut out = Recorder::new(rt.alloc());
     match run_check("d.img", bytes, &mut out) {
         Ok(()) => {
@@ -99,7 +99,7 @@ fn refuses_what_is_no_image(rt: HostRuntime) {
     let mut bytes = disk(&rt, &[]);
     bytes.pop();
     let text = checked(&rt, bytes);
-    let wanted = "HO6 'd.img' has 256255 bytes, and the image of a drive has 256256";
+    let wanted = "HO6 'd.img' has 256255 bytes, and the image of a drive has 256256 or 2105344";
     same(&rt, text.as_str(), wanted);
 }
 

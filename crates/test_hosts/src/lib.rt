@@ -14,6 +14,8 @@ mod hosts;
 #[cfg(test)]
 mod lab;
 #[cfg(test)]
+mod large;
+#[cfg(test)]
 mod mirror;
 #[cfg(test)]
 mod refusals;

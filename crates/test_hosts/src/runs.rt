@@ -88,7 +88,7 @@ pub fn report(rt: &(impl Abort + AllocGlobal), text: &str, store: &mut MemorySto
 }
 
 /// The text of a refusal, before which nothing was written.
-fn refusal(rt: &(impl Abort + AllocGlobal), text: &str, store: &mut MemoryStore) -> String {
+pub fn refusal(rt: &(impl Abort + AllocGlobal), text: &str, store: &mut MemoryStore) -> String {
     match run(rt, text, store) {
         Ok(_) => panic!(rt; "run: {text}"),
         Err(error) => {
@@ -190,7 +190,7 @@ fn names_the_file_that_is_wrong(rt: HostRuntime) {
     same(
         &rt,
         refusal(&rt, ONE, &mut short).as_str(),
-        "HO6 'a.img' has 256255 bytes, and the image of a drive has 256256",
+        "HO6 'a.img' has 256255 bytes, and the image of a drive has 256256 or 2105344",
     );
     let mut falling = filled(&rt);
     same(&rt, falling.write("one.keys", b"5 A\n4 B\n"), Ok(()));

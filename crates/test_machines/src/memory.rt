@@ -44,6 +44,13 @@ fn reserve(rt: &impl Abort, store: &mut FrameStore, pages: u16) -> Result<TableI
     store.reserve(pages)
 }
 
+/// Takes a table that shares the frames of another one, while there is one.
+fn share(rt: &impl Abort, store: &mut FrameStore, table: TableId) -> Result<TableId, MemoryError> {
+    assert!(rt; store.is_taken(table));
+    assert!(rt; store.taken() < 64);
+    store.share(table)
+}
+
 #[test]
 fn refuses_more_frames_than_it_has(rt: HostRuntime) -> Result<(), Fail> {
     let mut store = FrameStore::new(rt.alloc(), 16)?;
@@ -73,6 +80,33 @@ fn shares_boot_frames_until_a_page_is_written(rt: HostRuntime) -> Result<(), Fai
     same(&rt, place_of(&rt, &store, second, 0x20), 16);
     same(&rt, byte_of(&rt, &mut store, first, 0x2000), 0x55);
     same(&rt, byte_of(&rt, &mut store, second, 0x2000), 0x00);
+    same(&rt, store.used(), 1);
+    Ok(())
+}
+
+#[test]
+fn shares_written_pages_until_either_table_stores(rt: HostRuntime) -> Result<(), Fail> {
+    let mut store = FrameStore::new(rt.alloc(), 4)?;
+    let first = reserve(&rt, &mut store, 2)?;
+    store_byte(&rt, &mut store, first, 0x2000, 0x55);
+    let second = share(&rt, &mut store, first)?;
+    same(&rt, pages_of(&rt, &mut store, second), (1, 1));
+    let place = place_of(&rt, &store, first, 0x20);
+    same(&rt, place_of(&rt, &store, second, 0x20), place);
+    same(&rt, store.used(), 1);
+    same(
+        &rt,
+        share(&rt, &mut store, first),
+        Err(MemoryError::NoFrames),
+    );
+    store_byte(&rt, &mut store, second, 0x2001, 0x66);
+    same(&rt, place_of(&rt, &store, first, 0x20), place);
+    same(&rt, byte_of(&rt, &mut store, first, 0x2001), 0x00);
+    same(&rt, byte_of(&rt, &mut store, second, 0x2000), 0x55);
+    same(&rt, store.used(), 2);
+    assert!(rt; store.is_taken(first));
+    store.release(first);
+    same(&rt, byte_of(&rt, &mut store, second, 0x2001), 0x66);
     same(&rt, store.used(), 1);
     Ok(())
 }

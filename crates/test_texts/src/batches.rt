@@ -78,7 +78,7 @@ fn the_first_fault_is_answered(rt: HostRuntime) {
     let mut store = filled(&rt);
     same(&rt, store.write("b.img", b"short"), Ok(()));
     same(&rt, store.write("one.keys", b"x"), Ok(()));
-    let wanted = "HO6 'b.img' has 5 bytes, and the image of a drive has 256256";
+    let wanted = "HO6 'b.img' has 5 bytes, and the image of a drive has 256256 or 2105344";
     same(&rt, refusal(&rt, &config, &mut store, 6).as_str(), wanted);
     store.fail_call(2);
     let wanted = "HO4 can't read 'a.img'";

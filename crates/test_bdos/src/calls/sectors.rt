@@ -58,7 +58,7 @@ fn selects_drives_by_their_headers(rt: HostRuntime) {
 }
 
 /// A table and a sector, which must be translated to this one.
-fn translates(rt: &impl Abort, trial: &mut Trial, table: u16, sector: u16, physical: u16) {
+pub fn translates(rt: &impl Abort, trial: &mut Trial, table: u16, sector: u16, physical: u16) {
     trial.come(0xFB10);
     let regs = &mut trial.cpm.regs;
     regs.b = (sector >> 8) as u8;

@@ -5,4 +5,4 @@ use Rattle.cpm_directory.proofs.listed.entries_in.Given as goal
 
 abbrev pub invariant-loop-index : goal.invariant-loop-index
 invariant-loop-index l =
-    (length l.entries ≡ 64) × ((k : ℕ) → k < l.index → get_or l.entries k no_entry ≡ entry_at (entries_of l.image) k)
+    (length l.entries ≡ 256) × ((k : ℕ) → k < l.index → get_or l.entries k no_entry ≡ entry_at (entries_of l.image) k)

@@ -1,5 +1,5 @@
-use Rattle.cpm_files.proofs.Formats.{each_format, large_format}
+use Rattle.cpm_files.proofs.Formats.{each_format}
 use Rattle.cpm_files.proofs.laws.formats_serve_files.Goals as goal
 
 pub returns : goal.returns
-returns c = (each_format, large_format)
+returns c = each_format

@@ -13,4 +13,4 @@ left_by d c = bytes_call c.answer c.disks (fcb_bytes d c.fcb) c.buffer
 pub returns : goal.returns
 unfolding file_function_bytes left_by
 returns c =
-    rw c.to_bytes.ensures (ap (left_by c.dpb-dpb.result) (c.file_function-answer.ensures ∙ ap (λ (f : Fcb). file_function c.args.function c.args.bytes.now c.args.self.now c.args.system.now f c.args.buffer.now) c.from_bytes-fcb.ensures) ∙ ap (λ (d : Dpb). left_by d (file_function c.args.function c.args.bytes.now c.args.self.now c.args.system.now (fcb_of d c.args.bytes.now) c.args.buffer.now)) c.dpb-dpb.ensures)
+    rw c.to_bytes.ensures (ap (left_by c.dpb_named-dpb.result) (c.file_function-answer.ensures ∙ ap (λ (f : Fcb). file_function c.args.function c.args.bytes.now c.args.self.now c.args.system.now f c.args.buffer.now) c.from_bytes-fcb.ensures) ∙ ap (λ (d : Dpb). left_by d (file_function c.args.function c.args.bytes.now c.args.self.now c.args.system.now (fcb_of d c.args.bytes.now) c.args.buffer.now)) c.dpb_named-dpb.ensures)

@@ -1,8 +1,8 @@
-use Rattle.std.proofs.Common.{◌≡◌, ℕ, ◌<◌, length, sum, get_or, arith, ap, sym, ◌∙◌, subst, None, Some, unwrap_or, ◌+◌, List, []}
+use Rattle.std.proofs.Common.{◌≡◌, ℕ, ◌<◌, length, sum, get_or, arith, ap, sym, ◌∙◌, subst, None, Some, ◌+◌, List, []}
 use Rattle.std.proofs.lemmas.List.{get_or_read}
-use Rattle.cpm_memory.specs.Frames.{Frames, Table, blank_table, owners_of, private_at, used_by, reserved_by, table_at, boot_of}
+use Rattle.cpm_memory.specs.Frames.{Frames, Table, blank_table, owners_of, private_at, used_by, reserved_by, table_at}
 use Rattle.cpm_memory.specs.Kept.{IsKept, with_place}
-use Rattle.cpm_memory.proofs.Copies.{owners_of-free, IsKept-copied, sum-lt, counts-length, boot-lt}
+use Rattle.cpm_memory.proofs.Copies.{owners_of-free, IsKept-copied, sum-lt, counts-length}
 use Rattle.cpm_memory.proofs.store.FrameStore.make_private.Goals as goal
 
 room_as : (s s' : Frames) (t : ℕ) → s ≡ s' → used_by (table_at s' t) < reserved_by (table_at s' t) → used_by (table_at s t) < reserved_by (table_at s t)
@@ -61,12 +61,11 @@ invariant_of-self c =
     let w = within_frames s i.owners.items i.reserved c.find_free_frame-frame.result c.self.invariant (subst (λ (xs : List ℕ). c.find_free_frame-frame.result < length xs) c.deref.ensures.value c.find_free_frame-frame.ensures.within) in
     let free : get_or i.owners.items c.find_free_frame-frame.result 0 ≡ 0 = subst (λ (xs : List ℕ). get_or xs c.find_free_frame-frame.result 0 ≡ 0) c.deref.ensures.value c.find_free_frame-frame.ensures.free in
     let shared : private_at s c.args.table c.args.page ≡ None = ap (λ (x : Frames). private_at x c.args.table c.args.page) c.self.view_is ∙ c.requires.shared in
-    IsKept-copied s i.owners.items i.reserved c.args.table c.args.page c.find_free_frame-frame.result c.index-bytes.result.now c.put.new.self c.self.invariant c.requires.table (omega arith) w.0 free
+    let from : c.args.source < s.private + 4 = subst (λ (x : Frames). c.args.source < x.private + 4) (sym c.self.view_is) c.requires.source in
+    IsKept-copied s i.owners.items i.reserved c.args.table c.args.page c.find_free_frame-frame.result c.args.source c.index-bytes.result.now c.put.new.self c.self.invariant c.requires.table (omega arith) w.0 from free
     shared
     (room_as s c.args.self.now c.args.table c.self.view_is c.requires.reserved)
-    (get_or_read i.frames.items (i.private + c.boot_frame.result) c.index-bytes.result.now (omega (arith, c.self.invariant.sound.frames, c.boot_frame.ensures, boot-lt c.args.page)) c.index-bytes.ensures []
-    ∙ ap (λ k. get_or i.frames.items (i.private + k) []) c.boot_frame.ensures
-    ∙ ap (λ o. get_or i.frames.items (unwrap_or o (i.private + boot_of c.args.page)) []) (sym shared))
+    (get_or_read i.frames.items c.args.source c.index-bytes.result.now (omega (arith, c.self.invariant.sound.frames, from)) c.index-bytes.ensures [])
     (c.put.ensures ∙ ap (λ (x : Table). with_place x c.args.page (Some c.find_free_frame-frame.result)) (get_or_read i.tables.items c.args.table c.index_mut-3.result.now (omega (arith, c.requires.table, c.self.invariant.sound.tables)) c.index_mut-3.ensures.value blank_table))
 
 pub returns-clause-sound : goal.returns-clause-sound

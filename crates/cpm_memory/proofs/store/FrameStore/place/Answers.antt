@@ -1,8 +1,7 @@
 use Rattle.std.proofs.Common.{◌≡◌, ℕ, ◌+◌, ◌*◌, ◌<◌, get_or, arith, ap, sym, ◌∙◌, subst, true, false}
 use Rattle.cpm_memory.specs.Contents.{is_written, byte_at}
-use Rattle.cpm_memory.specs.Frames.{Frames, IsSound, place_of, boot_of, frame_of, private_at, memory_of}
-use Rattle.cpm_memory.proofs.Bytes.{byte_of-page, place_of-cases}
-use Rattle.cpm_memory.proofs.Places.{same_table, same_page}
+use Rattle.cpm_memory.specs.Frames.{Frames, IsSound, place_of, boot_of, frame_of, owners_of, memory_of}
+use Rattle.cpm_memory.proofs.Bytes.{byte_of-page, place_of-cases, IsAlone-from}
 use Rattle.cpm_memory.proofs.Copies.{written-place, place-written, place-boot, place_of-lt}
 use Rattle.cpm_memory.proofs.store.FrameStore.place.Goals as goal
 
@@ -32,14 +31,13 @@ byte-of s i t page offset place e lp lo at =
 pub returns-clause-bytes : goal.returns-clause-bytes
 returns-clause-bytes c offset l = byte-of c.args.self.now c.index.result c.args.table c.args.page offset c.place_at.result c.index.ensures.index (omega arith) l c.place_at.ensures.place
 
--- a private frame is at one page of one table
-single-of : (s : Frames) (i t page place t' page' : ℕ) → i ≡ t → IsSound s → place ≡ place_of s i page → place_of s t' page' ≡ place → place < s.private → (t' ≡ t) × (page' ≡ page)
-single-of s i t page place t' page' e ok at other private =
-    let here = place_of-cases s i page place private (sym at) in
-    let there = place_of-cases s t' page' place private other in
-    let table : t' ≡ i = same_table s t' page' i page place (ok.single place) there here in
-    (table ∙ e, same_page s i page' page place (ok.single place) (ap (λ x. private_at s x page') (sym table) ∙ there) here)
+-- a private frame with one owner is at one page of one table
+alone-of : (s : Frames) (i t page place t' page' : ℕ) → i ≡ t → place ≡ place_of s i page → owners_of s place ≡ 1 → place_of s t' page' ≡ place → place < s.private → (t' ≡ t) × (page' ≡ page)
+alone-of s i t page place t' page' e at one other private =
+    let alone = IsAlone-from s i page place private (omega (arith, one)) (place_of-cases s i page place private (sym at)) in
+    let both = alone.alone t' page' (other ∙ at) in
+    (both.0 ∙ e, both.1)
 
-pub returns-clause-single : goal.returns-clause-single
-returns-clause-single c t' page' other private =
-    single-of c.args.self.now c.index.result c.args.table c.args.page c.place_at.result t' page' c.index.ensures.index c.place_at.ensures.sound c.place_at.ensures.place other private
+pub returns-clause-alone : goal.returns-clause-alone
+returns-clause-alone c one t' page' other private =
+    alone-of c.args.self.now c.index.result c.args.table c.args.page c.place_at.result t' page' c.index.ensures.index c.place_at.ensures.place one other private

@@ -1,4 +1,6 @@
-use Rattle.std.proofs.Common.{arith, ap, ◌∙◌, get_or, length}
+use Rattle.std.proofs.Common.{false, arith, ap, sym, ◌∙◌, get_or, length}
+use Rattle.std.proofs.lemmas.Bool.{false≢true}
+use Rattle.std.proofs.lemmas.List.{get_or-replicate}
 use Rattle.cpm_memory.specs.Contents.{touched_of}
 use Rattle.cpm_memory.specs.Tabulated.{length-tabulated, get_or-tabulated}
 use Rattle.cpm_memory.specs.Frames.{memory_of, place_of, reserved_by, table_at}
@@ -17,11 +19,14 @@ invariant_of-result-clause-placed c = λ page l.
     ∙ get_or-tabulated 256 (place_of c.args.self.now c.index-index.result) page 0 l
     ∙ ap (λ t. place_of c.args.self.now t page) c.index-index.ensures.index
 
+pub invariant_of-result-clause-alone : goal.invariant_of-result-clause-alone
+invariant_of-result-clause-alone c = λ page l marked. absurd (false≢true (sym (get_or-replicate 256 page false false l) ∙ marked))
+
 pub invariant_of-result-clause-counted : goal.invariant_of-result-clause-counted
 invariant_of-result-clause-counted c = c.touched-touched.ensures ∙ ap (λ t. touched_of (memory_of c.args.self.now t)) c.index-index.ensures.index
 
 pub invariant_of-result-clause-limited : goal.invariant_of-result-clause-limited
-invariant_of-result-clause-limited c = c.limit-limit.ensures ∙ ap (λ t. reserved_by (table_at c.args.self.now t)) c.index-index.ensures.index
+invariant_of-result-clause-limited c = c.limit-limit.ensures.pages ∙ ap (λ t. reserved_by (table_at c.args.self.now t)) c.index-index.ensures.index
 
 pub returns-clause-memory : goal.returns-clause-memory
 returns-clause-memory c = memory-reserved c.args.self.now c.args.table (omega arith) (HasReservation-taken c.args.self.now c.args.table (omega arith) c.requires)
