@@ -176,9 +176,10 @@ fn finish_all<'a>(
     let mut files = Vec::new(alloc);
     let mut rest = scripted.into_iter();
     for session in sessions {
-        let Some((slot, closed, at_pc)) = next_closed(host, &mut rest) else {
+        let Some(ended) = next_closed(host, &mut rest) else {
             return Ok(Played { reports, files });
         };
+        let (slot, closed, at_pc) = ended;
         let (report, left) = finish(alloc, session, slot, closed, at_pc)?;
         reports.push(report)?;
         files.push(left)?;
