@@ -7,7 +7,9 @@ use Rattle.cpm_batch.specs.Outputs.{SessionOutput, left_by}
 use Rattle.cpm_batch.specs.declared.output.SessionFiles.{SessionFiles}
 use Rattle.cpm_config.specs.declared.config.Session.{Session}
 use Rattle.cpm_disks.specs.Disks.{images_of}
+use Rattle.cpm_flags.specs.declared.regs.Regs.{Regs}
 use Rattle.cpm_geom.specs.Disk.{Disk}
+use Rattle.cpm_memory.specs.Contents.{Contents, run_at}
 use Rattle.cpm_sessions.specs.Host.{Host, SlotState, slot_at}
 use Rattle.cpm_slots.specs.MachineState.{MachineState}
 use Rattle.cpm_slots.specs.Serve.{look_of}
@@ -18,25 +20,35 @@ use Rattle.cpm_turns.specs.ScriptedSlots.{AllDiffer, AllPlayed, IsNoSlot}
 use Rattle.cpm_turns.specs.Playing.{IsPlayed}
 use Rattle.cpm_turns.specs.declared.scripted_slot.ScriptedSlot.{ScriptedSlot}
 use Rattle.cpm_host.proofs.PlayLemmas.{all_ended}
+use Rattle.cpm_host.specs.Illegal.{bytes_at_pc}
 use Rattle.cpm_host.specs.Playing.{AllEnded, HaveSlots, AreFinished, IsClosed, files_by, report_by}
 use Rattle.cpm_host.specs.Run.{Reported, files_left, left_of, report_view, reported_of, reports_of, run_of, start_of}
 use Rattle.cpm_host.specs.declared.report.SessionReport.{SessionReport}
 
 -- ---- one session
 
-abbrev reported : Session → End → ℕ → ℕ → Reported
-reported s ended count bytes = record { name = string_bytes s.name; ended = ended; count = count; bytes = bytes }
+abbrev reported : Session → End → ℕ → ℕ → ℕ → List ℕ → Reported
+reported s ended count bytes pc at_pc = record { name = string_bytes s.name; ended = ended; count = count; bytes = bytes; pc = pc; at_pc = at_pc }
+
+-- the same registers, and the same memory
+bytes_are : (s t : MachineState) → s.cpm.regs ≡ t.cpm.regs → s.memory ≡ t.memory → bytes_at_pc s ≡ bytes_at_pc t
+bytes_are s t regs memory = ap (λ (m : Contents). run_at m s.cpm.regs.pc 4) memory ∙ ap (λ (r : Regs). run_at t.memory r.pc 4) regs
 
 report_is : (system : Disk) (i : SessionInput) (s : Session) (p : ScriptedSlot) (closed : Closed) (last : MachineState) → i.session ≡ s → closed.look ≡ look_of last
-    → IsPlayed system i.keys i.session.steps (start_of i) last p.console.items p.list.items → report_by s p closed ≡ reported_of i.session (run_of system i)
+    → IsPlayed system i.keys i.session.steps (start_of i) last p.console.items p.list.items → report_by s p closed (bytes_at_pc last) ≡ reported_of i.session (run_of system i)
 unfolding look_of run_of
 report_is system i s p closed last same look played =
     let ended = ap (λ (l : Look). l.ended) look ∙ played.ended in
     let count = ap (λ (l : Look). l.count) look ∙ played.count in
-    ap (λ (t : Session). reported t closed.look.ended closed.look.count (length p.console.items)) (sym same)
-    ∙ ap (λ (e : End). reported i.session e closed.look.count (length p.console.items)) ended
-    ∙ ap (λ (n : ℕ). reported i.session (run_of system i).ended n (length p.console.items)) count
-    ∙ ap (λ (xs : List ℕ). reported i.session (run_of system i).ended (run_of system i).count (length xs)) played.screen
+    let pc = ap (λ (l : Look). l.regs.pc) look ∙ ap (λ (r : Regs). r.pc) played.regs in
+    let t = run_of system i in
+    let at_pc = bytes_are last t played.regs played.memory in
+    ap (λ (x : Session). reported x closed.look.ended closed.look.count (length p.console.items) closed.look.regs.pc (bytes_at_pc last)) (sym same)
+    ∙ ap (λ (e : End). reported i.session e closed.look.count (length p.console.items) closed.look.regs.pc (bytes_at_pc last)) ended
+    ∙ ap (λ (n : ℕ). reported i.session t.ended n (length p.console.items) closed.look.regs.pc (bytes_at_pc last)) count
+    ∙ ap (λ (xs : List ℕ). reported i.session t.ended t.count (length xs) closed.look.regs.pc (bytes_at_pc last)) played.screen
+    ∙ ap (λ (n : ℕ). reported i.session t.ended t.count (length t.cpm.console.screen) n (bytes_at_pc last)) pc
+    ∙ ap (λ (xs : List ℕ). reported i.session t.ended t.count (length t.cpm.console.screen) t.cpm.regs.pc xs) at_pc
 
 abbrev output : Session → List ℕ → List ℕ → List (Option Disk) → SessionOutput
 output s console list drives = record { session = s; console = console; list = list; drives = drives }
@@ -73,19 +85,23 @@ is_at is sessions k s same below found =
     let next : suc k ≡ k + 1 = omega arith in
     subst (λ (n : ℕ). IsAt is k n s) next (there is sessions k s same below found)
 
--- the scripted slot and what is left of its slot
-who_of : ScriptedSlot → Option (ScriptedSlot × Closed) → ScriptedSlot
+-- the scripted slot, what is left of its slot, and the bytes at its program counter
+who_of : ScriptedSlot → Option (ScriptedSlot × Closed × List ℕ) → ScriptedSlot
 who_of p None = p
 who_of p (Some x) = x.0
 
-what_of : Closed → Option (ScriptedSlot × Closed) → Closed
+what_of : Closed → Option (ScriptedSlot × Closed × List ℕ) → Closed
 what_of c None = c
 what_of c (Some x) = x.1
 
-not_both : (x : ScriptedSlot × Closed) → None ≡ Some x → ⊥
+bytes_of : List ℕ → Option (ScriptedSlot × Closed × List ℕ) → List ℕ
+bytes_of xs None = xs
+bytes_of xs (Some x) = x.2
+
+not_both : (x : ScriptedSlot × Closed × List ℕ) → None ≡ Some x → ⊥
 not_both x same = cc
 
-pub none_there : (r : Option (ScriptedSlot × Closed)) → ((x : ScriptedSlot × Closed) → r ≡ Some x → ⊥) → r ≡ None
+pub none_there : (r : Option (ScriptedSlot × Closed × List ℕ)) → ((x : ScriptedSlot × Closed × List ℕ) → r ≡ Some x → ⊥) → r ≡ None
 none_there None none = refl
 none_there (Some x) none = absurd (none x refl)
 
@@ -110,15 +126,15 @@ IsFinishing sessions k start now scripted rest reports files = (system : Disk) (
     → IsFinishedTo system is k now rest reports files
 
 -- what closing the next slot says
-abbrev pub Closing : Host → Host → List ScriptedSlot → Option (ScriptedSlot × Closed) → List ScriptedSlot → Type 0
+abbrev pub Closing : Host → Host → List ScriptedSlot → Option (ScriptedSlot × Closed × List ℕ) → List ScriptedSlot → Type 0
 Closing old new rest r left = (p : ScriptedSlot) (ps : List ScriptedSlot) (s : MachineState) → rest ≡ p ∷ ps → slot_at p.id.0 old.slots ≡ Some s → IsClosed p ps s old new r left
 
-module _ (sessions : List Session) (k : ℕ) (s : Session) (start : List SlotState) (old new : Host) (scripted : List ScriptedSlot) (r : Option (ScriptedSlot × Closed)) (left : List ScriptedSlot) (below : k < length sessions) (at : s ≡ get_or sessions k s) where
-  finish_one : (q : ScriptedSlot) (closed : Closed) (rest : List ScriptedSlot) (reports : List SessionReport) (files : List SessionFiles) (report : SessionReport) (file : SessionFiles) (system : Disk) (is : List SessionInput)
-      → map (λ i. i.session) is ≡ sessions → IsFinishedTo system is k old.slots rest reports files → Closing old new rest r left → r ≡ Some (q, closed) → report_view report ≡ report_by s q closed
+module _ (sessions : List Session) (k : ℕ) (s : Session) (start : List SlotState) (old new : Host) (scripted : List ScriptedSlot) (r : Option (ScriptedSlot × Closed × List ℕ)) (left : List ScriptedSlot) (below : k < length sessions) (at : s ≡ get_or sessions k s) where
+  finish_one : (q : ScriptedSlot) (closed : Closed) (bytes : List ℕ) (rest : List ScriptedSlot) (reports : List SessionReport) (files : List SessionFiles) (report : SessionReport) (file : SessionFiles) (system : Disk) (is : List SessionInput)
+      → map (λ i. i.session) is ≡ sessions → IsFinishedTo system is k old.slots rest reports files → Closing old new rest r left → r ≡ Some (q, closed, bytes) → report_view report ≡ report_by s q closed bytes
       → left_by file ≡ files_by s q closed → IsFinishedTo system is (k + 1) new.slots left (reports ++ report ∷ []) (files ++ file ∷ [])
-  unfolding who_of what_of
-  finish_one q closed rest reports files report file system is same h closing got one other =
+  unfolding who_of what_of bytes_of
+  finish_one q closed bytes rest reports files report file system is same h closing got one other =
       let a = is_at is sessions k s same below at in
       go a rest h.differ (subst (λ (xs : List SessionInput). AllEnded system old.slots xs rest) a.first h.ended) closing
     where
@@ -127,11 +143,13 @@ module _ (sessions : List Session) (k : ℕ) (s : Session) (start : List SlotSta
       go a [] differ all close = absurd all
       go a (p ∷ ps) differ all close =
           let c = close p ps all.0.last refl all.0.stands in
-          let pair : Some (q, closed) ≡ Some (p, c.closed) = sym got ∙ c.result in
+          let pair : Some (q, closed, bytes) ≡ Some (p, c.closed, bytes_at_pc all.0.last) = sym got ∙ c.result in
           let who : q ≡ p = ap (who_of q) pair in
           let what : closed ≡ c.closed = ap (what_of closed) pair in
+          let which : bytes ≡ bytes_at_pc all.0.last = ap (bytes_of bytes) pair in
           let row : report_view report ≡ reported_of a.input.session (run_of system a.input) =
-          one ∙ ap (λ (x : ScriptedSlot). report_by s x closed) who ∙ ap (λ (x : Closed). report_by s p x) what ∙ report_is system a.input s p c.closed all.0.last a.session c.look all.0.played in
+          one ∙ ap (λ (x : ScriptedSlot). report_by s x closed bytes) who ∙ ap (λ (x : Closed). report_by s p x bytes) what ∙ ap (λ (xs : List ℕ). report_by s p c.closed xs) which
+          ∙ report_is system a.input s p c.closed all.0.last a.session c.look all.0.played in
           let out : left_by file ≡ left_of a.input.session (run_of system a.input) =
           other ∙ ap (λ (x : ScriptedSlot). files_by s x closed) who ∙ ap (λ (x : Closed). files_by s p x) what ∙ files_is system a.input s p c.closed all.0.last a.session c.drives all.0.played in
           record {
@@ -143,13 +161,13 @@ module _ (sessions : List Session) (k : ℕ) (s : Session) (start : List SlotSta
                 ∙ sym (map-append (λ i. left_of i.session (run_of system i)) (take k is) (a.input ∷ [])) ∙ ap (files_left system) (sym a.more);
           }
 
-  pub finishing_more : (q : ScriptedSlot) (closed : Closed) (rest : List ScriptedSlot) (reports more : List SessionReport) (files others : List SessionFiles) (report : SessionReport) (file : SessionFiles)
-      → IsFinishing sessions k start old.slots scripted rest reports files → Closing old new rest r left → r ≡ Some (q, closed) → report_view report ≡ report_by s q closed → left_by file ≡ files_by s q closed
+  pub finishing_more : (q : ScriptedSlot) (closed : Closed) (bytes : List ℕ) (rest : List ScriptedSlot) (reports more : List SessionReport) (files others : List SessionFiles) (report : SessionReport) (file : SessionFiles)
+      → IsFinishing sessions k start old.slots scripted rest reports files → Closing old new rest r left → r ≡ Some (q, closed, bytes) → report_view report ≡ report_by s q closed bytes → left_by file ≡ files_by s q closed
       → more ≡ reports ++ report ∷ [] → others ≡ files ++ file ∷ [] → IsFinishing sessions (k + 1) start new.slots scripted left more others
-  finishing_more q closed rest reports more files others report file h closing got one other pushed added = λ system is same all.
+  finishing_more q closed bytes rest reports more files others report file h closing got one other pushed added = λ system is same all.
       subst (λ (xs : List SessionReport). IsFinishedTo system is (k + 1) new.slots left xs others) (sym pushed)
       (subst (λ (xs : List SessionFiles). IsFinishedTo system is (k + 1) new.slots left (reports ++ report ∷ []) xs) (sym added)
-      (finish_one q closed rest reports files report file system is same (h system is same all) closing got one other))
+      (finish_one q closed bytes rest reports files report file system is same (h system is same all) closing got one other))
 
   -- where a session is left, its scripted slot is there, and its slot is closed
   pub finished_early : (rest : List ScriptedSlot) (reports : List SessionReport) (files : List SessionFiles) → IsFinishing sessions k start old.slots scripted rest reports files → Closing old new rest r left → r ≡ None
@@ -163,7 +181,7 @@ module _ (sessions : List Session) (k : ℕ) (s : Session) (start : List SlotSta
       go system is a [] all close = all
       go system is a (p ∷ ps) all close =
           let c = close p ps all.0.last refl all.0.stands in
-          not_both (p, c.closed) (sym none ∙ c.result)
+          not_both (p, c.closed, bytes_at_pc all.0.last) (sym none ∙ c.result)
 
 pub finished : (sessions : List Session) (k : ℕ) (start now : List SlotState) (scripted rest : List ScriptedSlot) (reports : List SessionReport) (files : List SessionFiles) → length sessions ≤ k
     → IsFinishing sessions k start now scripted rest reports files → AreFinished sessions start scripted reports files

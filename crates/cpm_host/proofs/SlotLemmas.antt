@@ -18,6 +18,7 @@ use Rattle.cpm_slots.specs.declared.opening.Opening.{Opening}
 use Rattle.cpm_slots.specs.declared.reply.Closed.{Closed}
 use Rattle.cpm_turns.specs.declared.scripted_slot.ScriptedSlot.{ScriptedSlot}
 use Rattle.cpm_config.specs.declared.config.Config.{Config}
+use Rattle.cpm_host.specs.Illegal.{bytes_at_pc}
 use Rattle.cpm_host.specs.Playing.{IsClosed, IsPlayRefusal, IsSlotRefusal}
 use Rattle.cpm_host.specs.declared.error.HostError.{HostError}
 use Rattle.cpm_host.specs.declared.error.HostError.TheVariants as refusal
@@ -34,7 +35,7 @@ first_refused h i o e opens r other = (o, opens, inl (fault_of (refusal_of h o) 
 -- what was closed
 closed_is : (p : ScriptedSlot) (ps rest : List ScriptedSlot) (s : MachineState) (old new : Host) (c : Closed) → slot_at p.id.0 old.slots ≡ Some s
     → IfSome (slot_at p.id.0 old.slots) (λ s. (c.look ≡ look_of s) × (c.drives ≡ images_of s.cpm.disks)) → new ≡ after_ask old p.id.0 Closes → rest ≡ ps
-    → IsClosed p ps s old new (Some (p, c)) rest
+    → IsClosed p ps s old new (Some (p, c, bytes_at_pc s)) rest
 closed_is p ps rest s old new c at was is left =
     let of_it : (c.look ≡ look_of s) × (c.drives ≡ images_of s.cpm.disks) =
     subst (λ (o : Option MachineState). IfSome o (λ s. (c.look ≡ look_of s) × (c.drives ≡ images_of s.cpm.disks))) at was in
@@ -47,15 +48,21 @@ closed_is p ps rest s old new c at was is left =
       others = λ id away. ap (λ (h : Host). slot_at id h.slots) is ∙ apart old p.id.0 id Closes away;
     }
 
-pub first_closed : (p q : ScriptedSlot) (ps rest all : List ScriptedSlot) (s : MachineState) (old new : Host) (c : Closed) → all ≡ p ∷ ps → all ≡ q ∷ rest → slot_at p.id.0 old.slots ≡ Some s
-    → IfSome (slot_at q.id.0 old.slots) (λ s. (c.look ≡ look_of s) × (c.drives ≡ images_of s.cpm.disks)) → new ≡ after_ask old q.id.0 Closes
-    → IsClosed p ps s old new (Some (q, c)) rest
-first_closed p q ps rest all s old new c is first at was closes =
+-- of a slot that nothing has changed yet, whose bytes at the program counter were read
+pub first_closed : (p q : ScriptedSlot) (ps rest all : List ScriptedSlot) (s : MachineState) (old middle new : Host) (c : Closed) (bytes : List ℕ) → all ≡ p ∷ ps → all ≡ q ∷ rest
+    → slot_at p.id.0 old.slots ≡ Some s → ((t : MachineState) → slot_at q.id.0 old.slots ≡ Some t → bytes ≡ bytes_at_pc t) → middle ≡ old
+    → IfSome (slot_at q.id.0 middle.slots) (λ s. (c.look ≡ look_of s) × (c.drives ≡ images_of s.cpm.disks)) → new ≡ after_ask middle q.id.0 Closes
+    → IsClosed p ps s old new (Some (q, c, bytes)) rest
+first_closed p q ps rest all s old middle new c bytes is first at reads stays kept closed =
     let same : q ≡ p = cc in
     let left : rest ≡ ps = cc in
+    let was = subst (λ (h : Host). IfSome (slot_at q.id.0 h.slots) (λ s. (c.look ≡ look_of s) × (c.drives ≡ images_of s.cpm.disks))) stays kept in
+    let closes = subst (λ (h : Host). new ≡ after_ask h q.id.0 Closes) stays closed in
+    let there : bytes ≡ bytes_at_pc s = reads s (ap (λ (x : ScriptedSlot). slot_at x.id.0 old.slots) same ∙ at) in
     let here = subst (λ (x : ScriptedSlot). IfSome (slot_at x.id.0 old.slots) (λ s. (c.look ≡ look_of s) × (c.drives ≡ images_of s.cpm.disks))) same was in
     let so = subst (λ (x : ScriptedSlot). new ≡ after_ask old x.id.0 Closes) same closes in
-    subst (λ (x : ScriptedSlot). IsClosed p ps s old new (Some (x, c)) rest) (sym same) (closed_is p ps rest s old new c at here so left)
+    subst (λ (x : ScriptedSlot). IsClosed p ps s old new (Some (x, c, bytes)) rest) (sym same)
+    (subst (λ (xs : List ℕ). IsClosed p ps s old new (Some (p, c, xs)) rest) (sym there) (closed_is p ps rest s old new c at here so left))
 
 abbrev IsDone : Reply → Type 0
 IsDone reply.Done = ⊤
@@ -66,11 +73,11 @@ can_close : (h : Host) (id : ℕ) (s : MachineState) (fault : Refusal) → slot_
 unfolding serve_slot
 can_close h id s fault at r = subst IsDone (sym (r ∙ ap (λ o. (serve_slot h.system Closes o).reply) at)) tt
 
-pub first_closes : (p q : ScriptedSlot) (ps rest all : List ScriptedSlot) (s : MachineState) (h : Host) (fault : Refusal) → all ≡ p ∷ ps → all ≡ q ∷ rest → slot_at p.id.0 h.slots ≡ Some s
+pub first_closes : (p q : ScriptedSlot) (ps rest all : List ScriptedSlot) (s : MachineState) (old h : Host) (fault : Refusal) → all ≡ p ∷ ps → all ≡ q ∷ rest → slot_at p.id.0 old.slots ≡ Some s → h ≡ old
     → close_reply (Err fault) ≡ reply_at h q.id.0 Closes → ⊥
-first_closes p q ps rest all s h fault is first at r =
+first_closes p q ps rest all s old h fault is first at stays r =
     let same : q ≡ p = cc in
-    can_close h p.id.0 s fault at (subst (λ (x : ScriptedSlot). close_reply (Err fault) ≡ reply_at h x.id.0 Closes) same r)
+    can_close h p.id.0 s fault (ap (λ (x : Host). slot_at p.id.0 x.slots) stays ∙ at) (subst (λ (x : ScriptedSlot). close_reply (Err fault) ≡ reply_at h x.id.0 Closes) same r)
 
 -- how playing is refused, where it is not for want of frames
 pub other_refused : (config : Config) (h : Host) (is : List SessionInput) (e : HostError) → ((name : _) (fault : OpenError) → e ≡ refusal.SessionRefused name fault → ⊥) → IsSlotRefusal h is e → IsPlayRefusal config h is e

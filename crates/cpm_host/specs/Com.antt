@@ -9,6 +9,7 @@ use Rattle.cpm_script.specs.declared.fault.LineFault.{LineFault}
 use Rattle.cpm_script.specs.declared.script.Key.{Key}
 use Rattle.cpm_slots.specs.MachineState.{MachineState, opened_with}
 use Rattle.cpm_turns.specs.Playing.{HasText, alone_by}
+use Rattle.cpm_host.specs.Illegal.{bytes_at_pc}
 use Rattle.cpm_host.specs.declared.com.Script.{Script}
 use Rattle.cpm_host.specs.declared.ending.Ending.{Ending}
 use Rattle.cpm_host.specs.declared.error.HostError.{HostError}
@@ -19,7 +20,7 @@ abbrev pub text_of : MachineState → List ℕ
 text_of s = s.cpm.console.screen
 
 abbrev pub ending_of : MachineState → Ending
-ending_of s = record { ended = s.ended; count = s.count; pc = s.cpm.regs.pc }
+ending_of s = record { ended = s.ended; count = s.count; pc = s.cpm.regs.pc; at_pc = bytes_at_pc s }
 
 -- these are the keys of the script, if there is one
 abbrev pub HasScript : Option Script → List Key → Type 0

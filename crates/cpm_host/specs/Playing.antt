@@ -17,6 +17,7 @@ use Rattle.cpm_turns.specs.ScriptedSlots.{IsNew, keys_of, steps_of}
 use Rattle.cpm_turns.specs.Playing.{IsInOrder, IsPlayed}
 use Rattle.cpm_turns.specs.declared.scripted_slot.ScriptedSlot.{ScriptedSlot}
 use Rattle.cpm_host.specs.Run.{IsFirstRefused, IsOpening, Reported, files_left, quotas_of, report_view, reports_of, start_of}
+use Rattle.cpm_host.specs.Illegal.{bytes_at_pc}
 use Rattle.cpm_host.specs.declared.report.SessionReport.{SessionReport}
 use Rattle.cpm_host.specs.declared.error.HostError.{HostError}
 use Rattle.cpm_host.specs.declared.error.HostError.TheVariants as refusal
@@ -77,22 +78,24 @@ IsPlayRefusal config h is (refusal.FramesExceeded name quotas frames) =
 IsPlayRefusal config h is refusal.OutOfMemory = ⊤
 IsPlayRefusal config h is _ = ⊥
 
--- the first of the scripted slots, with what is left of its slot, which was closed
-pub record IsClosed (p : ScriptedSlot) (ps : List ScriptedSlot) (s : MachineState) (old new : Host) (r : Option (ScriptedSlot × Closed)) (rest : List ScriptedSlot) : Type 0 where
+-- the first of the scripted slots, with what is left of its slot, which was closed, and the bytes at its program counter
+pub record IsClosed (p : ScriptedSlot) (ps : List ScriptedSlot) (s : MachineState) (old new : Host) (r : Option (ScriptedSlot × Closed × List ℕ)) (rest : List ScriptedSlot) : Type 0 where
   pub closed : Closed
-  pub result : r ≡ Some (p, closed)
+  pub result : r ≡ Some (p, closed, bytes_at_pc s)
   pub look : closed.look ≡ look_of s
   pub drives : closed.drives ≡ images_of s.cpm.disks
   pub left : rest ≡ ps
   pub others : (id : ℕ) → id ≢ p.id.0 → slot_at id new.slots ≡ slot_at id old.slots
 
 -- what is reported of a session, by what is left of it
-abbrev pub report_by : Session → ScriptedSlot → Closed → Reported
-report_by session p closed = record {
+abbrev pub report_by : Session → ScriptedSlot → Closed → List ℕ → Reported
+report_by session p closed at_pc = record {
   name = string_bytes session.name;
   ended = closed.look.ended;
   count = closed.look.count;
   bytes = length p.console.items;
+  pc = closed.look.regs.pc;
+  at_pc = at_pc;
 }
 
 abbrev pub files_by : Session → ScriptedSlot → Closed → SessionOutput

@@ -21,6 +21,7 @@ use Rattle.cpm_store.specs.Files.{Files, Text, Told}
 use Rattle.cpm_store.specs.Log.{Access, AreNoWrites, AreWrites, RanBy, StopsAfter, Then}
 use Rattle.cpm_store.specs.Writes.{Named, StopsAt, WritesAll}
 use Rattle.cpm_turns.specs.Playing.{alone_by}
+use Rattle.cpm_host.specs.Illegal.{bytes_at_pc}
 use Rattle.cpm_host.specs.declared.error.HostError.{HostError}
 use Rattle.cpm_host.specs.declared.error.HostError.TheVariants as refusal
 use Rattle.cpm_host.specs.declared.report.SessionReport.{SessionReport}
@@ -44,12 +45,14 @@ left_of session s = record {
   drives = images_of s.cpm.disks;
 }
 
--- what is reported of it: its name, its end, its steps and the number of its console bytes
+-- what is reported of it: its name, its end, its steps, the number of its console bytes, and its program counter with the bytes there
 pub record Reported : Type 0 where
   pub name : Text
   pub ended : End
   pub count : ℕ
   pub bytes : ℕ
+  pub pc : ℕ
+  pub at_pc : List ℕ
 
 abbrev pub reported_of : Session → MachineState → Reported
 reported_of session s = record {
@@ -57,10 +60,13 @@ reported_of session s = record {
   ended = s.ended;
   count = s.count;
   bytes = length s.cpm.console.screen;
+  pc = s.cpm.regs.pc;
+  at_pc = bytes_at_pc s;
 }
 
 abbrev pub report_view : SessionReport → Reported
-report_view r = record { name = string_bytes r.name; ended = r.ended; count = r.count; bytes = r.bytes }
+report_view r =
+    record { name = string_bytes r.name; ended = r.ended; count = r.count; bytes = r.bytes; pc = r.pc; at_pc = r.at_pc }
 
 -- ---- all sessions
 

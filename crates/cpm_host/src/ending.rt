@@ -1,7 +1,10 @@
 //! How the run of a program ended.
 ghost use Rattle.std.specs.Prelude.{◌≡◌};
 ghost use Rattle.cpm_host.specs.Com.{ending_of};
+ghost use Rattle.cpm_host.specs.Illegal.{illegal_of};
 
+use crate::at_pc::bytes_of_machine;
+use crate::illegal::IllegalBytes;
 use cpm_slots::{End, Machine};
 use std::fmt;
 
@@ -14,6 +17,8 @@ pub struct Ending {
     pub count: u64,
     /// The program counter.
     pub pc: u16,
+    /// The four bytes from there on, where 0000h follows FFFFh.
+    pub at_pc: [u8; 4],
 }
 
 impl Ending {
@@ -27,13 +32,26 @@ impl Ending {
             ended: look.ended,
             count: look.count,
             pc: look.regs.pc,
+            at_pc: bytes_of_machine(machine),
         }
+    }
+
+    /// The bytes that are no instruction, where it ended at such.
+    pub fn illegal(&self) -> Option<IllegalBytes>
+        ensures { result ≡ illegal_of self.now.ended self.now.pc self.now.at_pc }
+    {
+        IllegalBytes::of(self.ended, self.pc, self.at_pc)
     }
 }
 
 impl fmt::Display for Ending {
     fn fmt<W: fmt::Write>(&self, f: &mut fmt::Formatter<W>) -> fmt::Result {
-        let Ending { ended, count, pc } = *self;
+        let Ending {
+            ended,
+            count,
+            pc,
+            ..
+        } = *self;
         write!(f, "end {ended:?} count {count} pc {pc:04X}")
     }
 }

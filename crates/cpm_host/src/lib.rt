@@ -3,11 +3,13 @@
 #![tactic(auto)]
 
 mod asm;
+mod at_pc;
 mod check;
 mod com;
 mod damage;
 mod ending;
 mod error;
+mod illegal;
 mod input;
 mod list;
 mod play;
@@ -26,6 +28,7 @@ pub use cpm_store::{MemoryStore, Store, StoreError};
 pub use damage::{Damage, NamedFile};
 pub use ending::Ending;
 pub use error::HostError;
+pub use illegal::IllegalBytes;
 pub use input::{MOST_FILE, read_whole};
 pub use list::run_list;
 pub use report::{Report, SessionReport};

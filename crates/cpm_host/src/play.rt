@@ -12,6 +12,7 @@ ghost use Rattle.cpm_turns.specs.declared.scripted_slot.ScriptedSlot.{ScriptedSl
 ghost use Rattle.cpm_host.specs.Playing.{HaveSlots, AreFinished, ArePressable, IsClosed, IsPlayRefusal, IsSlotRefusal, OpensSlot, files_by, report_by};
 ghost use Rattle.cpm_host.specs.Run.{AllAccepted, IsOpening, files_left, quotas_of, report_view, reports_of};
 
+use crate::at_pc::bytes_of_slot;
 use crate::error::HostError;
 use crate::report::SessionReport;
 use cpm_batch::{Input, Inputs, SessionFiles};
@@ -114,17 +115,18 @@ fn open_slots(
     Ok(scripted)
 }
 
-/// The next scripted slot, with what is left of its slot, which is closed.
+/// The next scripted slot, with what is left of its slot, which is closed, and the four bytes at its program counter.
 fn next_closed(
     host: &mut Host,
     scripted: &mut IntoIter<ScriptedSlot>,
-) -> Option<(ScriptedSlot, Closed)>
+) -> Option<(ScriptedSlot, Closed, [u8; 4])>
     ensures { (p : ScriptedSlot) (ps : List ScriptedSlot) (s : MachineState) → into_iter_items scripted.old ≡ p ∷ ps → slot_at p.id.0 host.old.host.slots ≡ Some s
         → IsClosed p ps s host.old.host host.new.host result (into_iter_items scripted.new) }
 {
     let slot = scripted.next()?;
+    let at_pc = bytes_of_slot(host, slot.id);
     match host.close(slot.id) {
-        Ok(closed) => Some((slot, closed)),
+        Ok(closed) => Some((slot, closed, at_pc)),
         Err(_) => None,
     }
 }
@@ -135,8 +137,9 @@ fn finish<'a>(
     session: &'a Session,
     slot: ScriptedSlot,
     closed: Closed,
+    at_pc: [u8; 4],
 ) -> Result<(SessionReport, SessionFiles<'a>), AllocError>
-    ensures report { IfOk result (λ r. report_view r.0 ≡ report_by session.entry.now slot closed) }
+    ensures report { IfOk result (λ r. report_view r.0 ≡ report_by session.entry.now slot closed at_pc) }
     ensures files { IfOk result (λ r. left_by r.1 ≡ files_by session.entry.now slot closed) }
 {
     let name = String::from_str(alloc, session.name.as_str())?;
@@ -147,6 +150,8 @@ fn finish<'a>(
         ended: look.ended,
         count: look.count,
         bytes: console.len() as u64,
+        pc: look.regs.pc,
+        at_pc,
     };
     let files = SessionFiles {
         session,
@@ -171,10 +176,11 @@ fn finish_all<'a>(
     let mut files = Vec::new(alloc);
     let mut rest = scripted.into_iter();
     for session in sessions {
-        let Some((slot, closed)) = next_closed(host, &mut rest) else {
+        let Some(ended) = next_closed(host, &mut rest) else {
             return Ok(Played { reports, files });
         };
-        let (report, left) = finish(alloc, session, slot, closed)?;
+        let (slot, closed, at_pc) = ended;
+        let (report, left) = finish(alloc, session, slot, closed, at_pc)?;
         reports.push(report)?;
         files.push(left)?;
     }

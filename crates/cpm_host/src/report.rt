@@ -1,5 +1,9 @@
 //! What is reported of a run.
 
+ghost use Rattle.std.specs.Prelude.{◌≡◌};
+ghost use Rattle.cpm_host.specs.Illegal.{illegal_of};
+
+use crate::illegal::IllegalBytes;
 use cpm_slots::End;
 use std::fmt;
 
@@ -13,6 +17,19 @@ pub struct SessionReport {
     pub count: u64,
     /// How many bytes its console got.
     pub bytes: u64,
+    /// The program counter.
+    pub pc: u16,
+    /// The four bytes from there on, where 0000h follows FFFFh.
+    pub at_pc: [u8; 4],
+}
+
+impl SessionReport {
+    /// The bytes that are no instruction, where it ended at such.
+    pub fn illegal(&self) -> Option<IllegalBytes>
+        ensures { result ≡ illegal_of self.now.ended self.now.pc self.now.at_pc }
+    {
+        IllegalBytes::of(self.ended, self.pc, self.at_pc)
+    }
 }
 
 /// How each session of a run ended, in their order.

@@ -232,6 +232,7 @@ on-end system keys steps start pace console list now on quiet none =
       count = ap (λ (s : MachineState). s.count) (sym same);
       ended = ap (λ (s : MachineState). s.ended) (sym same);
       regs = ap (λ (s : MachineState). s.cpm.regs) (sym same);
+      memory = ap (λ (s : MachineState). s.memory) (sym same);
       disks = ap (λ (s : MachineState). s.cpm.disks) (sym same);
     }
 
@@ -366,4 +367,4 @@ pub shown-end : (system : Disk) (keys : List Key) (steps : ℕ) (start : Machine
     Appends before written (alone system (presses_of keys) steps start).cpm.console.screen × EndsAs (alone system (presses_of keys) steps start) now
 shown-end system keys steps start pace now before written shown none =
     let played : IsPlayed system keys steps start now shown.text shown.list = on-end system keys steps start pace shown.text shown.list now shown.on shown.quiet none in
-    (subst (λ xs. Appends before written xs) played.screen shown.appended, record { count = played.count; ended = played.ended; regs = played.regs; disks = played.disks })
+    (subst (λ xs. Appends before written xs) played.screen shown.appended, record { count = played.count; ended = played.ended; regs = played.regs; memory = played.memory; disks = played.disks })

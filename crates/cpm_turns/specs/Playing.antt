@@ -18,20 +18,22 @@ IsInOrder n (k ∷ ks) = (n ≤ k.count) × IsInOrder k.count ks
 abbrev pub alone_by : Disk → List Key → ℕ → MachineState → MachineState
 alone_by system keys steps start = alone system (presses_of keys) steps start
 
--- A session was played: it has shown what the machine run alone for its keys and steps shows, and has come to its end, count, registers and drives, whatever the turns were.
+-- A session was played: it has shown what the machine run alone for its keys and steps shows, and has come to its end, count, registers, memory and drives, whatever the turns were.
 pub record IsPlayed (system : Disk) (keys : List Key) (steps : ℕ) (start now : MachineState) (console list : List ℕ) : Type 0 where
   pub screen : console ≡ (alone system (presses_of keys) steps start).cpm.console.screen
   pub printer : list ≡ (alone system (presses_of keys) steps start).cpm.console.printer
   pub count : now.count ≡ (alone system (presses_of keys) steps start).count
   pub ended : now.ended ≡ (alone system (presses_of keys) steps start).ended
   pub regs : now.cpm.regs ≡ (alone system (presses_of keys) steps start).cpm.regs
+  pub memory : now.memory ≡ (alone system (presses_of keys) steps start).memory
   pub disks : now.cpm.disks ≡ (alone system (presses_of keys) steps start).cpm.disks
 
--- the end, count, registers and drives of another state
+-- the end, count, registers, memory and drives of another state
 pub record EndsAs (other now : MachineState) : Type 0 where
   pub count : now.count ≡ other.count
   pub ended : now.ended ≡ other.ended
   pub regs : now.cpm.regs ≡ other.cpm.regs
+  pub memory : now.memory ≡ other.memory
   pub disks : now.cpm.disks ≡ other.cpm.disks
 
 -- no key is pending, and no byte waits to be taken

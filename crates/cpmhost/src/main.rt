@@ -42,9 +42,9 @@ fn arguments(rt: &(impl Env + AllocGlobal)) -> Result<Vec<String>, HostError>
     }
 }
 
-/// Runs the sessions of the configuration in a file, and prints how each ended.
+/// Runs the sessions of the configuration in a file, and prints how each ended, and the bytes at which one ended that are no instruction.
 fn run_sessions(
-    rt: &(impl Files + Print + AllocGlobal),
+    rt: &(impl Files + Print + Eprint + AllocGlobal),
     outputs: Outputs,
     file: &str,
 ) -> Result<(), Refused> {
@@ -62,6 +62,10 @@ fn run_sessions(
     };
     for session in &report {
         println!(rt; "{session}").map_err(HostError::OutputUnwritable)?;
+        if let Some(illegal) = session.illegal() {
+            let name = session.name.as_str();
+            let _ = eprintln!(rt; "{name} {illegal}");
+        }
     }
     Ok(())
 }
@@ -83,6 +87,9 @@ fn play(
         run_com(rt.alloc(), cpu, program, script, steps, &mut io::writer(rt))?
     };
     // The program ran and its text is out, even where nobody reads how it ended.
+    if let Some(illegal) = ending.illegal() {
+        let _ = eprintln!(rt; "{illegal}");
+    }
     let _ = eprintln!(rt; "{ending}");
     Ok(())
 }

@@ -40,7 +40,7 @@ keys = \"two.keys\"
 ";
 
 /// The bytes of a disk with the file `W.COM`, whose one record begins with this program.
-fn disk_of(rt: &(impl Abort + AllocGlobal), program: &[u8]) -> Vec<u8> {
+pub fn disk_of(rt: &(impl Abort + AllocGlobal), program: &[u8]) -> Vec<u8> {
     let mut image = Image::blank(rt.alloc(), Format::Ibm3740).expect(rt, "memory");
     let mut entries = [0xE5; 128];
     entries[..32].fill(0);

@@ -12,6 +12,8 @@ mod debugger;
 #[cfg(test)]
 mod hosts;
 #[cfg(test)]
+mod illegal;
+#[cfg(test)]
 mod lab;
 #[cfg(test)]
 mod large;

@@ -63,7 +63,7 @@ pub fn filled(rt: &(impl Abort + AllocGlobal)) -> MemoryStore {
 }
 
 /// What running a configuration gives.
-fn run(
+pub fn run(
     rt: &(impl Abort + AllocGlobal),
     text: &str,
     store: &mut MemoryStore,
