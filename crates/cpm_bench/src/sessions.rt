@@ -57,7 +57,7 @@ pub fn run_machine_with(
 
 /// A host with so many sessions, each with four blank drives of this format and a quota of 16 pages.
 pub fn host_of_drives(alloc: Global, format: Format, sessions: u16) -> Option<Host> {
-    let mut host = host_of(alloc, Image::blank(alloc, Format::Ibm3740).ok()?, 1)?;
+    let mut host = host_of(alloc, Image::blank(alloc, Format::Ibm3740).ok()?, 4)?;
     for _ in 0..sessions {
         let mut drives = Vec::new(alloc);
         for _ in 0..4 {
