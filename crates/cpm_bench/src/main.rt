@@ -4,7 +4,7 @@
 //! drive alone, `openings TIMES`.
 //!
 //! Or it makes memories to see what room they take: `sessions NUMBER` in one store, each with one written page, or `flats NUMBER` of
-//! their own; or a host with up to 16 sessions of four blank drives each, `drives small NUMBER` or `drives large NUMBER`. It prints what Linux says
+//! their own; or a host with up to 64 sessions of four blank drives each, `drives small NUMBER` or `drives large NUMBER`. It prints what Linux says
 //! of its own memory then.
 //!
 //! Or it runs sessions of programs that nobody vouches for, `soak FOLDER NUMBER STEPS`, each by itself, or with a further word QUANTUM all on
