@@ -1,17 +1,19 @@
 -- The first fault among needs.
-use Rattle.std.proofs.Common.{◌≡◌, ◌∙◌, ◌⊎◌, ⊎_elim, inl, inr, ℕ, List, [], ◌∷◌, ◌++◌, Option, Some, None, String, append_assoc, refl, ◌+◌, length, get_or, take, drop, suc, map, ◌<◌, ap, sym, subst, arith}
+use Rattle.std.proofs.Common.{◌≡◌, ◌∙◌, ⊎_elim, inl, inr, ℕ, List, [], ◌∷◌, ◌++◌, Option, Some, None, String, append_assoc, append-nil, refl, ◌+◌, length, get_or, take, drop, suc, map, ◌<◌, ap, sym, subst}
 use Rattle.std.proofs.Math.Seq.{split_at}
 use Rattle.std.proofs.lemmas.List.{map-append, take_more}
 use Rattle.std.specs.Prelude.{⊤, string_bytes}
 use Rattle.std.specs.declared.alloc.Global.{Global}
+use Rattle.cpm_config.specs.declared.config.Config.{Config}
+use Rattle.cpm_config.specs.declared.config.Origin.TheVariants as origin
 use Rattle.cpm_config.specs.declared.config.Session.{Session}
 use Rattle.cpm_geom.specs.Disk.{Disk}
+use Rattle.cpm_script.specs.Fork.{keys_before}
 use Rattle.cpm_script.specs.declared.script.Key.{Key}
 use Rattle.cpm_store.specs.Files.{Files, Text}
 use Rattle.cpm_batch.specs.declared.error.ReadError.{ReadError}
-use Rattle.cpm_batch.specs.declared.error.ReadError.TheVariants.{OutOfMemory}
 use Rattle.cpm_batch.specs.declared.input.Input.{Input}
-use Rattle.cpm_batch.specs.Inputs.{AllImages, AllInputs, given, HasInput, HasKeys, ImageIn, IsFirstFault, IsImageIn, IsMet, IsReadRefusal, Need, SessionInput, image_needs, needs_of, needs_of_all, script_needs}
+use Rattle.cpm_batch.specs.Inputs.{AllImages, AllInputs, given, HasInput, HasKeys, ImageIn, IsFirstFault, IsImageIn, IsMet, IsNeedRefusal, IsReadRefusal, IsSessionRefusal, AreFirstFault, Need, SessionInput, forked_script_needs, image_needs, keys_in, needs_from, needs_of, script_needs}
 
 -- each of the needs is met
 abbrev pub AllMet : Option Files → List Need → Type 0
@@ -27,10 +29,10 @@ first_behind files [] ms e met h = h
 first_behind files (n ∷ ns) ms e met h = inr (met.0, first_behind files ns ms e met.1 h)
 
 -- a fault of the first needs is one of more, and so is one behind needs that are met
-pub refused_front : (files : Option Files) (ns ms : List Need) (e : ReadError) → IsReadRefusal files ns e → IsReadRefusal files (ns ++ ms) e
+pub refused_front : (files : Option Files) (ns ms : List Need) (e : ReadError) → IsNeedRefusal files ns e → IsNeedRefusal files (ns ++ ms) e
 refused_front files ns ms e h = ⊎_elim (λ m. inl m) (λ f. inr (first_front files ns ms e f)) h
 
-pub refused_behind : (files : Option Files) (ns ms : List Need) (e : ReadError) → AllMet files ns → IsReadRefusal files ms e → IsReadRefusal files (ns ++ ms) e
+pub refused_behind : (files : Option Files) (ns ms : List Need) (e : ReadError) → AllMet files ns → IsNeedRefusal files ms e → IsNeedRefusal files (ns ++ ms) e
 refused_behind files ns ms e met h = ⊎_elim (λ m. inl m) (λ f. inr (first_behind files ns ms e met f)) h
 
 met_more : (files : Option Files) (ns ms : List Need) → AllMet files ns → AllMet files ms → AllMet files (ns ++ ms)
@@ -51,29 +53,19 @@ images_push files [] (x ∷ ds) name d h g = absurd h
 images_push files (n ∷ names) [] name d h g = absurd h
 images_push files (n ∷ names) (x ∷ ds) name d h g = (h.0, images_push files names ds name d h.1 g)
 
--- ---- sessions
-
 pub keys_met : (files : Option Files) (name : Option (String Global)) (keys : List Key) → HasKeys files name keys → AllMet files (script_needs name)
 keys_met files None keys h = tt
 keys_met files (Some name) keys h = ((keys, h), tt)
-
-session_met : (files : Option Files) (i : SessionInput) → HasInput files i → AllMet files (needs_of i.session)
-session_met files i h = met_more files (image_needs i.session.drives.items) (script_needs i.session.keys)
-    (images_met files i.session.drives.items i.drives h.drives) (keys_met files i.session.keys i.keys h.keys)
-
-pub sessions_met : (files : Option Files) (is : List SessionInput) → AllInputs files is → AllMet files (needs_of_all (map (λ i. i.session) is))
-sessions_met files [] h = tt
-sessions_met files (i ∷ is) h = met_more files (needs_of i.session) (needs_of_all (map (λ i. i.session) is)) (session_met files i h.0) (sessions_met files is h.1)
 
 -- ---- one more of a list that is gone through
 
 -- a fault at the name in turn is one of all names
 pub name_refused : (files : Option Files) (names : List (String Global)) (i : ℕ) (name : String Global) (ds : List Disk) (e : ReadError) → i < length names → name ≡ get_or names i name
-    → AllImages files (take i names) ds → IsReadRefusal files (ImageIn (string_bytes name) ∷ []) e → IsReadRefusal files (image_needs names) e
+    → AllImages files (take i names) ds → IsNeedRefusal files (ImageIn (string_bytes name) ∷ []) e → IsNeedRefusal files (image_needs names) e
 name_refused files names i name ds e within is done h =
     let parts : names ≡ take i names ++ name ∷ drop (suc i) names = split_at names i name within ∙ ap (λ x. take i names ++ x ∷ drop (suc i) names) (sym is) in
     let needs : image_needs names ≡ image_needs (take i names) ++ image_needs (name ∷ drop (suc i) names) = ap image_needs parts ∙ map-append _ (take i names) (name ∷ drop (suc i) names) in
-    subst (λ (ns : List Need). IsReadRefusal files ns e) (sym needs)
+    subst (λ (ns : List Need). IsNeedRefusal files ns e) (sym needs)
     (refused_behind files (image_needs (take i names)) (image_needs (name ∷ drop (suc i) names)) e (images_met files (take i names) ds done)
     (refused_front files (ImageIn (string_bytes name) ∷ []) (image_needs (drop (suc i) names)) e h))
 
@@ -84,28 +76,33 @@ name_read files names i name ds all d within is pushed done h =
     subst (λ (xs : List Disk). AllImages files (take (i + 1) names) xs) (sym pushed)
     (subst (λ (ns : List (String Global)). AllImages files ns (ds ++ d ∷ [])) (sym more) (images_push files (take i names) ds name d done h))
 
--- the sessions that were read are those in turn
-pub needs_append : (ss ts : List Session) → needs_of_all (ss ++ ts) ≡ needs_of_all ss ++ needs_of_all ts
-needs_append [] ts = refl
-needs_append (s ∷ ss) ts = ap (λ ns. needs_of s ++ ns) (needs_append ss ts) ∙ sym (append_assoc (needs_of s) (needs_of_all ss) (needs_of_all ts))
+-- ---- sessions, each behind those before it
 
+-- what is refused behind sessions that were read is refused of all
+fault_behind : (files : Option Files) (before is : List SessionInput) (rest : List Session) (e : ReadError) → AllInputs files before is → AreFirstFault files (before ++ is) rest e
+    → AreFirstFault files before (map (λ i. i.session) is ++ rest) e
+fault_behind files before [] rest e h g = subst (λ (b : List SessionInput). AreFirstFault files b rest e) (append-nil before) g
+fault_behind files before (i ∷ is) rest e h g =
+    inr (i, refl, h.0, fault_behind files (before ++ i ∷ []) is rest e h.1 (subst (λ (b : List SessionInput). AreFirstFault files b rest e) (sym (append_assoc before (i ∷ []) is)) g))
+
+-- the session in turn is refused
 pub session_refused : (files : Option Files) (sessions : List Session) (i : ℕ) (s : Session) (is : List SessionInput) (e : ReadError) → i < length sessions → s ≡ get_or sessions i s
-    → map (λ x. x.session) is ≡ take i sessions → AllInputs files is → IsReadRefusal files (needs_of s) e → IsReadRefusal files (needs_of_all sessions) e
+    → map (λ x. x.session) is ≡ take i sessions → AllInputs files [] is → IsNeedRefusal files (needs_of is s) e → IsSessionRefusal files [] sessions e
 session_refused files sessions i s is e within at same done h =
     let parts : sessions ≡ take i sessions ++ s ∷ drop (suc i) sessions = split_at sessions i s within ∙ ap (λ x. take i sessions ++ x ∷ drop (suc i) sessions) (sym at) in
-    let needs : needs_of_all sessions ≡ needs_of_all (take i sessions) ++ needs_of_all (s ∷ drop (suc i) sessions) = ap needs_of_all parts ∙ needs_append (take i sessions) (s ∷ drop (suc i) sessions) in
-    subst (λ (ns : List Need). IsReadRefusal files ns e) (sym needs)
-    (refused_behind files (needs_of_all (take i sessions)) (needs_of_all (s ∷ drop (suc i) sessions)) e
-    (subst (λ (ss : List Session). AllMet files (needs_of_all ss)) same (sessions_met files is done))
-    (refused_front files (needs_of s) (needs_of_all (drop (suc i) sessions)) e h))
+    let all : map (λ x. x.session) is ++ s ∷ drop (suc i) sessions ≡ sessions = ap (λ ss. ss ++ s ∷ drop (suc i) sessions) same ∙ sym parts in
+    subst (λ (ss : List Session). IsSessionRefusal files [] ss e) all
+    (⊎_elim (λ m. inl m) (λ f. inr (fault_behind files [] is (s ∷ drop (suc i) sessions) e done (inl f))) h)
 
-inputs_push : (files : Option Files) (is : List SessionInput) (x : SessionInput) → AllInputs files is → HasInput files x → AllInputs files (is ++ x ∷ [])
-inputs_push files [] x h g = (g, tt)
-inputs_push files (i ∷ is) x h g = (h.0, inputs_push files is x h.1 g)
+inputs_push : (files : Option Files) (before is : List SessionInput) (x : SessionInput) → AllInputs files before is → HasInput files (before ++ is) x → AllInputs files before (is ++ x ∷ [])
+inputs_push files before [] x h g = (subst (λ (b : List SessionInput). HasInput files b x) (append-nil before) g, tt)
+inputs_push files before (i ∷ is) x h g =
+    (h.0, inputs_push files (before ++ i ∷ []) is x h.1 (subst (λ (b : List SessionInput). HasInput files b x) (sym (append_assoc before (i ∷ []) is)) g))
 
-pub inputs_more : (files : Option Files) (is all : List Input) (x : Input) → all ≡ is ++ x ∷ [] → AllInputs files (map given is) → HasInput files (given x) → AllInputs files (map given all)
+pub inputs_more : (files : Option Files) (is all : List Input) (x : Input) → all ≡ is ++ x ∷ [] → AllInputs files [] (map given is) → HasInput files (map given is) (given x)
+    → AllInputs files [] (map given all)
 inputs_more files is all x pushed h g =
-    subst (λ (ys : List SessionInput). AllInputs files ys) (sym (ap (map given) pushed ∙ map-append given is (x ∷ []))) (inputs_push files (map given is) (given x) h g)
+    subst (λ (ys : List SessionInput). AllInputs files [] ys) (sym (ap (map given) pushed ∙ map-append given is (x ∷ []))) (inputs_push files [] (map given is) (given x) h g)
 
 pub sessions_more : (is all : List Input) (x : Input) (sessions : List Session) (i : ℕ) (s : Session) → i < length sessions → s ≡ get_or sessions i s
     → all ≡ is ++ x ∷ [] → map (λ y. y.session) (map given is) ≡ take i sessions → x.session.now ≡ s → map (λ y. y.session) (map given all) ≡ take (i + 1) sessions
@@ -115,14 +112,34 @@ sessions_more is all x sessions i s within at pushed same one =
 
 -- ---- the same of the store as it was, and of the text of a name
 
-pub image_refusal_as : (files now : Option Files) (name text : Text) (e : ReadError) → now ≡ files → text ≡ name → IsReadRefusal now (ImageIn text ∷ []) e → IsReadRefusal files (ImageIn name ∷ []) e
-image_refusal_as files now name text e same is h = subst (λ (f : Option Files). IsReadRefusal f (ImageIn name ∷ []) e) same (subst (λ (t : Text). IsReadRefusal now (ImageIn t ∷ []) e) is h)
+pub image_refusal_as : (files now : Option Files) (name text : Text) (e : ReadError) → now ≡ files → text ≡ name → IsNeedRefusal now (ImageIn text ∷ []) e → IsNeedRefusal files (ImageIn name ∷ []) e
+image_refusal_as files now name text e same is h = subst (λ (f : Option Files). IsNeedRefusal f (ImageIn name ∷ []) e) same (subst (λ (t : Text). IsNeedRefusal now (ImageIn t ∷ []) e) is h)
 
 pub image_as : (files now : Option Files) (name text : Text) (d : Disk) → now ≡ files → text ≡ name → IsImageIn now text d → IsImageIn files name d
 image_as files now name text d same is h = subst (λ (f : Option Files). IsImageIn f name d) same (subst (λ (t : Text). IsImageIn now t d) is h)
 
-pub refusal_as : (files now : Option Files) (ns ms : List Need) (e : ReadError) → now ≡ files → ms ≡ ns → IsReadRefusal now ms e → IsReadRefusal files ns e
-refusal_as files now ns ms e same is h = subst (λ (f : Option Files). IsReadRefusal f ns e) same (subst (λ (xs : List Need). IsReadRefusal now xs e) is h)
+pub refusal_as : (files now : Option Files) (ns ms : List Need) (e : ReadError) → now ≡ files → ms ≡ ns → IsNeedRefusal now ms e → IsNeedRefusal files ns e
+refusal_as files now ns ms e same is h = subst (λ (f : Option Files). IsNeedRefusal f ns e) same (subst (λ (xs : List Need). IsNeedRefusal now xs e) is h)
 
-pub input_as : (files now : Option Files) (i : SessionInput) → now ≡ files → HasInput now i → HasInput files i
-input_as files now i same h = subst (λ (f : Option Files). HasInput f i) same h
+pub input_as : (files now : Option Files) (before : List SessionInput) (i : SessionInput) → now ≡ files → HasInput now before i → HasInput files before i
+input_as files now before i same h = subst (λ (f : Option Files). HasInput f before i) same h
+
+pub inputs_as : (files now : Option Files) (is : List SessionInput) → now ≡ files → AllInputs now [] is → AllInputs files [] is
+inputs_as files now is same h = subst (λ (f : Option Files). AllInputs f [] is) same h
+
+-- the needs of a forked session
+pub forked_needs : (before : List SessionInput) (session : Session) (parent : String Global) (at : ℕ) (name : Text) → session.origin ≡ origin.Forked parent at → name ≡ string_bytes parent
+    → forked_script_needs at (keys_before at (keys_in before name)) session.keys ≡ needs_of before session
+forked_needs before session parent at name is named =
+    ap (λ (n : Text). forked_script_needs at (keys_before at (keys_in before n)) session.keys) named ∙ ap (needs_from before session.keys) (sym is)
+
+-- ---- a configuration
+
+pub system_refused : (files : Option Files) (config : Config) (e : ReadError) → IsNeedRefusal files (ImageIn (string_bytes config.system) ∷ []) e → IsReadRefusal files config e
+system_refused files config e h = ⊎_elim (λ m. inl m) (λ f. inr (⊎_elim (λ x. inl x) (λ m. absurd m.1) f)) h
+
+pub sessions_refused : (files now : Option Files) (config : Config) (sessions : List Session) (d : Disk) (e : ReadError) → IsImageIn files (string_bytes config.system) d → now ≡ files
+    → sessions ≡ config.sessions.items → IsSessionRefusal now [] sessions e → IsReadRefusal files config e
+sessions_refused files now config sessions d e system same is h =
+    let told = subst (λ (f : Option Files). IsSessionRefusal f [] config.sessions.items e) same (subst (λ (ss : List Session). IsSessionRefusal now [] ss e) is h) in
+    ⊎_elim (λ m. inl m) (λ f. inr (inr ((d, system), f))) told

@@ -1,12 +1,12 @@
 -- Files of sessions, one after another.
-use Rattle.std.proofs.Common.{◌≡◌, ◌∙◌, ℕ, List, [], ◌∷◌, ◌++◌, Option, None, String, ap, append_assoc, append-nil, map, sym}
+use Rattle.std.proofs.Common.{◌≡◌, ◌∙◌, ℕ, List, [], ◌++◌, Option, None, String, ap, append_assoc, append-nil, map, sym}
 use Rattle.std.specs.Prelude.{option_map, slice_get, slice_index_or, string_bytes}
 use Rattle.std.specs.declared.alloc.Global.{Global}
 use Rattle.cpm_geom.specs.Disk.{Disk}
 use Rattle.cpm_store.specs.Files.{Text}
 use Rattle.cpm_store.specs.Writes.{Named}
 use Rattle.cpm_batch.specs.declared.output.SessionFiles.{SessionFiles}
-use Rattle.cpm_batch.specs.Outputs.{files_of, files_of_all, image_at, images_of, left_by, named_image}
+use Rattle.cpm_batch.specs.Outputs.{files_of_all, image_at, images_of, left_by, named_image}
 
 -- where no session is left, all files are there
 pub all_files : (done : List Named) (rest : List SessionFiles) (all : List Named) → rest ≡ [] → done ++ files_of_all (map left_by rest) ≡ all → done ≡ all

@@ -5,13 +5,19 @@ use Rattle.std.specs.Prelude.{string_bytes}
 use Rattle.std.specs.declared.alloc.Global.{Global}
 use Rattle.cpm_geom.specs.Disk.{Disk}
 use Rattle.cpm_store.specs.Files.{Text}
-use Rattle.cpm_store.specs.Log.{Access, Gave, Ran, RanBy, Then}
-use Rattle.cpm_store.proofs.LogLemmas.{ran_more, ran_one, ran_then}
+use Rattle.cpm_store.specs.Log.{Access, Gave, RanBy, Then}
+use Rattle.cpm_store.proofs.LogLemmas.{ran_more, ran_one}
+use Rattle.cpm_script.specs.Fork.{forked_script}
 use Rattle.cpm_script.specs.Script.{script}
 use Rattle.cpm_script.specs.declared.script.Key.{Key}
-use Rattle.std.specs.Prelude.{Ok, Option, Some, None}
+use Rattle.std.specs.Prelude.{Err, IfOk, Ok, Option, Result, Some, None, Vec}
+use Rattle.cpm_config.specs.declared.config.Origin.{Origin}
+use Rattle.cpm_config.specs.declared.config.Origin.TheVariants as origin
+use Rattle.cpm_config.specs.declared.config.Session.{Session}
+use Rattle.cpm_flags.specs.declared.regs.Cpu.{Cpu}
+use Rattle.cpm_batch.specs.declared.error.ReadError.{ReadError}
 use Rattle.cpm_batch.specs.Inputs.{IsImage, SessionInput, given}
-use Rattle.cpm_batch.specs.Reads.{AreImagesRead, AreInputsRead, AreKeysRead, IsImageRead, IsInputRead, IsScriptRead}
+use Rattle.cpm_batch.specs.Reads.{AreForkedKeysRead, AreImagesRead, AreInputsRead, AreKeysRead, IsForkedRead, IsForkedScriptRead, IsImageRead, IsInputRead, IsInputReadOf, IsOpenedRead, IsScriptRead}
 use Rattle.cpm_batch.specs.declared.input.Input.{Input}
 
 -- one read
@@ -20,6 +26,11 @@ image_read does name bytes d s t call image = (Gave name bytes ∷ [], record { 
 
 pub script_read : {S : Type 0} (does : S → Access → S → Type 0) (name : Text) (text : List ℕ) (keys : List Key) (s t : S) → does s (Gave name text) t → script text ≡ Ok keys → RanBy does (IsScriptRead name keys) s t
 script_read does name text keys s t call read = (Gave name text ∷ [], record { text = text; read = read; calls = refl }, ran_one does (Gave name text) s t call)
+
+pub forked_script_read : {S : Type 0} (does : S → Access → S → Type 0) (name text : Text) (at : ℕ) (before keys : List Key) (s t : S) → does s (Gave name text) t → forked_script at before text ≡ Ok keys
+    → RanBy does (IsForkedScriptRead name at before keys) s t
+forked_script_read does name text at before keys s t call read =
+    (Gave name text ∷ [], record { text = text; read = read; calls = refl }, ran_one does (Gave name text) s t call)
 
 -- the same of the text of a name
 pub image_read_as : {S : Type 0} (does : S → Access → S → Type 0) (name text : Text) (d : Disk) (s t : S) → text ≡ name → RanBy does (IsImageRead text d) s t → RanBy does (IsImageRead name d) s t
@@ -33,6 +44,32 @@ script_named does script name text keys s t is named h =
 
 pub no_script : {S : Type 0} (does : S → Access → S → Type 0) (script : Option (String Global)) (keys : List Key) (s : S) → script ≡ None → keys ≡ [] → RanBy does (AreKeysRead script keys) s s
 no_script does script keys s is none = subst (λ (o : Option (String Global)). RanBy does (AreKeysRead o keys) s s) (sym is) ([], (none, refl), refl)
+
+pub forked_script_named : {S : Type 0} (does : S → Access → S → Type 0) (script : Option (String Global)) (name : String Global) (text : Text) (at : ℕ) (before keys : List Key) (s t : S)
+    → script ≡ Some name → text ≡ string_bytes name → RanBy does (IsForkedScriptRead text at before keys) s t → RanBy does (AreForkedKeysRead script at before keys) s t
+forked_script_named does script name text at before keys s t is named h =
+    subst (λ (o : Option (String Global)). RanBy does (AreForkedKeysRead o at before keys) s t) (sym is) (subst (λ (n : Text). RanBy does (IsForkedScriptRead n at before keys) s t) named h)
+
+pub no_forked_script : {S : Type 0} (does : S → Access → S → Type 0) (script : Option (String Global)) (at : ℕ) (before keys : List Key) (s : S) → script ≡ None → keys ≡ before
+    → RanBy does (AreForkedKeysRead script at before keys) s s
+no_forked_script does script at before keys s is same = subst (λ (o : Option (String Global)). RanBy does (AreForkedKeysRead o at before keys) s s) (sym is) ([], (same, refl), refl)
+
+-- the reads of a session that begins so
+pub opened_read : {S : Type 0} (does : S → Access → S → Type 0) (r : Result Input ReadError) (before : List SessionInput) (session : Session) (cpu : Cpu) (quota : ℕ) (drives : Vec (String Global) Global)
+    (names : List (String Global)) (s t : S) → session.origin ≡ origin.Opened cpu quota drives → names ≡ drives.items → IfOk r (λ i. i.session.now ≡ session)
+    → IfOk r (λ i. RanBy does (IsOpenedRead cpu quota names (given i)) s t) → IfOk r (λ i. RanBy does (IsInputRead before (given i)) s t)
+opened_read does (Err e) before session cpu quota drives names s t is named same log = tt
+opened_read does (Ok i) before session cpu quota drives names s t is named same log =
+    subst (λ (o : Origin). RanBy does (IsInputReadOf before o (given i)) s t) (sym (ap (λ (x : Session). x.origin) same ∙ is))
+    (subst (λ (ns : List (String Global)). RanBy does (IsOpenedRead cpu quota ns (given i)) s t) named log)
+
+pub forked_read : {S : Type 0} (does : S → Access → S → Type 0) (r : Result Input ReadError) (before : List SessionInput) (session : Session) (parent : String Global) (at : ℕ) (name : Text) (s t : S)
+    → session.origin ≡ origin.Forked parent at → name ≡ string_bytes parent → IfOk r (λ i. i.session.now ≡ session) → IfOk r (λ i. RanBy does (IsForkedRead before name at (given i)) s t)
+    → IfOk r (λ i. RanBy does (IsInputRead before (given i)) s t)
+forked_read does (Err e) before session parent at name s t is named same log = tt
+forked_read does (Ok i) before session parent at name s t is named same log =
+    subst (λ (o : Origin). RanBy does (IsInputReadOf before o (given i)) s t) (sym (ap (λ (x : Session). x.origin) same ∙ is))
+    (subst (λ (n : Text). RanBy does (IsForkedRead before n at (given i)) s t) named log)
 
 -- the reads of a list, and one more
 pub then_more : (Before After All : List Access → Type 0) (xs ys : List Access) (h : Then Before After xs) → All (h.rest ++ ys) → Then Before All (xs ++ ys)
@@ -61,9 +98,11 @@ images_push (n ∷ names) [] name d xs ys h g = absurd h
 images_push (n ∷ names) (x ∷ ds) name d xs ys h g =
     then_more (IsImageRead (string_bytes n) x) (AreImagesRead names ds) (AreImagesRead (names ++ name ∷ []) (ds ++ d ∷ [])) xs ys h (images_push names ds name d h.rest ys h.goes_on g)
 
-inputs_push : (is : List SessionInput) (x : SessionInput) (xs ys : List Access) → AreInputsRead is xs → IsInputRead x ys → AreInputsRead (is ++ x ∷ []) (xs ++ ys)
-inputs_push [] x xs ys h g = then_last (IsInputRead x) xs ys h g
-inputs_push (i ∷ is) x xs ys h g = then_more (IsInputRead i) (AreInputsRead is) (AreInputsRead (is ++ x ∷ [])) xs ys h (inputs_push is x h.rest ys h.goes_on g)
+inputs_push : (before is : List SessionInput) (x : SessionInput) (xs ys : List Access) → AreInputsRead before is xs → IsInputRead (before ++ is) x ys → AreInputsRead before (is ++ x ∷ []) (xs ++ ys)
+inputs_push before [] x xs ys h g = then_last (IsInputRead before x) xs ys h (subst (λ (b : List SessionInput). IsInputRead b x ys) (append-nil before) g)
+inputs_push before (i ∷ is) x xs ys h g =
+    then_more (IsInputRead before i) (AreInputsRead (before ++ i ∷ []) is) (AreInputsRead (before ++ i ∷ []) (is ++ x ∷ [])) xs ys h
+    (inputs_push (before ++ i ∷ []) is x h.rest ys h.goes_on (subst (λ (b : List SessionInput). IsInputRead b x ys) (sym (append_assoc before (i ∷ []) is)) g))
 
 -- one more of a list that is gone through
 pub images_more : {S : Type 0} (does : S → Access → S → Type 0) (names : List (String Global)) (i : ℕ) (name : String Global) (ds all : List Disk) (d : Disk) (s m t : S) → i < length names
@@ -75,8 +114,8 @@ images_more does names i name ds all d s m t within is pushed h g =
     (subst (λ (ns : List (String Global)). RanBy does (AreImagesRead ns (ds ++ d ∷ [])) s t) (sym more)
     (h.0 ++ g.0, images_push (take i names) ds name d h.0 g.0 h.1 g.1, ran_more does h.0 g.0 s m t h.2 g.2))
 
-pub sessions_read : {S : Type 0} (does : S → Access → S → Type 0) (is all : List Input) (x : Input) (s m t : S) → all ≡ is ++ x ∷ [] → RanBy does (AreInputsRead (map given is)) s m
-    → RanBy does (IsInputRead (given x)) m t → RanBy does (AreInputsRead (map given all)) s t
+pub sessions_read : {S : Type 0} (does : S → Access → S → Type 0) (is all : List Input) (x : Input) (s m t : S) → all ≡ is ++ x ∷ [] → RanBy does (AreInputsRead [] (map given is)) s m
+    → RanBy does (IsInputRead (map given is) (given x)) m t → RanBy does (AreInputsRead [] (map given all)) s t
 sessions_read does is all x s m t pushed h g =
-    subst (λ (ys : List SessionInput). RanBy does (AreInputsRead ys) s t) (sym (ap (map given) pushed ∙ map-append given is (x ∷ [])))
-    (h.0 ++ g.0, inputs_push (map given is) (given x) h.0 g.0 h.1 g.1, ran_more does h.0 g.0 s m t h.2 g.2)
+    subst (λ (ys : List SessionInput). RanBy does (AreInputsRead [] ys) s t) (sym (ap (map given) pushed ∙ map-append given is (x ∷ [])))
+    (h.0 ++ g.0, inputs_push [] (map given is) (given x) h.0 g.0 h.1 g.1, ran_more does h.0 g.0 s m t h.2 g.2)

@@ -1,11 +1,16 @@
 -- What the sessions of a configuration need, and what is read for them. All of it is own.
-use Rattle.std.specs.Prelude.{⊤, ◌≡◌, ◌⊎◌, ℕ, List, [], ◌∷◌, ◌++◌, length, map, Option, Some, None, Ok, Err, String, string_bytes}
+use Rattle.std.specs.Prelude.{⊤, ◌≡◌, ◌⊎◌, ℕ, List, [], ◌∷◌, ◌++◌, length, map, slice_get, Option, Some, None, option_and_then, Ok, Err, String, string_bytes}
 use Rattle.std.specs.List.{concat}
 use Rattle.std.specs.declared.alloc.Global.{Global}
+use Rattle.cpm_config.specs.Rules.{place_of, session_view}
 use Rattle.cpm_config.specs.declared.config.Config.{Config}
+use Rattle.cpm_config.specs.declared.config.Origin.{Origin}
+use Rattle.cpm_config.specs.declared.config.Origin.TheVariants as origin
 use Rattle.cpm_config.specs.declared.config.Session.{Session}
+use Rattle.cpm_flags.specs.declared.regs.Cpu.{Cpu}
 use Rattle.cpm_geom.specs.Disk.{Disk, IsDisk}
 use Rattle.cpm_geom.specs.Geometry.{format_of_length}
+use Rattle.cpm_script.specs.Fork.{forked_script, keys_before}
 use Rattle.cpm_script.specs.Script.{script}
 use Rattle.cpm_script.specs.declared.fault.LineFault.{LineFault}
 use Rattle.cpm_script.specs.declared.script.Key.{Key}
@@ -13,6 +18,8 @@ use Rattle.cpm_store.specs.Files.{Files, Finds, Text}
 use Rattle.cpm_batch.specs.declared.error.ReadError.{ReadError}
 use Rattle.cpm_batch.specs.declared.error.ReadError.TheVariants.{File, Image, Script, OutOfMemory}
 use Rattle.cpm_batch.specs.declared.input.Input.{Input}
+use Rattle.cpm_batch.specs.declared.input.Start.{Start}
+use Rattle.cpm_batch.specs.declared.input.Start.TheVariants as start
 
 -- ---- what files hold, where the store tells it
 
@@ -34,6 +41,12 @@ pub record IsScriptIn (files : Option Files) (name : Text) (keys : List Key) : T
   pub found : Finds files name text
   pub read : script text ≡ Ok keys
 
+-- the file has a key script with which a session that is forked at this count of steps, behind the keys that its parent had before, has these keys
+pub record IsForkedScriptIn (files : Option Files) (name : Text) (at : ℕ) (before keys : List Key) : Type 0 where
+  pub text : List ℕ
+  pub found : Finds files name text
+  pub read : forked_script at before text ≡ Ok keys
+
 -- the file has so many bytes, which no image has
 pub record IsNoImageIn (files : Option Files) (name : Text) (count : ℕ) : Type 0 where
   pub bytes : List ℕ
@@ -47,16 +60,33 @@ pub record IsNoScriptIn (files : Option Files) (name : Text) (line : ℕ) (fault
   pub found : Finds files name text
   pub read : script text ≡ Err (line, fault)
 
+-- the same of a session that is forked at this count of steps, behind these keys
+pub record IsNoForkedScriptIn (files : Option Files) (name : Text) (at : ℕ) (before : List Key) (line : ℕ) (fault : LineFault) : Type 0 where
+  pub text : List ℕ
+  pub found : Finds files name text
+  pub read : forked_script at before text ≡ Err (line, fault)
+
 -- ---- what is read for a session
+
+-- how a session begins: it is opened with images of its drives, A first, or forked from the session at an earlier place, at a count of its steps
+pub data StartInput : Type 0 where
+  Opens : (cpu : Cpu) (quota : ℕ) (drives : List Disk) → StartInput
+  Forks : (parent at : ℕ) → StartInput
+
+abbrev pub start_view : Start → StartInput
+start_view (start.Opened cpu quota drives) = Opens cpu quota drives.items
+start_view (start.Forked parent at) = Forks parent at
 
 pub record SessionInput : Type 0 where
   pub session : Session
-  -- the images of its drives, A first
-  pub drives : List Disk
+  pub start : StartInput
+  -- all keys that it has: those before its fork, where it is forked, and those of its script
   pub keys : List Key
 
 abbrev pub given : Input → SessionInput
-given i = record { session = i.session.now; drives = i.drives.items; keys = i.keys.items }
+given i = record { session = i.session.now; start = start_view i.start; keys = i.keys.items }
+
+-- ---- for one that is opened
 
 -- the disks are the images in these files, in order
 abbrev pub AllImages : Option Files → List (String Global) → List Disk → Type 0
@@ -70,26 +100,68 @@ abbrev pub HasKeys : Option Files → Option (String Global) → List Key → Ty
 HasKeys files None keys = keys ≡ []
 HasKeys files (Some name) keys = IsScriptIn files (string_bytes name) keys
 
-pub record HasInput (files : Option Files) (i : SessionInput) : Type 0 where
-  pub drives : AllImages files i.session.drives.items i.drives
+pub record IsOpenedInput (files : Option Files) (cpu : Cpu) (quota : ℕ) (names : List (String Global)) (i : SessionInput) : Type 0 where
+  pub drives : List Disk
+  pub start : i.start ≡ Opens cpu quota drives
+  pub images : AllImages files names drives
   pub keys : HasKeys files i.session.keys i.keys
 
-abbrev pub AllInputs : Option Files → List SessionInput → Type 0
-AllInputs files [] = ⊤
-AllInputs files (i ∷ is) = HasInput files i × AllInputs files is
+-- ---- for one that is forked, behind what was read for the sessions before it
+
+abbrev pub IsOpened : StartInput → Type 0
+IsOpened (Opens cpu quota drives) = ⊤
+IsOpened (Forks parent at) = ⊥
+
+-- the place of the first session that has this name
+abbrev pub place_in : List SessionInput → Text → Option ℕ
+place_in before name = place_of name (map (λ i. session_view i.session) before)
+
+-- it is opened, it stands at this place, and this was read for it
+pub record IsParent (before : List SessionInput) (name : Text) (place : ℕ) (parent : SessionInput) : Type 0 where
+  pub first : place_in before name ≡ Some place
+  pub there : slice_get before place ≡ Some parent
+  pub opened : IsOpened parent.start
+
+-- the keys are those before the fork, and behind them those of the script, if there is one
+abbrev pub HasForkedKeys : Option Files → Option (String Global) → (at : ℕ) → (before keys : List Key) → Type 0
+HasForkedKeys files None at before keys = keys ≡ before
+HasForkedKeys files (Some name) at before keys = IsForkedScriptIn files (string_bytes name) at before keys
+
+pub record IsForkedInput (files : Option Files) (before : List SessionInput) (name : Text) (at : ℕ) (i : SessionInput) : Type 0 where
+  pub place : ℕ
+  pub parent : SessionInput
+  pub found : IsParent before name place parent
+  pub start : i.start ≡ Forks place at
+  pub keys : HasForkedKeys files i.session.keys at (keys_before at parent.keys) i.keys
+
+-- ---- for each
+
+-- for a session that begins so
+abbrev pub HasInputOf : Option Files → (before : List SessionInput) → Origin → SessionInput → Type 0
+HasInputOf files before (origin.Opened cpu quota drives) i = IsOpenedInput files cpu quota drives.items i
+HasInputOf files before (origin.Forked parent at) i = IsForkedInput files before (string_bytes parent) at i
+
+abbrev pub HasInput : Option Files → (before : List SessionInput) → SessionInput → Type 0
+HasInput files before i = HasInputOf files before i.session.origin i
+
+-- behind those before them
+abbrev pub AllInputs : Option Files → (before is : List SessionInput) → Type 0
+AllInputs files before [] = ⊤
+AllInputs files before (i ∷ is) = HasInput files before i × AllInputs files (before ++ i ∷ []) is
 
 -- the system drive and the sessions of the configuration, in its order, with what the files hold
 pub record AreInputs (files : Option Files) (config : Config) (system : Disk) (inputs : List SessionInput) : Type 0 where
   pub drive : IsImageIn files (string_bytes config.system) system
   pub sessions : map (λ i. i.session) inputs ≡ config.sessions.items
-  pub all : AllInputs files inputs
+  pub all : AllInputs files [] inputs
 
--- ---- what is needed, in the order in which it is read
+-- ---- what a session needs, in the order in which it is read
 
--- a file that is to hold an image, or a key script
+-- a file that is to hold an image, or a key script; one of a session that is forked at a count of steps stands behind the keys that its parent had before
 pub data Need : Type 0 where
   ImageIn : (name : Text) → Need
   ScriptIn : (name : Text) → Need
+  ForkedScriptIn : (name : Text) (at : ℕ) (before : List Key) → Need
 
 abbrev pub image_needs : List (String Global) → List Need
 image_needs names = map (λ name. ImageIn (string_bytes name)) names
@@ -98,26 +170,42 @@ abbrev pub script_needs : Option (String Global) → List Need
 script_needs None = []
 script_needs (Some name) = ScriptIn (string_bytes name) ∷ []
 
-abbrev pub needs_of : Session → List Need
-needs_of s = image_needs s.drives.items ++ script_needs s.keys
+abbrev pub forked_script_needs : (at : ℕ) (before : List Key) → Option (String Global) → List Need
+forked_script_needs at before None = []
+forked_script_needs at before (Some name) = ForkedScriptIn (string_bytes name) at before ∷ []
 
-abbrev pub needs_of_all : List Session → List Need
-needs_of_all [] = []
-needs_of_all (s ∷ ss) = needs_of s ++ needs_of_all ss
+-- the keys of what was read for a session, if it was
+abbrev pub keys_if_any : Option SessionInput → List Key
+keys_if_any None = []
+keys_if_any (Some i) = i.keys
 
-abbrev pub needs_of_config : Config → List Need
-needs_of_config config = ImageIn (string_bytes config.system) ∷ needs_of_all config.sessions.items
+-- those of the first session of this name
+abbrev pub keys_in : List SessionInput → Text → List Key
+keys_in before name = keys_if_any (option_and_then (slice_get before) (place_in before name))
+
+-- of a session with this script that begins so
+abbrev pub needs_from : (before : List SessionInput) → Option (String Global) → Origin → List Need
+needs_from before keys (origin.Opened cpu quota drives) = image_needs drives.items ++ script_needs keys
+needs_from before keys (origin.Forked parent at) = forked_script_needs at (keys_before at (keys_in before (string_bytes parent))) keys
+
+-- of a session, behind what was read for those before it
+abbrev pub needs_of : (before : List SessionInput) → Session → List Need
+needs_of before s = needs_from before s.keys s.origin
+
+-- ---- the first fault
 
 -- the file holds what is needed
 abbrev pub IsMet : Option Files → Need → Type 0
 IsMet files (ImageIn name) = (d : Disk) × IsImageIn files name d
 IsMet files (ScriptIn name) = (keys : List Key) × IsScriptIn files name keys
+IsMet files (ForkedScriptIn name at before) = (keys : List Key) × IsForkedScriptIn files name at before keys
 
 -- it doesn't, as the error says; any file may be one that can't be read
 abbrev pub IsFault : Option Files → Need → ReadError → Type 0
 IsFault files need (File name) = ⊤
 IsFault files (ImageIn name) (Image shown count) = IsNoImageIn files name count
 IsFault files (ScriptIn name) (Script shown line fault) = IsNoScriptIn files name line fault
+IsFault files (ForkedScriptIn name at before) (Script shown line fault) = IsNoForkedScriptIn files name at before line fault
 IsFault files need _ = ⊥
 
 -- the first of the needs that isn't met is refused so
@@ -125,9 +213,27 @@ abbrev pub IsFirstFault : Option Files → List Need → ReadError → Type 0
 IsFirstFault files [] e = ⊥
 IsFirstFault files (need ∷ needs) e = IsFault files need e ⊎ (IsMet files need × IsFirstFault files needs e)
 
--- how reading what is needed is refused: for its first fault, or for want of memory
-abbrev pub IsReadRefusal : Option Files → List Need → ReadError → Type 0
-IsReadRefusal files needs e = (e ≡ OutOfMemory) ⊎ IsFirstFault files needs e
+-- the first need that isn't met of sessions, behind what was read for those before them, is refused so
+abbrev pub AreFirstFault : Option Files → (before : List SessionInput) → List Session → ReadError → Type 0
+AreFirstFault files before [] e = ⊥
+AreFirstFault files before (s ∷ ss) e =
+    IsFirstFault files (needs_of before s) e ⊎ ((i : SessionInput) × (i.session ≡ s) × HasInput files before i × AreFirstFault files (before ++ i ∷ []) ss e)
+
+-- the first need of a configuration that isn't met is refused so: the image of the system drive, or what its sessions need
+abbrev pub IsInputFault : Option Files → Config → ReadError → Type 0
+IsInputFault files config e =
+    IsFault files (ImageIn (string_bytes config.system)) e
+    ⊎ (IsMet files (ImageIn (string_bytes config.system)) × AreFirstFault files [] config.sessions.items e)
+
+-- how reading is refused: for the first fault, or for want of memory
+abbrev pub IsNeedRefusal : Option Files → List Need → ReadError → Type 0
+IsNeedRefusal files needs e = (e ≡ OutOfMemory) ⊎ IsFirstFault files needs e
+
+abbrev pub IsSessionRefusal : Option Files → (before : List SessionInput) → List Session → ReadError → Type 0
+IsSessionRefusal files before sessions e = (e ≡ OutOfMemory) ⊎ AreFirstFault files before sessions e
+
+abbrev pub IsReadRefusal : Option Files → Config → ReadError → Type 0
+IsReadRefusal files config e = (e ≡ OutOfMemory) ⊎ IsInputFault files config e
 
 -- the exit status of each
 abbrev pub status_of_reading : ReadError → ℕ

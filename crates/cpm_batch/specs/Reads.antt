@@ -1,16 +1,20 @@
 -- What is read for the sessions of a configuration, as the calls of a store in their order. All of it is own.
-use Rattle.std.specs.Prelude.{◌≡◌, ◌⊎◌, ℕ, List, [], ◌∷◌, length, map, Option, Some, None, Ok, Err, String, string_bytes}
+use Rattle.std.specs.Prelude.{◌≡◌, ◌⊎◌, ℕ, List, [], ◌∷◌, ◌++◌, length, map, Option, Some, None, Ok, Err, String, string_bytes}
 use Rattle.std.specs.declared.alloc.Global.{Global}
 use Rattle.cpm_config.specs.declared.config.Config.{Config}
+use Rattle.cpm_config.specs.declared.config.Origin.{Origin}
+use Rattle.cpm_config.specs.declared.config.Origin.TheVariants as origin
 use Rattle.cpm_config.specs.declared.config.Session.{Session}
+use Rattle.cpm_flags.specs.declared.regs.Cpu.{Cpu}
 use Rattle.cpm_geom.specs.Disk.{Disk}
 use Rattle.cpm_geom.specs.Geometry.{format_of_length}
+use Rattle.cpm_script.specs.Fork.{forked_script, keys_before}
 use Rattle.cpm_script.specs.Script.{script}
 use Rattle.cpm_script.specs.declared.fault.LineFault.{LineFault}
 use Rattle.cpm_script.specs.declared.script.Key.{Key}
 use Rattle.cpm_store.specs.Files.{Text}
 use Rattle.cpm_store.specs.Log.{Access, AreNoWrites, Gave, Missed, Then}
-use Rattle.cpm_batch.specs.Inputs.{ImageIn, IsImage, Need, ScriptIn, SessionInput}
+use Rattle.cpm_batch.specs.Inputs.{Forks, ForkedScriptIn, ImageIn, IsImage, IsParent, Need, Opens, ScriptIn, SessionInput, needs_of}
 use Rattle.cpm_batch.specs.declared.error.ReadError.{ReadError}
 use Rattle.cpm_batch.specs.declared.error.ReadError.TheVariants.{File, Image, Script, OutOfMemory}
 
@@ -26,6 +30,12 @@ pub record IsScriptRead (name : Text) (keys : List Key) (log : List Access) : Ty
   pub read : script text ≡ Ok keys
   pub calls : log ≡ Gave name text ∷ []
 
+-- one read, in which the file gave a key script with which a session that is forked at this count of steps, behind the keys that its parent had before, has these keys
+pub record IsForkedScriptRead (name : Text) (at : ℕ) (before keys : List Key) (log : List Access) : Type 0 where
+  pub text : List ℕ
+  pub read : forked_script at before text ≡ Ok keys
+  pub calls : log ≡ Gave name text ∷ []
+
 -- a read of each of these files in order, in which it gave the image of its disk
 abbrev pub AreImagesRead : List (String Global) → List Disk → List Access → Type 0
 AreImagesRead [] [] log = log ≡ []
@@ -38,25 +48,49 @@ abbrev pub AreKeysRead : Option (String Global) → List Key → List Access →
 AreKeysRead None keys log = (keys ≡ []) × (log ≡ [])
 AreKeysRead (Some name) keys log = IsScriptRead (string_bytes name) keys log
 
--- the reads of a session: its drives, then its keys
-abbrev pub IsInputRead : SessionInput → List Access → Type 0
-IsInputRead i log = Then (AreImagesRead i.session.drives.items i.drives) (AreKeysRead i.session.keys i.keys) log
+-- a read of the script of a forked session, if there is one, in which it gave the keys behind those before the fork
+abbrev pub AreForkedKeysRead : Option (String Global) → (at : ℕ) → (before keys : List Key) → List Access → Type 0
+AreForkedKeysRead None at before keys log = (keys ≡ before) × (log ≡ [])
+AreForkedKeysRead (Some name) at before keys log = IsForkedScriptRead (string_bytes name) at before keys log
 
--- those of each session in order
-abbrev pub AreInputsRead : List SessionInput → List Access → Type 0
-AreInputsRead [] log = log ≡ []
-AreInputsRead (i ∷ is) log = Then (IsInputRead i) (AreInputsRead is) log
+-- the reads of a session that is opened: its drives, then its keys
+pub record IsOpenedRead (cpu : Cpu) (quota : ℕ) (names : List (String Global)) (i : SessionInput) (log : List Access) : Type 0 where
+  pub drives : List Disk
+  pub start : i.start ≡ Opens cpu quota drives
+  pub calls : Then (AreImagesRead names drives) (AreKeysRead i.session.keys i.keys) log
+
+-- those of a session that is forked, behind what was read for the sessions before it: its keys
+pub record IsForkedRead (before : List SessionInput) (name : Text) (at : ℕ) (i : SessionInput) (log : List Access) : Type 0 where
+  pub place : ℕ
+  pub parent : SessionInput
+  pub found : IsParent before name place parent
+  pub start : i.start ≡ Forks place at
+  pub calls : AreForkedKeysRead i.session.keys at (keys_before at parent.keys) i.keys log
+
+-- those of a session that begins so
+abbrev pub IsInputReadOf : (before : List SessionInput) → Origin → SessionInput → List Access → Type 0
+IsInputReadOf before (origin.Opened cpu quota drives) i log = IsOpenedRead cpu quota drives.items i log
+IsInputReadOf before (origin.Forked parent at) i log = IsForkedRead before (string_bytes parent) at i log
+
+abbrev pub IsInputRead : (before : List SessionInput) → SessionInput → List Access → Type 0
+IsInputRead before i log = IsInputReadOf before i.session.origin i log
+
+-- those of each session in order, behind what was read for those before them
+abbrev pub AreInputsRead : (before is : List SessionInput) → List Access → Type 0
+AreInputsRead before [] log = log ≡ []
+AreInputsRead before (i ∷ is) log = Then (IsInputRead before i) (AreInputsRead (before ++ i ∷ []) is) log
 
 -- those of a configuration: the system drive, then the sessions in its order
 pub record AreRead (config : Config) (system : Disk) (inputs : List SessionInput) (log : List Access) : Type 0 where
   pub sessions : map (λ i. i.session) inputs ≡ config.sessions.items
-  pub calls : Then (IsImageRead (string_bytes config.system) system) (AreInputsRead inputs) log
+  pub calls : Then (IsImageRead (string_bytes config.system) system) (AreInputsRead [] inputs) log
 
 -- ---- where reading is given up
 
 abbrev pub name_of : Need → Text
 name_of (ImageIn name) = name
 name_of (ScriptIn name) = name
+name_of (ForkedScriptIn name at before) = name
 
 -- one read, in which the file gave so many bytes, which no image has
 pub record IsNoImageRead (name : Text) (count : ℕ) (log : List Access) : Type 0 where
@@ -71,16 +105,24 @@ pub record IsNoScriptRead (name : Text) (line : ℕ) (fault : LineFault) (log : 
   pub read : script text ≡ Err (line, fault)
   pub calls : log ≡ Gave name text ∷ []
 
+-- the same of a session that is forked at this count of steps, behind these keys
+pub record IsNoForkedScriptRead (name : Text) (at : ℕ) (before : List Key) (line : ℕ) (fault : LineFault) (log : List Access) : Type 0 where
+  pub text : List ℕ
+  pub read : forked_script at before text ≡ Err (line, fault)
+  pub calls : log ≡ Gave name text ∷ []
+
 -- one read, in which the file held what is needed
 abbrev pub IsNeedRead : Need → List Access → Type 0
 IsNeedRead (ImageIn name) log = (d : Disk) × IsImageRead name d log
 IsNeedRead (ScriptIn name) log = (keys : List Key) × IsScriptRead name keys log
+IsNeedRead (ForkedScriptIn name at before) log = (keys : List Key) × IsForkedScriptRead name at before keys log
 
 -- one read, which failed, or in which the file didn't hold it, as the error says
 abbrev pub IsFaultRead : Need → ReadError → List Access → Type 0
 IsFaultRead need (File shown) log = log ≡ Missed (name_of need) ∷ []
 IsFaultRead (ImageIn name) (Image shown count) log = IsNoImageRead name count log
 IsFaultRead (ScriptIn name) (Script shown line fault) log = IsNoScriptRead name line fault log
+IsFaultRead (ForkedScriptIn name at before) (Script shown line fault) log = IsNoForkedScriptRead name at before line fault log
 IsFaultRead need _ log = ⊥
 
 -- a read of each of the needs in order, up to the first that isn't met, and none behind it
@@ -88,6 +130,25 @@ abbrev pub StopsAtFault : List Need → ReadError → List Access → Type 0
 StopsAtFault [] e log = ⊥
 StopsAtFault (need ∷ needs) e log = IsFaultRead need e log ⊎ Then (IsNeedRead need) (StopsAtFault needs e) log
 
+-- the reads of sessions in order, each behind what was read for those before it, up to the first need that isn't met, and none behind it
+abbrev pub StopsAtSession : (before : List SessionInput) → List Session → ReadError → List Access → Type 0
+StopsAtSession before [] e log = ⊥
+StopsAtSession before (s ∷ ss) e log =
+    StopsAtFault (needs_of before s) e log
+    ⊎ ((i : SessionInput) × (i.session ≡ s) × Then (IsInputRead before i) (StopsAtSession (before ++ i ∷ []) ss e) log)
+
+-- the reads of a configuration, the system drive and then its sessions, up to the first need that isn't met, and none behind it
+abbrev pub StopsAtInput : Config → ReadError → List Access → Type 0
+StopsAtInput config e log =
+    IsFaultRead (ImageIn (string_bytes config.system)) e log
+    ⊎ Then (IsNeedRead (ImageIn (string_bytes config.system))) (StopsAtSession [] config.sessions.items e) log
+
 -- the calls of reading that is refused: for want of memory none that writes, else those up to the first fault
-abbrev pub StopsReading : List Need → ReadError → List Access → Type 0
-StopsReading needs e log = ((e ≡ OutOfMemory) × AreNoWrites log) ⊎ StopsAtFault needs e log
+abbrev pub StopsAmongNeeds : List Need → ReadError → List Access → Type 0
+StopsAmongNeeds needs e log = ((e ≡ OutOfMemory) × AreNoWrites log) ⊎ StopsAtFault needs e log
+
+abbrev pub StopsAmongSessions : (before : List SessionInput) → List Session → ReadError → List Access → Type 0
+StopsAmongSessions before sessions e log = ((e ≡ OutOfMemory) × AreNoWrites log) ⊎ StopsAtSession before sessions e log
+
+abbrev pub StopsReading : Config → ReadError → List Access → Type 0
+StopsReading config e log = ((e ≡ OutOfMemory) × AreNoWrites log) ⊎ StopsAtInput config e log

@@ -1,25 +1,45 @@
 //! Reading what the sessions of a configuration need, in their order.
-ghost use Rattle.std.specs.Prelude.{◌≡◌, ◌≤◌, ◌∷◌, ◌⊎◌, [], IfErr, IfOk, OnErr, OnOk, map};
+ghost use Rattle.std.specs.Prelude.{◌≡◌, ◌≤◌, ◌∷◌, ◌++◌, ◌⊎◌, [], IfErr, IfOk, None, OnErr, OnOk, map};
+ghost use Rattle.cpm_config.specs.Rules.{config_view, fork_fault, forks_fault, session_view};
 ghost use Rattle.cpm_store.specs.Files.{CountsFailure, Finds};
 ghost use Rattle.cpm_store.specs.Log.{AreNoWrites, Gave, Missed, RanBy};
-ghost use Rattle.cpm_batch.specs.Inputs.{AllImages, AllInputs, AreInputs, HasInput, HasKeys, ImageIn, IsFileFault, IsImageIn, IsReadRefusal, IsScriptIn, ScriptIn, given, image_needs, needs_of, needs_of_all, needs_of_config, script_needs};
-ghost use Rattle.cpm_batch.specs.Reads.{AreImagesRead, AreInputsRead, AreKeysRead, AreRead, IsImageRead, IsInputRead, IsScriptRead, StopsReading};
+ghost use Rattle.cpm_batch.specs.Inputs.{AllImages, AllInputs, AreInputs, HasInput, HasKeys, ImageIn, IsFileFault, IsImageIn, IsNeedRefusal, IsOpenedInput, IsReadRefusal, IsScriptIn, IsSessionRefusal, ScriptIn, given, image_needs, needs_of, script_needs};
+ghost use Rattle.cpm_batch.specs.Reads.{AreImagesRead, AreInputsRead, AreKeysRead, AreRead, IsImageRead, IsInputRead, IsOpenedRead, IsScriptRead, StopsAmongNeeds, StopsAmongSessions, StopsReading};
 
 use crate::error::ReadError;
+use crate::forked::read_forked;
 use cpm_command::shown;
-use cpm_config::{Config, Session};
+use cpm_config::{Config, Origin, Session};
+use cpm_flags::Cpu;
 use cpm_geom::Image;
 use cpm_script::{Key, ScriptError, read_keys};
 use cpm_store::{Store, StoreError};
 use std::alloc::Global;
 
+/// How a session begins, with what was read for it.
+#[derive(Drop)]
+pub enum Start {
+    /// It is opened with these images of its drives, A first.
+    Opened {
+        cpu: Cpu,
+        quota: u16,
+        drives: Vec<Image>,
+    },
+    /// It is forked from the session at this place, which is opened and stands before it, at this
+    /// count of that one's steps.
+    Forked {
+        parent: usize,
+        at: u64,
+    },
+}
+
 /// What was read for a session.
 #[derive(Drop)]
 pub struct Input<'a> {
     pub session: &'a Session,
-    /// The images of its drives, A first.
-    pub drives: Vec<Image>,
-    /// The keys of its script.
+    pub start: Start,
+    /// Its keys: those of its script; of a forked session those of its parent that come before the
+    /// fork, and then those of its script.
     pub keys: Vec<Key>,
 }
 
@@ -33,7 +53,11 @@ pub struct Inputs<'a> {
 }
 
 /// The bytes of a file.
-fn read_bytes<S: Store>(alloc: Global, store: &mut S, name: &str) -> Result<Vec<u8>, ReadError>
+pub(crate) fn read_bytes<S: Store>(
+    alloc: Global,
+    store: &mut S,
+    name: &str,
+) -> Result<Vec<u8>, ReadError>
     ensures found { IfOk result (λ v. Finds (S.files store.old) name.now v.items) }
     ensures gave { IfOk result (λ v. S.does store.old (Gave name.now v.items) store.new) }
     ensures missed { OnErr result (S.does store.old (Missed name.now) store.new) }
@@ -56,8 +80,8 @@ fn read_bytes<S: Store>(alloc: Global, store: &mut S, name: &str) -> Result<Vec<
 fn read_image<S: Store>(alloc: Global, store: &mut S, name: &str) -> Result<Image, ReadError>
     ensures image { IfOk result (IsImageIn (S.files store.old) name.now) }
     ensures log { IfOk result (λ d. RanBy S.does (IsImageRead name.now d) store.old store.new) }
-    ensures refusal { IfErr result (IsReadRefusal (S.files store.old) (ImageIn name.now ∷ [])) }
-    ensures refused_log { IfErr result (λ e. RanBy S.does (StopsReading (ImageIn name.now ∷ []) e) store.old store.new) }
+    ensures refusal { IfErr result (IsNeedRefusal (S.files store.old) (ImageIn name.now ∷ [])) }
+    ensures refused_log { IfErr result (λ e. RanBy S.does (StopsAmongNeeds (ImageIn name.now ∷ []) e) store.old store.new) }
     ensures device { IfErr result (λ e. IsFileFault e → CountsFailure (S.failed store.old) (S.failed store.new)) }
     ensures same { S.files store.new ≡ S.files store.old }
     ensures unwritten { RanBy S.does AreNoWrites store.old store.new }
@@ -83,8 +107,8 @@ fn read_images<S: Store>(
 ) -> Result<Vec<Image>, ReadError>
     ensures images { IfOk result (λ v. AllImages (S.files store.old) names.now v.items) }
     ensures log { IfOk result (λ v. RanBy S.does (AreImagesRead names.now v.items) store.old store.new) }
-    ensures refusal { IfErr result (IsReadRefusal (S.files store.old) (image_needs names.now)) }
-    ensures refused_log { IfErr result (λ e. RanBy S.does (StopsReading (image_needs names.now) e) store.old store.new) }
+    ensures refusal { IfErr result (IsNeedRefusal (S.files store.old) (image_needs names.now)) }
+    ensures refused_log { IfErr result (λ e. RanBy S.does (StopsAmongNeeds (image_needs names.now) e) store.old store.new) }
     ensures device { IfErr result (λ e. IsFileFault e → CountsFailure (S.failed store.old) (S.failed store.new)) }
     ensures same { S.files store.new ≡ S.files store.old }
     ensures unwritten { RanBy S.does AreNoWrites store.old store.new }
@@ -103,8 +127,8 @@ fn read_images<S: Store>(
 fn read_script<S: Store>(alloc: Global, store: &mut S, name: &str) -> Result<Vec<Key>, ReadError>
     ensures keys { IfOk result (λ v. IsScriptIn (S.files store.old) name.now v.items) }
     ensures log { IfOk result (λ v. RanBy S.does (IsScriptRead name.now v.items) store.old store.new) }
-    ensures refusal { IfErr result (IsReadRefusal (S.files store.old) (ScriptIn name.now ∷ [])) }
-    ensures refused_log { IfErr result (λ e. RanBy S.does (StopsReading (ScriptIn name.now ∷ []) e) store.old store.new) }
+    ensures refusal { IfErr result (IsNeedRefusal (S.files store.old) (ScriptIn name.now ∷ [])) }
+    ensures refused_log { IfErr result (λ e. RanBy S.does (StopsAmongNeeds (ScriptIn name.now ∷ []) e) store.old store.new) }
     ensures device { IfErr result (λ e. IsFileFault e → CountsFailure (S.failed store.old) (S.failed store.new)) }
     ensures same { S.files store.new ≡ S.files store.old }
     ensures unwritten { RanBy S.does AreNoWrites store.old store.new }
@@ -132,8 +156,8 @@ fn read_keys_of<S: Store>(
 ) -> Result<Vec<Key>, ReadError>
     ensures keys { IfOk result (λ v. HasKeys (S.files store.old) name.now v.items) }
     ensures log { IfOk result (λ v. RanBy S.does (AreKeysRead name.now v.items) store.old store.new) }
-    ensures refusal { IfErr result (IsReadRefusal (S.files store.old) (script_needs name.now)) }
-    ensures refused_log { IfErr result (λ e. RanBy S.does (StopsReading (script_needs name.now) e) store.old store.new) }
+    ensures refusal { IfErr result (IsNeedRefusal (S.files store.old) (script_needs name.now)) }
+    ensures refused_log { IfErr result (λ e. RanBy S.does (StopsAmongNeeds (script_needs name.now) e) store.old store.new) }
     ensures device { IfErr result (λ e. IsFileFault e → CountsFailure (S.failed store.old) (S.failed store.new)) }
     ensures same { S.files store.new ≡ S.files store.old }
     ensures unwritten { RanBy S.does AreNoWrites store.old store.new }
@@ -147,17 +171,20 @@ fn read_keys_of<S: Store>(
     }
 }
 
-/// What a session needs.
-fn read_session<'a, S: Store>(
+/// What a session needs that is opened with the images in these files.
+fn read_opened<'a, S: Store>(
     alloc: Global,
     store: &mut S,
     session: &'a Session,
+    cpu: Cpu,
+    quota: u16,
+    names: &[String],
 ) -> Result<Input<'a>, ReadError>
-    ensures input { IfOk result (λ i. HasInput (S.files store.old) (given i)) }
-    ensures log { IfOk result (λ i. RanBy S.does (IsInputRead (given i)) store.old store.new) }
+    ensures input { IfOk result (λ i. IsOpenedInput (S.files store.old) cpu quota names.now (given i)) }
+    ensures log { IfOk result (λ i. RanBy S.does (IsOpenedRead cpu quota names.now (given i)) store.old store.new) }
     ensures session { IfOk result (λ i. i.session.now ≡ session.entry.now) }
-    ensures refusal { IfErr result (IsReadRefusal (S.files store.old) (needs_of session.entry.now)) }
-    ensures refused_log { IfErr result (λ e. RanBy S.does (StopsReading (needs_of session.entry.now) e) store.old store.new) }
+    ensures refusal { IfErr result (IsNeedRefusal (S.files store.old) (image_needs names.now ++ script_needs session.entry.now.keys)) }
+    ensures refused_log { IfErr result (λ e. RanBy S.does (StopsAmongNeeds (image_needs names.now ++ script_needs session.entry.now.keys) e) store.old store.new) }
     ensures device { IfErr result (λ e. IsFileFault e → CountsFailure (S.failed store.old) (S.failed store.new)) }
     ensures same { S.files store.new ≡ S.files store.old }
     ensures unwritten { RanBy S.does AreNoWrites store.old store.new }
@@ -165,13 +192,45 @@ fn read_session<'a, S: Store>(
     ensures memory { IfErr result (λ e. e ≡ ReadError.OutOfMemory → S.failed store.new ≡ S.failed store.old) }
     ensures counted { S.failed store.old ≤ S.failed store.new }
 {
-    let drives = read_images(alloc, store, session.drives.as_slice())?;
+    let drives = read_images(alloc, store, names)?;
     let keys = read_keys_of(alloc, store, &session.keys)?;
+    let start = Start::Opened { cpu, quota, drives };
     Ok(Input {
         session,
-        drives,
+        start,
         keys,
     })
+}
+
+/// What a session needs, behind what was read for those before it.
+fn read_session<'a, S: Store>(
+    alloc: Global,
+    store: &mut S,
+    session: &'a Session,
+    before: &[Input],
+) -> Result<Input<'a>, ReadError>
+    requires before { AllInputs (S.files store.old) [] (map given before.now) }
+    requires fork { fork_fault (map (λ i. session_view i.session) (map given before.now)) (session_view session.now) ≡ None }
+    ensures input { IfOk result (λ i. HasInput (S.files store.old) (map given before.now) (given i)) }
+    ensures log { IfOk result (λ i. RanBy S.does (IsInputRead (map given before.now) (given i)) store.old store.new) }
+    ensures session { IfOk result (λ i. i.session.now ≡ session.entry.now) }
+    ensures refusal { IfErr result (IsNeedRefusal (S.files store.old) (needs_of (map given before.now) session.entry.now)) }
+    ensures refused_log { IfErr result (λ e. RanBy S.does (StopsAmongNeeds (needs_of (map given before.now) session.entry.now) e) store.old store.new) }
+    ensures device { IfErr result (λ e. IsFileFault e → CountsFailure (S.failed store.old) (S.failed store.new)) }
+    ensures same { S.files store.new ≡ S.files store.old }
+    ensures unwritten { RanBy S.does AreNoWrites store.old store.new }
+    ensures uncounted { OnOk result (S.failed store.new ≡ S.failed store.old) }
+    ensures memory { IfErr result (λ e. e ≡ ReadError.OutOfMemory → S.failed store.new ≡ S.failed store.old) }
+    ensures counted { S.failed store.old ≤ S.failed store.new }
+{
+    match &session.origin {
+        Origin::Opened { cpu, quota, drives } => {
+            read_opened(alloc, store, session, *cpu, *quota, drives.as_slice())
+        }
+        Origin::Forked { parent, at } => {
+            read_forked(alloc, store, session, before, parent.as_str(), *at)
+        }
+    }
 }
 
 /// What sessions need, in their order.
@@ -180,11 +239,12 @@ fn read_sessions<'a, S: Store>(
     store: &mut S,
     sessions: &'a [Session],
 ) -> Result<Vec<Input<'a>>, ReadError>
-    ensures inputs { IfOk result (λ v. AllInputs (S.files store.old) (map given v.items)) }
-    ensures log { IfOk result (λ v. RanBy S.does (AreInputsRead (map given v.items)) store.old store.new) }
+    requires forks { forks_fault 1 [] (map session_view sessions.now) ≡ None }
+    ensures inputs { IfOk result (λ v. AllInputs (S.files store.old) [] (map given v.items)) }
+    ensures log { IfOk result (λ v. RanBy S.does (AreInputsRead [] (map given v.items)) store.old store.new) }
     ensures sessions { IfOk result (λ v. map (λ i. i.session) (map given v.items) ≡ sessions.entry.now) }
-    ensures refusal { IfErr result (IsReadRefusal (S.files store.old) (needs_of_all sessions.entry.now)) }
-    ensures refused_log { IfErr result (λ e. RanBy S.does (StopsReading (needs_of_all sessions.entry.now) e) store.old store.new) }
+    ensures refusal { IfErr result (IsSessionRefusal (S.files store.old) [] sessions.entry.now) }
+    ensures refused_log { IfErr result (λ e. RanBy S.does (StopsAmongSessions [] sessions.entry.now e) store.old store.new) }
     ensures device { IfErr result (λ e. IsFileFault e → CountsFailure (S.failed store.old) (S.failed store.new)) }
     ensures same { S.files store.new ≡ S.files store.old }
     ensures unwritten { RanBy S.does AreNoWrites store.old store.new }
@@ -194,13 +254,15 @@ fn read_sessions<'a, S: Store>(
 {
     let mut inputs = Vec::new(alloc);
     for session in sessions {
-        inputs.push(read_session(alloc, store, session)?)?;
+        let input = read_session(alloc, store, session, inputs.as_slice())?;
+        inputs.push(input)?;
     }
     Ok(inputs)
 }
 
 /// What a configuration needs: the system drive's image, then of each session the images of its drives and its key
-/// script, each checked before the next is read. No file is changed.
+/// script, each checked before the next is read. A forked session has its parent's drives, and needs its key script
+/// alone. No file is changed. Its forks must break no rule, which `Config::fork_fault` tells.
 ///
 /// The first fault is answered: `File` where a file can't be read, `Image` or `Script` where it holds neither. `OutOfMemory` comes only
 /// where memory is refused.
@@ -209,12 +271,13 @@ pub fn read_inputs<'a, S: Store>(
     config: &'a Config,
     store: &mut S,
 ) -> Result<Inputs<'a>, ReadError>
+    requires forks { forks_fault 1 [] (config_view config.now).sessions ≡ None }
     ensures read { IfOk result (λ i. AreInputs (S.files store.old) config.entry.now i.system (map given i.sessions.items)) }
     // The calls were these reads and no others, of whichever store.
     ensures log { IfOk result (λ i. RanBy S.does (AreRead config.entry.now i.system (map given i.sessions.items)) store.old store.new) }
-    ensures refusal { IfErr result (IsReadRefusal (S.files store.old) (needs_of_config config.entry.now)) }
+    ensures refusal { IfErr result (IsReadRefusal (S.files store.old) config.entry.now) }
     // It was refused at the first fault: no read but those before it and its own, of whichever store.
-    ensures refused_log { IfErr result (λ e. RanBy S.does (StopsReading (needs_of_config config.entry.now) e) store.old store.new) }
+    ensures refused_log { IfErr result (λ e. RanBy S.does (StopsReading config.entry.now e) store.old store.new) }
     ensures device { IfErr result (λ e. IsFileFault e → CountsFailure (S.failed store.old) (S.failed store.new)) }
     ensures same { S.files store.new ≡ S.files store.old }
     ensures unwritten { RanBy S.does AreNoWrites store.old store.new }

@@ -2,9 +2,10 @@
 #![tactic(auto)]
 
 mod error;
+mod forked;
 mod input;
 mod output;
 
 pub use error::ReadError;
-pub use input::{Input, Inputs, read_inputs};
+pub use input::{Input, Inputs, Start, read_inputs};
 pub use output::{SessionFiles, outputs_of};

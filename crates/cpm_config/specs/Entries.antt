@@ -1,5 +1,5 @@
 -- The entries of a configuration, as its TOML document has them: keys and types. All of it is own.
-use Rattle.std.specs.Prelude.{◌≡◌, ℕ, ◌+◌, ℤ, List, [], ◌∷◌, map, Bool, if◌then◌else◌, Option, Some, None, option_map, option_and_then, Result, Ok, Err, Vec}
+use Rattle.std.specs.Prelude.{◌≡◌, ℕ, ◌+◌, ℤ, List, [], ◌∷◌, map, Bool, if◌then◌else◌, Option, Some, None, option_map, option_and_then, is_some, Result, Ok, Err, Vec}
 use Rattle.std.specs.List.{list_all, list_any}
 use Rattle.std.specs.Str.{bytes_eq}
 use Rattle.std.specs.Borrow.{Bor}
@@ -10,11 +10,13 @@ use Rattle.cpm_config.specs.declared.field.Field.{Field}
 use Rattle.cpm_config.specs.declared.field.Field.TheVariants as field
 use Rattle.cpm_config.specs.declared.field.Place.{Place}
 use Rattle.cpm_config.specs.declared.fault.KeyFault.{KeyFault}
-use Rattle.cpm_config.specs.declared.fault.KeyFault.TheVariants.{UnknownAtTop, UnknownInSession, Wanted}
+use Rattle.cpm_config.specs.declared.fault.KeyFault.TheVariants.{UnknownAtTop, UnknownInSession, Wanted, Misplaced}
 use Rattle.cpm_config.specs.declared.fault.Stop.{Stop}
 use Rattle.cpm_config.specs.declared.fault.Stop.TheVariants.{Fault, OutOfMemory}
 use Rattle.cpm_config.specs.declared.draft.Draft.{Draft}
 use Rattle.cpm_config.specs.declared.draft.SessionDraft.{SessionDraft}
+use Rattle.cpm_config.specs.declared.draft.OriginDraft.{OriginDraft}
+use Rattle.cpm_config.specs.declared.draft.OriginDraft.TheVariants as draft
 
 abbrev pub Text : Type 0
 Text = List ℕ
@@ -45,6 +47,10 @@ or_wanted p None = Err (Wanted p)
 
 abbrev pub value_of : Field → Members → Option Data
 value_of f ms = get_member (field_name f) ms
+
+-- the key is there
+abbrev pub has : Field → Members → Bool
+has f ms = is_some (value_of f ms)
 
 abbrev pub text_at : ℕ → Field → Members → Result Text KeyFault
 text_at session f ms = or_wanted (place session f) (option_and_then as_str (value_of f ms))
@@ -90,49 +96,79 @@ has_only known ms = list_all (λ k. list_any (λ f. bytes_eq k (field_name f)) k
 
 -- ---- a session
 
+-- how a session begins: it is opened, or forked from another one, at a count of its steps
+pub data OriginEntries : Type 0 where
+  Opens : (cpu : Text) (quota : ℤ) (drives : List Text) → OriginEntries
+  Forks : (parent : Text) (at : ℤ) → OriginEntries
+
+-- the steps of a forked session are its whole count, those before the fork included
 pub record SessionEntries : Type 0 where
   pub name : Text
-  pub cpu : Text
-  pub quota : ℤ
+  pub origin : OriginEntries
   pub steps : ℤ
-  pub drives : List Text
   pub console : Text
   pub keys : Option Text
   pub list : Option Text
   pub out : Option (List Text)
 
 abbrev pub session_fields : List Field
-session_fields = field.Name ∷ field.Cpu ∷ field.Quota ∷ field.Steps ∷ field.Drives ∷ field.Console
-    ∷ field.Keys ∷ field.List ∷ field.Out ∷ []
+session_fields = field.Name ∷ field.Cpu ∷ field.Quota ∷ field.Fork ∷ field.At ∷ field.Steps ∷ field.Drives
+    ∷ field.Console ∷ field.Keys ∷ field.List ∷ field.Out ∷ []
 
 abbrev pub known_in_session : ℕ → Members → Result (Unit {0}) KeyFault
 known_in_session session ms =
     if has_only session_fields ms then Ok tt else Err (UnknownInSession session)
 
--- the entries of the table of the session with this number, or its first fault in this order
-unfoldable pub session_of_table : ℕ → Members → Result SessionEntries KeyFault
-session_of_table n ms = do
-  known ← known_in_session n ms
-  name ← text_at n field.Name ms
-  cpu ← text_at n field.Cpu ms
-  quota ← number_at n field.Quota ms
-  steps ← number_at n field.Steps ms
-  drives ← texts_at n field.Drives ms
+-- the first of these keys that the table has is out of place
+abbrev pub misplaced : ℕ → List Field → Members → Result (Unit {0}) KeyFault
+misplaced session [] ms = Ok tt
+misplaced session (f ∷ fs) ms =
+    if has f ms then Err (Misplaced (place session f)) else misplaced session fs ms
+
+-- the entries of a session with this name, beginning and count of steps: what it has in any case
+unfoldable pub session_with : ℕ → Members → Text → OriginEntries → ℤ → Result SessionEntries KeyFault
+session_with n ms name origin steps = do
   console ← text_at n field.Console ms
   keys ← optional_text_at n field.Keys ms
   list ← optional_text_at n field.List ms
   out ← optional_texts_at n field.Out ms
   Ok (record {
     name = name;
-    cpu = cpu;
-    quota = quota;
+    origin = origin;
     steps = steps;
-    drives = drives;
     console = console;
     keys = keys;
     list = list;
     out = out;
   })
+
+-- the entries of an opened session, or its first fault in this order
+unfoldable pub opened_of_table : ℕ → Members → Result SessionEntries KeyFault
+opened_of_table n ms = do
+  known ← known_in_session n ms
+  name ← text_at n field.Name ms
+  placed ← misplaced n (field.At ∷ []) ms
+  cpu ← text_at n field.Cpu ms
+  quota ← number_at n field.Quota ms
+  steps ← number_at n field.Steps ms
+  drives ← texts_at n field.Drives ms
+  session_with n ms name (Opens cpu quota drives) steps
+
+-- the entries of a forked session, or its first fault in this order
+unfoldable pub forked_of_table : ℕ → Members → Result SessionEntries KeyFault
+forked_of_table n ms = do
+  known ← known_in_session n ms
+  name ← text_at n field.Name ms
+  placed ← misplaced n (field.Cpu ∷ field.Quota ∷ field.Drives ∷ []) ms
+  parent ← text_at n field.Fork ms
+  at ← number_at n field.At ms
+  steps ← number_at n field.Steps ms
+  session_with n ms name (Forks parent at) steps
+
+-- the entries of the table of the session with this number: one that says what it is forked from is forked
+unfoldable pub session_of_table : ℕ → Members → Result SessionEntries KeyFault
+session_of_table n ms =
+    if has field.Fork ms then forked_of_table n ms else opened_of_table n ms
 
 abbrev pub session_in : ℕ → Data → Result SessionEntries KeyFault
 session_in n (table ms) = session_of_table n ms
@@ -184,13 +220,15 @@ texts_view v = map (λ t. t.now) v.items
 abbrev pub text_view : Option (Bor Text) → Option Text
 text_view = option_map (λ t. t.now)
 
+abbrev pub origin_draft_view : OriginDraft → OriginEntries
+origin_draft_view (draft.Opened cpu quota drives) = Opens cpu.now quota (texts_view drives)
+origin_draft_view (draft.Forked parent at) = Forks parent.now at
+
 abbrev pub session_draft_view : SessionDraft → SessionEntries
 session_draft_view s = record {
   name = s.name.now;
-  cpu = s.cpu.now;
-  quota = s.quota;
+  origin = origin_draft_view s.origin;
   steps = s.steps;
-  drives = texts_view s.drives;
   console = s.console.now;
   keys = text_view s.keys;
   list = text_view s.list;

@@ -1,7 +1,7 @@
 -- The keys of a configuration. All of it is own: this project's form of configurations.
 use Rattle.std.specs.Prelude.{ℕ, List, codes}
 use Rattle.cpm_config.specs.declared.field.Field.{Field}
-use Rattle.cpm_config.specs.declared.field.Field.TheVariants.{Frames, Quantum, System, Sessions, Name, Cpu, Quota, Steps, Drives, Console, Keys, List as ListKey, Out}
+use Rattle.cpm_config.specs.declared.field.Field.TheVariants.{Frames, Quantum, System, Sessions, Name, Cpu, Quota, Fork, At, Steps, Drives, Console, Keys, List as ListKey, Out}
 
 -- each key as it stands in the file
 abbrev pub field_name : Field → List ℕ
@@ -12,6 +12,8 @@ field_name Sessions = codes "session"
 field_name Name = codes "name"
 field_name Cpu = codes "cpu"
 field_name Quota = codes "quota"
+field_name Fork = codes "fork"
+field_name At = codes "at"
 field_name Steps = codes "steps"
 field_name Drives = codes "drives"
 field_name Console = codes "console"

@@ -1,14 +1,16 @@
 -- The rules on a configuration's entries, and what is read of a file. All of it is own.
-use Rattle.std.specs.Prelude.{◌≡◌, ℕ, ◌+◌, ℤ, pos, int_le, nat_le, List, [], ◌∷◌, ◌++◌, length, map, Bool, true, not, ◌==◌, ◌&&◌, ◌||◌, if◌then◌else◌, Option, Some, None, option_map, codes, string_bytes, Result, Ok, Err, String, Vec}
-use Rattle.std.specs.List.{list_all, list_any}
+use Rattle.std.specs.Prelude.{◌≡◌, ℕ, ◌+◌, ◌^◌, ℤ, pos, int_le, nat_le, List, [], ◌∷◌, ◌++◌, length, map, Bool, true, false, not, ◌==◌, ◌&&◌, ◌||◌, if◌then◌else◌, Option, Some, None, option_map, codes, string_bytes, Result, Ok, Err, String, Vec}
+use Rattle.std.specs.List.{find, list_all, list_any, position_from}
 use Rattle.std.specs.Str.{IsUtf8, bytes_eq}
 use Rattle.std.specs.declared.alloc.Global.{Global}
 use Rattle.toml.specs.Data.{Members}
 use Rattle.toml.specs.Parse.{parse_document}
 use Rattle.cpm_flags.specs.declared.regs.Cpu.{Cpu}
 use Rattle.cpm_flags.specs.declared.regs.Cpu.TheVariants.{I8080, Z80}
-use Rattle.cpm_config.specs.Entries.{ConfigEntries, SessionEntries, Text, config_in, place, top}
+use Rattle.cpm_config.specs.Entries.{ConfigEntries, OriginEntries, Opens, Forks, SessionEntries, Text, config_in, place, top}
 use Rattle.cpm_config.specs.declared.config.Config.{Config}
+use Rattle.cpm_config.specs.declared.config.Origin.{Origin}
+use Rattle.cpm_config.specs.declared.config.Origin.TheVariants as origin
 use Rattle.cpm_config.specs.declared.config.Session.{Session}
 use Rattle.cpm_config.specs.declared.fault.ConfigError.{ConfigError}
 use Rattle.cpm_config.specs.declared.fault.ConfigError.TheVariants as error
@@ -47,26 +49,129 @@ abbrev pub is_out : List Text → Option (List Text) → Bool
 is_out drives None = true
 is_out drives (Some names) = length names == length drives
 
--- the first field of a session that breaks a rule
-unfoldable pub session_fault : SessionEntries → Option Field
-session_fault s =
-    if not (is_name s.name) then Some field.Name
-    else (if not (is_cpu s.cpu) then Some field.Cpu
-    else (if not (is_between 16 256 s.quota) then Some field.Quota
-    else (if not (is_between 0 1000000000000 s.steps) then Some field.Steps
-    else (if not (is_length_between 1 4 s.drives) then Some field.Drives
-    else (if not (is_out s.drives s.out) then Some field.Out
-    else None)))))
+-- ---- forks
+
+-- a session has this name
+abbrev pub is_named : Text → SessionEntries → Bool
+is_named name s = bytes_eq s.name name
+
+-- the first of these sessions that has a name
+abbrev pub named_in : List SessionEntries → Text → Option SessionEntries
+named_in ss name = find (is_named name) ss
+
+-- its place
+abbrev pub place_of : Text → List SessionEntries → Option ℕ
+place_of name = position_from (is_named name) 0
+
+-- a session that begins so is opened, and not forked
+abbrev pub is_opened : OriginEntries → Bool
+is_opened (Opens cpu quota drives) = true
+is_opened (Forks parent at) = false
+
+-- a session that was found, where it is opened
+abbrev pub if_opened : Option SessionEntries → Option SessionEntries
+if_opened None = None
+if_opened (Some s) = if is_opened s.origin then Some s else None
+
+-- the session that a later one is forked from by this name: the first that has it, where it is opened
+abbrev pub parent_in : List SessionEntries → Text → Option SessionEntries
+parent_in before name = if_opened (named_in before name)
+
+-- both the parent and the forked session come to this count of steps
+abbrev pub is_at : ℤ → ℤ → ℤ → Bool
+is_at parent_steps steps at = int_le (pos 0) at && (int_le at parent_steps && int_le at steps)
+
+-- the field by which a fork from this session breaks a rule: its name, or the count of steps
+abbrev pub at_fault : Option SessionEntries → ℤ → ℤ → Option Field
+at_fault None steps at = Some field.Fork
+at_fault (Some parent) steps at = if is_at parent.steps steps at then None else Some field.At
+
+-- the field by which a session of this count of steps can't begin so, behind those before it
+abbrev pub origin_fault : List SessionEntries → ℤ → OriginEntries → Option Field
+origin_fault before steps (Opens cpu quota drives) = None
+origin_fault before steps (Forks parent at) = at_fault (parent_in before parent) steps at
+
+-- the field by which a session is not forked from one of those before it, if it is forked
+abbrev pub fork_fault : List SessionEntries → SessionEntries → Option Field
+fork_fault before s = origin_fault before s.steps s.origin
 
 -- a fault of the session with this number, else what follows
 abbrev pub fault_or : ℕ → Option Field → Option Place → Option Place
 fault_or n (Some f) next = Some (place n f)
 fault_or n None next = next
 
--- the first place in the sessions, numbered on from n, that breaks a rule
-abbrev pub sessions_fault : ℕ → List SessionEntries → Option Place
-sessions_fault n [] = None
-sessions_fault n (s ∷ ss) = fault_or n (session_fault s) (sessions_fault (n + 1) ss)
+-- the first place in the sessions, numbered on from n and behind those before them, that has a fault
+abbrev pub first_fault : (List SessionEntries → SessionEntries → Option Field) → ℕ → List SessionEntries → List SessionEntries → Option Place
+first_fault fault n before [] = None
+first_fault fault n before (s ∷ ss) =
+    fault_or n (fault before s) (first_fault fault (n + 1) (before ++ s ∷ []) ss)
+
+-- the first at which a fork breaks a rule
+abbrev pub forks_fault : ℕ → List SessionEntries → List SessionEntries → Option Place
+forks_fault = first_fault fork_fault
+
+-- the drives of an opened session
+abbrev pub own_drives : OriginEntries → List Text
+own_drives (Opens cpu quota drives) = drives
+own_drives (Forks parent at) = []
+
+-- the drives of a session that was found
+abbrev pub drives_if_any : Option SessionEntries → List Text
+drives_if_any None = []
+drives_if_any (Some s) = own_drives s.origin
+
+-- the drives of a session that begins so: its own, or its parent's
+abbrev pub origin_drives : List SessionEntries → OriginEntries → List Text
+origin_drives before (Opens cpu quota drives) = drives
+origin_drives before (Forks parent at) = drives_if_any (named_in before parent)
+
+-- the drives of a session, behind those before it
+abbrev pub drives_of : List SessionEntries → SessionEntries → List Text
+drives_of before s = origin_drives before s.origin
+
+-- ---- sessions
+
+-- a count of steps that a session may have
+abbrev pub is_steps : ℤ → Bool
+is_steps = is_between 0 1000000000000
+
+-- the first field of a session that is opened with these that breaks a rule
+unfoldable pub opened_fault : SessionEntries → Text → ℤ → List Text → Option Field
+opened_fault s cpu quota drives =
+    if not (is_name s.name) then Some field.Name
+    else (if not (is_cpu cpu) then Some field.Cpu
+    else (if not (is_between 16 256 quota) then Some field.Quota
+    else (if not (is_steps s.steps) then Some field.Steps
+    else (if not (is_length_between 1 4 drives) then Some field.Drives
+    else (if not (is_out drives s.out) then Some field.Out
+    else None)))))
+
+-- the first of two fields that break a rule, where they do
+abbrev pub field_or : Option Field → Option Field → Option Field
+field_or (Some f) next = Some f
+field_or None next = next
+
+-- the first field of a forked session, behind those before it, that breaks a rule
+unfoldable pub forked_fault : List SessionEntries → SessionEntries → Option Field
+forked_fault before s =
+    if not (is_name s.name) then Some field.Name
+    else (if not (is_steps s.steps) then Some field.Steps
+    else field_or (fork_fault before s)
+    (if not (is_out (drives_of before s) s.out) then Some field.Out
+    else None))
+
+-- the same of a session that begins so
+abbrev pub fault_of : List SessionEntries → SessionEntries → OriginEntries → Option Field
+fault_of before s (Opens cpu quota drives) = opened_fault s cpu quota drives
+fault_of before s (Forks parent at) = forked_fault before s
+
+-- the first field of a session, behind those before it, that breaks a rule
+abbrev pub session_fault : List SessionEntries → SessionEntries → Option Field
+session_fault before s = fault_of before s s.origin
+
+-- the first place in the sessions, numbered on from n and behind those before them, that breaks a rule
+abbrev pub sessions_fault : ℕ → List SessionEntries → List SessionEntries → Option Place
+sessions_fault = first_fault session_fault
 
 -- the first place that breaks a rule
 unfoldable pub range_fault : ConfigEntries → Option Place
@@ -74,7 +179,7 @@ range_fault c =
     if not (is_between 16 16384 c.frames) then Some (place top field.Frames)
     else (if not (is_between 1 1000000000 c.quantum) then Some (place top field.Quantum)
     else (if not (is_length_between 1 64 c.sessions) then Some (place top field.Sessions)
-    else sessions_fault 1 c.sessions))
+    else sessions_fault 1 [] c.sessions))
 
 -- ---- names
 
@@ -133,16 +238,23 @@ twice_fault c = some_or (repeated (session_names 1 c.sessions)) (repeated (files
 
 -- ---- the whole
 
+-- a beginning that the code can keep
+abbrev pub IsKept : OriginEntries → Type 0
+IsKept (Opens cpu quota drives) = (is_cpu cpu ≡ true) × (is_between 0 65535 quota ≡ true)
+IsKept (Forks parent at) = is_between 0 (2 ^ 63) at ≡ true
+
 abbrev pub texts_of_strings : Vec (String Global) Global → List Text
 texts_of_strings v = map string_bytes v.items
+
+abbrev pub origin_view : Origin → OriginEntries
+origin_view (origin.Opened cpu quota drives) = Opens (cpu_text cpu) (pos quota) (texts_of_strings drives)
+origin_view (origin.Forked parent at) = Forks (string_bytes parent) (pos at)
 
 abbrev pub session_view : Session → SessionEntries
 session_view s = record {
   name = string_bytes s.name;
-  cpu = cpu_text s.cpu;
-  quota = pos s.quota;
+  origin = origin_view s.origin;
   steps = pos s.steps;
-  drives = texts_of_strings s.drives;
   console = string_bytes s.console;
   keys = option_map string_bytes s.keys;
   list = option_map string_bytes s.list;
@@ -176,3 +288,7 @@ abbrev pub IsRead : List ℕ → Result Config ConfigError → Type 0
 IsRead bytes (Err (error.Text line fault)) = IsUtf8 bytes → parse_document bytes ≡ None
 IsRead bytes (Err error.OutOfMemory) = Unit {0}
 IsRead bytes r = IsUtf8 bytes × (ms : Members) × (parse_document bytes ≡ Some ms) × IsJudged ms r
+
+-- where a configuration breaks no rule, no fork of its sessions does
+abbrev pub ForkLaw : Type 0
+ForkLaw = (c : ConfigEntries) → range_fault c ≡ None → forks_fault 1 [] c.sessions ≡ None

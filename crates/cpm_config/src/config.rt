@@ -17,25 +17,42 @@ use cpm_flags::Cpu;
 use std::alloc::Global;
 use toml::Table;
 
+/// How a session begins.
+#[derive(Debug, Drop)]
+pub enum Origin {
+    /// It is opened.
+    Opened {
+        cpu: Cpu,
+        /// The most pages that the session may write, 16 to 256.
+        quota: u16,
+        /// The files of the images of its drives, 1 to 4, A first.
+        drives: Vec<String>,
+    },
+    /// It is forked from the earlier session of this name, which is opened, at this count of its
+    /// steps: at most those of either.
+    Forked {
+        parent: String,
+        at: u64,
+    },
+}
+
 /// A session of a run.
 #[derive(Debug, Drop)]
 pub struct Session {
     /// 1 to 16 letters, digits, `-` and `_`; no other session has it.
     pub name: String,
-    pub cpu: Cpu,
-    /// The most pages that the session may write, 16 to 256.
-    pub quota: u16,
-    /// The most steps that it executes, up to 1,000,000,000,000.
+    pub origin: Origin,
+    /// The most steps that it executes, up to 1,000,000,000,000; where it is forked, its whole count,
+    /// with the steps of its parent up to the fork.
     pub steps: u64,
-    /// The files of the images of its drives, 1 to 4, A first.
-    pub drives: Vec<String>,
     /// The file for the text of its console.
     pub console: String,
     /// The file of its key script.
     pub keys: Option<String>,
     /// The file for the text of its list device.
     pub list: Option<String>,
-    /// The files for the images of its drives after the run, as many as `drives`.
+    /// The files for the images of its drives after the run, as many as it has drives, which are its
+    /// parent's where it is forked.
     pub out: Option<Vec<String>>,
 }
 

@@ -1,10 +1,10 @@
 //! A configuration of its own, from one that borrows its document.
-ghost use Rattle.std.specs.Prelude.{◌≡◌, ◌^◌, IfOk, None, map, option_map, pos, string_bytes, true};
-ghost use Rattle.cpm_config.specs.Entries.{draft_view, session_draft_view, text_view, texts_view};
-ghost use Rattle.cpm_config.specs.Rules.{config_view, cpu_text, is_between, is_cpu, range_fault, session_fault, session_view, sessions_fault, texts_of_strings};
+ghost use Rattle.std.specs.Prelude.{◌≡◌, ◌^◌, [], IfOk, None, map, option_map, pos, string_bytes, true};
+ghost use Rattle.cpm_config.specs.Entries.{draft_view, origin_draft_view, session_draft_view, text_view, texts_view};
+ghost use Rattle.cpm_config.specs.Rules.{IsKept, config_view, cpu_text, is_between, is_cpu, origin_view, range_fault, session_view, sessions_fault, texts_of_strings};
 
-use crate::config::{Config, Session};
-use crate::draft::{Draft, SessionDraft};
+use crate::config::{Config, Origin, Session};
+use crate::draft::{Draft, OriginDraft, SessionDraft};
 use cpm_flags::Cpu;
 use std::alloc::{AllocError, Global};
 
@@ -66,17 +66,34 @@ fn unsigned_16(number: i64) -> u16
     number.unsigned_abs() as u16
 }
 
+/// How a session of a draft that breaks no rule begins.
+fn origin_of(alloc: Global, origin: &OriginDraft<'_>) -> Result<Origin, AllocError>
+    requires { IsKept (origin_draft_view origin.now) }
+    ensures { IfOk result (λ o. origin_view o ≡ origin_draft_view origin.now) }
+{
+    match origin {
+        OriginDraft::Opened { cpu, quota, drives } => Ok(Origin::Opened {
+            cpu: cpu_of(cpu),
+            quota: unsigned_16(*quota),
+            drives: copies(alloc, drives.as_slice())?,
+        }),
+        OriginDraft::Forked { parent, at } => Ok(Origin::Forked {
+            parent: String::from_str(alloc, parent)?,
+            at: unsigned(*at),
+        }),
+    }
+}
+
 /// The session of a draft that breaks no rule.
 fn session_of(alloc: Global, draft: &SessionDraft<'_>) -> Result<Session, AllocError>
-    requires { session_fault (session_draft_view draft.now) ≡ None }
+    requires origin { IsKept (origin_draft_view draft.now.origin) }
+    requires steps { is_between 0 (2 ^ 63) draft.now.steps ≡ true }
     ensures { IfOk result (λ s. session_view s ≡ session_draft_view draft.now) }
 {
     Ok(Session {
         name: String::from_str(alloc, draft.name)?,
-        cpu: cpu_of(draft.cpu),
-        quota: unsigned_16(draft.quota),
+        origin: origin_of(alloc, &draft.origin)?,
         steps: unsigned(draft.steps),
-        drives: copies(alloc, draft.drives.as_slice())?,
         console: String::from_str(alloc, draft.console)?,
         keys: copy_if_any(alloc, draft.keys)?,
         list: copy_if_any(alloc, draft.list)?,
@@ -86,7 +103,7 @@ fn session_of(alloc: Global, draft: &SessionDraft<'_>) -> Result<Session, AllocE
 
 /// The sessions of drafts that break no rule.
 fn sessions_of(alloc: Global, drafts: &[SessionDraft<'_>]) -> Result<Vec<Session>, AllocError>
-    requires { sessions_fault 1 (map session_draft_view drafts.now) ≡ None }
+    requires { sessions_fault 1 [] (map session_draft_view drafts.now) ≡ None }
     ensures { IfOk result (λ v. map session_view v.items ≡ map session_draft_view drafts.now) }
 {
     let mut sessions = Vec::new(alloc);

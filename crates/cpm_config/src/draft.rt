@@ -1,8 +1,8 @@
 //! A configuration as its document has it: keys and types are right, and nothing else is judged.
-ghost use Rattle.std.specs.Prelude.{◌≡◌, [], ℤ, Err, IfErr, IfOk, IsErrOf, List, Ok, map};
+ghost use Rattle.std.specs.Prelude.{◌≡◌, [], ℤ, Err, IfErr, IfOk, IsErrOf, Ok, map};
 ghost use Rattle.toml.specs.Data.{no_members};
 ghost use Rattle.toml.specs.View.{items_view, table_view, view};
-ghost use Rattle.cpm_config.specs.Entries.{Reads, Text, config_in, draft_view, known_at_top, known_in_session, number_at, optional_text_at, session_draft_view, session_in, sessions_at, sessions_of, session_of_table, text_at, text_view, texts_at};
+ghost use Rattle.cpm_config.specs.Entries.{◌>>=◌ as ◌and_then◌, Forks, Opens, OriginEntries, Reads, Text, config_in, draft_view, forked_of_table, known_at_top, known_in_session, misplaced, opened_of_table, optional_text_at, origin_draft_view, session_draft_view, session_in, session_of_table, session_with, sessions_at, sessions_of, text_at, text_view, texts_at};
 
 use crate::fault::{KeyFault, Stop};
 use crate::field::{Field, Place};
@@ -13,14 +13,26 @@ use crate::values::{
 use std::alloc::Global;
 use toml::{Table, Value};
 
+/// How a session begins, as its entries have it.
+#[derive(Drop)]
+pub(crate) enum OriginDraft<'a> {
+    Opened {
+        cpu: &'a str,
+        quota: i64,
+        drives: Vec<&'a str>,
+    },
+    Forked {
+        parent: &'a str,
+        at: i64,
+    },
+}
+
 /// A session's entries.
 #[derive(Drop)]
 pub(crate) struct SessionDraft<'a> {
     pub(crate) name: &'a str,
-    pub(crate) cpu: &'a str,
-    pub(crate) quota: i64,
+    pub(crate) origin: OriginDraft<'a>,
     pub(crate) steps: i64,
-    pub(crate) drives: Vec<&'a str>,
     pub(crate) console: &'a str,
     pub(crate) keys: Option<&'a str>,
     pub(crate) list: Option<&'a str>,
@@ -48,9 +60,22 @@ fn check_session_keys(table: &Table, session: u64) -> Result<(), KeyFault>
     }
 }
 
-/// The entries of a session that stand before its drives.
+/// Refuses a table of a session that has one of these keys.
+fn check_places(table: &Table, session: u64, fields: &[Field]) -> Result<(), KeyFault>
+    ensures { result ≡ misplaced session fields.now (table_view table.now) }
+{
+    for field in fields {
+        let field = *field;
+        if value_at(table, field).is_some() {
+            return Err(KeyFault::Misplaced(Place { session, field }));
+        }
+    }
+    Ok(())
+}
+
+/// The entries of an opened session that stand before its drives.
 #[derive(Drop)]
-struct Head<'a> {
+struct OpenedHead<'a> {
     name: &'a str,
     cpu: &'a str,
     quota: i64,
@@ -59,21 +84,20 @@ struct Head<'a> {
 
 /// Reads the entries before the drives, in a function of its own: nothing is owned here that each
 /// fault would have to drop.
-#[tactic(auto, unfolding(crate::specs::Entries::session_of_table))]
-fn head_of<'a>(table: &'a Table, session: u64) -> Result<Head<'a>, KeyFault>
-    ensures known { IfOk result (λ _. known_in_session session (table_view table.now) ≡ Ok tt) }
-    ensures name { IfOk result (λ h. text_at session Field.Name (table_view table.now) ≡ Ok h.name.now) }
-    ensures cpu { IfOk result (λ h. text_at session Field.Cpu (table_view table.now) ≡ Ok h.cpu.now) }
-    ensures quota { IfOk result (λ h. number_at session Field.Quota (table_view table.now) ≡ Ok h.quota) }
-    ensures steps { IfOk result (λ h. number_at session Field.Steps (table_view table.now) ≡ Ok h.steps) }
-    ensures fault { IfErr result (λ e. session_of_table session (table_view table.now) ≡ Err e) }
+#[tactic(auto, unfolding(crate::specs::Entries::opened_of_table))]
+fn opened_head<'a>(table: &'a Table, session: u64) -> Result<OpenedHead<'a>, KeyFault>
+    ensures read { IfOk result (λ h. opened_of_table session (table_view table.now)
+        ≡ (texts_at session Field.Drives (table_view table.now)
+        and_then (λ drives. session_with session (table_view table.now) h.name.now (Opens h.cpu.now h.quota drives) h.steps))) }
+    ensures fault { IfErr result (λ e. opened_of_table session (table_view table.now) ≡ Err e) }
 {
     check_session_keys(table, session)?;
     let name = text_at(table, session, Field::Name)?;
+    check_places(table, session, &[Field::At])?;
     let cpu = text_at(table, session, Field::Cpu)?;
     let quota = number_at(table, session, Field::Quota)?;
     let steps = number_at(table, session, Field::Steps)?;
-    Ok(Head {
+    Ok(OpenedHead {
         name,
         cpu,
         quota,
@@ -81,7 +105,38 @@ fn head_of<'a>(table: &'a Table, session: u64) -> Result<Head<'a>, KeyFault>
     })
 }
 
-/// The entries of a session between its drives and their files.
+/// The entries of a forked session that an opened one has otherwise or not at all, with its name
+/// and count of steps.
+#[derive(Drop)]
+struct ForkedHead<'a> {
+    name: &'a str,
+    parent: &'a str,
+    at: i64,
+    steps: i64,
+}
+
+/// Reads the entries before the console.
+#[tactic(auto, unfolding(crate::specs::Entries::forked_of_table))]
+fn forked_head<'a>(table: &'a Table, session: u64) -> Result<ForkedHead<'a>, KeyFault>
+    ensures read { IfOk result (λ h. forked_of_table session (table_view table.now)
+        ≡ session_with session (table_view table.now) h.name.now (Forks h.parent.now h.at) h.steps) }
+    ensures fault { IfErr result (λ e. forked_of_table session (table_view table.now) ≡ Err e) }
+{
+    check_session_keys(table, session)?;
+    let name = text_at(table, session, Field::Name)?;
+    check_places(table, session, &[Field::Cpu, Field::Quota, Field::Drives])?;
+    let parent = text_at(table, session, Field::Fork)?;
+    let at = number_at(table, session, Field::At)?;
+    let steps = number_at(table, session, Field::Steps)?;
+    Ok(ForkedHead {
+        name,
+        parent,
+        at,
+        steps,
+    })
+}
+
+/// The entries of a session between its beginning and the files of its drives.
 #[derive(Drop)]
 struct Files<'a> {
     console: &'a str,
@@ -89,20 +144,14 @@ struct Files<'a> {
     list: Option<&'a str>,
 }
 
-/// Reads the entries after the drives; a fault is the session's first where none came before it.
-#[tactic(auto, unfolding(crate::specs::Entries::session_of_table))]
+/// Reads the entries from the console on; a fault is the session's first where none came before it.
+#[tactic(auto, unfolding(crate::specs::Entries::session_with))]
 fn files_of<'a>(table: &'a Table, session: u64) -> Result<Files<'a>, KeyFault>
     ensures console { IfOk result (λ f. text_at session Field.Console (table_view table.now) ≡ Ok f.console.now) }
     ensures keys { IfOk result (λ f. optional_text_at session Field.Keys (table_view table.now) ≡ Ok (text_view f.keys)) }
     ensures list { IfOk result (λ f. optional_text_at session Field.List (table_view table.now) ≡ Ok (text_view f.list)) }
-    ensures fault { IfErr result (λ e. (name cpu : Text) (quota steps : ℤ) (drives : List Text)
-        → known_in_session session (table_view table.now) ≡ Ok tt
-        → text_at session Field.Name (table_view table.now) ≡ Ok name
-        → text_at session Field.Cpu (table_view table.now) ≡ Ok cpu
-        → number_at session Field.Quota (table_view table.now) ≡ Ok quota
-        → number_at session Field.Steps (table_view table.now) ≡ Ok steps
-        → texts_at session Field.Drives (table_view table.now) ≡ Ok drives
-        → session_of_table session (table_view table.now) ≡ Err e) }
+    ensures fault { IfErr result (λ e. (name : Text) (origin : OriginEntries) (steps : ℤ)
+        → session_with session (table_view table.now) name origin steps ≡ Err e) }
 {
     let console = text_at(table, session, Field::Console)?;
     let keys = optional_text_at(table, session, Field::Keys)?;
@@ -114,6 +163,65 @@ fn files_of<'a>(table: &'a Table, session: u64) -> Result<Files<'a>, KeyFault>
     })
 }
 
+/// The entries of a session with this name, beginning and count of steps.
+#[tactic(auto, unfolding(crate::specs::Entries::session_with))]
+fn session_with<'a>(
+    alloc: Global,
+    table: &'a Table,
+    session: u64,
+    name: &'a str,
+    origin: OriginDraft<'a>,
+    steps: i64,
+) -> Result<SessionDraft<'a>, Stop>
+    ensures { Reads session_draft_view result (session_with session (table_view table.now) name.now (origin_draft_view origin.entry) steps) }
+{
+    let files = files_of(table, session)?;
+    let out = optional_texts_at(alloc, table, session, Field::Out)?;
+    Ok(SessionDraft {
+        name,
+        origin,
+        steps,
+        console: files.console,
+        keys: files.keys,
+        list: files.list,
+        out,
+    })
+}
+
+/// The entries of the table of an opened session with this number.
+fn opened_of_table<'a>(
+    alloc: Global,
+    table: &'a Table,
+    session: u64,
+) -> Result<SessionDraft<'a>, Stop>
+    ensures { Reads session_draft_view result (opened_of_table session (table_view table.now)) }
+{
+    let head = opened_head(table, session)?;
+    let drives = texts_at(alloc, table, session, Field::Drives)?;
+    let origin = OriginDraft::Opened {
+        cpu: head.cpu,
+        quota: head.quota,
+        drives,
+    };
+    session_with(alloc, table, session, head.name, origin, head.steps)
+}
+
+/// The entries of the table of a forked session with this number.
+fn forked_of_table<'a>(
+    alloc: Global,
+    table: &'a Table,
+    session: u64,
+) -> Result<SessionDraft<'a>, Stop>
+    ensures { Reads session_draft_view result (forked_of_table session (table_view table.now)) }
+{
+    let head = forked_head(table, session)?;
+    let origin = OriginDraft::Forked {
+        parent: head.parent,
+        at: head.at,
+    };
+    session_with(alloc, table, session, head.name, origin, head.steps)
+}
+
 /// The entries of the table of the session with this number.
 #[tactic(auto, unfolding(crate::specs::Entries::session_of_table))]
 fn session_of_table<'a>(
@@ -123,21 +231,11 @@ fn session_of_table<'a>(
 ) -> Result<SessionDraft<'a>, Stop>
     ensures { Reads session_draft_view result (session_of_table session (table_view table.now)) }
 {
-    let head = head_of(table, session)?;
-    let drives = texts_at(alloc, table, session, Field::Drives)?;
-    let files = files_of(table, session)?;
-    let out = optional_texts_at(alloc, table, session, Field::Out)?;
-    Ok(SessionDraft {
-        name: head.name,
-        cpu: head.cpu,
-        quota: head.quota,
-        steps: head.steps,
-        drives,
-        console: files.console,
-        keys: files.keys,
-        list: files.list,
-        out,
-    })
+    if value_at(table, Field::Fork).is_some() {
+        forked_of_table(alloc, table, session)
+    } else {
+        opened_of_table(alloc, table, session)
+    }
 }
 
 /// The entries of a value that has to be a session's table.

@@ -6,11 +6,15 @@ mod copies;
 mod draft;
 mod fault;
 mod field;
+mod forks;
+mod laws;
 mod names;
 mod ranges;
 mod unknown;
 mod values;
 
-pub use config::{Config, Session};
+pub use config::{Config, Origin, Session};
 pub use fault::{ConfigError, KeyFault, KeyRefusal, UnknownKey};
 pub use field::{Field, Place};
+pub use forks::place_of;
+pub use laws::forks_stand;

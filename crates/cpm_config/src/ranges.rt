@@ -1,10 +1,10 @@
 //! The rules on the values of a configuration.
-ghost use Rattle.std.specs.Prelude.{◌≡◌, Some, map, option_map};
+ghost use Rattle.std.specs.Prelude.{◌≡◌, [], Some, map, option_map};
 ghost use Rattle.std.specs.List.{list_all};
-ghost use Rattle.cpm_config.specs.Entries.{draft_view, place, session_draft_view, texts_view};
-ghost use Rattle.cpm_config.specs.Rules.{is_between, is_cpu, is_length_between, is_name, is_name_byte, is_out, range_fault, session_fault, sessions_fault};
+ghost use Rattle.cpm_config.specs.Entries.{Forks, draft_view, place, session_draft_view, texts_view};
+ghost use Rattle.cpm_config.specs.Rules.{at_fault, drives_if_any, forked_fault, if_opened, is_between, is_cpu, is_length_between, is_name, is_name_byte, is_out, is_steps, named_in, opened_fault, origin_fault, range_fault, session_fault, sessions_fault};
 
-use crate::draft::{Draft, SessionDraft};
+use crate::draft::{Draft, OriginDraft, SessionDraft};
 use crate::field::{Field, Place};
 
 fn is_between(low: u64, high: u64, number: i64) -> bool
@@ -44,9 +44,15 @@ fn is_cpu(text: &str) -> bool
     text == "8080" || text == "z80"
 }
 
+fn is_steps(steps: i64) -> bool
+    ensures { result ≡ is_steps steps }
+{
+    is_between(0, 1_000_000_000_000, steps)
+}
+
 /// Whether there are as many names as drives, where there are any.
-fn is_out(drives: &Vec<&str>, out: &Option<Vec<&str>>) -> bool
-    ensures { result ≡ is_out (texts_view drives.now) (option_map texts_view out.now) }
+fn is_out(drives: &[&str], out: &Option<Vec<&str>>) -> bool
+    ensures { result ≡ is_out (map (λ t. t.now) drives.now) (option_map texts_view out.now) }
 {
     match out {
         Some(names) => names.len() == drives.len(),
@@ -54,48 +60,129 @@ fn is_out(drives: &Vec<&str>, out: &Option<Vec<&str>>) -> bool
     }
 }
 
-/// The first field of a session that breaks a rule.
-#[tactic(auto, unfolding(crate::specs::Rules::session_fault))]
-fn session_fault(session: &SessionDraft<'_>) -> Option<Field>
-    ensures { result ≡ session_fault (session_draft_view session.now) }
+fn has_one_to_four(drives: &[&str]) -> bool
+    ensures { result ≡ is_length_between 1 4 (map (λ t. t.now) drives.now) }
+{
+    1 <= drives.len() && drives.len() <= 4
+}
+
+/// The first field of a session that is opened with these that breaks a rule.
+#[tactic(auto, unfolding(crate::specs::Rules::opened_fault))]
+fn opened_fault(session: &SessionDraft<'_>, cpu: &str, quota: i64, drives: &[&str]) -> Option<Field>
+    ensures { result ≡ opened_fault (session_draft_view session.now) cpu.now quota (map (λ t. t.now) drives.now) }
 {
     if !is_name(session.name) {
         return Some(Field::Name);
     }
-    if !is_cpu(session.cpu) {
+    if !is_cpu(cpu) {
         return Some(Field::Cpu);
     }
-    if !is_between(16, 256, session.quota) {
+    if !is_between(16, 256, quota) {
         return Some(Field::Quota);
     }
-    if !is_between(0, 1_000_000_000_000, session.steps) {
+    if !is_steps(session.steps) {
         return Some(Field::Steps);
     }
-    if !has_one_to_four(&session.drives) {
+    if !has_one_to_four(drives) {
         return Some(Field::Drives);
     }
-    if !is_out(&session.drives, &session.out) {
+    if !is_out(drives, &session.out) {
         return Some(Field::Out);
     }
     None
 }
 
-fn has_one_to_four(drives: &Vec<&str>) -> bool
-    ensures { result ≡ is_length_between 1 4 (texts_view drives.now) }
+/// The first of these sessions that has a name.
+fn named_in<'s, 'a>(sessions: &'s [SessionDraft<'a>], name: &str) -> Option<&'s SessionDraft<'a>>
+    ensures { option_map (λ s. session_draft_view s.now) result ≡ named_in (map session_draft_view sessions.now) name.now }
 {
-    1 <= drives.len() && drives.len() <= 4
+    sessions.iter().find(|session| session.name == name)
+}
+
+/// The field by which a fork of this session at this count of steps breaks a rule.
+fn at_fault(parent: &SessionDraft<'_>, steps: i64, at: i64) -> Option<Field>
+    ensures { result ≡ at_fault (if_opened (Some (session_draft_view parent.now))) steps at }
+{
+    if let OriginDraft::Forked { .. } = parent.origin {
+        return Some(Field::Fork);
+    }
+    if 0 <= at && at <= parent.steps && at <= steps {
+        None
+    } else {
+        Some(Field::At)
+    }
+}
+
+/// The field by which a session of this count of steps is not forked from one of those before it.
+fn fork_fault(before: &[SessionDraft<'_>], steps: i64, parent: &str, at: i64) -> Option<Field>
+    ensures { result ≡ origin_fault (map session_draft_view before.now) steps (Forks parent.now at) }
+{
+    match named_in(before, parent) {
+        Some(parent) => at_fault(parent, steps, at),
+        None => Some(Field::Fork),
+    }
+}
+
+/// Whether there are as many names as drives of the session that one is forked from.
+fn is_fork_out(before: &[SessionDraft<'_>], parent: &str, out: &Option<Vec<&str>>) -> bool
+    ensures { result ≡ is_out (drives_if_any (named_in (map session_draft_view before.now) parent.now)) (option_map texts_view out.now) }
+{
+    match named_in(before, parent).map(|parent| &parent.origin) {
+        Some(OriginDraft::Opened { drives, .. }) => is_out(drives.as_slice(), out),
+        _ => is_out(&[], out),
+    }
+}
+
+/// The first field of a session that is forked from the one of this name, at this count of steps, that
+/// breaks a rule.
+#[tactic(auto, unfolding(crate::specs::Rules::forked_fault))]
+fn forked_fault(
+    before: &[SessionDraft<'_>],
+    session: &SessionDraft<'_>,
+    parent: &str,
+    at: i64,
+) -> Option<Field>
+    requires { (session_draft_view session.now).origin ≡ Forks parent.now at }
+    ensures { result ≡ forked_fault (map session_draft_view before.now) (session_draft_view session.now) }
+{
+    if !is_name(session.name) {
+        return Some(Field::Name);
+    }
+    if !is_steps(session.steps) {
+        return Some(Field::Steps);
+    }
+    if let Some(field) = fork_fault(before, session.steps, parent, at) {
+        return Some(field);
+    }
+    if !is_fork_out(before, parent, &session.out) {
+        return Some(Field::Out);
+    }
+    None
+}
+
+/// The first field of a session, behind those before it, that breaks a rule.
+fn session_fault(before: &[SessionDraft<'_>], session: &SessionDraft<'_>) -> Option<Field>
+    ensures { result ≡ session_fault (map session_draft_view before.now) (session_draft_view session.now) }
+{
+    match &session.origin {
+        OriginDraft::Opened { cpu, quota, drives } => {
+            opened_fault(session, cpu, *quota, drives.as_slice())
+        }
+        OriginDraft::Forked { parent, at } => forked_fault(before, session, parent, *at),
+    }
 }
 
 /// The first place in the sessions that breaks a rule.
 fn sessions_fault(sessions: &[SessionDraft<'_>]) -> Option<Place>
-    ensures { result ≡ sessions_fault 1 (map session_draft_view sessions.now) }
+    ensures { result ≡ sessions_fault 1 [] (map session_draft_view sessions.now) }
 {
-    let mut number: u64 = 0;
+    let mut count: usize = 0;
     for session in sessions {
-        number += 1;
-        if let Some(field) = session_fault(session) {
+        let before = &sessions[..count];
+        count += 1;
+        if let Some(field) = session_fault(before, session) {
             return Some(Place {
-                session: number,
+                session: count as u64,
                 field,
             });
         }

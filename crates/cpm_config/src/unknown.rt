@@ -85,7 +85,7 @@ pub(crate) fn unknown_key(bytes: &[u8], table: &Table, fault: KeyFault) -> Optio
             let table = session_table(table, session)?;
             (session, first_unknown(table, &SESSION_FIELDS)?)
         }
-        KeyFault::Wanted(_) => return None,
+        KeyFault::Wanted(_) | KeyFault::Misplaced(_) => return None,
     };
     let line = match str::from_utf8(bytes) {
         Ok(text) => line_of(text, session, key),

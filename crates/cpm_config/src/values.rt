@@ -14,10 +14,12 @@ use std::alloc::Global;
 use toml::{Table, Value};
 
 /// The keys of a session.
-pub(crate) const SESSION_FIELDS: [Field; 9] = [
+pub(crate) const SESSION_FIELDS: [Field; 11] = [
     Field::Name,
     Field::Cpu,
     Field::Quota,
+    Field::Fork,
+    Field::At,
     Field::Steps,
     Field::Drives,
     Field::Console,

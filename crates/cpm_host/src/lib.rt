@@ -21,7 +21,7 @@ pub use check::run_check;
 pub use com::{Script, run_com};
 pub use cpm_batch::ReadError;
 pub use cpm_command::{Fault, HELP_TEXT, Task, UsageError, Word, command, help, shown};
-pub use cpm_config::{Config, ConfigError, Session};
+pub use cpm_config::{Config, ConfigError, Origin, Session};
 pub use cpm_debug::{DebugError, run_debug};
 pub use cpm_script::{Key, LineFault, ScriptError, read_keys};
 pub use cpm_store::{MemoryStore, Store, StoreError};

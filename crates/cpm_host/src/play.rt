@@ -6,21 +6,26 @@ ghost use Rattle.cpm_batch.specs.Outputs.{left_by};
 ghost use Rattle.cpm_sessions.specs.Host.{Host as HostValue, new_host, refusal_of, slot_at};
 ghost use Rattle.cpm_slots.specs.MachineState.{MachineState};
 ghost use Rattle.cpm_slots.specs.Opening.{IsRefusal};
+ghost use Rattle.cpm_slots.specs.declared.opening.OpenError.{OpenError as OpenErrorValue};
 ghost use Rattle.cpm_slots.specs.declared.opening.Opening.{Opening as OpeningValue};
-ghost use Rattle.cpm_turns.specs.ScriptedSlots.{AllDiffer};
+ghost use Rattle.cpm_turns.specs.Players.{AllDiffer, IsPlayRefusal as IsForking, fork_pages, forks_of};
+ghost use Rattle.cpm_turns.specs.declared.player.Player.TheVariants.{Playing};
+ghost use Rattle.cpm_turns.specs.declared.player.Player.{Player as PlayerValue};
 ghost use Rattle.cpm_turns.specs.declared.scripted_slot.ScriptedSlot.{ScriptedSlot};
-ghost use Rattle.cpm_host.specs.Playing.{HaveSlots, AreFinished, ArePressable, IsClosed, IsPlayRefusal, IsSlotRefusal, OpensSlot, files_by, report_by};
-ghost use Rattle.cpm_host.specs.Run.{AllAccepted, IsOpening, files_left, quotas_of, report_view, reports_of};
+ghost use Rattle.cpm_host.specs.Playing.{HavePlayers, AreFinished, ArePressable, IsClosed, IsForkRefusal, IsOpeningRefusal, IsPlayRefusal, IsPrepared, IsSlotRefusal, IsStartRefusal, OpensSlot, files_by, report_by};
+ghost use Rattle.cpm_host.specs.Run.{AllAccepted, HasForkRoom, IsFirstRefused, IsShortFor, files_left, fork_pages_in, forks_in, report_view, reports_of};
 
 use crate::at_pc::bytes_of_slot;
 use crate::error::HostError;
+use crate::quotas::quotas_of;
 use crate::report::SessionReport;
-use cpm_batch::{Input, Inputs, SessionFiles};
-use cpm_command::shown;
+use cpm_batch::{Input, Inputs, SessionFiles, Start};
+use cpm_command::{Word, shown};
 use cpm_config::{Config, Session};
-use cpm_sessions::Host;
+use cpm_script::Key;
+use cpm_sessions::{ForkError, Host};
 use cpm_slots::{Closed, OpenError, Opening};
-use cpm_turns::{ScriptedSlot, play};
+use cpm_turns::{Fork, PlayError, Player, ScriptedSlot, play};
 use std::alloc::{AllocError, Global};
 use std::vec::IntoIter;
 
@@ -33,7 +38,7 @@ pub(crate) struct Played<'a> {
 
 /// Why a session has no slot, if its opening is refused so.
 fn refused(session: &Session, fault: OpenError) -> HostError
-    ensures { (h : HostValue) (i : SessionInput) (o : OpeningValue) → IsOpening i o → IsRefusal (refusal_of h o) fault → IsSlotRefusal h (i ∷ []) result }
+    ensures { (h : HostValue) (o : OpeningValue) → IsRefusal (refusal_of h o) fault → IsOpeningRefusal h o result }
 {
     match fault {
         OpenError::OutOfMemory => HostError::OutOfMemory,
@@ -44,42 +49,53 @@ fn refused(session: &Session, fault: OpenError) -> HostError
     }
 }
 
-/// Opens a slot for a session, which is to be played by its script.
-fn open_slot(alloc: Global, host: &mut Host, input: Input<'_>) -> Result<ScriptedSlot, HostError>
-    ensures opened { IfOk result (OpensSlot (given input.entry) host.old.host host.new.host) }
-    ensures refusal { IfErr result (IsSlotRefusal host.old.host (given input.entry ∷ [])) }
+/// Opens a slot for a session, which is to be played by its keys.
+fn open_slot(
+    alloc: Global,
+    host: &mut Host,
+    session: &Session,
+    opening: Opening,
+    keys: Vec<Key>,
+) -> Result<ScriptedSlot, HostError>
+    ensures opened { IfOk result (OpensSlot opening.entry keys.entry.items session.entry.now.steps host.old.host host.new.host) }
+    ensures refusal { IfErr result (IsOpeningRefusal host.old.host opening.entry) }
     ensures unchanged { OnErr result (host.new.host ≡ host.old.host) }
 {
-    let Input {
-        session,
-        drives,
-        keys,
-    } = input;
-    let opening = Opening {
-        cpu: session.cpu,
-        quota: session.quota,
-        drives,
-    };
     match host.open(alloc, opening) {
         Ok(id) => Ok(ScriptedSlot::new(alloc, id, keys, session.steps)),
         Err((_, fault)) => Err(refused(session, fault)),
     }
 }
 
-/// The pages that all sessions may write.
-fn quotas_of(config: &Config) -> u128
-    ensures { result ≡ quotas_of config.now }
+/// The player of a session: one whose slot is opened now, or one that is to be forked.
+fn prepare(alloc: Global, host: &mut Host, input: Input<'_>) -> Result<Player, HostError>
+    ensures prepared { IfOk result (IsPrepared (given input.entry) host.old.host host.new.host) }
+    ensures refusal { IfErr result (IsStartRefusal host.old.host (given input.entry).start) }
+    ensures unchanged { OnErr result (host.new.host ≡ host.old.host) }
 {
-    let mut quotas: u128 = 0;
-    for session in &config.sessions {
-        quotas += u128::from(session.quota);
+    let Input {
+        session,
+        start,
+        keys,
+    } = input;
+    match start {
+        Start::Opened { cpu, quota, drives } => {
+            let opening = Opening { cpu, quota, drives };
+            let slot = open_slot(alloc, host, session, opening, keys)?;
+            Ok(Player::Playing(slot))
+        }
+        Start::Forked { parent, at } => Ok(Player::Waiting(Fork {
+            parent,
+            at,
+            keys,
+            steps: session.steps,
+        })),
     }
-    quotas
 }
 
 /// Why the sessions of a configuration have no slots, if opening them is refused so: where the quotas exceed the frames, with both numbers.
 fn play_refusal(config: &Config, refusal: HostError) -> HostError
-    ensures { (h : HostValue) (is : List SessionInput) → IsSlotRefusal h is refusal → IsPlayRefusal config.now h is result }
+    ensures { (h : HostValue) (is : List SessionInput) → IsSlotRefusal is h is refusal → IsPlayRefusal config.now h is result }
 {
     match refusal {
         HostError::SessionRefused { name, fault } => match fault {
@@ -94,36 +110,67 @@ fn play_refusal(config: &Config, refusal: HostError) -> HostError
     }
 }
 
-/// Opens a slot for each session in order.
-fn open_slots(
+/// The name of the session at a place.
+fn name_at(config: &Config, place: usize) -> Word {
+    match config.sessions.get(place) {
+        Some(session) => shown(session.name.as_str()),
+        None => shown(""),
+    }
+}
+
+/// Why the sessions of a configuration are not played to their end, if one is not forked so.
+fn fork_refusal(config: &Config, error: PlayError) -> HostError
+    ensures { (h : HostValue) (players : List PlayerValue) → IsForking h players error → IsForkRefusal config.now h (forks_of players) (fork_pages h.slots players) result }
+{
+    match error {
+        PlayError::ForkRefused { place, fault } => match fault {
+            ForkError::NoFrames => HostError::FramesExceeded {
+                name: name_at(config, place),
+                quotas: quotas_of(config),
+                frames: config.frames,
+            },
+            _ => HostError::SessionRefused {
+                name: name_at(config, place),
+                fault: OpenError::NoSlot,
+            },
+        },
+        PlayError::OutOfMemory => HostError::OutOfMemory,
+    }
+}
+
+/// The players of all sessions, in order.
+fn prepare_all(
     alloc: Global,
     host: &mut Host,
     inputs: Vec<Input<'_>>,
-) -> Result<Vec<ScriptedSlot>, HostError>
+) -> Result<Vec<Player>, HostError>
     requires { host.old.host.slots ≡ [] }
-    ensures opened { IfOk result (λ scripted. HaveSlots host.new.host.slots (map given inputs.entry.items) scripted.items) }
-    ensures accepted { OnOk result (AllAccepted host.old.host (map given inputs.entry.items)) }
-    ensures differ { IfOk result (λ scripted. AllDiffer scripted.items) }
+    ensures prepared { IfOk result (λ players. HavePlayers host.new.host.slots (map given inputs.entry.items) players.items) }
+    ensures accepted { OnOk result ((all : List SessionInput) → HasForkRoom all host.new.host → AllAccepted all host.old.host (map given inputs.entry.items)) }
+    ensures short { OnOk result ((all : List SessionInput) (fault : OpenErrorValue) → IsShortFor host.new.host (forks_in all) (fork_pages_in all) fault → IsFirstRefused all host.old.host (map given inputs.entry.items) fault) }
+    ensures differ { IfOk result (λ players. AllDiffer players.items) }
     ensures system { host.new.host.system ≡ host.old.host.system }
-    ensures refusal { IfErr result (IsSlotRefusal host.old.host (map given inputs.entry.items)) }
+    ensures refusal { IfErr result (λ e. (all : List SessionInput) → IsSlotRefusal all host.old.host (map given inputs.entry.items) e) }
 {
-    let mut scripted = Vec::new(alloc);
+    let mut players = Vec::new(alloc);
     let mut rest = inputs.into_iter();
     while let Some(input) = rest.next() {
-        scripted.push(open_slot(alloc, host, input)?)?;
+        players.push(prepare(alloc, host, input)?)?;
     }
-    Ok(scripted)
+    Ok(players)
 }
 
 /// The next scripted slot, with what is left of its slot, which is closed, and the four bytes at its program counter.
 fn next_closed(
     host: &mut Host,
-    scripted: &mut IntoIter<ScriptedSlot>,
+    players: &mut IntoIter<Player>,
 ) -> Option<(ScriptedSlot, Closed, [u8; 4])>
-    ensures { (p : ScriptedSlot) (ps : List ScriptedSlot) (s : MachineState) → into_iter_items scripted.old ≡ p ∷ ps → slot_at p.id.0 host.old.host.slots ≡ Some s
-        → IsClosed p ps s host.old.host host.new.host result (into_iter_items scripted.new) }
+    ensures { (p : ScriptedSlot) (ps : List PlayerValue) (s : MachineState) → into_iter_items players.old ≡ Playing p ∷ ps → slot_at p.id.0 host.old.host.slots ≡ Some s
+        → IsClosed p ps s host.old.host host.new.host result (into_iter_items players.new) }
 {
-    let slot = scripted.next()?;
+    let Player::Playing(slot) = players.next()? else {
+        return None;
+    };
     let at_pc = bytes_of_slot(host, slot.id);
     match host.close(slot.id) {
         Ok(closed) => Some((slot, closed, at_pc)),
@@ -162,19 +209,19 @@ fn finish<'a>(
     Ok((report, files))
 }
 
-/// What is reported of all sessions, and what is written, once their scripted slots have played them. Their slots are closed.
+/// What is reported of all sessions, and what is written, once their players have played them. Their slots are closed.
 fn finish_all<'a>(
     alloc: Global,
     host: &mut Host,
     sessions: &'a [Session],
-    scripted: Vec<ScriptedSlot>,
+    players: Vec<Player>,
 ) -> Result<Played<'a>, AllocError>
-    requires { AllDiffer scripted.items }
-    ensures { IfOk result (λ played. AreFinished sessions.entry.now host.old.host.slots scripted.items played.reports.items played.files.items) }
+    requires { AllDiffer players.items }
+    ensures { IfOk result (λ played. AreFinished sessions.entry.now host.old.host.slots players.items played.reports.items played.files.items) }
 {
     let mut reports = Vec::new(alloc);
     let mut files = Vec::new(alloc);
-    let mut rest = scripted.into_iter();
+    let mut rest = players.into_iter();
     for session in sessions {
         let Some(ended) = next_closed(host, &mut rest) else {
             return Ok(Played { reports, files });
@@ -187,7 +234,7 @@ fn finish_all<'a>(
     Ok(Played { reports, files })
 }
 
-/// Plays the sessions of a configuration in a host, by turns in their order, and gives what is left of them.
+/// Plays the sessions of a configuration in a host, by turns in their order, forks those that are forked on the way, and gives what is left of them.
 pub(crate) fn play_all<'a>(
     alloc: Global,
     config: &'a Config,
@@ -200,7 +247,7 @@ pub(crate) fn play_all<'a>(
     requires sessions { map (λ i. i.session) (map given inputs.sessions.items) ≡ config.now.sessions.items }
     ensures reports { IfOk result (λ p. map report_view p.reports.items ≡ reports_of inputs.entry.system (map given inputs.entry.sessions.items)) }
     ensures files { IfOk result (λ p. map left_by p.files.items ≡ files_left inputs.entry.system (map given inputs.entry.sessions.items)) }
-    ensures accepted { OnOk result (AllAccepted (new_host inputs.entry.system config.entry.now.frames) (map given inputs.entry.sessions.items)) }
+    ensures accepted { OnOk result (AllAccepted (map given inputs.entry.sessions.items) (new_host inputs.entry.system config.entry.now.frames) (map given inputs.entry.sessions.items)) }
     ensures refusal { IfErr result (IsPlayRefusal config.entry.now (new_host inputs.entry.system config.entry.now.frames) (map given inputs.entry.sessions.items)) }
 {
     let Inputs { system, sessions } = inputs;
@@ -208,11 +255,14 @@ pub(crate) fn play_all<'a>(
         Ok(host) => host,
         Err(_) => return Err(HostError::OutOfMemory),
     };
-    let mut scripted = match open_slots(alloc, &mut host, sessions) {
-        Ok(scripted) => scripted,
+    let mut players = match prepare_all(alloc, &mut host, sessions) {
+        Ok(players) => players,
         Err(error) => return Err(play_refusal(config, error)),
     };
-    play(&mut host, scripted.as_mut_slice(), config.quantum)?;
-    let played = finish_all(alloc, &mut host, config.sessions.as_slice(), scripted)?;
+    match play(alloc, &mut host, players.as_mut_slice(), config.quantum) {
+        Ok(()) => {}
+        Err(error) => return Err(fork_refusal(config, error)),
+    }
+    let played = finish_all(alloc, &mut host, config.sessions.as_slice(), players)?;
     Ok(played)
 }

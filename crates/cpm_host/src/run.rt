@@ -3,7 +3,7 @@ ghost use Rattle.std.specs.Prelude.{◌≡◌, ◌⊎◌, ◌<◌, ◌≤◌, �
 ghost use Rattle.cpm_store.specs.Files.{CountsFailure, Told};
 ghost use Rattle.cpm_store.specs.Log.{AreWrites, RanBy, StopsAfter};
 ghost use Rattle.cpm_store.specs.Writes.{StopsAt, WritesAll, named};
-ghost use Rattle.cpm_host.specs.Run.{HasAccessed, HasRun, IsDeviceFault, IsRunRefusal, IsStoppedRun, IsWriteRefusal, top_fault};
+ghost use Rattle.cpm_host.specs.Run.{HasAccessed, HasRun, IsDeviceFault, IsRunRefusal, IsStoppedRun, IsWriteRefusal, config_fault, top_fault};
 
 use crate::error::HostError;
 use crate::play::{Played, play_all};
@@ -28,6 +28,17 @@ fn top_fault(config: &Config) -> Option<Field>
     }
 }
 
+/// The first place of the configuration at which nothing can be run: one of these numbers, or a fork from no earlier session that is opened, or at a
+/// count above the steps of either.
+fn config_fault(config: &Config) -> Option<Place>
+    ensures { result ≡ config_fault config.now }
+{
+    match top_fault(config) {
+        Some(field) => Some(Place { session: 0, field }),
+        None => config.fork_fault(),
+    }
+}
+
 /// Writes files in order, up to the first that can't be written.
 fn write_files<S: Store>(outputs: &[Output<'_>], store: &mut S) -> Result<(), HostError>
     ensures written { OnOk result (Told (S.files store.old) (S.files store.new) (WritesAll (map named outputs.now))) }
@@ -48,8 +59,8 @@ fn write_files<S: Store>(outputs: &[Output<'_>], store: &mut S) -> Result<(), Ho
 }
 
 /// Runs the sessions of a configuration over the files of a store: reads the system drive's image, then each session's drives and
-/// keys, each checked before the next is read; opens all; plays them by turns in their order; then writes of each in order its
-/// console's text, its list device's and its drives. Each session is reported.
+/// keys, each checked before the next is read; opens all that aren't forked; plays them by turns in their order, and forks the others from them on the
+/// way; then writes of each in order its console's text, its list device's and its drives. Each session is reported.
 ///
 /// The first refusal met is answered. With `FileRefused`, `SessionRefused` and `ConfigRefused` nothing was written. With `WriteFault` and
 /// `OutOfMemory` the files before one hold what they should, and no name after it was written.
@@ -68,8 +79,8 @@ pub fn run_host<S: Store>(
     ensures memory { IfErr result (λ e. e ≡ HostError.OutOfMemory → S.failed store.new ≡ S.failed store.old) }
     ensures counted { S.failed store.old ≤ S.failed store.new }
 {
-    if let Some(field) = top_fault(config) {
-        return Err(HostError::ConfigRefused(ConfigError::Range(Place { session: 0, field })));
+    if let Some(place) = config_fault(config) {
+        return Err(HostError::ConfigRefused(ConfigError::Range(place)));
     }
     let inputs = read_inputs(alloc, config, store)?;
     let Played { reports, files } = play_all(alloc, config, inputs)?;

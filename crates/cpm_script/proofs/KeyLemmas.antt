@@ -114,3 +114,28 @@ added-full old now count (Some rs) (Some ks) same some room over =
     let same_rest : length (keys_at count rs) ≡ length rs = length-map rs _ in
     let same_text : length (keys_at count ks) ≡ length ks = length-map ks _ in
     full old count ks (omega (arith, here, lengths, same_rest, same_text)) (omega (arith, here, room, lengths, same_rest, same_text))
+
+-- ---- how many keys a text stands for
+
+-- a key more in front, and one less to come
+pub counted-first : (n k : ℕ) (rest : Option (List ℕ))
+    → option_map (λ ks. n + 1 + length ks) rest ≡ option_map (λ ks. n + length ks) (option_map (λ ks. k ∷ ks) rest)
+counted-first n k None = refl
+counted-first n k (Some ks) = ap Some (omega arith)
+
+rest_of : (k : Option ℕ) (rest after : List ℕ) (key : ℕ) → option_map {U = ℕ × List ℕ} (λ b. (b, rest)) k ≡ Some (key, after) → rest ≡ after
+rest_of None rest after key is = absurd (cc)
+rest_of (Some b) rest after key is =
+    let same : ◌≡◌ {A = ℕ × List ℕ} (b, rest) (key, after) = cc in ap (λ (p : ℕ × List ℕ). p.1) same
+
+rest_by_caret : (is_caret : Bool) (b c : ℕ) (rest after : List ℕ) (key : ℕ)
+    → (if is_caret then option_map {U = ℕ × List ℕ} (λ k. (k, rest)) (control_key c) else option_map (λ k. (k, c ∷ rest)) (plain_key b)) ≡ Some (key, after)
+    → length after < length (b ∷ c ∷ rest)
+rest_by_caret true b c rest after key is = omega (arith, ap length (rest_of (control_key c) rest after key is))
+rest_by_caret false b c rest after key is = omega (arith, ap length (rest_of (plain_key b) (c ∷ rest) after key is))
+
+-- what follows a first key is shorter
+pub first_key-shorter : (text after : List ℕ) (key : ℕ) → first_key text ≡ Some (key, after) → length after < length text
+first_key-shorter [] after key is = absurd (cc)
+first_key-shorter (b ∷ []) after key is = omega (arith, ap length (rest_of (plain_key b) [] after key is))
+first_key-shorter (b ∷ c ∷ rest) after key is = rest_by_caret (b == caret) b c rest after key is

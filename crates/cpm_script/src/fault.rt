@@ -20,6 +20,13 @@ pub enum LineFault {
     /// With the keys of this line there are more than 4,096.
     #[error("a script has at most 4096 keys")]
     TooManyKeys,
+    /// The count is below that at which the session is forked.
+    #[error("the count is below that at which the session is forked")]
+    BeforeFork,
+    /// With the keys of this line, those of the lines before it and those that the parent had before the
+    /// fork there are more than 4,096.
+    #[error("with the keys of the session that it is forked from there are more than 4096")]
+    TooManyForked,
 }
 
 /// Why a key script is refused.

@@ -1,5 +1,5 @@
 //! The keys that a text stands for.
-ghost use Rattle.std.specs.Prelude.{◌≡◌, is_some, option_map};
+ghost use Rattle.std.specs.Prelude.{◌≡◌, is_some, length, option_map};
 ghost use Rattle.cpm_script.specs.KeyText.{control_key, first_key, keys_of, plain_key};
 
 /// A byte that stands for itself.
@@ -48,4 +48,18 @@ pub fn are_keys(text: &[u8]) -> bool
         }
     }
     true
+}
+
+/// How many keys a text stands for, if it stands for keys and nothing else.
+pub(crate) fn count_keys(text: &[u8]) -> Option<usize>
+    ensures { result ≡ option_map length (keys_of text.now) }
+{
+    let mut rest = text;
+    let mut count = 0;
+    while !rest.is_empty() {
+        let (_, after) = first_key(rest)?;
+        rest = after;
+        count += 1;
+    }
+    Some(count)
 }

@@ -3,11 +3,14 @@
 
 mod count;
 mod fault;
+mod fork;
 mod keys;
+pub mod laws;
 mod lines;
 mod script;
 
 pub use count::count_of;
 pub use fault::{LineFault, ScriptError};
+pub use fork::{keys_before, read_forked_keys};
 pub use keys::{are_keys, first_key};
 pub use script::{Key, read_keys};

@@ -27,16 +27,16 @@ enum Stop {
 }
 
 /// The most keys that a script has.
-const MOST_KEYS: usize = 4096;
+pub(crate) const MOST_KEYS: usize = 4096;
 
 /// A line of spaces, or with nothing on it.
-fn is_blank(line: &[u8]) -> bool
+pub(crate) fn is_blank(line: &[u8]) -> bool
     ensures { result ≡ list_all is_space line.now }
 {
     line.iter().all(|b| *b == b' ')
 }
 
-fn is_comment(line: &[u8]) -> bool
+pub(crate) fn is_comment(line: &[u8]) -> bool
     ensures { result ≡ (slice_index line.now 0 == 0x23) }
 {
     match line.first() {
@@ -99,7 +99,7 @@ fn fault_past_last_key(rest: &[u8]) -> LineFault
 }
 
 /// A line before its first space, and after it.
-fn parted(line: &[u8]) -> (&[u8], &[u8])
+pub(crate) fn parted(line: &[u8]) -> (&[u8], &[u8])
     ensures number { result.0.now ≡ before_first is_space line.now }
     ensures text { result.1.now ≡ after_first is_space line.now }
 {

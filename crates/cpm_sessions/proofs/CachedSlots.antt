@@ -79,15 +79,14 @@ AllCached-added : (m : List (Option Contents)) (stamps : List (List ℕ)) (slots
 AllCached-added m stamps [] s k now = (now, tt)
 AllCached-added m stamps (x ∷ xs) s k now = (k.0, AllCached-added m stamps xs s k.1 now)
 
--- a session was opened in a table that was free, with a cache that is right for every memory
-pub AllCached-opened : (old new : List (Option Contents)) (before after : List (List ℕ)) (slots items : List Slot) (s : Slot) (pages : ℕ) →
-    AllSound old slots → AllCached old before slots → get_or old s.table None ≡ None → new ≡ set old s.table (Some (opening pages)) → after ≡ before → items ≡ slots ++ s ∷ [] →
+-- a slot was added in a table that was free, with a cache that is right for every memory
+pub AllCached-more : (old new : List (Option Contents)) (before after : List (List ℕ)) (slots items : List Slot) (s : Slot) (memory : Contents) →
+    AllSound old slots → AllCached old before slots → get_or old s.table None ≡ None → new ≡ set old s.table (Some memory) → Stay s.table before after → items ≡ slots ++ s ∷ [] →
     ((c : Contents) (stamps : List ℕ) → IsRightFor c stamps s.runner.cache) → AllCached new after items
-AllCached-opened old new before after slots items s pages a k free is same pushed right =
-    let more = set old s.table (Some (opening pages)) in
+AllCached-more old new before after slots items s memory a k free is stay pushed right =
+    let more = set old s.table (Some memory) in
     subst (AllCached new after) (sym pushed)
     (AllCached-added new after slots s
     (subst (λ (m : List (Option Contents)). AllCached m after slots) (sym is)
-    (subst (λ (stamps : List (List ℕ)). AllCached more stamps slots) (sym same)
-    (AllCached-kept s.table old more before before slots (kept-set s.table old (Some (opening pages))) (λ t ne. refl) (NoneAt-free old s.table slots free a) k)))
+    (AllCached-kept s.table old more before after slots (kept-set s.table old (Some memory)) stay (NoneAt-free old s.table slots free a) k))
     (right (contents_at new s.table) (get_or after s.table [])))

@@ -3,6 +3,7 @@ pub mod EventLaws
 pub mod OrderLaws
 pub mod AccountLaws
 pub mod OpeningLaws
+pub mod LifeLaws
 pub mod CutLaws
 pub mod TableLaws
 pub mod FitSlots
@@ -14,6 +15,7 @@ pub mod RunLaws
 pub mod OpenIndexes
 pub mod OpenSlots
 pub mod OpenHost
+pub mod ForkHost
 pub mod CloseSlots
 pub mod WithinLaws
 pub mod CloseHost

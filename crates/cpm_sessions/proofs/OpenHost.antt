@@ -1,46 +1,45 @@
--- What an opening leaves of a host.
-use Rattle.std.proofs.Common.{◌≡◌, ℕ, ◌+◌, List, [], ◌∷◌, ◌++◌, get_or, set, Option, None, Some, is_some, true, sym, ap, ◌∙◌, subst}
+-- What a slot that is added leaves of a host.
+use Rattle.std.proofs.Common.{◌≡◌, ℕ, ◌+◌, List, [], ◌∷◌, ◌++◌, Option, sym, ap, ◌∙◌, subst}
 use Rattle.cpm_geom.specs.Disk.{Disk}
 use Rattle.cpm_memory.specs.Contents.{Contents}
-use Rattle.cpm_memory.specs.Opening.{opening}
-use Rattle.cpm_slots.specs.declared.opening.Opening.{Opening}
-use Rattle.cpm_slots.specs.Runner.{state_of}
+use Rattle.cpm_slots.specs.MachineState.{MachineState}
+use Rattle.cpm_slots.specs.declared.steps.Runner.{Runner}
 use Rattle.cpm_sessions.specs.declared.slots.Slot.{Slot}
-use Rattle.cpm_sessions.specs.Host.{Host, SlotState, opened_slot, refusal_of, with_opened, IsHost}
+use Rattle.cpm_sessions.specs.Host.{Host, SlotState, with_added, IsHost}
 use Rattle.cpm_sessions.specs.Slots.{slots_of, HaveTables}
-use Rattle.cpm_sessions.proofs.OrderLaws.{has-index, IsHost-opened}
-use Rattle.cpm_sessions.proofs.OpenSlots.{has-quota, HaveTables-opened, slots-opened}
+use Rattle.cpm_sessions.proofs.OrderLaws.{HasPlace, IsHost-added}
+use Rattle.cpm_sessions.proofs.OpenSlots.{IsAdded, HaveTables-added, slots-more}
+
+-- the slot that is pushed
+abbrev pub new_slot : ℕ → Runner → ℕ → Slot
+new_slot id runner table = record { id = id; runner = runner; table = table }
 
 abbrev pub hosted : Disk → ℕ → ℕ → List SlotState → Host
 hosted system frames openings slots = record { system = system; frames = frames; openings = openings; slots = slots }
 
--- the parts of a host as they were, and a slot for an opening that is not refused
-pub record IsOpening (system : Disk) (frames : ℕ) (now : Host) (old new : List (Option Contents)) (slots items : List Slot) (s : Slot) (o : Opening) : Type 0 where
+-- the parts of a host as they were, and a slot for which there is a place
+pub record IsAdding (system : Disk) (frames : ℕ) (now : Host) (old new : List (Option Contents)) (slots items : List Slot) (s : Slot) (memory : Contents) (state : MachineState) : Type 0 where
   pub view : hosted system frames s.id (slots_of old slots) ≡ now
-  pub accepted : None ≡ refusal_of now o
+  pub place : HasPlace now state.quota
   pub host : IsHost (hosted system frames s.id (slots_of old slots))
   pub have_tables : HaveTables old slots
-  pub free : get_or old s.table None ≡ None
-  pub memories : new ≡ set old s.table (Some (opening o.quota))
-  pub taken : is_some (get_or new s.table None) ≡ true
-  pub state : state_of s.runner (opening o.quota) ≡ opened_slot o
+  pub added : IsAdded old new s memory state
   pub pushed : items ≡ slots ++ s ∷ []
 
-module _ (system : Disk) (frames : ℕ) (now : Host) (old new : List (Option Contents)) (slots items : List Slot) (s : Slot) (o : Opening) (k : IsOpening system frames now old new slots items s o) where
+module _ (system : Disk) (frames : ℕ) (now : Host) (old new : List (Option Contents)) (slots items : List Slot) (s : Slot) (memory : Contents) (state : MachineState) (k : IsAdding system frames now old new slots items s memory state) where
   abbrev before : Host
   before = hosted system frames s.id (slots_of old slots)
 
-  accepted-before : refusal_of before o ≡ None
-  accepted-before = ap (λ g. refusal_of g o) k.view ∙ sym k.accepted
+  slots-after : slots_of new items ≡ slots_of old slots ++ record { id = s.id; state = state } ∷ []
+  slots-after = ap (slots_of new) k.pushed ∙ slots-more old new slots s memory state k.have_tables k.added
 
-  slots-after : slots_of new items ≡ slots_of old slots ++ record { id = s.id; state = opened_slot o } ∷ []
-  slots-after = ap (slots_of new) k.pushed ∙ slots-opened old new slots s o k.have_tables k.free k.memories k.taken k.state
+  pub added-host : IsHost (hosted system frames (s.id + 1) (slots_of new items))
+  added-host =
+      let place : HasPlace before state.quota = subst (λ h. HasPlace h state.quota) (sym k.view) k.place in
+      subst (λ xs. IsHost (hosted system frames (s.id + 1) xs)) (sym slots-after) (IsHost-added before state place k.host)
 
-  pub opened-host : IsHost (hosted system frames (s.id + 1) (slots_of new items))
-  opened-host = subst (λ xs. IsHost (hosted system frames (s.id + 1) xs)) (sym slots-after) (IsHost-opened before o (has-index before o accepted-before) k.host)
+  pub added-have_tables : HaveTables new items
+  added-have_tables = subst (HaveTables new) (sym k.pushed) (HaveTables-added old new slots s memory state k.have_tables k.added)
 
-  pub opened-have_tables : HaveTables new items
-  opened-have_tables = subst (HaveTables new) (sym k.pushed) (HaveTables-opened old new slots s o k.have_tables k.free k.memories k.taken k.state (has-quota before o accepted-before).0)
-
-  pub opened-is : hosted system frames (s.id + 1) (slots_of new items) ≡ with_opened now o
-  opened-is = ap (hosted system frames (s.id + 1)) slots-after ∙ ap (λ g. with_opened g o) k.view
+  pub added-is : hosted system frames (s.id + 1) (slots_of new items) ≡ with_added now state
+  added-is = ap (hosted system frames (s.id + 1)) slots-after ∙ ap (λ h. with_added h state) k.view

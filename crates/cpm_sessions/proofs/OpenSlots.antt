@@ -112,65 +112,72 @@ taken-within [] t h = cc
 taken-within (x ∷ xs) zero h = omega arith
 taken-within (x ∷ xs) (suc t) h = let l = taken-within xs t h in omega arith
 
--- a table that was free has the memory at opening
-module _ (old : List (Option Contents)) (t pages : ℕ) (free : get_or old t None ≡ None) (taken : is_some (get_or (set old t (Some (opening pages))) t None) ≡ true) where
+-- a table that was free has a memory
+module _ (old : List (Option Contents)) (t : ℕ) (memory : Contents) (free : get_or old t None ≡ None) (taken : is_some (get_or (set old t (Some memory)) t None) ≡ true) where
   within : t < length old
-  within = let l = taken-within (set old t (Some (opening pages))) t taken in omega (arith, l, length-set old t (Some (opening pages)))
+  within = let l = taken-within (set old t (Some memory)) t taken in omega (arith, l, length-set old t (Some memory))
 
-  pub contents-added : contents_at (set old t (Some (opening pages))) t ≡ opening pages
-  contents-added = ap (λ o. unwrap_or o (opening 0)) (get_or-set_same old t (Some (opening pages)) None within)
+  pub contents-added : contents_at (set old t (Some memory)) t ≡ memory
+  contents-added = ap (λ o. unwrap_or o (opening 0)) (get_or-set_same old t (Some memory) None within)
 
-  taken-added : taken_in (set old t (Some (opening pages))) ≡ taken_in old + 1
+  taken-added : taken_in (set old t (Some memory)) ≡ taken_in old + 1
   taken-added =
       let before : cond {A = ℕ} (is_some (get_or old t None)) 1 0 ≡ 0 = ap (λ (o : Option Contents). cond {A = ℕ} (is_some o) 1 0) free in
-      let e = sum_by-set (λ (o : Option Contents). cond {A = ℕ} (is_some o) 1 0) old t (Some (opening pages)) None within in
+      let e = sum_by-set (λ (o : Option Contents). cond {A = ℕ} (is_some o) 1 0) old t (Some memory) None within in
       omega (arith, e, before)
 
-  reserved-added : reserved_in (set old t (Some (opening pages))) ≡ reserved_in old + pages
+  reserved-added : reserved_in (set old t (Some memory)) ≡ reserved_in old + memory.limit
   reserved-added =
       let before : limit_at (get_or old t None) ≡ 0 = ap limit_at free in
-      let e = sum_by-set limit_at old t (Some (opening pages)) None within in
+      let e = sum_by-set limit_at old t (Some memory) None within in
       omega (arith, e, before)
 
--- a session was opened in a table that was free
-module _ (old new : List (Option Contents)) (slots : List Slot) (s : Slot) (o : Opening) (k : HaveTables old slots) (free : get_or old s.table None ≡ None) (is : new ≡ set old s.table (Some (opening o.quota))) (taken : is_some (get_or new s.table None) ≡ true) (state : state_of s.runner (opening o.quota) ≡ opened_slot o) where
+-- A slot is added in a table that was free and now has a memory, with which its session makes a state.
+pub record IsAdded (old new : List (Option Contents)) (s : Slot) (memory : Contents) (made : MachineState) : Type 0 where
+  pub free : get_or old s.table None ≡ None
+  pub is : new ≡ set old s.table (Some memory)
+  pub taken : is_some (get_or new s.table None) ≡ true
+  pub state : state_of s.runner memory ≡ made
+  pub sound : IsSound made
+
+module _ (old new : List (Option Contents)) (slots : List Slot) (s : Slot) (memory : Contents) (state : MachineState) (k : HaveTables old slots) (a : IsAdded old new s memory state) where
   abbrev after : List (Option Contents)
-  after = set old s.table (Some (opening o.quota))
+  after = set old s.table (Some memory)
 
   taken-after : is_some (get_or after s.table None) ≡ true
-  taken-after = subst (λ m. is_some (get_or m s.table None) ≡ true) is taken
+  taken-after = subst (λ m. is_some (get_or m s.table None) ≡ true) a.is a.taken
 
-  contents-after : contents_at after s.table ≡ opening o.quota
-  contents-after = contents-added old s.table o.quota free taken-after
+  contents-after : contents_at after s.table ≡ memory
+  contents-after = contents-added old s.table memory a.free taken-after
 
   none : NoneAt s.table slots
-  none = NoneAt-free old s.table slots free k.all
+  none = NoneAt-free old s.table slots a.free k.all
 
-  state-after : state_of s.runner (contents_at after s.table) ≡ opened_slot o
-  state-after = ap (state_of s.runner) contents-after ∙ state
+  state-after : state_of s.runner (contents_at after s.table) ≡ state
+  state-after = ap (state_of s.runner) contents-after ∙ a.state
 
-  have_tables-after : 16 ≤ o.quota → HaveTables after (slots ++ s ∷ [])
-  have_tables-after l =
-      let quota : s.runner.quota ≡ o.quota = ap (λ (x : MachineState). x.quota) state in
+  have_tables-after : HaveTables after (slots ++ s ∷ [])
+  have_tables-after =
+      let limit : memory.limit ≡ s.runner.quota = ap (λ (x : MachineState). x.memory.limit) a.state ∙ a.sound.limit ∙ sym (ap (λ (x : MachineState). x.quota) a.state) in
       let all = sum_by-append quota_of slots (s ∷ []) in
       let one = sum_by-cons quota_of s [] in
       let long = length-append slots (s ∷ []) in
-      let more = taken-added old s.table o.quota free taken-after in
-      let reserved = reserved-added old s.table o.quota free taken-after in
+      let more = taken-added old s.table memory a.free taken-after in
+      let reserved = reserved-added old s.table memory a.free taken-after in
       let was_taken = k.taken in
       let was_reserved = k.reserved in
       record {
-        all = AllSound-added after slots s none (AllSound-kept s.table old after slots (kept-set s.table old (Some (opening o.quota))) none k.all) taken-after (subst IsSound (sym state-after) (IsSound-opened o l));
+        all = AllSound-added after slots s none (AllSound-kept s.table old after slots (kept-set s.table old (Some memory)) none k.all) taken-after (subst IsSound (sym state-after) a.sound);
         taken = omega arith;
         reserved = omega arith;
       }
 
-  pub HaveTables-opened : 16 ≤ o.quota → HaveTables new (slots ++ s ∷ [])
-  HaveTables-opened l = subst (λ m. HaveTables m (slots ++ s ∷ [])) (sym is) (have_tables-after l)
+  pub HaveTables-added : HaveTables new (slots ++ s ∷ [])
+  HaveTables-added = subst (λ m. HaveTables m (slots ++ s ∷ [])) (sym a.is) have_tables-after
 
-  pub slots-opened : slots_of new (slots ++ s ∷ []) ≡ slots_of old slots ++ record { id = s.id; state = opened_slot o } ∷ []
-  slots-opened =
-      ap (λ m. slots_of m (slots ++ s ∷ [])) is
+  pub slots-more : slots_of new (slots ++ s ∷ []) ≡ slots_of old slots ++ record { id = s.id; state = state } ∷ []
+  slots-more =
+      ap (λ m. slots_of m (slots ++ s ∷ [])) a.is
       ∙ slots-added after slots s
-      ∙ ap (λ xs. xs ++ slot_of after s ∷ []) (slots-kept s.table old after slots (kept-set s.table old (Some (opening o.quota))) none)
+      ∙ ap (λ xs. xs ++ slot_of after s ∷ []) (slots-kept s.table old after slots (kept-set s.table old (Some memory)) none)
       ∙ ap (λ (x : MachineState). slots_of old slots ++ record { id = s.id; state = x } ∷ []) state-after

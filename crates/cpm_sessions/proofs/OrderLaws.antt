@@ -15,8 +15,10 @@ use Rattle.cpm_slots.specs.Serve.{executed, takes_key}
 use Rattle.cpm_slots.specs.Until.{executed_until}
 use Rattle.cpm_slots.specs.Calls.{Call, Key, Grant, GrantUntil, Take, TakeList, LookAt, Peek, served_key, serve}
 use Rattle.cpm_sessions.specs.Serving.{Ask, Calls, Closes, serve_slot}
-use Rattle.cpm_sessions.specs.Host.{Host, SlotState, Happening, Opens, Asks, opened_slot, room_fault, refusal_of, opened_if, with_opened, slot_at, with_slot, after_ask, after_one, host_after, quotas_of, IsOrdered, IsHost}
+use Rattle.cpm_sessions.specs.declared.event.ForkError.TheVariants as fork
+use Rattle.cpm_sessions.specs.Host.{Host, SlotState, Happening, Opens, Forks, Asks, opened_slot, lacks_slot, lacks_frames, room_fault, refusal_of, opened_if, fork_fault, with_added, slot_at, with_slot, after_ask, after_one, host_after, quotas_of, IsOrdered, IsHost}
 use Rattle.cpm_sessions.proofs.SlotLaws.{AllBelow-with, AllBelow-added, IsOrdered-with, IsOrdered-added, with_slot-below}
+use Rattle.cpm_sessions.proofs.EventLaws.{forked-is}
 
 -- ---- the quota stays
 
@@ -60,7 +62,7 @@ quotas-closed id (x ∷ xs) =
     elim (x.id == id) as (λ t. quotas_of (cond (not t) (x ∷ with_slot id None xs) (with_slot id None xs)) ≤ quotas_of (x ∷ xs))
     [ true ↦ omega arith | false ↦ omega arith ]
 
-quotas-set : (id n : ℕ) (s t : MachineState) (xs : List SlotState) → IsOrdered n xs → slot_at id xs ≡ Some t → s.quota ≡ t.quota → quotas_of (with_slot id (Some s) xs) ≡ quotas_of xs
+pub quotas-set : (id n : ℕ) (s t : MachineState) (xs : List SlotState) → IsOrdered n xs → slot_at id xs ≡ Some t → s.quota ≡ t.quota → quotas_of (with_slot id (Some s) xs) ≡ quotas_of xs
 quotas-set id n s t [] k h e = refl
 quotas-set id n s t (x ∷ xs) k h e = by_test (x.id == id) refl h (λ g. quotas-set id (x.id + 1) s t xs k.1 g e)
   where
@@ -109,47 +111,57 @@ IsHost-ask h id ask k =
       quotas = omega (arith, quotas-asked h.system id ask (slot_at id h.slots) h.slots k.ordered refl);
     }
 
--- what an opening that is taken finds
-pub record HasPlace (h : Host) (o : Opening) : Type 0 where
+-- what a slot that is added finds, by its quota
+pub record HasPlace (h : Host) (quota : ℕ) : Type 0 where
   pub room : length h.slots < 64
   pub number : h.openings ≡ 18446744073709551615 → ⊥
-  pub frames : quotas_of h.slots + o.quota ≤ h.frames
+  pub frames : quotas_of h.slots + quota ≤ h.frames
 
 second-none : (a b : Option OpenError) → first_fault a b ≡ None → b ≡ None
 second-none None b h = h
 second-none (Some fault) b h = cc
 
-index-tests : (h : Host) (o : Opening) (full last short : Bool) → nat_le 64 (length h.slots) ≡ full → (h.openings == 18446744073709551615) ≡ last → nat_lt h.frames (quotas_of h.slots + o.quota) ≡ short → (if full || last then Some NoSlot else if short then Some NoFrames else None) ≡ None → HasPlace h o
-index-tests h o true last short e f g k = cc
-index-tests h o false true short e f g k = cc
-index-tests h o false false true e f g k = cc
-index-tests h o false false false e f g k = record { room = grind (arith, nat_tests); number = λ at. grind (arith, nat_tests); frames = grind (arith, nat_tests) }
+-- where neither is lacking
+none-lacks : {A : Type 0} (a b : A) (slot frames : Bool) → (if slot then Some a else if frames then Some b else None) ≡ None → (slot ≡ false) × (frames ≡ false)
+none-lacks a b true frames k = cc
+none-lacks a b false true k = cc
+none-lacks a b false false k = (refl, refl)
 
-pub has-index : (h : Host) (o : Opening) → refusal_of h o ≡ None → HasPlace h o
-has-index h o k =
-    index-tests h o (nat_le 64 (length h.slots)) (h.openings == 18446744073709551615) (nat_lt h.frames (quotas_of h.slots + o.quota)) refl refl refl
-    (second-none (opening_fault o) (room_fault h o.quota) k)
+place-tests : (h : Host) (quota : ℕ) (full last : Bool) → nat_le 64 (length h.slots) ≡ full → (h.openings == 18446744073709551615) ≡ last → (full || last) ≡ false → nat_lt h.frames (quotas_of h.slots + quota) ≡ false → HasPlace h quota
+place-tests h quota true last e f g k = cc
+place-tests h quota false true e f g k = cc
+place-tests h quota false false e f g k = record { room = grind (arith, nat_tests); number = λ at. grind (arith, nat_tests); frames = grind (arith, nat_tests) }
 
-pub IsHost-opened : (h : Host) (o : Opening) → HasPlace h o → IsHost h → IsHost (with_opened h o)
-IsHost-opened h o index k =
-    let room = index.room in
-    let frames = index.frames in
-    let new : SlotState = record { id = h.openings; state = opened_slot o } in
+has-place : (h : Host) (quota : ℕ) → (lacks_slot h ≡ false) × (lacks_frames h quota ≡ false) → HasPlace h quota
+has-place h quota k = place-tests h quota (nat_le 64 (length h.slots)) (h.openings == 18446744073709551615) refl refl k.0 k.1
+
+pub has-index : (h : Host) (o : Opening) → refusal_of h o ≡ None → HasPlace h o.quota
+has-index h o k = has-place h o.quota (none-lacks NoSlot NoFrames (lacks_slot h) (lacks_frames h o.quota) (second-none (opening_fault o) (room_fault h o.quota) k))
+
+pub has-fork : (h : Host) (s : MachineState) → fork_fault h (Some s) ≡ None → HasPlace h s.quota
+has-fork h s k = has-place h s.quota (none-lacks fork.NoSlot fork.NoFrames (lacks_slot h) (lacks_frames h s.quota) k)
+
+pub IsHost-added : (h : Host) (s : MachineState) → HasPlace h s.quota → IsHost h → IsHost (with_added h s)
+IsHost-added h s place k =
+    let room = place.room in
+    let frames = place.frames in
+    let new : SlotState = record { id = h.openings; state = s } in
     let all = sum_by-append quota_of h.slots (new ∷ []) in
     let one = sum_by-cons quota_of new [] in
     record {
-      ordered = IsOrdered-added 0 h.openings (opened_slot o) h.slots (omega arith) k.ordered k.below;
-      below = AllBelow-added h.openings (opened_slot o) h.slots k.below;
+      ordered = IsOrdered-added 0 h.openings s h.slots (omega arith) k.ordered k.below;
+      below = AllBelow-added h.openings s h.slots k.below;
       few = omega (arith, length-append h.slots (new ∷ []));
       quotas = omega arith;
     }
 
 IsHost-open : (h : Host) (o : Opening) (r : Option OpenError) → refusal_of h o ≡ r → IsHost h → IsHost (opened_if r h o)
-IsHost-open h o None e k = IsHost-opened h o (has-index h o e) k
+IsHost-open h o None e k = IsHost-added h (opened_slot o) (has-index h o e) k
 IsHost-open h o (Some fault) e k = k
 
 IsHost-one : (h : Host) (x : Happening) → IsHost h → IsHost (after_one h x)
 IsHost-one h (Opens o) k = IsHost-open h o (refusal_of h o) refl k
+IsHost-one h (Forks id) k = forked-is h id IsHost k (λ s at e. IsHost-added h s (has-fork h s e) k)
 IsHost-one h (Asks id ask) k = IsHost-ask h id ask k
 
 pub IsHost-after : (events : List Happening) (h : Host) → IsHost h → IsHost (host_after events h)

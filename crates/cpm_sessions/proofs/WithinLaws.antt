@@ -9,7 +9,7 @@ use Rattle.cpm_slots.specs.Until.{can_go_on, executed_until}
 use Rattle.cpm_slots.specs.Calls.{Call, Key, Grant, GrantUntil, Take, TakeList, LookAt, Peek, served_key, serve}
 use Rattle.cpm_slots.proofs.GrantLaws.{longest-is}
 use Rattle.cpm_sessions.specs.Serving.{Ask, Calls, Closes, reply_of, serve_slot}
-use Rattle.cpm_sessions.specs.Host.{Host, Happening, Opens, Asks, Told, slot_at, reply_at, after_one, told}
+use Rattle.cpm_sessions.specs.Host.{Host, Happening, Opens, Forks, Asks, Told, slot_at, reply_at, after_one, told}
 use Rattle.cpm_sessions.specs.Laws.{executed_in, granted_in, granted_by}
 
 executed-within : (system : Disk) (n : ℕ) (s : MachineState) → executed system n s ≤ n
@@ -48,6 +48,10 @@ within h [] = omega arith
 within h (Opens opening ∷ xs) =
     let rest = within (after_one h (Opens opening)) xs in
     let all = sum_by-cons granted_by (Opens opening) xs in
+    omega arith
+within h (Forks id ∷ xs) =
+    let rest = within (after_one h (Forks id)) xs in
+    let all = sum_by-cons granted_by (Forks id) xs in
     omega arith
 within h (Asks id ask ∷ xs) =
     let rest = within (after_one h (Asks id ask)) xs in

@@ -1,5 +1,5 @@
 -- A host: its system drive, its frames, how many openings were made, and its open slots. There are no turns, tables or shared parts in it. (own)
-use Rattle.std.specs.Prelude.{⊤, ℕ, ◌+◌, ◌<◌, ◌≤◌, List, [], ◌∷◌, ◌++◌, length, map, filter, sum_by, not, ◌==◌, ◌||◌, nat_lt, nat_le, Option, Some, None, Result, Ok, Err, if◌then◌else◌, take}
+use Rattle.std.specs.Prelude.{⊤, ◌≡◌, Bool, ℕ, ◌+◌, ◌<◌, ◌≤◌, List, [], ◌∷◌, ◌++◌, length, map, filter, sum_by, not, ◌==◌, ◌||◌, nat_lt, nat_le, Option, Some, None, Result, Ok, Err, if◌then◌else◌, take}
 use Rattle.cpm_geom.specs.Disk.{Disk}
 use Rattle.cpm_slots.specs.MachineState.{MachineState, opened_machine}
 use Rattle.cpm_slots.specs.Opening.{opening_fault, first_fault}
@@ -10,6 +10,8 @@ use Rattle.cpm_slots.specs.declared.reply.Granted.{Granted}
 use Rattle.cpm_slots.specs.declared.reply.Look.{Look}
 use Rattle.cpm_slots.specs.declared.reply.Closed.{Closed}
 use Rattle.cpm_sessions.specs.declared.event.Event.{Event}
+use Rattle.cpm_sessions.specs.declared.event.ForkError.{ForkError}
+use Rattle.cpm_sessions.specs.declared.event.ForkError.TheVariants as fork
 use Rattle.cpm_sessions.specs.declared.event.Refusal.{Refusal}
 use Rattle.cpm_sessions.specs.declared.event.Reply.{Reply}
 use Rattle.cpm_sessions.specs.declared.event.Reply.TheVariants as reply
@@ -52,22 +54,51 @@ opened_slot o = opened_machine o.cpu o.quota o.drives.items
 abbrev pub quotas_of : List SlotState → ℕ
 quotas_of xs = sum_by (λ x. x.state.quota) xs
 
--- own: 64 slots may be open, and their quotas may be no more than the frames; the last number is never given
+-- own: 64 slots may be open; the last number is never given
+abbrev pub lacks_slot : Host → Bool
+lacks_slot h = nat_le 64 (length h.slots) || h.openings == 18446744073709551615
+
+-- own: the quotas of the slots may be no more than the frames
+abbrev pub lacks_frames : Host → ℕ → Bool
+lacks_frames h quota = nat_lt h.frames (quotas_of h.slots + quota)
+
+-- why there is no place for one slot more (own)
 abbrev pub room_fault : Host → ℕ → Option OpenError
-room_fault h quota =
-    if nat_le 64 (length h.slots) || h.openings == 18446744073709551615 then Some NoSlot else if nat_lt h.frames (quotas_of h.slots + quota) then Some NoFrames else None
+room_fault h quota = if lacks_slot h then Some NoSlot else if lacks_frames h quota then Some NoFrames else None
 
 -- why an opening is refused, want of memory aside: by its quota, its drives, for want of a slot, or of frames (own)
 abbrev pub refusal_of : Host → Opening → Option OpenError
 refusal_of h o = first_fault (opening_fault o) (room_fault h o.quota)
 
 -- the host with one slot more, under the number of its opening (own)
+abbrev pub with_added : Host → MachineState → Host
+with_added h s = record h { openings = h.openings + 1; slots = h.slots ++ record { id = h.openings; state = s } ∷ [] }
+
 abbrev pub with_opened : Host → Opening → Host
-with_opened h o = record h { openings = h.openings + 1; slots = h.slots ++ record { id = h.openings; state = opened_slot o } ∷ [] }
+with_opened h o = with_added h (opened_slot o)
 
 abbrev pub opened_if : Option OpenError → Host → Opening → Host
 opened_if None h o = with_opened h o
 opened_if (Some fault) h o = h
+
+-- why a fork of a slot is refused, want of memory aside: it is not open, for want of a slot, or of as many frames as it has reserved (own)
+abbrev pub fork_fault : Host → Option MachineState → Option ForkError
+fork_fault h None = Some fork.NoSuchSlot
+fork_fault h (Some s) = if lacks_slot h then Some fork.NoSlot else if lacks_frames h s.quota then Some fork.NoFrames else None
+
+-- a refusal names the fault, and where there is none the want of memory (own)
+abbrev pub IsForkRefusal : Option ForkError → ForkError → Type 0
+IsForkRefusal None error = error ≡ fork.OutOfMemory
+IsForkRefusal (Some fault) error = error ≡ fault
+
+-- the host with one slot more, whose whole state is that of a slot that is open: its pending keys and the bytes that wait are as that slot's (own)
+abbrev pub with_forked : Host → Option MachineState → Host
+with_forked h None = h
+with_forked h (Some s) = with_added h s
+
+abbrev pub forked_if : Option ForkError → Host → ℕ → Host
+forked_if None h id = with_forked h (slot_at id h.slots)
+forked_if (Some fault) h id = h
 
 -- what a slot of the host replies (own)
 abbrev pub reply_at : Host → ℕ → Ask → Reply
@@ -77,9 +108,10 @@ reply_at h id ask = (serve_slot h.system ask (slot_at id h.slots)).reply
 abbrev pub after_ask : Host → ℕ → Ask → Host
 after_ask h id ask = record h { slots = with_slot id (serve_slot h.system ask (slot_at id h.slots)).slot h.slots }
 
--- What happens to a host: an opening, for which there was memory, or something asked of a slot. An opening that wants memory changes nothing, and so is none. (own)
+-- What happens to a host: an opening or a fork of a slot, for which there was memory, or something asked of a slot. One that wants memory changes nothing, and so is none. (own)
 pub data Happening : Type 0 where
   Opens : (opening : Opening) → Happening
+  Forks : (id : ℕ) → Happening
   Asks : (id : ℕ) → (ask : Ask) → Happening
 
 -- an event of a list that is run (own)
@@ -88,6 +120,7 @@ happening_of e = Asks e.slot.0 (ask_of e.request)
 
 abbrev pub after_one : Host → Happening → Host
 after_one h (Opens o) = opened_if (refusal_of h o) h o
+after_one h (Forks id) = forked_if (fork_fault h (slot_at id h.slots)) h id
 after_one h (Asks id ask) = after_ask h id ask
 
 -- the host after all that happened, in order (own)
@@ -102,6 +135,7 @@ pub record Told : Type 0 where
 
 abbrev pub told_by : Host → Happening → List Told
 told_by h (Opens o) = []
+told_by h (Forks id) = []
 told_by h (Asks id ask) = record { id = id; reply = reply_at h id ask } ∷ []
 
 -- all replies, in order (own)
@@ -113,9 +147,10 @@ told (x ∷ xs) h = told_by h x ++ told xs (after_one h x)
 abbrev pub told_of : ℕ → List Told → List Reply
 told_of id ts = map (λ t. t.reply) (filter (λ t. t.id == id) ts)
 
--- what is asked of one slot (own)
+-- what is asked of one slot; a fork of it asks nothing of it (own)
 abbrev pub asked_of : ℕ → Happening → List Ask
 asked_of id (Opens o) = []
+asked_of id (Forks parent) = []
 asked_of id (Asks named ask) = if named == id then ask ∷ [] else []
 
 -- the slot's own events, in order (own)

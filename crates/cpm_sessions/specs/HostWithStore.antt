@@ -1,7 +1,7 @@
 -- A host with its store, and where the memories of its slots lie. (own)
 use Rattle.std.specs.Prelude.{◌≡◌, ℕ, ◌+◌, ◌/◌, ◌%◌, ◌<◌, ◌≤◌, true, false, ◌==◌, if◌then◌else◌, List, [], ◌∷◌, sum_by, Option, Some, None, IfSome, Result, Ok, Err, slice_index}
 use Rattle.cpm_memory.specs.Contents.{byte_at, is_written, room_of}
-use Rattle.cpm_memory.specs.Frames.{Frames, IsTaken, boot_of, place_of, frame_of, memory_of, owners_of, used_of}
+use Rattle.cpm_memory.specs.Frames.{Frames, IsTaken, boot_of, place_of, frame_of, memory_of, owners_of, used_of, KeepsPlaces}
 use Rattle.cpm_memory.specs.Opening.{opening_byte}
 use Rattle.cpm_memory.specs.Tabulated.{tabulated}
 use Rattle.cpm_slots.specs.MachineState.{MachineState}
@@ -69,3 +69,13 @@ pub record IsHostWithStore (h : HostWithStore) : Type 0 where
       → place_of h.store other_table other_page ≡ frame → (table ≡ other_table) × (page ≡ other_page)
   -- the private frames that no table names are at least what the slots have reserved and not used: enough for all pages that they may still write
   pub free : used_of h.store + unused_of h.host.slots ≤ h.store.private
+
+-- A fork of a slot shares the pages of that slot: each page of its table is made of the frame that the other's is made of. No frame is changed, and no page of another table. (own)
+pub record SharesPages (old new : HostWithStore) (id child : ℕ) : Type 0 where
+  pub table : ℕ
+  pub shared : ℕ
+  pub named : table_of id old.tables ≡ Some table
+  pub child_named : table_of child new.tables ≡ Some shared
+  pub places : (page : ℕ) → place_of new.store shared page ≡ place_of old.store table page
+  pub others : KeepsPlaces old.store new.store shared
+  pub frames : new.store.frames ≡ old.store.frames

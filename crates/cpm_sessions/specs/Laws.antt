@@ -1,5 +1,5 @@
 -- The laws of a host, for every list of what happens to it. (own)
-use Rattle.std.specs.Prelude.{◌≡◌, ◌≢◌, ℕ, ◌+◌, ◌<◌, ◌≤◌, List, ◌∷◌, ◌++◌, sum_by, Option, Some, None, IfSome}
+use Rattle.std.specs.Prelude.{◌≡◌, ◌≢◌, ℕ, ◌+◌, ◌<◌, ◌≤◌, List, [], sum_by, Option, Some, None}
 use Rattle.cpm_geom.specs.Disk.{Disk}
 use Rattle.cpm_slots.specs.MachineState.{MachineState}
 use Rattle.cpm_slots.specs.Calls.{Grant, GrantUntil, no_account}
@@ -8,7 +8,9 @@ use Rattle.cpm_sessions.specs.declared.event.Reply.{Reply}
 use Rattle.cpm_sessions.specs.declared.event.Reply.TheVariants as reply
 use Rattle.cpm_sessions.specs.Serving.{Ask, Calls}
 use Rattle.cpm_sessions.specs.Account.{account_by, slot_after, replies_of, IsAlone}
-use Rattle.cpm_sessions.specs.Host.{Host, Happening, Opens, Asks, new_host, slot_at, with_opened, opened_slot, refusal_of, reply_at, after_ask, host_after, told, told_of, own, IsHost}
+use Rattle.cpm_sessions.specs.declared.event.ForkError.{ForkError}
+use Rattle.cpm_sessions.specs.Host.{Host, Happening, Opens, Forks, Asks, new_host, slot_at, with_opened, opened_slot, fork_fault, reply_at, after_ask, after_one, host_after, told, told_of, own, IsHost}
+use Rattle.cpm_sessions.specs.Lives.{Life, NamedLife, life_of, lives}
 
 -- what is asked of one slot leaves every other
 abbrev pub Apart : Type 0
@@ -32,20 +34,38 @@ Alone = (system : Disk) (frames : ℕ) (before : List Happening) (opening : Open
     let now = with_opened h opening in
     StandsAlone system opening (own id events) (told_of id (told events now)) (slot_at id (host_after events now).slots)
 
--- a slot that was opened after some of what happened, and stands alone by all that happened since
-pub record WasOpened (system : Disk) (frames : ℕ) (events : List Happening) (id : ℕ) (now : MachineState) : Type 0 where
-  pub before : List Happening
-  pub opening : Opening
-  pub rest : List Happening
-  pub parts : events ≡ before ++ Opens opening ∷ rest
-  pub number : (host_after before (new_host system frames)).openings ≡ id
-  pub accepted : refusal_of (host_after before (new_host system frames)) opening ≡ None
-  pub stands : StandsAlone system opening (own id rest) (told_of id (told rest (with_opened (host_after before (new_host system frames)) opening))) (Some now)
+-- what happened to one slot, opened or forked, and what its state is now: it stands alone by its life
+pub record HasLived (system : Disk) (all : List NamedLife) (id : ℕ) (now : Option MachineState) : Type 0 where
+  pub life : Life
+  pub named : life_of id all ≡ Some life
+  pub stands : StandsAlone system life.opening life.asks life.replies now
 
--- and each slot that is open was opened so
+-- And each slot that was ever opened or forked stands so: one that was forked by the events of the slot that it was forked from, up to the fork, followed by its own.
 abbrev pub EachAlone : Type 0
 EachAlone = (system : Disk) (frames : ℕ) (events : List Happening) (id : ℕ) →
-    IfSome (slot_at id (host_after events (new_host system frames)).slots) (WasOpened system frames events id)
+    let h = new_host system frames in
+    id < (host_after events h).openings → HasLived system (lives events h []) id (slot_at id (host_after events h).slots)
+
+-- a slot goes on from a state by its own events alone
+pub record GoesOn (h : Host) (events : List Happening) (id : ℕ) (from : MachineState) : Type 0 where
+  pub state : slot_at id (host_after events h).slots ≡ slot_after h.system (own id events) (Some from)
+  pub replied : told_of id (told events h) ≡ replies_of h.system (own id events) (Some from)
+
+-- A fork that is not refused adds a slot whose whole state is that of the other one, and changes no slot. Whatever happens afterwards, each of the two goes on from there by its own events: neither's replies or state depend on the other's.
+pub record Parts (h : Host) (id : ℕ) (s : MachineState) (events : List Happening) : Type 0 where
+  pub number : (after_one h (Forks id)).openings ≡ h.openings + 1
+  pub child : slot_at h.openings (after_one h (Forks id)).slots ≡ Some s
+  pub others : (other : ℕ) → other < h.openings → slot_at other (after_one h (Forks id)).slots ≡ slot_at other h.slots
+  pub child_goes : GoesOn (after_one h (Forks id)) events h.openings s
+  pub parent_goes : GoesOn (after_one h (Forks id)) events id s
+
+abbrev pub Parting : Type 0
+Parting = (h : Host) (id : ℕ) (s : MachineState) (events : List Happening) → IsHost h →
+    slot_at id h.slots ≡ Some s → fork_fault h (Some s) ≡ None → Parts h id s events
+
+-- one that is refused changes nothing
+abbrev pub NoParting : Type 0
+NoParting = (h : Host) (id : ℕ) (fault : ForkError) → fork_fault h (slot_at id h.slots) ≡ Some fault → after_one h (Forks id) ≡ h
 
 -- two hosts that agree on the system drive, on a slot of each and on its own events agree on its replies and its state: whatever other slots do, and whatever their numbers, quotas and frames are
 abbrev pub TwoWorlds : Type 0
@@ -70,6 +90,7 @@ granted_in _ = 0
 
 abbrev pub granted_by : Happening → ℕ
 granted_by (Opens opening) = 0
+granted_by (Forks id) = 0
 granted_by (Asks id ask) = granted_in ask
 
 -- no more steps are executed than are granted

@@ -1,5 +1,6 @@
 pub mod Serving
 pub mod Host
+pub mod Lives
 pub mod Account
 pub mod Index
 pub mod Slots

@@ -60,3 +60,19 @@ pub enum Refusal {
     #[error("4096 keys are pending")]
     KeysFull,
 }
+
+/// Why a slot is not forked.
+#[derive(Clone, Copy, Debug, PartialEq, Eq, Drop, Error)]
+pub enum ForkError {
+    /// No slot of that number is open.
+    #[error("no slot of that number is open")]
+    NoSuchSlot,
+    /// 64 slots are open, or no number is left.
+    #[error("no slot is free")]
+    NoSlot,
+    /// The quotas of all open slots and of one more exceed the frames.
+    #[error("the quotas exceed the frames")]
+    NoFrames,
+    #[error("out of memory")]
+    OutOfMemory,
+}

@@ -47,9 +47,9 @@ pub const MOST_FRAMES: u16 = 16_384;
 pub struct Host {
     system: Image,
     frames: u16,
-    openings: u64,
-    store: FrameStore,
-    slots: Vec<Slot>,
+    pub(crate) openings: u64,
+    pub(crate) store: FrameStore,
+    pub(crate) slots: Vec<Slot>,
     /// A mirror for the memory that is worked on. What is in it makes no difference to any slot.
     mirror: Mirror,
 }
@@ -83,7 +83,7 @@ fn allocate(alloc: Global, frames: u16) -> Result<(FrameStore, Vec<Slot>, Mirror
 }
 
 impl Host {
-    ghost use Rattle.cpm_sessions.specs.Host.{new_host, refusal_of, with_opened, slot_at, reply_at, after_ask, key_reply, grant_reply, take_reply, look_reply, peek_reply, close_reply};
+    ghost use Rattle.cpm_sessions.specs.Host.{new_host, lacks_frames, lacks_slot, refusal_of, with_opened, slot_at, reply_at, after_ask, IsHost, key_reply, grant_reply, take_reply, look_reply, peek_reply, close_reply};
     ghost use Rattle.cpm_sessions.specs.HostWithStore.{table_of, table_reply, IsInTable, IsHostWithStore};
 
     /// A host with this system drive and so many frames, and no slot open. Want of memory hands the drive back.
@@ -114,13 +114,27 @@ impl Host {
         if let Some(fault) = opening.fault() {
             return Some(fault);
         }
-        if self.slots.len() >= MOST_SLOTS || self.openings == u64::MAX {
+        if self.lacks_slot() {
             Some(OpenError::NoSlot)
-        } else if u64::from(self.frames) < quotas_of(&self.slots) + u64::from(opening.quota) {
+        } else if self.lacks_frames(opening.quota) {
             Some(OpenError::NoFrames)
         } else {
             None
         }
+    }
+
+    /// Whether 64 slots are open, or no number is left.
+    pub(crate) fn lacks_slot(&self) -> bool
+        ensures { result ≡ lacks_slot self.now.host }
+    {
+        self.slots.len() >= MOST_SLOTS || self.openings == u64::MAX
+    }
+
+    /// Whether the quotas of all open slots and this one exceed the frames.
+    pub(crate) fn lacks_frames(&self, quota: u16) -> bool
+        ensures { result ≡ lacks_frames self.now.host quota }
+    {
+        u64::from(self.frames) < quotas_of(&self.slots) + u64::from(quota)
     }
 
     /// Opens a slot, and gives its number. What is refused comes back with the reason: a quota that is not 16 to 256 pages, then no drive
@@ -305,6 +319,14 @@ impl Host {
         ensures { (system : Disk) (id : ℕ) (s : MachineState) → slot_at id self.now.host.slots ≡ Some s → IsBounded s (step system s) }
     {
         numbers_fit(&self.slots);
+    }
+
+    /// Does nothing, and says that the slots are in the order of their numbers, which were all given, that they are at most 64, and that their quotas
+    /// are within the frames.
+    pub fn slots_are_orderly(&self)
+        ensures { IsHost self.now.host }
+    {
+        let _open = self.slots.len();
     }
 
     /// Closes a slot, whose number never comes again, and gives what is left of it. Bytes not taken are dropped.

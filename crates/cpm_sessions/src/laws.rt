@@ -1,6 +1,6 @@
 //! The laws of a host, as contracts.
 
-ghost use Rattle.cpm_sessions.specs.Laws.{Apart, Isolation, Alone, EachAlone, TwoWorlds, Within, Cutting, NeverAgain, Orderly};
+ghost use Rattle.cpm_sessions.specs.Laws.{Apart, Isolation, Alone, EachAlone, Parting, NoParting, TwoWorlds, Within, Cutting, NeverAgain, Orderly};
 
 /// What is asked of one slot leaves every other.
 pub fn apart()
@@ -18,9 +18,20 @@ pub fn alone()
     ensures { Alone }
 {}
 
-/// After anything that happens to a host, each open slot was opened, and stands alone since.
+/// After anything that happens to a host, each slot stands alone by its life: by its opening, and its own events since; or, where it was
+/// forked, by those of the slot that it was forked from, up to the fork, and then its own.
 pub fn each_alone()
     ensures { EachAlone }
+{}
+
+/// A fork adds a slot whose whole state is that of the other one, and changes no slot. Afterwards neither depends on the other's events.
+pub fn parting()
+    ensures { Parting }
+{}
+
+/// A fork that is refused changes nothing.
+pub fn no_parting()
+    ensures { NoParting }
 {}
 
 /// Two hosts that agree on the system drive, on a slot of each and on its own events agree on its replies and its state.

@@ -2,10 +2,11 @@
 #![tactic(auto)]
 
 pub mod event;
+mod fork;
 pub mod host;
 pub mod laws;
 mod run;
 mod slots;
 
-pub use event::{Event, Refusal, Reply, Request, SlotId};
+pub use event::{Event, ForkError, Refusal, Reply, Request, SlotId};
 pub use host::{Host, LEAST_FRAMES, MOST_FRAMES, MOST_SLOTS};

@@ -4,5 +4,10 @@ pub mod OrderLemmas
 pub mod PaceLemmas
 pub mod HostLemmas
 pub mod ScriptedSlotLemmas
+pub mod PlaceLemmas
+pub mod ForkLemmas
+pub mod PlayerLemmas
+pub mod ForkedLemmas
 pub mod RoundLemmas
+pub mod PlayLemmas
 pub mod ScriptLemmas

@@ -67,6 +67,10 @@ due-key (Some key) keys pace byte at h = by_test (nat_le key.count pace.done) re
     by_test true e h = record { key = key; at = at; early = grind (arith, nat_tests); is = same_Some key.byte byte h }
     by_test false e h = absurd (none-some byte h)
 
+pub key-more : (keys : List Key) (pace : Pace) (byte : ℕ) → (is : IsDue keys pace byte) → take (pace.pressed + 1) keys ≡ take pace.pressed keys ++ is.key ∷ []
+key-more keys pace byte is =
+    take_more keys pace.pressed is.key (slice_get_within keys pace.pressed is.key is.at) ∙ ap (λ k. take pace.pressed keys ++ k ∷ []) (get_or_from_slice_get keys pace.pressed is.key is.key is.at)
+
 pub on-key : (system : Disk) (keys : List Key) (steps byte : ℕ) (start : MachineState) (pace : Pace) (console list : List ℕ) (now : MachineState) →
     IsDue keys pace byte → IsOn system keys steps start pace console list now → IsOn system keys steps start (record pace { pressed = pace.pressed + 1 }) console list (keyed byte now)
 on-key system keys steps byte start pace console list now is on =
@@ -77,10 +81,8 @@ on-key system keys steps byte start pace console list now is on =
     let same : key.count ≡ pace.done = omega arith in
     let within : pace.pressed < length keys = slice_get_within keys pace.pressed key is.at in
     let pending = on.pending in
-    let more : take (pace.pressed + 1) keys ≡ take pace.pressed keys ++ key ∷ [] =
-    take_more keys pace.pressed key within ∙ ap (λ k. take pace.pressed keys ++ k ∷ []) (get_or_from_slice_get keys pace.pressed key key is.at) in
     let presses : presses_of (take (pace.pressed + 1) keys) ≡ presses_of (take pace.pressed keys) ++ record { after = pace.done; key = byte } ∷ [] =
-    ap presses_of more ∙ presses-more (take pace.pressed keys) key
+    ap presses_of (key-more keys pace byte is) ∙ presses-more (take pace.pressed keys) key
     ∙ ap₂ (λ (n b : ℕ). presses_of (take pace.pressed keys) ++ record { after = n; key = b } ∷ []) same is.is in
     record {
       state = ap (keyed byte) on.state ∙ sym (alone-pressed system (presses_of (take pace.pressed keys)) pace.done byte start) ∙ ap (λ ps. alone system ps pace.done start) (sym presses);

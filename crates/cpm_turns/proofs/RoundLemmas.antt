@@ -1,197 +1,286 @@
--- All scripted slots of a host, between two turns.
-use Rattle.std.proofs.Common.{◌≡◌, ◌≢◌, ℕ, zero, suc, ◌+◌, ◌-◌, ◌<◌, ◌≤◌, min, Bool, true, false, ◌||◌, List, [], ◌∷◌, length, take, set, get_or, sum_by, refl, sym, ap, ◌∙◌, subst, arith, ⊎_elim, take_all}
-use Rattle.std.specs.Prelude.{nat_lt}
+-- A round of turns, step by step.
+use Rattle.std.proofs.Common.{◌≡◌, ◌≢◌, ℕ, ◌+◌, ◌-◌, ◌<◌, ◌≤◌, min, nat_le, ◌==◌, ◌||◌, Bool, true, false, Some, ◌⊎◌, inl, inr, ⊎_elim, List, length, take, set, refl, sym, ap, ◌∙◌, subst, arith, slice_get, length-set}
 use Rattle.std.proofs.lemmas.Bool.Decides.{nat_tests}
 use Rattle.std.proofs.lemmas.Bool.{cases_lt}
-use Rattle.std.proofs.lemmas.List.Sums.{sum_by_more, sum_by-cons, sum_by-set}
-use Rattle.cpm_geom.specs.Disk.{Disk}
-use Rattle.cpm_script.specs.declared.script.Key.{Key}
-use Rattle.cpm_sessions.specs.declared.event.SlotId.{SlotId}
-use Rattle.cpm_sessions.specs.Host.{Host, SlotState, slot_at}
+use Rattle.cpm_sessions.specs.Host.{Host, slot_at}
 use Rattle.cpm_slots.specs.MachineState.{MachineState}
-use Rattle.cpm_turns.specs.declared.pace.Pace.{Pace}
+use Rattle.cpm_turns.specs.declared.player.Fork.{Fork}
+use Rattle.cpm_turns.specs.declared.player.Player.{Player}
+use Rattle.cpm_turns.specs.declared.player.Player.TheVariants.{Playing, Waiting}
 use Rattle.cpm_turns.specs.declared.scripted_slot.ScriptedSlot.{ScriptedSlot}
-use Rattle.cpm_turns.specs.Pacing.{first_pace, IsOn}
-use Rattle.cpm_turns.specs.Playing.{IsPlayed}
-use Rattle.cpm_turns.specs.ScriptedSlots.{has_steps, ids_of, keys_of, left_of, steps_of, AllPairs, AllPlayed, AllReady, AreDifferent, HasPlayed, IsNone, IsPair, IsPlaying, IsReady, IsResting, LeavesOthers, Moves}
-use Rattle.cpm_turns.proofs.PaceLemmas.{on-end, on-start}
+use Rattle.cpm_turns.specs.ScriptedSlots.{AreDifferent, IsNone, IsResting, Moves, keys_of, steps_of}
+use Rattle.cpm_turns.specs.Players.{AllBefore, AllReady, ChangesAt, HasCome, IsFar, IsGoing, IsWaiting, KeepsPlaying, LeavesFewer, NoneIsDue, StandsAs, ids_of, is_due, is_fork, left_in_player, left_of, pages_of}
+use Rattle.cpm_turns.proofs.PlaceLemmas.{at-other, at-set, same-at, sum-none, sum-set, within-at}
+use Rattle.cpm_turns.proofs.PlayerLemmas.{apart-at, going-in, given-at, ids-kept, none-at, playing-waiting, same-playing}
 
--- ---- numbers
+-- ---- forks that are due
 
--- a scripted slot among others has a number that is there
-none-at : (id i : ℕ) (qs : List ScriptedSlot) (q : ScriptedSlot) → IsNone id (ids_of qs) → i < length qs → q ≡ get_or qs i q → q.id.0 ≢ id
-none-at id i [] q none below is = absurd (let no : ⊥ = omega arith in no)
-none-at id zero (x ∷ qs) q none below is = λ same. none.0 (sym (ap (λ (p : ScriptedSlot). p.id.0) is) ∙ same)
-none-at id (suc i) (x ∷ qs) q none below is = none-at id i qs q none.1 (omega arith) is
+pub keeps-on : (a b d : List Player) → KeepsPlaying a b → KeepsPlaying b d → KeepsPlaying a d
+keeps-on a b d k l = record { long = l.long ∙ k.long; playing = λ i slot at. l.playing i slot (k.playing i slot at) }
 
-pub ids-set : (i : ℕ) (qs : List ScriptedSlot) (q r : ScriptedSlot) → i < length qs → q ≡ get_or qs i q → r.id ≡ q.id → ids_of (set qs i r) ≡ ids_of qs
-ids-set i [] q r below is id = absurd (let no : ⊥ = omega arith in no)
-ids-set zero (x ∷ qs) q r below is id = ap (λ n. n ∷ ids_of qs) (ap (λ (n : SlotId). n.0) id ∙ ap (λ (p : ScriptedSlot). p.id.0) is)
-ids-set (suc i) (x ∷ qs) q r below is id = ap (λ ns. x.id.0 ∷ ns) (ids-set i qs q r (omega arith) is id)
+pub fewer-on : (a b d : List Player) → LeavesFewer a b → LeavesFewer b d → LeavesFewer a d
+fewer-on a b d (inl less) (inl more) = inl (omega (arith, less, more))
+fewer-on a b d (inl less) (inr same) = inl (subst (λ (x : List Player). left_of x < left_of a) (sym same) less)
+fewer-on a b d (inr same) (inl more) = inl (subst (λ (x : List Player). left_of d < left_of x) same more)
+fewer-on a b d (inr same) (inr also) = inr (also ∙ same)
 
--- ---- the others
+far-less : (parent m n place : ℕ) (players : List Player) → n ≤ m → IsFar parent m players place → IsFar parent n players place
+far-less parent m n place players less far = λ fork slot waits mine plays.
+    let there = far fork slot waits mine plays in
+    let room = there.1 in
+    (there.0, omega (arith, less, room))
 
-pub others-none : (ids : List ℕ) (h : Host) → LeavesOthers ids h h
-others-none ids h = record { system = refl; frames = refl; openings = refl; others = λ id away. refl }
+far-kept : (parent n place k : ℕ) (old new : List Player) → ChangesAt place old new → slice_get new parent ≡ slice_get old parent → k ≢ place → IsFar parent n old k → IsFar parent n new k
+far-kept parent n place k old new change same ne far = λ fork slot waits mine plays. far fork slot (sym (change.others k ne) ∙ waits) mine (sym same ∙ plays)
 
-pub others-on : (ids more : List ℕ) (old middle new : Host) → ((id : ℕ) → IsNone id ids → IsNone id more) → LeavesOthers ids old middle → LeavesOthers more middle new → LeavesOthers ids old new
-others-on ids more old middle new within a b = record {
-  system = b.system ∙ a.system;
-  frames = b.frames ∙ a.frames;
-  openings = b.openings ∙ a.openings;
-  others = λ id away. b.others id (within id away) ∙ a.others id away;
-}
-
-pub others-turn : (i : ℕ) (qs : List ScriptedSlot) (q : ScriptedSlot) (old middle new : Host) → i < length qs → q ≡ get_or qs i q → LeavesOthers (ids_of qs) old middle → LeavesOthers (q.id.0 ∷ []) middle new → LeavesOthers (ids_of qs) old new
-others-turn i qs q old middle new below is a b =
-    others-on (ids_of qs) (q.id.0 ∷ []) old middle new (λ id away. (none-at id i qs q away below is, tt)) a b
-
-resting-elsewhere : (ids : List ℕ) (steps : ℕ) (start : MachineState) (q : ScriptedSlot) (old new : Host) → LeavesOthers ids old new → IsNone q.id.0 ids → IsResting steps start q old → IsResting steps start q new
-resting-elsewhere ids steps start q old new leaves away resting =
-    let playing = resting.playing in
-    let there : IsPlaying steps start q new = record {
-      now = playing.now;
-      stands = leaves.others q.id.0 away ∙ playing.stands;
-      few = playing.few;
-      on = subst (λ (d : Disk). IsOn d (keys_of q) steps start q.pace q.console.items q.list.items playing.now) (sym leaves.system) playing.on;
-    } in
-    record { playing = there; quiet = resting.quiet }
-
-pair-elsewhere : (before : List SlotState) (ids : List ℕ) (p q : ScriptedSlot) (old new : Host) → LeavesOthers ids old new → IsNone q.id.0 ids → IsPair before old p q → IsPair before new p q
-pair-elsewhere before ids p q old new leaves away pair = record {
-  id = pair.id;
-  keys = pair.keys;
-  start = pair.start;
-  opened = pair.opened;
-  resting = resting-elsewhere ids (steps_of p) pair.start q old new leaves away pair.resting;
-}
-
-other-first : (n m : ℕ) → m ≢ n → IsNone n (m ∷ [])
-other-first n m other = (other, tt)
-
-pairs-elsewhere : (before : List SlotState) (n : ℕ) (ps qs : List ScriptedSlot) (old new : Host) → LeavesOthers (n ∷ []) old new → IsNone n (ids_of qs) → AllPairs before old ps qs → AllPairs before new ps qs
-pairs-elsewhere before n [] [] old new leaves none pairs = tt
-pairs-elsewhere before n [] (q ∷ qs) old new leaves none pairs = pairs
-pairs-elsewhere before n (p ∷ ps) [] old new leaves none pairs = pairs
-pairs-elsewhere before n (p ∷ ps) (q ∷ qs) old new leaves none pairs = (
-  pair-elsewhere before (n ∷ []) p q old new leaves (other-first q.id.0 n (λ same. none.0 (sym same))) pairs.0,
-  pairs-elsewhere before n ps qs old new leaves none.1 pairs.1,
-)
-
--- one of them had a turn
-pub pairs-turn : (before : List SlotState) (i : ℕ) (ps qs : List ScriptedSlot) (q r : ScriptedSlot) (old new : Host) → i < length qs → q ≡ get_or qs i q → AreDifferent (ids_of qs) → Moves q r old new →
-    ((steps : ℕ) (start : MachineState) → IsResting steps start q old → IsResting steps start r new) → AllPairs before old ps qs → AllPairs before new ps (set qs i r)
-pairs-turn before i [] [] q r old new below is differ moves plays pairs = absurd (let no : ⊥ = omega arith in no)
-pairs-turn before i (p ∷ ps) [] q r old new below is differ moves plays pairs = absurd (let no : ⊥ = omega arith in no)
-pairs-turn before i [] (x ∷ qs) q r old new below is differ moves plays pairs = absurd pairs
-pairs-turn before zero (p ∷ ps) (x ∷ qs) q r old new below is differ moves plays pairs =
-    let first : IsPair before old p q = subst (λ (y : ScriptedSlot). IsPair before old p y) (sym is) pairs.0 in
-    let none : IsNone q.id.0 (ids_of qs) = subst (λ (y : ScriptedSlot). IsNone y.id.0 (ids_of qs)) (sym is) differ.0 in (
-      record { id = moves.id ∙ first.id; keys = moves.keys ∙ first.keys; start = first.start; opened = first.opened; resting = plays (steps_of p) first.start first.resting },
-      pairs-elsewhere before q.id.0 ps qs old new moves.others none pairs.1,
-    )
-pairs-turn before (suc i) (p ∷ ps) (x ∷ qs) q r old new below is differ moves plays pairs =
-    let inside : i < length qs = omega arith in (
-      pair-elsewhere before (q.id.0 ∷ []) p x old new moves.others (other-first x.id.0 q.id.0 (none-at x.id.0 i qs q differ.0 inside is)) pairs.0,
-      pairs-turn before i ps qs q r old new inside is differ.1 moves plays pairs.1,
-    )
-
--- ---- the steps that are left
-
--- at least one, where some are left
-abbrev pub some_of : ScriptedSlot → ℕ
-some_of p = min 1 (steps_of p)
-
-pub left-turn : (i : ℕ) (given qs : List ScriptedSlot) (q r : ScriptedSlot) → i < length qs → length qs ≡ length given → q ≡ get_or qs i q → q ≡ get_or given i q → steps_of r ≤ steps_of q - 1 →
-    left_of qs + sum_by some_of (take i given) ≤ left_of given → left_of (set qs i r) + sum_by some_of (take (i + 1) given) ≤ left_of given
-left-turn i given qs q r below same is was falls within =
-    let changed : sum_by steps_of (set qs i r) + steps_of (get_or qs i q) ≡ sum_by steps_of qs + steps_of r = sum_by-set steps_of qs i r q below in
-    let more : sum_by some_of (take (i + 1) given) ≡ sum_by some_of (take i given) + some_of (get_or given i q) = sum_by_more some_of given i q (omega arith) in
-    let had : steps_of (get_or qs i q) ≡ steps_of q = ap steps_of (sym is) in
-    let gives : some_of (get_or given i q) ≡ some_of q = ap some_of (sym was) in
-    omega arith
-
-some-left : (ps : List ScriptedSlot) → 0 < left_of ps → 0 < sum_by some_of ps
-some-left [] left = left
-some-left (p ∷ ps) left =
-    let all : sum_by steps_of (p ∷ ps) ≡ steps_of p + sum_by steps_of ps = sum_by-cons steps_of p ps in
-    let some : sum_by some_of (p ∷ ps) ≡ some_of p + sum_by some_of ps = sum_by-cons some_of p ps in
-    let goal_is : sum_by steps_of (p ∷ ps) ≡ left_of (p ∷ ps) = refl in
-    ⊎_elim (λ first. let one : 0 < some_of p = omega arith in omega (arith, some, one))
-    (λ none. let left_rest : 0 < sum_by steps_of ps = omega (arith, all, left, none) in let rest : 0 < sum_by some_of ps = some-left ps left_rest in omega (arith, some, rest)) (cases_lt 0 (steps_of p))
-
-pub left-round : (given qs : List ScriptedSlot) (n : ℕ) → length given ≤ n → left_of qs + sum_by some_of (take n given) ≤ left_of given → 0 < left_of given → left_of qs < left_of given
-left-round given qs n all within some =
-    let whole : sum_by some_of (take n given) ≡ sum_by some_of given = ap (λ ps. sum_by some_of ps) (take_all n given all) in
-    let fell = some-left given some in
-    omega arith
-
-pub has-left : (ps : List ScriptedSlot) → has_steps ps ≡ true → 0 < left_of ps
-has-left [] has = absurd (let no : ⊥ = cc in no)
-has-left (p ∷ ps) has = by_test (nat_lt 0 (steps_of p)) refl has (has-left ps)
+pub far-more : (parent steps more place : ℕ) (old new : List Player) → ((k : ℕ) → k < place → IsFar parent steps old k) → ChangesAt place old new → slice_get new parent ≡ slice_get old parent → IsFar parent more new place →
+    (k : ℕ) → k < place + 1 → IsFar parent (min steps more) new k
+far-more parent steps more place old new far change same now k less = by_test (k == place) refl
   where
-    by_test : (b : Bool) → nat_lt 0 (steps_of p) ≡ b → (b || has_steps ps) ≡ true → (has_steps ps ≡ true → 0 < left_of ps) → 0 < left_of (p ∷ ps)
-    by_test true e h rest =
-        let all : sum_by steps_of (p ∷ ps) ≡ steps_of p + sum_by steps_of ps = sum_by-cons steps_of p ps in
-        let first : 0 < steps_of p = grind (arith, nat_tests) in omega arith
-    by_test false e h rest =
-        let all : sum_by steps_of (p ∷ ps) ≡ steps_of p + sum_by steps_of ps = sum_by-cons steps_of p ps in
-        let some : 0 < sum_by steps_of ps = rest h in omega arith
+    by_test : (b : Bool) → (k == place) ≡ b → IsFar parent (min steps more) new k
+    by_test true e =
+        let here : k ≡ place = grind (arith, nat_tests) in
+        subst (λ n. IsFar parent (min steps more) new n) (sym here) (far-less parent more (min steps more) place new (omega arith) now)
+    by_test false e =
+        let ne : k ≢ place = λ h. (let no : ⊥ = grind (arith, nat_tests) in no) in
+        far-less parent steps (min steps more) k new (omega arith) (far-kept parent steps place k old new change same ne (far k (omega (arith, less, ne))))
 
--- ---- the first round, and the last
+pub far-all : (parent steps place : ℕ) (players : List Player) → length players ≤ place → ((k : ℕ) → k < place → IsFar parent steps players k) → NoneIsDue parent steps players
+far-all parent steps place players all far k fork slot waits mine plays =
+    let within = within-at players k (Waiting fork) waits in
+    far k (omega (arith, all, within)) fork slot waits mine plays
 
-ready-pair : (h : Host) (p : ScriptedSlot) → IsReady h.slots p → IsPair h.slots h p p
-ready-pair h p ready =
-    let unplayed = ready.unplayed in
-    let steps = steps_of p in
-    let all : steps ≡ p.pace.until = let done = unplayed.done in omega arith in
-    let pace : p.pace ≡ first_pace steps =
-    ap (λ (n : ℕ). let x : Pace = record { pressed = n; done = p.pace.done; until = p.pace.until } in x) unplayed.pressed
-    ∙ ap (λ (n : ℕ). let x : Pace = record { pressed = 0; done = n; until = p.pace.until } in x) unplayed.done
-    ∙ ap (λ (n : ℕ). let x : Pace = record { pressed = 0; done = 0; until = n } in x) (sym all) in
-    let on : IsOn h.system (keys_of p) steps ready.start (first_pace steps) [] [] ready.start = on-start h.system (keys_of p) steps ready.start ready.fresh ready.order in
-    let first = subst (λ (x : Pace). IsOn h.system (keys_of p) steps ready.start x [] [] ready.start) (sym pace) on in
-    let second = subst (λ (xs : List ℕ). IsOn h.system (keys_of p) steps ready.start p.pace xs [] ready.start) (sym unplayed.console) first in
-    let third : IsOn h.system (keys_of p) steps ready.start p.pace p.console.items p.list.items ready.start =
-    subst (λ (xs : List ℕ). IsOn h.system (keys_of p) steps ready.start p.pace p.console.items xs ready.start) (sym unplayed.list) second in
-    let playing : IsPlaying steps ready.start p h = record { now = ready.start; stands = ready.opened; few = ready.few; on = third } in
-    record {
-      id = refl;
-      keys = refl;
-      start = ready.start;
-      opened = ready.opened;
-      resting = record { playing = playing; quiet = record { screen = ready.fresh.screen; printer = ready.fresh.printer } };
-    }
+-- ---- a turn
 
-pub pairs-start : (h : Host) (ps : List ScriptedSlot) → AllReady h.slots ps → AllPairs h.slots h ps ps
-pairs-start h [] ready = tt
-pairs-start h (p ∷ ps) ready = (ready-pair h p ready.0, pairs-start h ps ready.1)
+-- What is known where a player has a turn.
+pub record IsTurn (old h new : Host) (given players : List Player) (place steps : ℕ) (slot next : ScriptedSlot) : Type 0 where
+  pub ready : AllReady old.slots given
+  pub come : HasCome old h given players
+  pub plays : slice_get players place ≡ Some (Playing slot)
+  pub moves : Moves slot next h new
+  pub goes : (n : ℕ) (start : MachineState) → IsResting n start slot h → IsResting n start next new
+  pub early : (at : ℕ) → slot.pace.done < at → AllBefore at (take slot.pace.pressed (keys_of slot)) → AllBefore at (take next.pace.pressed (keys_of next))
+  pub done : next.pace.done ≤ slot.pace.done + steps
+  pub far : NoneIsDue place steps players
 
-played-pair : (before : List SlotState) (h : Host) (p q : ScriptedSlot) → steps_of q ≡ 0 → IsPair before h p q → HasPlayed h.system before h.slots p q
-played-pair before h p q none pair =
-    let playing = pair.resting.playing in
-    let end : IsPlayed h.system (keys_of q) (steps_of p) pair.start playing.now q.console.items q.list.items =
-    on-end h.system (keys_of q) (steps_of p) pair.start q.pace q.console.items q.list.items playing.now playing.on pair.resting.quiet none in
-    record {
-      id = pair.id;
-      start = pair.start;
-      last = playing.now;
-      opened = pair.opened;
-      stands = sym (ap (λ (x : SlotId). slot_at x.0 h.slots) pair.id) ∙ playing.stands;
-      played = subst (λ (ks : List Key). IsPlayed h.system ks (steps_of p) pair.start playing.now q.console.items q.list.items) pair.keys end;
-    }
+module _ (old h new : Host) (given players : List Player) (place steps : ℕ) (slot next : ScriptedSlot) (k : IsTurn old h new given players place steps slot next) where
+  abbrev after : List Player
+  after = set players place (Playing next)
 
-played-all : (before : List SlotState) (h : Host) (ps qs : List ScriptedSlot) → has_steps qs ≡ false → AllPairs before h ps qs → AllPlayed h.system before h.slots ps qs
-played-all before h [] [] none pairs = tt
-played-all before h [] (q ∷ qs) none pairs = pairs
-played-all before h (p ∷ ps) [] none pairs = pairs
-played-all before h (p ∷ ps) (q ∷ qs) none pairs = by_test (nat_lt 0 (steps_of q)) refl none (λ rest. played-all before h ps qs rest pairs.1)
+  ids-after : ids_of after ≡ ids_of players
+  ids-after = ids-kept place players slot next k.plays k.moves.id
+
+  -- the one that had the turn
+  turned : (p : Player) → IsGoing old.slots given h p slot → IsGoing old.slots given new p next
+  turned p going = record {
+    start = going.start;
+    started = going.started;
+    keys = k.moves.keys ∙ going.keys;
+    resting = k.goes _ going.start going.resting;
+  }
+
+  -- one that waits for it, or for another
+  waits-after : (i : ℕ) (fork : Fork) → slice_get players i ≡ Some (Waiting fork) → IsWaiting players fork → IsWaiting after fork
+  waits-after i fork at w = by_test (fork.parent == place) refl
+    where
+      here : fork.parent ≡ place → IsWaiting after fork
+      here e =
+          let plays : slice_get players fork.parent ≡ Some (Playing slot) = ap (slice_get players) e ∙ k.plays in
+          let same : w.parent ≡ slot = same-playing w.parent slot (same-at (slice_get players fork.parent) (Playing w.parent) (Playing slot) w.plays plays) in
+          let far = k.far i fork slot at e k.plays in
+          let before = subst (λ (s : ScriptedSlot). AllBefore fork.at (take s.pace.pressed (keys_of s))) same w.early in
+          let reach = far.1 in
+          let done = k.done in
+          record {
+            parent = next;
+            plays = ap (slice_get after) e ∙ at-set players place (Playing slot) (Playing next) k.plays;
+            done = omega (arith, reach, done);
+            early = k.early fork.at (not-due fork slot far.0) before;
+          }
+        where
+          not-due : (f : Fork) (s : ScriptedSlot) → is_due f s ≡ false → s.pace.done < f.at
+          not-due f s none = by_case (nat_le f.at s.pace.done) refl none
+            where
+              by_case : (b : Bool) → nat_le f.at s.pace.done ≡ b → (b || (steps_of s == 0)) ≡ false → s.pace.done < f.at
+              by_case true e' n = absurd (let no : ⊥ = cc in no)
+              by_case false e' n = grind (arith, nat_tests)
+
+      there : fork.parent ≢ place → IsWaiting after fork
+      there ne = record { parent = w.parent; plays = at-other players place fork.parent (Playing next) ne ∙ w.plays; done = w.done; early = w.early }
+
+      by_test : (b : Bool) → (fork.parent == place) ≡ b → IsWaiting after fork
+      by_test true e = here (grind (arith, nat_tests))
+      by_test false e = there (λ same. (let no : ⊥ = grind (arith, nat_tests) in no))
+
+  -- the others
+  leaves : (id : ℕ) → id ≢ slot.id.0 → slot_at id new.slots ≡ slot_at id h.slots
+  leaves id ne = k.moves.others.others id ((λ e. ne (sym e)), tt)
+
+  stands-after : (i : ℕ) (p q : Player) → i ≢ place → slice_get players i ≡ Some q → StandsAs old.slots given players h p q → StandsAs old.slots given after new p q
+  stands-after i p (Playing other) ne at going =
+      going-in old.slots given p other h new k.moves.others.system (leaves other.id.0 (apart-at i place players other slot k.come.differ ne at k.plays)) going
+  stands-after i p (Waiting fork) ne at s = (s.0, waits-after i fork at s.1)
+
+  each-after : (i : ℕ) (p q : Player) → slice_get given i ≡ Some p → slice_get after i ≡ Some q → StandsAs old.slots given after new p q
+  each-after i p q at qt = by_test (i == place) refl
+    where
+      here : i ≡ place → StandsAs old.slots given after new p q
+      here e =
+          let there : slice_get given place ≡ Some p = ap (slice_get given) (sym e) ∙ at in
+          let second : q ≡ Playing next = same-at (slice_get after place) q (Playing next) (ap (slice_get after) (sym e) ∙ qt) (at-set players place (Playing slot) (Playing next) k.plays) in
+          subst (λ (x : Player). StandsAs old.slots given after new p x) (sym second) (turned p (k.come.each place p (Playing slot) there k.plays))
+
+      by_test : (b : Bool) → (i == place) ≡ b → StandsAs old.slots given after new p q
+      by_test true e = here (grind (arith, nat_tests))
+      by_test false e =
+          let ne : i ≢ place = λ same. (let no : ⊥ = grind (arith, nat_tests) in no) in
+          let was = sym (at-other players place i (Playing next) ne) ∙ qt in
+          stands-after i p q ne was (k.come.each i p q at was)
+
+  pub come-turn : HasCome old new given (set players place (Playing next))
+  come-turn =
+      let orderly = k.moves.orderly k.come.orderly in
+      let slots = k.come.slots in
+      let numbers = k.come.numbers in
+      let quotas = k.come.pages in
+      let count = orderly.count in
+      let same = orderly.quotas in
+      let openings = k.moves.others.openings in
+      let forks = sum-set is_fork players place (Playing slot) (Playing next) k.plays in
+      let sums = sum-set (pages_of old.slots given) players place (Playing slot) (Playing next) k.plays in
+      let later = k.come.later in
+      record {
+        long = length-set players place (Playing next) ∙ k.come.long;
+        each = each-after;
+        differ = subst AreDifferent (sym ids-after) k.come.differ;
+        rest = record {
+          system = k.moves.others.system ∙ k.come.rest.system;
+          frames = k.moves.others.frames ∙ k.come.rest.frames;
+          others = λ id less none. leaves id (λ e. none-at id place players slot (k.come.came id less none) k.plays (sym e)) ∙ k.come.rest.others id less none;
+        };
+        orderly = orderly.orderly;
+        later = omega (arith, later, openings);
+        counted = ⊎_elim (λ e. inl (openings ∙ e)) (λ l. inr (omega (arith, l, openings))) k.come.counted;
+        came = λ id less none. subst (IsNone id) (sym ids-after) (k.come.came id less none);
+        slots = omega (arith, slots, count, forks);
+        numbers = omega (arith, numbers, openings, forks);
+        pages = omega (arith, quotas, same, sums);
+      }
+
+-- ---- what is left
+
+-- a place whose player has nothing left to do, and from which nothing is to be forked
+abbrev pub IsIdle : List Player → ℕ → Type 0
+IsIdle players place = (slot : ScriptedSlot) → slice_get players place ≡ Some (Playing slot) → (steps_of slot ≡ 0) × ((other : ℕ) (fork : Fork) → slice_get players other ≡ Some (Waiting fork) → fork.parent ≡ place → ⊥)
+
+-- fewer are left, or as many, and nothing is left at the places so far
+abbrev pub IsLeft : List Player → List Player → ℕ → Type 0
+IsLeft old now place = (left_of now < left_of old) ⊎ ((left_of now ≡ left_of old) × ((k : ℕ) → k < place → IsIdle now k))
+
+-- a turn of the player at a place, behind the forks that were due
+pub left-turn : (old before players : List Player) (place steps : ℕ) (slot next : ScriptedSlot) → IsLeft old before place → LeavesFewer before players → NoneIsDue place steps players → slice_get players place ≡ Some (Playing slot) →
+    steps_of next ≤ steps_of slot - 1 → IsLeft old (set players place (Playing next)) (place + 1)
+left-turn old before players place steps slot next left fewer far plays fell = go left fewer
   where
-    by_test : (b : Bool) → nat_lt 0 (steps_of q) ≡ b → (b || has_steps qs) ≡ false → (has_steps qs ≡ false → AllPlayed h.system before h.slots ps qs) → HasPlayed h.system before h.slots p q × AllPlayed h.system before h.slots ps qs
-    by_test true e h0 rest = absurd (let no : ⊥ = cc in no)
-    by_test false e h0 rest =
-        let spent : steps_of q ≡ 0 = grind (arith, nat_tests) in
-        (played-pair before h p q spent pairs.0, rest h0)
+    after : List Player
+    after = set players place (Playing next)
 
-pub pairs-end : (before : List SlotState) (old h : Host) (ps qs : List ScriptedSlot) → h.system ≡ old.system → has_steps qs ≡ false → AllPairs before h ps qs → AllPlayed old.system before h.slots ps qs
-pairs-end before old h ps qs system none pairs = subst (λ (d : Disk). AllPlayed d before h.slots ps qs) system (played-all before h ps qs none pairs)
+    sums : left_of after + steps_of slot ≡ left_of players + steps_of next
+    sums = sum-set left_in_player players place (Playing slot) (Playing next) plays
+
+    less : left_of after ≤ left_of players
+    less = let s = sums in let f = fell in omega (arith, s, f)
+
+    -- where it had steps, fewer are left
+    some : 0 < steps_of slot → left_of after < left_of players
+    some more = let s = sums in let f = fell in omega (arith, s, f, more)
+
+    due : (fork : Fork) → steps_of slot ≡ 0 → is_due fork slot ≡ true
+    due fork none = by_case (nat_le fork.at slot.pace.done)
+      where
+        by_case : (b : Bool) → (b || (steps_of slot == 0)) ≡ true
+        by_case true = refl
+        by_case false = grind (arith, nat_tests)
+
+    idle : steps_of slot ≡ 0 → ((k : ℕ) → k < place → IsIdle players k) → (k : ℕ) → k < place + 1 → IsIdle after k
+    idle none earlier k below = by_test (k == place) refl
+      where
+        here : k ≡ place → IsIdle after k
+        here e now at =
+            let same : Playing now ≡ Playing next = same-at (slice_get after place) (Playing now) (Playing next) (ap (slice_get after) (sym e) ∙ at) (at-set players place (Playing slot) (Playing next) plays) in
+            let is = ap steps_of (same-playing now next same) in
+            let f = fell in
+            let spent : steps_of now ≡ 0 = omega (arith, is, f, none) in (
+              spent,
+              λ other fork waits mine.
+                  let ne : other ≢ place = λ o. playing-waiting next fork (same-at (slice_get after place) (Playing next) (Waiting fork) (at-set players place (Playing slot) (Playing next) plays) (ap (slice_get after) (sym o) ∙ waits)) in
+                  let was = sym (at-other players place other (Playing next) ne) ∙ waits in
+                  let bad = sym (due fork none) ∙ (far other fork slot was (mine ∙ e) plays).0 in
+                  (let no : ⊥ = cc in no),
+            )
+
+        there : k ≢ place → k < place → IsIdle after k
+        there ne less now at =
+            let was = sym (at-other players place k (Playing next) ne) ∙ at in
+            let idle = earlier k less now was in (
+              idle.0,
+              λ other fork waits mine.
+                  let off : other ≢ place = λ o. playing-waiting next fork (same-at (slice_get after place) (Playing next) (Waiting fork) (at-set players place (Playing slot) (Playing next) plays) (ap (slice_get after) (sym o) ∙ waits)) in
+                  idle.1 other fork (sym (at-other players place other (Playing next) off) ∙ waits) mine,
+            )
+
+        by_test : (b : Bool) → (k == place) ≡ b → IsIdle after k
+        by_test true e = here (grind (arith, nat_tests))
+        by_test false e = let ne : k ≢ place = λ same. (let no : ⊥ = grind (arith, nat_tests) in no) in there ne (omega (arith, below, ne))
+
+    same-left : left_of before ≡ left_of old → players ≡ before → ((k : ℕ) → k < place → IsIdle before k) → IsLeft old after (place + 1)
+    same-left as_many same earlier =
+        let l = less in
+        let s = ap left_of same in
+        ⊎_elim (λ more. let m = some more in inl (omega (arith, m, s, as_many)))
+        (λ none. let spent : steps_of slot ≡ 0 = omega (arith, none) in
+        let whole = sums in let f = fell in
+        inr (omega (arith, whole, f, spent, s, as_many), idle spent (subst (λ (ps : List Player). (k : ℕ) → k < place → IsIdle ps k) (sym same) earlier)))
+        (cases_lt 0 (steps_of slot))
+
+    go : IsLeft old before place → LeavesFewer before players → IsLeft old after (place + 1)
+    go (inl under) (inl lower) = let l = less in inl (omega (arith, under, lower, l))
+    go (inl under) (inr same) = let l = less in let s = ap left_of same in inl (omega (arith, under, s, l))
+    go (inr even) (inl lower) = let l = less in let e = even.0 in inl (omega (arith, e, lower, l))
+    go (inr even) (inr same) = same-left even.0 same even.1
+
+-- where no player has a turn at a place, since it waits
+pub left-waits : (old before players : List Player) (place : ℕ) → IsLeft old before place → LeavesFewer before players → ((slot : ScriptedSlot) → slice_get players place ≡ Some (Playing slot) → ⊥) → IsLeft old players (place + 1)
+left-waits old before players place left fewer waits = go left fewer
+  where
+    go : IsLeft old before place → LeavesFewer before players → IsLeft old players (place + 1)
+    go (inl under) (inl lower) = inl (omega (arith, under, lower))
+    go (inl under) (inr same) = let s = ap left_of same in inl (omega (arith, under, s))
+    go (inr even) (inl lower) = let e = even.0 in inl (omega (arith, e, lower))
+    go (inr even) (inr same) =
+        let s = ap left_of same in
+        inr (s ∙ even.0, λ k below. by_test k below (k == place) refl)
+      where
+        by_test : (k : ℕ) → k < place + 1 → (b : Bool) → (k == place) ≡ b → IsIdle players k
+        by_test k below true e = λ slot at. absurd (waits slot (ap (slice_get players) (sym (let h : k ≡ place = grind (arith, nat_tests) in h)) ∙ at))
+        by_test k below false e =
+            let ne : k ≢ place = λ h. (let no : ⊥ = grind (arith, nat_tests) in no) in
+            subst (λ (ps : List Player). IsIdle ps k) (sym same) (even.1 k (omega (arith, below, ne)))
+
+-- a round leaves fewer, where some were left
+pub left-round : (old h : Host) (given start now : List Player) (place : ℕ) → HasCome old h given now → length now ≤ place → 0 < left_of start → IsLeft start now place → left_of now < left_of start
+left-round old h given start now place come all some (inl less) = less
+left-round old h given start now place come all some (inr even) =
+    let none : left_of now ≡ 0 = sum-none left_in_player now spent in
+    let e = even.0 in
+    absurd (let no : ⊥ = omega (arith, none, e, some) in no)
+  where
+    idle : (k : ℕ) (q : Player) → slice_get now k ≡ Some q → IsIdle now k
+    idle k q at = let within = within-at now k q at in even.1 k (omega (arith, within, all))
+
+    spent : (k : ℕ) (q : Player) → slice_get now k ≡ Some q → left_in_player q ≡ 0
+    spent k (Playing slot) at = (idle k (Playing slot) at slot at).0
+    spent k (Waiting fork) at =
+        let there = given-at old h given now k (Waiting fork) come at in
+        let w = there.2.1 in
+        absurd ((idle fork.parent (Playing w.parent) w.plays w.parent w.plays).1 k fork at refl)

@@ -1,5 +1,5 @@
 -- What the parts of a turn leave of a scripted slot and its slot.
-use Rattle.std.proofs.Common.{◌≡◌, ℕ, ◌+◌, ◌<◌, ◌≤◌, min, Bool, true, false, Option, Some, None, Ok, Err, List, [], ◌∷◌, length, take, drop, refl, sym, ap, ◌∙◌, subst, arith, slice_get, length-drop}
+use Rattle.std.proofs.Common.{◌≡◌, ℕ, ◌+◌, ◌<◌, ◌≤◌, min, Bool, true, false, Option, Some, None, Ok, Err, List, [], ◌∷◌, ◌++◌, length, take, drop, refl, sym, ap, ◌∙◌, subst, arith, slice_get, length-drop}
 use Rattle.std.specs.Prelude.{option_map}
 use Rattle.std.proofs.Math.Seq.{drop-nil, take-nil}
 use Rattle.std.proofs.lemmas.List.{length-take-le}
@@ -22,11 +22,13 @@ use Rattle.cpm_slots.specs.Step.{after, can_step}
 use Rattle.cpm_slots.proofs.GrantLaws.{longest-is}
 use Rattle.cpm_sessions.proofs.ServeLaws.{serve-take, taken_from}
 use Rattle.cpm_sessions.proofs.SlotLaws.{slot_at-same}
+use Rattle.cpm_turns.specs.declared.pace.Pace.{Pace}
 use Rattle.cpm_turns.specs.declared.scripted_slot.ScriptedSlot.{ScriptedSlot}
 use Rattle.cpm_turns.specs.Pacing.{due_at, turn_of, IsOn}
+use Rattle.cpm_turns.specs.Players.{AllBefore}
 use Rattle.cpm_turns.specs.ScriptedSlots.{console_with, keys_of, list_with, waits_in, AreTaken, HasAdded, IsPlaying, IsResting, Moves}
 use Rattle.cpm_turns.proofs.HostLemmas.{moves-ask, reply-served, slot-served}
-use Rattle.cpm_turns.proofs.PaceLemmas.{due-key, on-advance, on-key, on-take, takes-due, IsAdvanced, IsDue}
+use Rattle.cpm_turns.proofs.PaceLemmas.{due-key, key-more, on-advance, on-key, on-take, takes-due, IsAdvanced, IsDue}
 
 -- a scripted slot whose slot is in a new state
 abbrev pub playing-at : (steps : ℕ) (start s next : MachineState) (p q : ScriptedSlot) (old new : Host) (call : Call) → new ≡ after_ask old p.id.0 (Calls call) → (serve old.system call s).state ≡ next →
@@ -57,6 +59,18 @@ resting-key steps byte start p q old new due is moved resting =
           (on-key old.system (keys_of p) steps byte start p.pace p.console.items p.list.items s key playing.on);
       quiet = record { screen = resting.quiet.screen; printer = resting.quiet.printer };
     })
+
+-- keys that come before a count, and one more that does
+before-more : (at : ℕ) (keys : List Key) (key : Key) → key.count < at → AllBefore at keys → AllBefore at (keys ++ key ∷ [])
+before-more at [] key early before = (early, tt)
+before-more at (x ∷ keys) key early before = (before.0, before-more at keys key early before.1)
+
+-- a key that is due comes before every count above the steps done so far
+pub early-key : (at byte : ℕ) (keys : List Key) (pace : Pace) → due_at pace.done (slice_get keys pace.pressed) ≡ Some byte → pace.done < at → AllBefore at (take pace.pressed keys) → AllBefore at (take (pace.pressed + 1) keys)
+early-key at byte keys pace due above before =
+    let is : IsDue keys pace byte = due-key (slice_get keys pace.pressed) keys pace byte refl due in
+    let low = is.early in
+    subst (λ (ks : List Key). AllBefore at ks) (sym (key-more keys pace byte is)) (before-more at (take pace.pressed keys) is.key (omega arith) before)
 
 -- ---- steps
 
@@ -174,7 +188,7 @@ after-chunk room on other bytes p q old new is added =
 
 pub moves-chunk : (room : ℕ) (on : Device) (bytes : List ℕ) (p q : ScriptedSlot) (old new : Host) → new ≡ after_ask old p.id.0 (Calls (take_call on room)) → HasAdded on bytes p q → Moves p q old new
 moves-chunk room on bytes p q old new is added =
-    moves-ask p q old new (Calls (take_call on room)) (ap (λ (x : ScriptedSlot). x.id) added.same) (ap keys_of added.same) is
+    moves-ask p q old new (take_call on room) (ap (λ (x : ScriptedSlot). x.id) added.same) (ap keys_of added.same) is
 
 pub stays-empty : (room : ℕ) (on other : Device) (bytes : List ℕ) (p q : ScriptedSlot) (old new : Host) → new ≡ after_ask old p.id.0 (Calls (take_call on room)) → HasAdded on bytes p q →
     waits_in other (slot_at p.id.0 old.slots) ≡ [] → waits_in other (slot_at q.id.0 new.slots) ≡ []

@@ -2,3 +2,4 @@ pub mod Playing
 pub mod Pacing
 pub mod ScriptedSlots
 pub mod Laws
+pub mod Players

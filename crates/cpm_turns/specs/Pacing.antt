@@ -14,6 +14,10 @@ use Rattle.cpm_turns.specs.Playing.{presses_of, IsInOrder, IsQuiet}
 abbrev pub first_pace : ℕ → Pace
 first_pace steps = record { pressed = 0; done = 0; until = steps }
 
+-- that of a fork, which has come as far and executes so many steps in all
+abbrev pub forked_pace : Pace → ℕ → Pace
+forked_pace pace steps = record pace { until = steps }
+
 -- the steps that it may still execute
 abbrev pub left_in : Pace → ℕ
 left_in pace = pace.until - pace.done

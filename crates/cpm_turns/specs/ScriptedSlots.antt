@@ -1,16 +1,14 @@
--- ScriptedSlots of a host: sessions in its slots that are played in turns. All of it is own.
-use Rattle.std.specs.Prelude.{⊤, ◌≡◌, ◌≢◌, ℕ, ◌≤◌, List, [], ◌∷◌, ◌++◌, length, take, min, map, sum_by, Bool, nat_lt, Option, Some, None}
-use Rattle.std.specs.List.{list_any}
-use Rattle.cpm_geom.specs.Disk.{Disk}
+-- Scripted slots of a host: sessions in its slots that are played by their keys. All of it is own.
+use Rattle.std.specs.Prelude.{⊤, ◌≡◌, ◌≢◌, ℕ, ◌≤◌, List, [], ◌∷◌, ◌++◌, length, take, min, Option, Some, None}
 use Rattle.cpm_console.specs.declared.device.Device.{Device}
 use Rattle.cpm_console.specs.declared.device.Device.TheVariants as device
 use Rattle.cpm_console.specs.Terminal.{waiting_on}
 use Rattle.cpm_script.specs.declared.script.Key.{Key}
-use Rattle.cpm_sessions.specs.Host.{Host, SlotState, slot_at}
+use Rattle.cpm_sessions.specs.Host.{Host, SlotState, slot_at, quotas_of, IsHost}
 use Rattle.cpm_slots.specs.MachineState.{MachineState}
 use Rattle.cpm_turns.specs.declared.scripted_slot.ScriptedSlot.{ScriptedSlot}
 use Rattle.cpm_turns.specs.Pacing.{left_in, IsOn}
-use Rattle.cpm_turns.specs.Playing.{IsFresh, IsInOrder, IsPlayed, IsQuiet}
+use Rattle.cpm_turns.specs.Playing.{IsFresh, IsInOrder, IsQuiet}
 
 -- the keys that a scripted slot was given
 abbrev pub keys_of : ScriptedSlot → List Key
@@ -36,10 +34,6 @@ pub record IsReady (slots : List SlotState) (p : ScriptedSlot) : Type 0 where
   pub opened : slot_at p.id.0 slots ≡ Some start
   pub fresh : IsFresh start
 
--- the numbers of the slots
-abbrev pub ids_of : List ScriptedSlot → List ℕ
-ids_of ps = map (λ p. p.id.0) ps
-
 -- the number is none of these
 abbrev pub IsNone : ℕ → List ℕ → Type 0
 IsNone id [] = ⊤
@@ -48,34 +42,6 @@ IsNone id (x ∷ xs) = (x ≢ id) × IsNone id xs
 abbrev pub AreDifferent : List ℕ → Type 0
 AreDifferent [] = ⊤
 AreDifferent (x ∷ xs) = IsNone x xs × AreDifferent xs
-
--- none of the scripted slots plays the slot of that number
-abbrev pub IsNoSlot : ℕ → List ScriptedSlot → Type 0
-IsNoSlot id ps = IsNone id (ids_of ps)
-
--- each has a slot of its own
-abbrev pub AllDiffer : List ScriptedSlot → Type 0
-AllDiffer ps = AreDifferent (ids_of ps)
-
-abbrev pub AllReady : List SlotState → List ScriptedSlot → Type 0
-AllReady slots [] = ⊤
-AllReady slots (p ∷ ps) = IsReady slots p × AllReady slots ps
-
--- A scripted slot `p` has become `q`: its slot was played, and it has the text of the console and of the list device.
-pub record HasPlayed (system : Disk) (before now : List SlotState) (p q : ScriptedSlot) : Type 0 where
-  pub id : q.id ≡ p.id
-  pub start : MachineState
-  pub last : MachineState
-  pub opened : slot_at p.id.0 before ≡ Some start
-  pub stands : slot_at p.id.0 now ≡ Some last
-  pub played : IsPlayed system (keys_of p) (steps_of p) start last q.console.items q.list.items
-
--- each of the scripted slots, at its place
-abbrev pub AllPlayed : Disk → List SlotState → List SlotState → List ScriptedSlot → List ScriptedSlot → Type 0
-AllPlayed system before now [] [] = ⊤
-AllPlayed system before now (p ∷ ps) (q ∷ qs) = HasPlayed system before now p q × AllPlayed system before now ps qs
-AllPlayed system before now [] (q ∷ qs) = ⊥
-AllPlayed system before now (p ∷ ps) [] = ⊥
 
 -- nothing of the host is changed but the slots of these numbers
 pub record LeavesOthers (ids : List ℕ) (old new : Host) : Type 0 where
@@ -123,30 +89,15 @@ pub record IsResting (steps : ℕ) (start : MachineState) (p : ScriptedSlot) (h 
   pub playing : IsPlaying steps start p h
   pub quiet : IsQuiet playing.now
 
+-- an orderly host stays one, with as many slots, which have the same quotas in all
+pub record StaysOrderly (old new : Host) : Type 0 where
+  pub orderly : IsHost new
+  pub count : length new.slots ≡ length old.slots
+  pub quotas : quotas_of new.slots ≡ quotas_of old.slots
+
 -- a scripted slot and its host, before and after a part of a turn: the scripted slot keeps its slot and its keys, and the other slots stay
 pub record Moves (p q : ScriptedSlot) (old new : Host) : Type 0 where
   pub id : q.id ≡ p.id
   pub keys : keys_of q ≡ keys_of p
   pub others : LeavesOthers (p.id.0 ∷ []) old new
-
--- the steps that are left to all scripted slots
-abbrev pub left_of : List ScriptedSlot → ℕ
-left_of ps = sum_by steps_of ps
-
--- one of them has steps left
-abbrev pub has_steps : List ScriptedSlot → Bool
-has_steps ps = list_any (λ p. nat_lt 0 (steps_of p)) ps
-
--- a scripted slot `p` is now `q`: it has its slot and its keys, and rests between two turns
-pub record IsPair (before : List SlotState) (h : Host) (p q : ScriptedSlot) : Type 0 where
-  pub id : q.id ≡ p.id
-  pub keys : keys_of q ≡ keys_of p
-  pub start : MachineState
-  pub opened : slot_at p.id.0 before ≡ Some start
-  pub resting : IsResting (steps_of p) start q h
-
-abbrev pub AllPairs : List SlotState → Host → List ScriptedSlot → List ScriptedSlot → Type 0
-AllPairs before h [] [] = ⊤
-AllPairs before h (p ∷ ps) (q ∷ qs) = IsPair before h p q × AllPairs before h ps qs
-AllPairs before h [] (q ∷ qs) = ⊥
-AllPairs before h (p ∷ ps) [] = ⊥
+  pub orderly : IsHost old → StaysOrderly old new

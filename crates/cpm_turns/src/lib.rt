@@ -1,13 +1,18 @@
 //! Sessions that are played by their key scripts: many of a host in turns, or one machine.
 #![tactic(auto)]
 
+mod error;
+mod forks;
 pub mod laws;
 mod machine;
 mod pace;
+mod player;
 mod rounds;
 mod scripted_slot;
 mod turn;
 
+pub use error::PlayError;
 pub use machine::play_machine;
+pub use player::{Fork, Player};
 pub use rounds::play;
 pub use scripted_slot::ScriptedSlot;

@@ -1,7 +1,7 @@
 //! How far a session has been played.
 
 ghost use Rattle.std.specs.Prelude.{◌≡◌, ◌+◌, ◌-◌, ◌≤◌, ◌==◌, if◌then◌else◌, slice_get};
-ghost use Rattle.cpm_turns.specs.Pacing.{due_at, first_pace, left_in, turn_of};
+ghost use Rattle.cpm_turns.specs.Pacing.{due_at, first_pace, forked_pace, left_in, turn_of};
 
 use cpm_script::Key;
 
@@ -24,6 +24,17 @@ impl Pace {
         Pace {
             pressed: 0,
             done: 0,
+            until: steps,
+        }
+    }
+
+    /// That of a fork, which has come as far and executes so many steps in all.
+    pub(crate) fn forked(&self, steps: u64) -> Pace
+        ensures { result ≡ forked_pace self.now steps }
+    {
+        Pace {
+            pressed: self.pressed,
+            done: self.done,
             until: steps,
         }
     }

@@ -1,47 +1,70 @@
-//! Many scripted slots of a host, in turns.
+//! Many players of a host, in turns.
 
-ghost use Rattle.std.specs.Prelude.{◌≡◌, ◌≤◌, ◌<◌, List, OnOk};
-ghost use Rattle.cpm_sessions.specs.Host.{SlotState};
-ghost use Rattle.cpm_turns.specs.declared.scripted_slot.ScriptedSlot.{ScriptedSlot as Played};
-ghost use Rattle.cpm_turns.specs.ScriptedSlots.{AllDiffer, AllPairs, AllPlayed, AllReady, LeavesOthers, has_steps, ids_of, left_of};
+ghost use Rattle.std.specs.Prelude.{◌≡◌, ◌≤◌, ◌<◌, List, OnOk, IfErr};
+ghost use Rattle.cpm_sessions.specs.Host.{Host as HostValue};
+ghost use Rattle.cpm_turns.specs.declared.player.Player.{Player as PlayerValue};
+ghost use Rattle.cpm_turns.specs.Players.{AllDiffer, AllPlayed, AllReady, HasCome, HasRoomFor, IsPlayRefusal, LeavesRest, fork_pages, forks_of, goes_on, ids_of, left_of};
 
-use crate::scripted_slot::ScriptedSlot;
+use crate::error::PlayError;
+use crate::forks::fork_due;
+use crate::player::Player;
 use crate::turn::turn;
 use cpm_sessions::Host;
-use std::alloc::AllocError;
+use std::alloc::Global;
 
-/// Whether one of the scripted slots has steps to execute.
-fn goes_on(scripted: &[ScriptedSlot]) -> bool
-    ensures { result ≡ has_steps scripted.now }
+/// Whether one of the players has steps to execute, or is still to be forked.
+fn goes_on(players: &[Player]) -> bool
+    ensures { result ≡ goes_on players.now }
 {
-    scripted.iter().any(|slot| slot.pace.left() > 0)
+    players.iter().any(|player| match player {
+        Player::Playing(slot) => slot.pace.left() > 0,
+        Player::Waiting(_) => true,
+    })
 }
 
-/// Gives each of the scripted slots a turn.
-fn round(host: &mut Host, scripted: &mut [ScriptedSlot], quantum: u64) -> Result<(), AllocError>
+/// Gives each of the players a turn, once those that are to be forked from it now are forked.
+fn round(
+    alloc: Global,
+    host: &mut Host,
+    players: &mut [Player],
+    quantum: u64,
+) -> Result<(), PlayError>
     requires { 1 ≤ quantum }
-    ensures pairs { OnOk result ((before : List SlotState) (given : List Played) → AllDiffer scripted.old → AllPairs before host.old.host given scripted.old → AllPairs before host.new.host given scripted.new) }
-    ensures others { OnOk result (LeavesOthers (ids_of scripted.old) host.old.host host.new.host) }
-    ensures ids { OnOk result (ids_of scripted.new ≡ ids_of scripted.old) }
-    ensures left { OnOk result (0 < left_of scripted.old → left_of scripted.new < left_of scripted.old) }
+    ensures come { OnOk result ((old : HostValue) (given : List PlayerValue) → AllReady old.slots given → HasCome old host.old.host given players.old → HasCome old host.new.host given players.new) }
+    ensures left { OnOk result ((old : HostValue) (given : List PlayerValue) → AllReady old.slots given → HasCome old host.old.host given players.old → 0 < left_of players.old → left_of players.new < left_of players.old) }
+    ensures refused { IfErr result (λ e. (old : HostValue) (given : List PlayerValue) → AllReady old.slots given → HasCome old host.old.host given players.old → IsPlayRefusal old given e) }
 {
-    for slot in scripted.iter_mut() {
-        turn(host, slot, quantum)?;
+    for place in 0..players.len() {
+        let steps = fork_due(alloc, host, players, place, quantum)?;
+        if let Player::Playing(slot) = &mut players[place] {
+            turn(host, slot, steps)?;
+        }
     }
     Ok(())
 }
 
-/// Plays sessions of a host. The scripted slots have turns in their order, each of at most `quantum` steps and cut at the count of the next key, and
-/// all that a session shows is taken after its turn, until each has executed its steps or ended.
-pub fn play(host: &mut Host, scripted: &mut [ScriptedSlot], quantum: u64) -> Result<(), AllocError>
+/// Plays sessions of a host, and forks those that are to be forked. The players have turns in their order, each of at most `quantum` steps and cut at the
+/// count of the next key and at that of the next fork, and all that a session shows is taken after its turn, until each has executed its steps or ended.
+/// A session is forked once the one that it is forked from has executed as many steps, or executes no more, and before that one's keys of this count.
+///
+/// `ForkRefused` names the place of a session for which there is no slot or are not enough frames; `OutOfMemory` comes only where memory is refused.
+pub fn play(
+    alloc: Global,
+    host: &mut Host,
+    players: &mut [Player],
+    quantum: u64,
+) -> Result<(), PlayError>
     requires quantum { 1 ≤ quantum }
-    requires ready { AllReady host.old.host.slots scripted.old }
-    requires differ { AllDiffer scripted.old }
-    ensures played { OnOk result (AllPlayed host.old.host.system host.old.host.slots host.new.host.slots scripted.old scripted.new) }
-    ensures others { OnOk result (LeavesOthers (ids_of scripted.old) host.old.host host.new.host) }
+    requires ready { AllReady host.old.host.slots players.old }
+    requires differ { AllDiffer players.old }
+    ensures played { OnOk result (AllPlayed host.old.host host.new.host players.old players.new) }
+    ensures others { OnOk result (LeavesRest (ids_of players.old) host.old.host host.new.host) }
+    ensures room { OnOk result (HasRoomFor host.old.host (forks_of players.old) (fork_pages host.old.host.slots players.old)) }
+    ensures refused { IfErr result (IsPlayRefusal host.old.host players.old) }
 {
-    while goes_on(scripted) {
-        round(host, scripted, quantum)?;
+    host.slots_are_orderly();
+    while goes_on(players) {
+        round(alloc, host, players, quantum)?;
     }
     Ok(())
 }

@@ -1,6 +1,7 @@
 //! A session of a host that is played.
 
-ghost use Rattle.std.specs.Prelude.{◌≡◌, OnOk};
+ghost use Rattle.std.specs.Prelude.{◌≡◌, OnOk, IfOk};
+ghost use Rattle.cpm_turns.specs.Pacing.{forked_pace};
 
 use crate::pace::Pace;
 use cpm_console::Device;
@@ -38,6 +39,32 @@ impl ScriptedSlot {
             keys,
             pace: Pace::new(steps),
         }
+    }
+
+    /// A scripted slot for a fork of this one's slot: it has shown and pressed and executed what this one has, and goes on by these keys for so many
+    /// steps in all.
+    pub(crate) fn forked(
+        &self,
+        alloc: Global,
+        id: SlotId,
+        keys: &[Key],
+        steps: u64,
+    ) -> Result<ScriptedSlot, AllocError>
+        ensures id { IfOk result (λ child. child.id ≡ id) }
+        ensures keys { IfOk result (λ child. keys_of child ≡ keys.now) }
+        ensures console { IfOk result (λ child. child.console.items ≡ self.now.console.items) }
+        ensures list { IfOk result (λ child. child.list.items ≡ self.now.list.items) }
+        ensures pace { IfOk result (λ child. child.pace ≡ forked_pace self.now.pace steps) }
+    {
+        let mut own = Vec::with_capacity(alloc, keys.len())?;
+        own.extend_from_slice(keys)?;
+        Ok(ScriptedSlot {
+            id,
+            console: self.console.clone()?,
+            list: self.list.clone()?,
+            keys: own,
+            pace: self.pace.forked(steps),
+        })
     }
 
     /// Adds bytes of a device to those that it has shown so far. Want of memory adds none.

@@ -1,12 +1,13 @@
 //! One turn of a scripted slot: its keys that are due, its steps, and what it shows.
 
-ghost use Rattle.std.specs.Prelude.{◌≡◌, ℕ, ◌-◌, ◌≤◌, OnOk, None, Some, [], length, slice_get};
+ghost use Rattle.std.specs.Prelude.{◌≡◌, ℕ, ◌+◌, ◌-◌, ◌≤◌, ◌<◌, OnOk, None, Some, [], length, slice_get, take};
 ghost use Rattle.cpm_sessions.specs.Host.{after_ask, slot_at};
 ghost use Rattle.cpm_sessions.specs.Serving.{Calls, take_call};
 ghost use Rattle.cpm_slots.specs.Calls.{Grant};
 ghost use Rattle.cpm_slots.specs.MachineState.{MachineState};
 ghost use Rattle.cpm_slots.specs.Serve.{executed};
 ghost use Rattle.cpm_turns.specs.Pacing.{due_at};
+ghost use Rattle.cpm_turns.specs.Players.{AllBefore};
 ghost use Rattle.cpm_turns.specs.ScriptedSlots.{AreTaken, IsPlaying, IsResting, Moves, keys_of, steps_of, waits_in};
 
 use crate::scripted_slot::ScriptedSlot;
@@ -23,6 +24,8 @@ fn press_due(host: &mut Host, slot: &mut ScriptedSlot)
     ensures moves { Moves slot.old slot.new host.old.host host.new.host }
     ensures left { steps_of slot.new ≡ steps_of slot.old }
     ensures due { due_at slot.new.pace.done (slice_get (keys_of slot.new) slot.new.pace.pressed) ≡ None }
+    ensures early { (at : ℕ) → slot.old.pace.done < at → AllBefore at (take slot.old.pace.pressed (keys_of slot.old)) → AllBefore at (take slot.new.pace.pressed (keys_of slot.new)) }
+    ensures done { slot.new.pace.done ≡ slot.old.pace.done }
 {
     while let Some(key) = slot.pace.due(&slot.keys) {
         // 4,096 keys at most were given, so that it is not refused.
@@ -50,7 +53,7 @@ fn take_all(host: &mut Host, slot: &mut ScriptedSlot, device: Device) -> Result<
     ensures empty { OnOk result (waits_in device (slot_at slot.new.id.0 host.new.host.slots) ≡ []) }
     ensures stays { OnOk result ((other : Device) → waits_in other (slot_at slot.old.id.0 host.old.host.slots) ≡ [] → waits_in other (slot_at slot.new.id.0 host.new.host.slots) ≡ []) }
     ensures moves { OnOk result (Moves slot.old slot.new host.old.host host.new.host) }
-    ensures left { steps_of slot.new ≡ steps_of slot.old }
+    ensures pace { slot.new.pace ≡ slot.old.pace }
 {
     let mut chunk = [0u8; CHUNK];
     loop {
@@ -80,6 +83,8 @@ fn execute(host: &mut Host, slot: &mut ScriptedSlot, quantum: u64)
     ensures playing { (steps : ℕ) (start : MachineState) → IsResting steps start slot.old host.old.host → IsPlaying steps start slot.new host.new.host }
     ensures moves { Moves slot.old slot.new host.old.host host.new.host }
     ensures left { steps_of slot.new ≤ steps_of slot.old - 1 }
+    ensures early { (at : ℕ) → slot.old.pace.done < at → AllBefore at (take slot.old.pace.pressed (keys_of slot.old)) → AllBefore at (take slot.new.pace.pressed (keys_of slot.new)) }
+    ensures done { slot.new.pace.done ≤ slot.old.pace.done + quantum }
 {
     press_due(host, slot);
     let most = slot.pace.turn(&slot.keys, quantum);
@@ -93,6 +98,8 @@ pub(crate) fn turn(host: &mut Host, slot: &mut ScriptedSlot, quantum: u64) -> Re
     ensures playing { OnOk result ((steps : ℕ) (start : MachineState) → IsResting steps start slot.old host.old.host → IsResting steps start slot.new host.new.host) }
     ensures moves { OnOk result (Moves slot.old slot.new host.old.host host.new.host) }
     ensures left { OnOk result (steps_of slot.new ≤ steps_of slot.old - 1) }
+    ensures early { OnOk result ((at : ℕ) → slot.old.pace.done < at → AllBefore at (take slot.old.pace.pressed (keys_of slot.old)) → AllBefore at (take slot.new.pace.pressed (keys_of slot.new))) }
+    ensures done { OnOk result (slot.new.pace.done ≤ slot.old.pace.done + quantum) }
 {
     if slot.pace.left() == 0 {
         return Ok(());

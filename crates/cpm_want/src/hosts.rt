@@ -3,7 +3,7 @@
 use crate::Outcome;
 use crate::machines::{is_handed_back, is_marked, marked, opening};
 use cpm_flags::Cpu;
-use cpm_sessions::{Host, SlotId};
+use cpm_sessions::{ForkError, Host, SlotId};
 use cpm_slots::{Look, OpenError};
 use std::alloc::{AllocError, Global};
 
@@ -98,7 +98,39 @@ fn open_beside(alloc: Global, host: &mut Host) -> Result<Outcome, AllocError> {
     Ok(outcome)
 }
 
+/// Forks the first slot, once more where memory was refused.
+fn fork_first(alloc: Global, host: &mut Host) -> Outcome {
+    match host.fork(alloc, SlotId(0)) {
+        Ok(id) if id == SlotId(2) => Outcome::Made,
+        Err(ForkError::OutOfMemory) => Outcome::Refused,
+        _ => Outcome::Wrong,
+    }
+}
+
+/// Forks a slot in a host that has two, whose looks and memories are compared before and after. What is seen of the fork is what is seen of
+/// the slot that was forked.
+fn fork_beside(alloc: Global, host: &mut Host) -> Result<Outcome, AllocError> {
+    let first = start(alloc, host, Cpu::I8080, 17)?;
+    let second = start(alloc, host, Cpu::Z80, 3)?;
+    let before = [look_at(alloc, host, first)?, look_at(alloc, host, second)?];
+    let outcome = fork_first(alloc, host);
+    if outcome == Outcome::Refused && fork_first(alloc, host) != Outcome::Made {
+        return Ok(Outcome::Wrong);
+    }
+    let is_right = are_as_before(alloc, host, [first, second], &before)?
+        && is_as_before(alloc, host, SlotId(2), &before[0])?;
+    Ok(if is_right { outcome } else { Outcome::Wrong })
+}
+
 /// The same in a new host.
+pub fn fork(alloc: Global) -> Result<Outcome, AllocError> {
+    match Host::new(alloc, marked(alloc)?, 48) {
+        Ok(mut host) => fork_beside(alloc, &mut host),
+        Err(_) => Err(AllocError),
+    }
+}
+
+/// A third slot beside two in a new host.
 pub fn open(alloc: Global) -> Result<Outcome, AllocError> {
     match Host::new(alloc, marked(alloc)?, 48) {
         Ok(mut host) => open_beside(alloc, &mut host),

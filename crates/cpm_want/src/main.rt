@@ -58,7 +58,7 @@ impl Outcome {
 }
 
 /// The calls, as they are named on the command line.
-const NAMES: [&str; 21] = [
+const NAMES: [&str; 22] = [
     "command",
     "FlatMemory::new",
     "FrameStore::new",
@@ -70,6 +70,7 @@ const NAMES: [&str; 21] = [
     "Machine::with_program",
     "Host::new",
     "Host::open",
+    "Host::fork",
     "assemble",
     "Config::read",
     "read_keys",
@@ -96,6 +97,7 @@ fn make(alloc: Global, name: &str) -> Result<Outcome, AllocError> {
         "Machine::with_program" => machines::machine_with_program(alloc),
         "Host::new" => hosts::new(alloc),
         "Host::open" => hosts::open(alloc),
+        "Host::fork" => hosts::fork(alloc),
         "assemble" => Ok(texts::source(alloc)),
         "Config::read" => Ok(texts::configuration(alloc)),
         "read_keys" => Ok(texts::key_script(alloc)),

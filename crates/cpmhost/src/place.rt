@@ -2,7 +2,7 @@
 
 use crate::output::target_of;
 use crate::refused::{Behind, Refused};
-use cpm_host::{Config, HostError, shown};
+use cpm_host::{Config, HostError, Origin, shown};
 use std::alloc::AllocError;
 use std::fs;
 use std::io::ErrorKind;
@@ -143,8 +143,10 @@ fn inputs_of<'a>(
     looked.add_input(rt, file, false)?;
     looked.add_input(rt, config.system.as_str(), true)?;
     for session in &config.sessions {
-        for drive in &session.drives {
-            looked.add_input(rt, drive.as_str(), true)?;
+        if let Origin::Opened { drives, .. } = &session.origin {
+            for drive in drives {
+                looked.add_input(rt, drive.as_str(), true)?;
+            }
         }
         if let Some(keys) = &session.keys {
             looked.add_input(rt, keys.as_str(), false)?;

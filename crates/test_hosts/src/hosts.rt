@@ -1,6 +1,7 @@
 //! Worked rows of hosts. A test makes its host and does the rest with a reference to it: where the host can be dropped at each call,
 //! proving the test takes ten times as long.
 
+mod forks;
 mod frames;
 mod long_grants;
 mod openings;

@@ -10,6 +10,8 @@ mod damaged;
 #[cfg(test)]
 mod debugger;
 #[cfg(test)]
+mod forked;
+#[cfg(test)]
 mod hosts;
 #[cfg(test)]
 mod illegal;

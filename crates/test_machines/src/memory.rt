@@ -111,6 +111,23 @@ fn shares_written_pages_until_either_table_stores(rt: HostRuntime) -> Result<(),
     Ok(())
 }
 
+#[test]
+fn a_store_takes_a_frame_where_its_page_is_shared(rt: HostRuntime) -> Result<(), Fail> {
+    let mut store = FrameStore::new(rt.alloc(), 16)?;
+    let old = reserve(&rt, &mut store, 8)?;
+    for address in [0x2000, 0x2100, 0x2200] {
+        store_byte(&rt, &mut store, old, address, 0x55);
+    }
+    same(&rt, store.used(), 3);
+    let new = share(&rt, &mut store, old)?;
+    same(&rt, store.used(), 3);
+    store_byte(&rt, &mut store, new, 0x2000, 0xAA);
+    same(&rt, store.used(), 4);
+    store_byte(&rt, &mut store, old, 0x2000, 0xAA);
+    same(&rt, store.used(), 4);
+    Ok(())
+}
+
 /// The frames at pages of a table that wrote nothing, after another stored a byte at 0003h.
 #[test]
 fn boot_frames_stay(rt: HostRuntime) -> Result<(), Fail> {

@@ -1,7 +1,9 @@
 //! Configurations: what is read of them, and why others are refused.
 
+mod forks;
+
 use crate::same::{same, same_at};
-use cpm_config::{Config, ConfigError, Field, KeyFault, Place};
+use cpm_config::{Config, ConfigError, Field, KeyFault, Origin, Place};
 use cpm_flags::Cpu;
 use std::process::Abort;
 
@@ -104,10 +106,13 @@ fn reads_one_session(rt: HostRuntime) {
     same(&rt, config.sessions.len(), 1);
     let session = config.sessions.first().expect(&rt, "a session");
     same(&rt, session.name.as_str(), "one");
-    same(&rt, session.cpu, Cpu::I8080);
-    same(&rt, session.quota, 16);
+    let Origin::Opened { cpu, quota, drives } = &session.origin else {
+        panic!(&rt; "it is forked");
+    };
+    same(&rt, *cpu, Cpu::I8080);
+    same(&rt, *quota, 16);
     same(&rt, session.steps, 50);
-    same(&rt, session.drives.len(), 1);
+    same(&rt, drives.len(), 1);
     same(&rt, session.console.as_str(), "one.txt");
     same(&rt, session.keys.as_deref(), Some("one.keys"));
     assert!(rt; session.list.is_none());
@@ -121,8 +126,11 @@ fn reads_what_may_be_left_out(rt: HostRuntime) {
     same(&rt, config.sessions.len(), 2);
     let session = config.sessions.last().expect(&rt, "a session");
     same(&rt, session.name.as_str(), "two_-2");
-    same(&rt, session.cpu, Cpu::Z80);
-    same(&rt, session.quota, 256);
+    let Origin::Opened { cpu, quota, drives } = &session.origin else {
+        panic!(&rt; "it is forked");
+    };
+    same(&rt, *cpu, Cpu::Z80);
+    same(&rt, *quota, 256);
     same(&rt, session.steps, 1_000_000_000_000);
     assert!(rt; session.keys.is_none());
     same(&rt, session.list.as_deref(), Some("two.lst"));
@@ -130,9 +138,9 @@ fn reads_what_may_be_left_out(rt: HostRuntime) {
     same(&rt, out.len(), 2);
     same(&rt, out.first().expect(&rt, "a name").as_str(), "a.out");
     same(&rt, out.last().expect(&rt, "a name").as_str(), "b.out");
-    let a = session.drives.first().expect(&rt, "a name");
+    let a = drives.first().expect(&rt, "a name");
     same(&rt, a.as_str(), "a.img");
-    let b = session.drives.last().expect(&rt, "a name");
+    let b = drives.last().expect(&rt, "a name");
     same(&rt, b.as_str(), "b.img");
 }
 
@@ -370,7 +378,7 @@ fn refusals_say_what_is_wanted(rt: HostRuntime) {
         (
             "keys =",
             "key =",
-            "configuration, line 12, 'key': session 1 has a key other than name, cpu, quota, steps, drives, console, keys, list and out",
+            "configuration, line 12, 'key': session 1 has a key other than name, cpu, quota, fork, at, steps, drives, console, keys, list and out",
         ),
         (
             "keys =",

@@ -1,7 +1,7 @@
 //! Key scripts: the keys that they have, and the line and the fault of those that are refused.
 
 use crate::same::{same, same_at};
-use cpm_script::{Key, LineFault, ScriptError, read_keys};
+use cpm_script::{Key, LineFault, ScriptError, keys_before, read_forked_keys, read_keys};
 use std::process::Abort;
 
 /// The refusal of a script.
@@ -12,14 +12,49 @@ fn refusal(rt: &(impl Abort + AllocGlobal), text: &[u8]) -> ScriptError {
     }
 }
 
-/// Fails unless the script has these keys.
-fn check_keys(rt: &(impl Abort + AllocGlobal), text: &[u8], wanted: &[(u64, u8)]) {
-    let keys = read_keys(rt.alloc(), text).expect(rt, "a good script");
+/// Fails unless these are the keys.
+fn check_rows(rt: &(impl Abort + AllocGlobal), keys: &[Key], wanted: &[(u64, u8)]) {
     let mut found = Vec::new(rt.alloc());
-    for key in &keys {
+    for key in keys {
         found.push((key.count, key.byte)).expect(rt, "memory");
     }
     same(rt, found.as_slice(), wanted);
+}
+
+/// Fails unless the script has these keys.
+fn check_keys(rt: &(impl Abort + AllocGlobal), text: &[u8], wanted: &[(u64, u8)]) {
+    let keys = read_keys(rt.alloc(), text).expect(rt, "a good script");
+    check_rows(rt, keys.as_slice(), wanted);
+}
+
+/// The keys of a parent's script.
+fn parent_keys(rt: &(impl Abort + AllocGlobal), text: &[u8]) -> Vec<Key> {
+    read_keys(rt.alloc(), text).expect(rt, "a good script")
+}
+
+/// The keys of a session that is forked at this count from one with the keys of a script before, or the
+/// refusal of its own script.
+fn forked(
+    rt: &(impl Abort + AllocGlobal),
+    text: &[u8],
+    at: u64,
+    before: &[u8],
+) -> Result<Vec<Key>, ScriptError> {
+    let before = parent_keys(rt, before);
+    assert!(rt; before.len() <= 4096);
+    read_forked_keys(rt.alloc(), text, at, before)
+}
+
+/// Fails unless a fork at this count from a session with the keys of a script before has these keys.
+fn check_forked(
+    rt: &(impl Abort + AllocGlobal),
+    text: &[u8],
+    at: u64,
+    before: &[u8],
+    wanted: &[(u64, u8)],
+) {
+    let keys = forked(rt, text, at, before).expect(rt, "a good script");
+    check_rows(rt, keys.as_slice(), wanted);
 }
 
 /// The text of this many keys at count 0, in one line.
@@ -211,4 +246,133 @@ fn refusals_say_what_is_wanted(rt: HostRuntime) {
         .expect(&rt, "memory");
     let wanted = "out of memory";
     same(&rt, shown.as_str(), wanted);
+}
+
+#[test]
+fn a_fork_has_the_keys_before_it_and_its_own(rt: HostRuntime) {
+    check_forked(&rt, b"7 X^M", 7, b"", &[(7, 0x58), (7, 0x0D)]);
+    check_forked(
+        &rt,
+        b"# own\n\n9 a",
+        7,
+        b"0 D\n6 I",
+        &[(0, 0x44), (6, 0x49), (9, 0x61)],
+    );
+    check_forked(&rt, b"", 7, b"0 D", &[(0, 0x44)]);
+    check_forked(&rt, b"", 7, b"", &[]);
+    check_forked(&rt, b"0 A", 0, b"", &[(0, 0x41)]);
+    check_forked(
+        &rt,
+        b"18446744073709551615 A",
+        u64::MAX,
+        b"18446744073709551614 B",
+        &[(u64::MAX - 1, 0x42), (u64::MAX, 0x41)],
+    );
+}
+
+#[test]
+fn names_the_first_line_before_the_fork(rt: HostRuntime) {
+    let scripts: [(&[u8], u64, LineFault); 9] = [
+        (b"6 X^M", 1, LineFault::BeforeFork),
+        (b"0 A", 1, LineFault::BeforeFork),
+        (b"# own\n\n6 A\n6 B", 3, LineFault::BeforeFork),
+        (b"6 A\n7 B", 1, LineFault::BeforeFork),
+        (b"6 A\n7 ^1", 2, LineFault::NotAKey),
+        (b"6 A\n5 B", 2, LineFault::CountFalls),
+        (b"6 A\n\n7", 3, LineFault::NoKey),
+        (b"6 A\nx", 2, LineFault::NoCount),
+        (b"6", 1, LineFault::NoKey),
+    ];
+    for (text, number, fault) in scripts {
+        let found = forked(&rt, text, 7, b"0 D").err();
+        same_at(&rt, text, found, Some(ScriptError::Line { number, fault }));
+    }
+}
+
+#[test]
+fn a_fork_has_4096_keys_and_no_more(rt: HostRuntime) {
+    let scripts: [(usize, &[u8], Option<(u64, LineFault)>); 9] = [
+        (4095, b"7 a", None),
+        (4095, b"7 ab", Some((1, LineFault::TooManyForked))),
+        (4095, b"7 a\n8 b", Some((2, LineFault::TooManyForked))),
+        (4094, b"7 a\n#\n8 bc", Some((3, LineFault::TooManyForked))),
+        (4094, b"7 a\n8 b", None),
+        (4096, b"# own", None),
+        (4096, b"7 ^M", Some((1, LineFault::TooManyForked))),
+        (4096, b"6 a", Some((1, LineFault::BeforeFork))),
+        (4096, b"7 a\n8", Some((2, LineFault::NoKey))),
+    ];
+    for (keys, text, wanted) in scripts {
+        let before = line_of(&rt, keys);
+        let found = forked(&rt, text, 7, before.as_bytes()).err();
+        let wanted = match wanted {
+            Some((number, fault)) => Some(ScriptError::Line { number, fault }),
+            None => None,
+        };
+        same_at(&rt, (keys, text), found, wanted);
+    }
+}
+
+#[test]
+fn all_keys_of_a_full_fork_are_there(rt: HostRuntime) {
+    let before = line_of(&rt, 4095);
+    let keys = forked(&rt, b"7 a", 7, before.as_bytes()).expect(&rt, "4,096 keys");
+    same(&rt, keys.len(), 4096);
+    same(
+        &rt,
+        keys.last().copied(),
+        Some(Key {
+            count: 7,
+            byte: b'a',
+        }),
+    );
+    let own = line_of(&rt, 4097);
+    let wanted = ScriptError::Line {
+        number: 1,
+        fault: LineFault::TooManyKeys,
+    };
+    same(&rt, forked(&rt, own.as_bytes(), 7, b"").err(), Some(wanted));
+}
+
+#[test]
+fn keys_before_a_count_are_those_below_it(rt: HostRuntime) {
+    let keys = parent_keys(&rt, b"0 A\n6 BC\n7 D\n7 E\n9 F");
+    let rows: [(u64, &[(u64, u8)]); 5] = [
+        (0, &[]),
+        (1, &[(0, 0x41)]),
+        (6, &[(0, 0x41)]),
+        (7, &[(0, 0x41), (6, 0x42), (6, 0x43)]),
+        (8, &[(0, 0x41), (6, 0x42), (6, 0x43), (7, 0x44), (7, 0x45)]),
+    ];
+    for (at, wanted) in rows {
+        let found = keys_before(rt.alloc(), keys.as_slice(), at).expect(&rt, "memory");
+        check_rows(&rt, found.as_slice(), wanted);
+    }
+    let all = keys_before(rt.alloc(), keys.as_slice(), u64::MAX).expect(&rt, "memory");
+    same(&rt, all.as_slice(), keys.as_slice());
+    let none = keys_before(rt.alloc(), &[], 7).expect(&rt, "memory");
+    same(&rt, none.len(), 0);
+}
+
+#[test]
+fn refusals_of_forks_say_what_is_wrong(rt: HostRuntime) {
+    let full = line_of(&rt, 4096);
+    let texts: [(&[u8], &str); 2] = [
+        (
+            b"\n6 A",
+            "key script, line 2: the count is below that at which the session is forked",
+        ),
+        (
+            b"7 A",
+            "key script, line 1: with the keys of the session that it is forked from there are more than 4096",
+        ),
+    ];
+    for (text, wanted) in texts {
+        let refusal = forked(&rt, text, 7, full.as_bytes()).err();
+        let shown = refusal
+            .expect(&rt, "a refusal")
+            .to_string(rt.alloc())
+            .expect(&rt, "memory");
+        same(&rt, shown.as_str(), wanted);
+    }
 }

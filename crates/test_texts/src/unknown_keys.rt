@@ -8,10 +8,10 @@ use cpm_config::KeyFault;
 const NOT_AT_TOP: &str = "': the top has a key other than frames, quantum, system and session";
 
 const NOT_IN_FIRST: &str =
-    "': session 1 has a key other than name, cpu, quota, steps, drives, console, keys, list and out";
+    "': session 1 has a key other than name, cpu, quota, fork, at, steps, drives, console, keys, list and out";
 
 const NOT_IN_SECOND: &str =
-    "': session 2 has a key other than name, cpu, quota, steps, drives, console, keys, list and out";
+    "': session 2 has a key other than name, cpu, quota, fork, at, steps, drives, console, keys, list and out";
 
 /// The same for a key that there is not, in a configuration of two sessions: the fault, and what is said of it, in two parts.
 const UNKNOWN: [(&str, &str, KeyFault, &str, &str); 7] = [
@@ -38,9 +38,9 @@ const UNKNOWN: [(&str, &str, KeyFault, &str, &str); 7] = [
     ),
     (
         "keys = ",
-        "fork = \"one\"\nkeys = ",
+        "forks = \"one\"\nkeys = ",
         KeyFault::UnknownInSession(1),
-        "configuration, line 12, 'fork",
+        "configuration, line 12, 'forks",
         NOT_IN_FIRST,
     ),
     (

@@ -1,12 +1,10 @@
-use Rattle.std.proofs.Common.{◌≡◌, ◌∙◌, sym, subst, List, arith}
+use Rattle.std.proofs.Common.{◌∙◌, arith}
 use Rattle.std.proofs.lemmas.Result.{err_from_is_err_and}
 use Rattle.std.specs.Prelude.{string_bytes}
-use Rattle.cpm_geom.specs.Disk.{Disk}
 use Rattle.cpm_store.proofs.LogLemmas.{unwritten_more}
-use Rattle.cpm_batch.specs.Inputs.{AllImages}
 use Rattle.cpm_batch.proofs.InputLemmas.{image_as, image_refusal_as, name_read, name_refused}
 use Rattle.cpm_batch.proofs.ReadLemmas.{image_read_as, images_more}
-use Rattle.cpm_batch.specs.Inputs.{ImageIn, image_needs}
+use Rattle.cpm_batch.specs.Inputs.{image_needs}
 use Rattle.cpm_batch.proofs.StopLemmas.{image_stopped_as, name_stopped, stopped_memory}
 use Rattle.cpm_batch.proofs.input.read_images.Goals as goal
 

@@ -1,13 +1,12 @@
-use Rattle.std.proofs.Common.{◌∙◌, map}
+use Rattle.std.proofs.Common.{◌∙◌, [], map, refl}
 use Rattle.std.specs.Prelude.{string_bytes}
+use Rattle.std.proofs.lemmas.Result.{err_from_is_err_and}
 use Rattle.cpm_store.proofs.LogLemmas.{ran_then, unwritten_more}
 use Rattle.cpm_batch.specs.Inputs.{given}
 use Rattle.cpm_batch.specs.Reads.{AreInputsRead, IsImageRead}
+use Rattle.cpm_batch.proofs.InputLemmas.{image_as, image_refusal_as, sessions_refused, system_refused}
 use Rattle.cpm_batch.proofs.ReadLemmas.{image_read_as}
-use Rattle.std.proofs.lemmas.Result.{err_from_is_err_and}
-use Rattle.std.proofs.Common.{ap, ◌∷◌, []}
-use Rattle.cpm_batch.specs.Inputs.{ImageIn, needs_of_all}
-use Rattle.cpm_batch.proofs.StopLemmas.{behind_image, image_stopped_as, stopped_as, stopped_front}
+use Rattle.cpm_batch.proofs.StopLemmas.{image_stopped_as, sessions_stopped, system_stopped}
 use Rattle.cpm_batch.proofs.input.read_inputs.Goals as goal
 
 pub returns-clause-log : goal.returns-clause-log
@@ -18,7 +17,7 @@ returns-clause-log g c =
     let inputs = map given c.in_ok-sessions.sessions.items in
     let start = c.args.store.now in
     let between = c.read_image.new.store in
-    let both = ran_then does (IsImageRead name system) (AreInputsRead inputs) start between c.read_sessions.new.store
+    let both = ran_then does (IsImageRead name system) (AreInputsRead [] inputs) start between c.read_sessions.new.store
     (image_read_as does name c.as_str.result.now system start between c.as_str.ensures.value c.in_ok-system.ensures.log) c.in_ok-sessions.ensures.log in
     (both.0, record { sessions = c.in_ok-sessions.ensures.sessions ∙ c.as_slice.ensures.value; calls = both.1 }, both.2)
 
@@ -30,24 +29,38 @@ pub returns-clause-unwritten : goal.returns-clause-unwritten
 returns-clause-unwritten g c =
     unwritten_more g.S.Store.does c.args.store.now c.read_image.new.store c.read_sessions.new.store c.in_ok-system.ensures.unwritten c.in_ok-sessions.ensures.unwritten
 
+pub returns-in_err-system-clause-refusal : goal.returns-in_err-system-clause-refusal
+returns-in_err-system-clause-refusal g c =
+    let p = err_from_is_err_and c.from_residual.result c.from_residual.ensures.1 in
+    let files = g.S.Store.files c.args.store.now in
+    let config = c.args.config.now in
+    rw (p.1, p.2) (system_refused files config _ (image_refusal_as files files (string_bytes config.system) c.as_str.result.now _ refl c.as_str.ensures.value c.in_err-system.ensures.refusal))
+
+pub returns-in_err-sessions-clause-refusal : goal.returns-in_err-sessions-clause-refusal
+returns-in_err-sessions-clause-refusal g c =
+    let p = err_from_is_err_and c.from_residual-in_err-sessions.result c.from_residual-in_err-sessions.ensures.1 in
+    let files = g.S.Store.files c.args.store.now in
+    let config = c.args.config.now in
+    let system = c.in_ok-system.system in
+    rw (p.1, p.2) (sessions_refused files (g.S.Store.files c.read_image.new.store) config c.as_slice.result.now system _
+    (image_as files files (string_bytes config.system) c.as_str.result.now system refl c.as_str.ensures.value c.in_ok-system.ensures.image) c.in_ok-system.ensures.same c.as_slice.ensures.value
+    c.in_err-sessions.ensures.refusal)
+
 pub returns-in_err-system-clause-refused_log : goal.returns-in_err-system-clause-refused_log
 returns-in_err-system-clause-refused_log g c =
     let p = err_from_is_err_and c.from_residual.result c.from_residual.ensures.1 in
     let does = g.S.Store.does in
     let config = c.args.config.now in
-    let name = string_bytes config.system in
-    rw (p.1, p.2) (stopped_front does (ImageIn name ∷ []) (needs_of_all config.sessions.items) _ c.args.store.now c.read_image.new.store
-    (image_stopped_as does name c.as_str.result.now _ c.args.store.now c.read_image.new.store c.as_str.ensures.value c.in_err-system.ensures.refused_log))
+    rw (p.1, p.2) (system_stopped does config _ c.args.store.now c.read_image.new.store
+    (image_stopped_as does (string_bytes config.system) c.as_str.result.now _ c.args.store.now c.read_image.new.store c.as_str.ensures.value c.in_err-system.ensures.refused_log))
 
 pub returns-in_err-sessions-clause-refused_log : goal.returns-in_err-sessions-clause-refused_log
 returns-in_err-sessions-clause-refused_log g c =
     let p = err_from_is_err_and c.from_residual-in_err-sessions.result c.from_residual-in_err-sessions.ensures.1 in
     let does = g.S.Store.does in
     let config = c.args.config.now in
-    let name = string_bytes config.system in
+    let system = c.in_ok-system.system in
     let start = c.args.store.now in
     let between = c.read_image.new.store in
-    let end = c.read_sessions.new.store in
-    rw (p.1, p.2) (behind_image does name c.in_ok-system.system (needs_of_all config.sessions.items) _ start between end
-    (image_read_as does name c.as_str.result.now c.in_ok-system.system start between c.as_str.ensures.value c.in_ok-system.ensures.log)
-    (stopped_as does (needs_of_all config.sessions.items) (needs_of_all c.as_slice.result.now) _ between end (ap needs_of_all c.as_slice.ensures.value) c.in_err-sessions.ensures.refused_log))
+    rw (p.1, p.2) (sessions_stopped does config c.as_slice.result.now system _ start between c.read_sessions.new.store c.as_slice.ensures.value
+    (image_read_as does (string_bytes config.system) c.as_str.result.now system start between c.as_str.ensures.value c.in_ok-system.ensures.log) c.in_err-sessions.ensures.refused_log)

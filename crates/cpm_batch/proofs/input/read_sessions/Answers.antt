@@ -1,57 +1,80 @@
-use Rattle.std.proofs.Common.{◌≡◌, ◌∙◌, ap, refl, sym, subst, List, map, take, ◌+◌, arith}
+use Rattle.std.proofs.Common.{◌≡◌, ◌∙◌, List, None, ap, arith, map, subst, sym}
 use Rattle.std.proofs.lemmas.Result.{err_from_is_err_and}
+use Rattle.cpm_config.specs.Rules.{fork_fault, session_view}
 use Rattle.cpm_store.proofs.LogLemmas.{unwritten_more}
-use Rattle.cpm_batch.specs.Inputs.{AllInputs, given, needs_of}
+use Rattle.cpm_store.specs.Log.{RanBy}
+use Rattle.cpm_batch.specs.Inputs.{HasInput, given, needs_of}
+use Rattle.cpm_batch.specs.Reads.{IsInputRead}
 use Rattle.cpm_batch.specs.declared.input.Input.{Input}
-use Rattle.cpm_batch.proofs.InputLemmas.{input_as, inputs_more, refusal_as, session_refused, sessions_more}
+use Rattle.cpm_batch.proofs.InputLemmas.{inputs_as, inputs_more, refusal_as, session_refused, sessions_more}
+use Rattle.cpm_batch.proofs.ParentLemmas.{fork_stands, forks_stand}
 use Rattle.cpm_batch.proofs.ReadLemmas.{sessions_read}
-use Rattle.cpm_batch.specs.Inputs.{needs_of_all}
-use Rattle.cpm_batch.proofs.StopLemmas.{session_stopped, stopped_memory}
+use Rattle.cpm_batch.proofs.StopLemmas.{session_stopped, sessions_memory, stopped_as}
 use Rattle.cpm_batch.proofs.input.read_sessions.Goals as goal
 
-pub returns-in_err-read_session-clause-refusal : goal.returns-in_err-read_session-clause-refusal
-returns-in_err-read_session-clause-refusal g c =
+pub read_session-requires-clause-fork : goal.read_session-requires-clause-fork
+read_session-requires-clause-fork g c =
+    let i = c.loop-session.invariant in
+    let before = c.as_slice.ensures.value in
+    subst (λ (is : List Input). fork_fault (map (λ x. session_view x.session) (map given is)) (session_view c.session-item.result) ≡ None) (sym before)
+    (fork_stands c.args.sessions.now c.loop-session.session-index c.session-item.result (map given c.loop-session.inputs.items) c.loop-session-test.true c.session-item.is i.forks i.sessions)
+
+pub returns-in_err-input-clause-refusal : goal.returns-in_err-input-clause-refusal
+returns-in_err-input-clause-refusal g c =
     let p = err_from_is_err_and c.from_residual.result c.from_residual.ensures.1 in
     let i = c.loop-session.invariant in
     let files = g.S.Store.files c.args.store.now in
-    rw (p.1, p.2) (session_refused files c.args.sessions.now c.loop-session.session-index c.session-item.result (map given c.loop-session.inputs.items) _ c.loop-session-test.true c.session-item.is
-    i.sessions i.inputs (refusal_as files (g.S.Store.files c.loop-session.store) (needs_of c.session-item.result) (needs_of c.session-item.result) _ i.same refl c.in_err-read_session.ensures.refusal))
+    let now = g.S.Store.files c.loop-session.store in
+    let is = map given c.loop-session.inputs.items in
+    let needs = ap (λ (before : List Input). needs_of (map given before) c.session-item.result) c.as_slice.ensures.value in
+    rw (p.1, p.2) (session_refused files c.args.sessions.now c.loop-session.session-index c.session-item.result is _ c.loop-session-test.true c.session-item.is i.sessions
+    (inputs_as files now is i.same i.inputs) (refusal_as files now _ _ _ i.same needs c.in_err-input.ensures.refusal))
 
-pub loop-session-preserved : goal.loop-session-preserved
-loop-session-preserved g c =
+pub returns-in_err-input-clause-refused_log : goal.returns-in_err-input-clause-refused_log
+returns-in_err-input-clause-refused_log g c =
+    let p = err_from_is_err_and c.from_residual.result c.from_residual.ensures.1 in
+    let does = g.S.Store.does in
     let i = c.loop-session.invariant in
-    let files = g.S.Store.files c.args.store.now in
-    let x = c.in_ok-read_session.field-0 in
-    record {
-      inputs = inputs_more files c.loop-session.inputs.items c.push.new.self.items x c.in_ok-push.ensures.items i.inputs
-          (input_as files (g.S.Store.files c.loop-session.store) (given x) i.same c.in_ok-read_session.ensures.input);
-      sessions = sessions_more c.loop-session.inputs.items c.push.new.self.items x c.args.sessions.now c.loop-session.session-index c.session-item.result c.loop-session-test.true c.session-item.is
-          c.in_ok-push.ensures.items i.sessions c.in_ok-read_session.ensures.session;
-      log = sessions_read g.S.Store.does c.loop-session.inputs.items c.push.new.self.items x c.args.store.now c.loop-session.store c.read_session.new.store c.in_ok-push.ensures.items i.log
-          c.in_ok-read_session.ensures.log;
-      unwritten = unwritten_more g.S.Store.does c.args.store.now c.loop-session.store c.read_session.new.store i.unwritten c.in_ok-read_session.ensures.unwritten;
-      same = let s = c.in_ok-read_session.ensures.same in let t = i.same in cc;
-      uncounted = c.in_ok-read_session.ensures.uncounted ∙ i.uncounted;
-      counted = omega (arith, i.counted, c.in_ok-read_session.ensures.counted);
-    }
+    let between = c.loop-session.store in
+    let end = c.read_session.new.store in
+    let needs = ap (λ (before : List Input). needs_of (map given before) c.session-item.result) c.as_slice.ensures.value in
+    rw (p.1, p.2) (session_stopped does c.args.sessions.now c.loop-session.session-index c.session-item.result (map given c.loop-session.inputs.items) _ c.args.store.now between end
+    c.loop-session-test.true c.session-item.is i.sessions i.log (stopped_as does _ _ _ between end needs c.in_err-input.ensures.refused_log))
 
-pub returns-in_err-read_session-clause-unwritten : goal.returns-in_err-read_session-clause-unwritten
-returns-in_err-read_session-clause-unwritten g c =
-    unwritten_more g.S.Store.does c.args.store.now c.loop-session.store c.read_session.new.store c.loop-session.invariant.unwritten c.in_err-read_session.ensures.unwritten
+pub returns-in_err-input-clause-unwritten : goal.returns-in_err-input-clause-unwritten
+returns-in_err-input-clause-unwritten g c =
+    unwritten_more g.S.Store.does c.args.store.now c.loop-session.store c.read_session.new.store c.loop-session.invariant.unwritten c.in_err-input.ensures.unwritten
 
 pub returns-in_err-push-clause-unwritten : goal.returns-in_err-push-clause-unwritten
 returns-in_err-push-clause-unwritten g c =
-    unwritten_more g.S.Store.does c.args.store.now c.loop-session.store c.read_session.new.store c.loop-session.invariant.unwritten c.in_ok-read_session.ensures.unwritten
-
-pub returns-in_err-read_session-clause-refused_log : goal.returns-in_err-read_session-clause-refused_log
-returns-in_err-read_session-clause-refused_log g c =
-    let p = err_from_is_err_and c.from_residual.result c.from_residual.ensures.1 in
-    let i = c.loop-session.invariant in
-    rw (p.1, p.2) (session_stopped g.S.Store.does c.args.sessions.now c.loop-session.session-index c.session-item.result (map given c.loop-session.inputs.items) _ c.args.store.now c.loop-session.store
-    c.read_session.new.store c.loop-session-test.true c.session-item.is i.sessions i.log c.in_err-read_session.ensures.refused_log)
+    unwritten_more g.S.Store.does c.args.store.now c.loop-session.store c.read_session.new.store c.loop-session.invariant.unwritten c.in_ok-input.ensures.unwritten
 
 pub returns-in_err-push-clause-refused_log : goal.returns-in_err-push-clause-refused_log
 returns-in_err-push-clause-refused_log g c =
     let p = err_from_is_err_and c.from_residual-in_err-push.result c.from_residual-in_err-push.ensures.1 in
-    rw (p.1, p.2) (stopped_memory g.S.Store.does (needs_of_all c.args.sessions.now) c.args.store.now c.read_session.new.store
-    (unwritten_more g.S.Store.does c.args.store.now c.loop-session.store c.read_session.new.store c.loop-session.invariant.unwritten c.in_ok-read_session.ensures.unwritten))
+    rw (p.1, p.2) (sessions_memory g.S.Store.does c.args.sessions.now c.args.store.now c.read_session.new.store
+    (unwritten_more g.S.Store.does c.args.store.now c.loop-session.store c.read_session.new.store c.loop-session.invariant.unwritten c.in_ok-input.ensures.unwritten))
+
+pub loop-session-preserved : goal.loop-session-preserved
+loop-session-preserved g c =
+    let i = c.loop-session.invariant in
+    let does = g.S.Store.does in
+    let now = g.S.Store.files c.loop-session.store in
+    let next = g.S.Store.files c.read_session.new.store in
+    let x = c.in_ok-input.input in
+    let is = c.loop-session.inputs.items in
+    let before = c.as_slice.ensures.value in
+    let same = c.in_ok-input.ensures.same in
+    let input = subst (λ (b : List Input). HasInput now (map given b) (given x)) before c.in_ok-input.ensures.input in
+    let log = subst (λ (b : List Input). RanBy does (IsInputRead (map given b) (given x)) c.loop-session.store c.read_session.new.store) before c.in_ok-input.ensures.log in
+    record {
+      inputs = inputs_as next now (map given c.push.new.self.items) (sym same) (inputs_more now is c.push.new.self.items x c.in_ok-push.ensures.items i.inputs input);
+      forks = forks_stand c.args.sessions.now c.loop-session.session-index c.session-item.result c.loop-session-test.true c.session-item.is i.forks;
+      sessions = sessions_more is c.push.new.self.items x c.args.sessions.now c.loop-session.session-index c.session-item.result c.loop-session-test.true c.session-item.is
+          c.in_ok-push.ensures.items i.sessions c.in_ok-input.ensures.session;
+      log = sessions_read does is c.push.new.self.items x c.args.store.now c.loop-session.store c.read_session.new.store c.in_ok-push.ensures.items i.log log;
+      unwritten = unwritten_more does c.args.store.now c.loop-session.store c.read_session.new.store i.unwritten c.in_ok-input.ensures.unwritten;
+      same = same ∙ i.same;
+      uncounted = c.in_ok-input.ensures.uncounted ∙ i.uncounted;
+      counted = omega (arith, i.counted, c.in_ok-input.ensures.counted);
+    }

@@ -1,4 +1,5 @@
-use Rattle.std.proofs.Common.{◌≡◌, ◌≤◌, map, take}
+use Rattle.std.proofs.Common.{◌≡◌, ◌≤◌, ◌+◌, [], None, drop, map, take}
+use Rattle.cpm_config.specs.Rules.{forks_fault, session_view}
 use Rattle.cpm_store.specs.Log.{AreNoWrites, RanBy}
 use Rattle.cpm_batch.specs.Inputs.{AllInputs, given}
 use Rattle.cpm_batch.specs.Reads.{AreInputsRead}
@@ -6,9 +7,10 @@ use Rattle.cpm_batch.proofs.input.read_sessions.Given as goal
 
 abbrev pub invariant-loop-session : goal.invariant-loop-session
 invariant-loop-session g l = record {
-  inputs : AllInputs (g.S.Store.files l.fn.store) (map given l.inputs.items);
+  inputs : AllInputs (g.S.Store.files l.store) [] (map given l.inputs.items);
+  forks : forks_fault (l.session-index + 1) (map session_view (take l.session-index l.sessions)) (map session_view (drop l.session-index l.sessions)) ≡ None;
   sessions : map (λ i. i.session) (map given l.inputs.items) ≡ take l.session-index l.sessions;
-  log : RanBy g.S.Store.does (AreInputsRead (map given l.inputs.items)) l.fn.store l.store;
+  log : RanBy g.S.Store.does (AreInputsRead [] (map given l.inputs.items)) l.fn.store l.store;
   unwritten : RanBy g.S.Store.does AreNoWrites l.fn.store l.store;
   same : g.S.Store.files l.store ≡ g.S.Store.files l.fn.store;
   uncounted : g.S.Store.failed l.store ≡ g.S.Store.failed l.fn.store;

@@ -1,4 +1,4 @@
-use Rattle.std.proofs.Common.{◌∙◌, List, Option, map, arith}
+use Rattle.std.proofs.Common.{◌∙◌, map, arith}
 use Rattle.cpm_store.specs.Writes.{named}
 use Rattle.cpm_batch.proofs.OutputLemmas.{four_images, image_is}
 use Rattle.cpm_batch.proofs.output.add_images.Goals as goal

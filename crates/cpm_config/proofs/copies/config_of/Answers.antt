@@ -1,4 +1,4 @@
-use Rattle.std.proofs.Common.{rules, List, map, ap, ◌∙◌}
+use Rattle.std.proofs.Common.{rules, List, [], map, ap, ◌∙◌}
 use mir.Syntax.{w64}
 use mir.Val.{SFits}
 use Rattle.cpm_config.specs.Entries.{draft_view, session_draft_view}
@@ -18,5 +18,5 @@ unsigned-requires c =
 
 pub sessions_of-requires : goal.sessions_of-requires
 sessions_of-requires c =
-    ap (λ (ss : List _). sessions_fault 1 (map session_draft_view ss)) c.as_slice.ensures.value
+    ap (λ (ss : List _). sessions_fault 1 [] (map session_draft_view ss)) c.as_slice.ensures.value
     ∙ (good-config (draft_view c.args.draft.now) c.requires).sessions

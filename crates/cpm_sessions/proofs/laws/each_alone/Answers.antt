@@ -1,4 +1,4 @@
-use Rattle.cpm_sessions.proofs.OpeningLaws.{each-alone}
+use Rattle.cpm_sessions.proofs.LifeLaws.{each-alone}
 use Rattle.cpm_sessions.proofs.laws.each_alone.Goals as goal
 
 pub returns : goal.returns

@@ -1,18 +1,30 @@
-use Rattle.std.proofs.Common.{◌∙◌, refl, sym}
-use Rattle.cpm_turns.specs.ScriptedSlots.{ids_of}
-use Rattle.cpm_turns.proofs.RoundLemmas.{has-left, others-none, pairs-end, pairs-start}
+use Rattle.std.proofs.Common.{◌∙◌, sym}
+use Rattle.std.proofs.lemmas.Result.{err_from_is_err_and}
+use Rattle.cpm_turns.proofs.PlayLemmas.{come-start, played-all, room-all, some-left}
 use Rattle.cpm_turns.proofs.rounds.play.Goals as goal
 
-pub loop-host-init : goal.loop-host-init
-loop-host-init c = record {
-  pairs = pairs-start c.args.host.now.host c.args.scripted.now c.requires.ready;
-  others = others-none (ids_of c.args.scripted.now) c.args.host.now.host;
-  ids = refl;
-}
+pub loop-alloc-init : goal.loop-alloc-init
+loop-alloc-init c = record { come = come-start c.args.host.now.host c.args.players.now c.requires.ready c.requires.differ c.slots_are_orderly.ensures }
 
-pub loop-host-smaller : goal.loop-host-smaller
-loop-host-smaller c = c.in_ok-round.ensures.left (has-left c.loop-host.scripted (sym c.goes_on.ensures ∙ c.loop-host-test.true))
+pub loop-alloc-smaller : goal.loop-alloc-smaller
+loop-alloc-smaller c =
+    c.in_ok-round.ensures.left c.args.host.now.host c.args.players.now c.requires.ready c.loop-alloc.invariant.come (some-left c.loop-alloc.players (sym c.goes_on.ensures ∙ c.loop-alloc-test.true))
+
+pub loop-alloc-preserved : goal.loop-alloc-preserved
+loop-alloc-preserved c = record { come = c.in_ok-round.ensures.come c.args.host.now.host c.args.players.now c.requires.ready c.loop-alloc.invariant.come }
+
+pub returns-in_err-round-clause-refused : goal.returns-in_err-round-clause-refused
+returns-in_err-round-clause-refused c =
+    let p = err_from_is_err_and c.from_residual.result c.from_residual.ensures.1 in
+    rw (p.1, p.2) (c.in_err-round.ensures.refused c.args.host.now.host c.args.players.now c.requires.ready c.loop-alloc.invariant.come)
 
 pub returns-clause-played : goal.returns-clause-played
 returns-clause-played c =
-    pairs-end c.args.host.now.host.slots c.args.host.now.host c.loop-host.host.host c.args.scripted.now c.loop-host.scripted c.loop-host.invariant.others.system (sym c.goes_on.ensures ∙ c.loop-host-test.false) c.loop-host.invariant.pairs
+    played-all c.args.host.now.host c.loop-alloc.host.host c.args.players.now c.loop-alloc.players c.loop-alloc.invariant.come (sym c.goes_on.ensures ∙ c.loop-alloc-test.false)
+
+pub returns-clause-others : goal.returns-clause-others
+returns-clause-others c = c.loop-alloc.invariant.come.rest
+
+pub returns-clause-room : goal.returns-clause-room
+returns-clause-room c =
+    room-all c.args.host.now.host c.loop-alloc.host.host c.args.players.now c.loop-alloc.players c.loop-alloc.invariant.come (sym c.goes_on.ensures ∙ c.loop-alloc-test.false)

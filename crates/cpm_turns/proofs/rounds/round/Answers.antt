@@ -1,34 +1,85 @@
-use Rattle.std.proofs.Common.{◌≡◌, ◌≢◌, ◌∙◌, ◌<◌, ◌≤◌, ℕ, List, length, get_or, subst, sym, ap, arith, get_or-set_other, length-set}
-use Rattle.cpm_turns.specs.declared.scripted_slot.ScriptedSlot.{ScriptedSlot}
-use Rattle.cpm_turns.specs.ScriptedSlots.{AreDifferent, LeavesOthers}
-use Rattle.cpm_turns.proofs.RoundLemmas.{ids-set, left-round, left-turn, others-turn, pairs-turn}
+use Rattle.std.proofs.Common.{◌≡◌, ◌∙◌, ◌<◌, ◌+◌, List, Some, length, length-set, set, refl, sym, ap, subst, arith, inr, slice_get}
+use Rattle.std.proofs.lemmas.List.{set-get_or}
+use Rattle.std.proofs.lemmas.Option.{get_or_from_slice_get, slice_get-get_or}
+use Rattle.std.proofs.lemmas.Result.{err_from_is_err_and}
+use Rattle.cpm_sessions.specs.Host.{Host}
+use Rattle.cpm_sessions.specs.HostWithStore.{HostWithStore}
+use Rattle.cpm_turns.specs.declared.player.Player.{Player}
+use Rattle.cpm_turns.specs.declared.player.Player.TheVariants.{Playing}
+use Rattle.cpm_turns.specs.Players.{HasCome}
+use Rattle.cpm_turns.proofs.RoundLemmas.{IsLeft, IsTurn, come-turn, left-round, left-turn, left-waits}
 use Rattle.cpm_turns.proofs.rounds.round.Goals as goal
+use Rattle.cpm_turns.proofs.rounds.round.Goals.{in-Playing+in_ok-turn, in_default}
 
-pub loop-slot-preserved : goal.loop-slot-preserved
-loop-slot-preserved c =
-    let l = c.loop-slot in
-    let i = l.slot-index in
-    let q = get_or l.scripted i c.slot-item.result in
-    let is : q ≡ get_or l.scripted i q = ap (λ (d : ScriptedSlot). get_or l.scripted i d) c.slot-item.is in
-    let below : i < length l.scripted = omega arith in
-    let was : q ≡ get_or c.args.scripted.now i q = is ∙ l.invariant.rest i q (omega arith) in
-    let moves = c.in_ok-turn.ensures.moves in
-    record {
-      pairs = λ before given differ all.
-          pairs-turn before i given l.scripted q c.turn.new.slot l.host.host c.turn.new.host.host below is (subst AreDifferent (sym l.invariant.ids) differ) moves c.in_ok-turn.ensures.playing
-          (l.invariant.pairs before given differ all);
-      others = subst (λ (ids : List ℕ). LeavesOthers ids c.args.host.now.host c.turn.new.host.host) l.invariant.ids
-          (others-turn i l.scripted q c.args.host.now.host l.host.host c.turn.new.host.host below is
-          (subst (λ (ids : List ℕ). LeavesOthers ids c.args.host.now.host l.host.host) (sym l.invariant.ids) l.invariant.others) moves.others);
-      ids = ids-set i l.scripted q c.turn.new.slot below is moves.id ∙ l.invariant.ids;
-      rest = λ k d past. let other : k ≢ i = omega arith in get_or-set_other l.scripted i k c.turn.new.slot d other ∙ l.invariant.rest k d (omega arith);
-      left = left-turn i c.args.scripted.now l.scripted q c.turn.new.slot below l.invariant.long is was c.in_ok-turn.ensures.left l.invariant.left;
-      long = length-set l.scripted i c.turn.new.slot ∙ l.invariant.long;
-    }
+pub loop-place-init : goal.loop-place-init
+loop-place-init c = record {
+  come = λ old given ready come. come;
+  long = refl;
+  left = inr (refl, λ k less. absurd (let no : ⊥ = omega (arith, less) in no));
+}
+
+pub returns-in_err-steps-clause-refused : goal.returns-in_err-steps-clause-refused
+returns-in_err-steps-clause-refused c =
+    let p = err_from_is_err_and c.from_residual.result c.from_residual.ensures.1 in
+    rw (p.1, p.2) (λ old given ready come. c.in_err-steps.ensures.refused old given ready (c.loop-place.invariant.come old given ready come))
+
+pub loop-place-preserved : goal.loop-place-preserved
+loop-place-preserved c =
+    let i = c.loop-place.invariant in
+    let k = c.in_ok-steps.ensures in
+    let steps = c.in_ok-steps.steps in
+    let players = c.fork_due.new.players in
+    let place = c.loop-place.place in
+    let test = c.loop-place-test.true in
+    let long = i.long in
+    let kept = k.keeps.long in
+    let within : place < length players = omega (arith, test, long, kept) in
+    elim c.match-players-place.branch [
+      | in-Playing+in_ok-turn w ↦
+          let slot = w.in-Playing.slot in
+          let next = w.turn.new.slot in
+          let turned = w.in_ok-turn.ensures in
+          let plays : slice_get players place ≡ Some (Playing slot) = slice_get-get_or players place c.index-players-place.result within ∙ ap Some w.in-Playing.is in
+          let after : c.match-players-place.players ≡ set players place (Playing next) = w.players-is in
+          let host = ap (λ (h : HostWithStore). h.host) w.host-is in
+          record {
+            come = λ old given ready come.
+                let t : IsTurn old c.fork_due.new.host.host w.turn.new.host.host given players place steps slot next = record {
+                  ready = ready;
+                  come = k.come old given ready (i.come old given ready come);
+                  plays = plays;
+                  moves = turned.moves;
+                  goes = turned.playing;
+                  early = turned.early;
+                  done = turned.done;
+                  far = k.far;
+                } in
+                subst (λ (h : Host). HasCome old h given c.match-players-place.players) (sym host)
+                (subst (λ (ps : List Player). HasCome old w.turn.new.host.host given ps) (sym after) (come-turn old c.fork_due.new.host.host w.turn.new.host.host given players place steps slot next t));
+            long = ap length after ∙ length-set players place (Playing next) ∙ kept ∙ long;
+            left = subst (λ (ps : List Player). IsLeft c.args.players.now ps (place + 1)) (sym after)
+                (left-turn c.args.players.now c.loop-place.players players place steps slot next i.left k.left k.far plays turned.left);
+          }
+      | in_default w ↦
+          let after : c.match-players-place.players ≡ players = w.players-is ∙ set-get_or players place c.index-players-place.result in
+          let host = ap (λ (h : HostWithStore). h.host) w.host-is in
+          record {
+            come = λ old given ready come.
+                subst (λ (h : Host). HasCome old h given c.match-players-place.players) (sym host)
+                (subst (λ (ps : List Player). HasCome old c.fork_due.new.host.host given ps) (sym after) (k.come old given ready (i.come old given ready come)));
+            long = ap length after ∙ kept ∙ long;
+            left = subst (λ (ps : List Player). IsLeft c.args.players.now ps (place + 1)) (sym after)
+                (left-waits c.args.players.now c.loop-place.players players place i.left k.left
+                (λ slot at. w.in_default.not-Playing slot (get_or_from_slice_get players place (Playing slot) c.index-players-place.result at)));
+          }
+    ]
+
+pub returns-clause-come : goal.returns-clause-come
+returns-clause-come c = c.loop-place.invariant.come
 
 pub returns-clause-left : goal.returns-clause-left
-returns-clause-left c = λ some.
-    let l = c.loop-slot in
-    let long = l.invariant.long in
-    let all : length c.args.scripted.now ≤ l.slot-index = omega arith in
-    left-round c.args.scripted.now l.scripted l.slot-index all l.invariant.left some
+returns-clause-left c = λ old given ready come some.
+    let i = c.loop-place.invariant in
+    let test = c.loop-place-test.false in
+    let long = i.long in
+    left-round old c.loop-place.host.host given c.args.players.now c.loop-place.players c.loop-place.place (i.come old given ready come) (omega (arith, test, long)) some i.left

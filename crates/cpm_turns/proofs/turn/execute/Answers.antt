@@ -1,4 +1,4 @@
-use Rattle.std.proofs.Common.{◌≡◌, ◌∙◌, ◌≤◌, ℕ, List, refl, ap, subst}
+use Rattle.std.proofs.Common.{◌≡◌, ◌∙◌, ◌≤◌, ℕ, List, refl, sym, ap, subst, take}
 use Rattle.cpm_script.specs.declared.script.Key.{Key}
 use Rattle.cpm_sessions.specs.Host.{after_ask}
 use Rattle.cpm_sessions.specs.Serving.{Calls}
@@ -6,6 +6,7 @@ use Rattle.cpm_slots.specs.Calls.{Grant}
 use Rattle.cpm_slots.specs.Serve.{executed}
 use Rattle.cpm_turns.specs.declared.scripted_slot.ScriptedSlot.{ScriptedSlot}
 use Rattle.cpm_turns.specs.Pacing.{turn_of}
+use Rattle.cpm_turns.specs.Players.{AllBefore}
 use Rattle.cpm_turns.specs.ScriptedSlots.{keys_of}
 use Rattle.cpm_turns.proofs.HostLemmas.{moves-ask, moves-on}
 use Rattle.cpm_turns.proofs.ScriptedSlotLemmas.{playing-turn}
@@ -32,4 +33,9 @@ returns-clause-moves c =
     let h = c.press_due.new.host.host in
     let next : ScriptedSlot = record p { pace = c.advance.new.self } in
     moves-on c.args.slot.now p next c.args.host.now.host h c.grant-executed.new.host.host c.press_due.ensures.moves
-    (moves-ask p next h c.grant-executed.new.host.host (Calls (Grant c.turn-most.result)) refl refl c.grant-executed.ensures.host)
+    (moves-ask p next h c.grant-executed.new.host.host (Grant c.turn-most.result) refl refl c.grant-executed.ensures.host)
+
+pub returns-clause-early : goal.returns-clause-early
+returns-clause-early c = λ at above before.
+    let keys = keys_of c.press_due.new.slot in
+    subst (λ (n : ℕ). AllBefore at (take n keys)) (sym c.advance.ensures.pressed) (c.press_due.ensures.early at above before)

@@ -1,12 +1,11 @@
-use Rattle.std.proofs.Common.{◌≡◌, ◌∙◌, ◌+◌, List, Some, refl, sym, ap, slice_get}
+use Rattle.std.proofs.Common.{◌≡◌, ◌∙◌, ◌+◌, List, Some, refl, sym, ap, arith, slice_get}
 use Rattle.cpm_script.specs.declared.script.Key.{Key}
-use Rattle.cpm_sessions.specs.Serving.{Calls}
 use Rattle.cpm_slots.specs.Calls.{Key as Pressed}
 use Rattle.cpm_turns.specs.declared.scripted_slot.ScriptedSlot.{ScriptedSlot}
 use Rattle.cpm_turns.specs.Pacing.{due_at}
 use Rattle.cpm_turns.specs.ScriptedSlots.{keys_of}
 use Rattle.cpm_turns.proofs.HostLemmas.{moves-ask, moves-on}
-use Rattle.cpm_turns.proofs.ScriptedSlotLemmas.{resting-key}
+use Rattle.cpm_turns.proofs.ScriptedSlotLemmas.{early-key, resting-key}
 use Rattle.cpm_turns.proofs.turn.press_due.Goals as goal
 
 pub loop-key-preserved : goal.loop-key-preserved
@@ -18,6 +17,10 @@ loop-key-preserved c =
     record {
       playing = λ steps start r. resting-key steps c.in-Some.key start l.slot next l.host.host c.key.new.self.host due c.key.ensures.host refl (l.invariant.playing steps start r);
       moves = moves-on c.args.slot.now l.slot next c.args.host.now.host l.host.host c.key.new.self.host l.invariant.moves
-          (moves-ask l.slot next l.host.host c.key.new.self.host (Calls (Pressed c.in-Some.key)) refl refl c.key.ensures.host);
+          (moves-ask l.slot next l.host.host c.key.new.self.host (Pressed c.in-Some.key) refl refl c.key.ensures.host);
       left = l.invariant.left;
+      early = λ at above before.
+          let done = l.invariant.done in
+          early-key at c.in-Some.key (keys_of l.slot) l.slot.pace due (omega arith) (l.invariant.early at above before);
+      done = l.invariant.done;
     }

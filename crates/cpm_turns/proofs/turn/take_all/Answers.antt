@@ -1,8 +1,7 @@
-use Rattle.std.proofs.Common.{◌≡◌, ◌∙◌, ◌<◌, ℕ, [], ap, arith, length}
+use Rattle.std.proofs.Common.{◌≡◌, ◌∙◌, ◌<◌, ℕ, [], arith, length}
 use Rattle.cpm_console.specs.declared.device.Device.{Device}
 use Rattle.cpm_sessions.specs.Host.{slot_at}
 use Rattle.cpm_slots.specs.MachineState.{MachineState}
-use Rattle.cpm_turns.specs.Pacing.{left_in}
 use Rattle.cpm_turns.specs.ScriptedSlots.{waits_in, IsPlaying, Moves}
 use Rattle.cpm_turns.proofs.HostLemmas.{moves-on}
 use Rattle.cpm_turns.proofs.ScriptedSlotLemmas.{fewer-wait, moves-chunk, none-wait, playing-take, stays-empty}
@@ -41,7 +40,7 @@ loop-preserved c =
       playing = playing k;
       stays = stays k;
       moves = moves k;
-      left = ap left_in c.add_bytes.ensures.pace ∙ c.loop.invariant.left;
+      pace = c.add_bytes.ensures.pace ∙ c.loop.invariant.pace;
       room = c.read-count.ensures.length ∙ c.loop.invariant.room;
     }
 

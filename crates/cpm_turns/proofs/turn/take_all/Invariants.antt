@@ -2,7 +2,7 @@ use Rattle.std.proofs.Common.{◌≡◌, ℕ, [], length}
 use Rattle.cpm_console.specs.declared.device.Device.{Device}
 use Rattle.cpm_sessions.specs.Host.{slot_at}
 use Rattle.cpm_slots.specs.MachineState.{MachineState}
-use Rattle.cpm_turns.specs.ScriptedSlots.{steps_of, waits_in, IsPlaying, Moves}
+use Rattle.cpm_turns.specs.ScriptedSlots.{waits_in, IsPlaying, Moves}
 use Rattle.cpm_turns.proofs.turn.take_all.Given as goal
 
 abbrev pub invariant-loop : goal.invariant-loop
@@ -10,7 +10,7 @@ invariant-loop l = record {
   playing : (steps : ℕ) (start : MachineState) → IsPlaying steps start l.fn.slot l.fn.host.host → IsPlaying steps start l.slot l.host.host;
   stays : (other : Device) → waits_in other (slot_at l.fn.slot.id.0 l.fn.host.host.slots) ≡ [] → waits_in other (slot_at l.slot.id.0 l.host.host.slots) ≡ [];
   moves : Moves l.fn.slot l.slot l.fn.host.host l.host.host;
-  left : steps_of l.slot ≡ steps_of l.fn.slot;
+  pace : l.slot.pace ≡ l.fn.slot.pace;
   room : length l.chunk ≡ 8192;
 }
 

@@ -1,0 +1,149 @@
+-- The session that another one is forked from, among those that were read before it.
+use Rattle.std.proofs.Common.{◌≡◌, ◌∙◌, ◌<◌, ℕ, Bool, true, false, cond, if◌then◌else◌, List, [], ◌∷◌, ◌++◌, length, map, get_or, take, drop, ◌+◌, Option, Some, None, refl, sym, subst, ap, arith}
+use Rattle.std.specs.Prelude.{is_some, nat_lt, option_and_then, option_map, slice_get}
+use Rattle.std.specs.List.{All, find, position_from, position_or_len}
+use Rattle.std.proofs.lemmas.Bool.Decides.{nat_tests}
+use Rattle.std.proofs.lemmas.Iterator.Adapters.{position_from-zero}
+use Rattle.std.proofs.lemmas.List.{append-nil, append_assoc}
+use Rattle.std.proofs.lemmas.List.Elements.{All-get_or, All-nil, All-push, All-same}
+use Rattle.std.proofs.lemmas.List.Folds.{find_at}
+use Rattle.std.proofs.lemmas.Option.{get_or_from_slice_get, slice_get-get_or, slice_get-map, slice_get_within}
+use Rattle.cpm_config.specs.Entries.{SessionEntries}
+use Rattle.cpm_config.specs.Rules.{fork_fault, forks_fault, if_opened, is_named, is_opened, named_in, origin_view, parent_in, session_view}
+use Rattle.cpm_config.proofs.FaultLemmas.{faultless_step}
+use Rattle.cpm_config.specs.declared.config.Origin.{Origin}
+use Rattle.cpm_config.specs.declared.config.Origin.TheVariants as origin
+use Rattle.cpm_config.specs.declared.config.Session.{Session}
+use Rattle.cpm_script.specs.Fork.{keys_before}
+use Rattle.cpm_script.specs.declared.script.Key.{Key}
+use Rattle.cpm_store.specs.Files.{Files, Text}
+use Rattle.cpm_batch.specs.Inputs.{AllInputs, HasInputOf, IsOpened, IsParent, SessionInput, given, keys_if_any, keys_in, place_in}
+use Rattle.cpm_batch.specs.declared.input.Input.{Input}
+use Rattle.cpm_batch.proofs.KeyLemmas.{AreFew, few-before, few-behind, few-opened}
+
+-- what was read for a session: not too many keys, and a start as its session has it
+record IsSound (i : SessionInput) : Type 0 where
+  pub few : AreFew i.keys
+  pub opened : is_opened (origin_view i.session.origin) ≡ true → IsOpened i.start
+
+sound_at : (is : List SessionInput) (place : ℕ) (i : SessionInput) → All IsSound is → slice_get is place ≡ Some i → IsSound i
+sound_at is place i all there =
+    subst IsSound (get_or_from_slice_get is place i i there) (All-get_or IsSound is place i (slice_get_within is place i there) all)
+
+sound_opened : (files : Option Files) (o : Origin) (before : List SessionInput) (i : SessionInput) → All IsSound before → i.session.origin ≡ o → HasInputOf files before o i → IsSound i
+sound_opened files (origin.Opened cpu quota drives) before i all is h = record {
+  few = few-opened files i.session.keys i.keys h.keys;
+  opened = λ opened. subst IsOpened (sym h.start) tt;
+}
+sound_opened files (origin.Forked parent at) before i all is h = record {
+  few = few-behind files i.session.keys at (keys_before at h.parent.keys) i.keys (few-before at h.parent.keys (sound_at before h.place h.parent all h.found.there).few) h.keys;
+  opened = λ opened. let no = sym (ap (λ (x : Origin). is_opened (origin_view x)) is) ∙ opened in absurd (cc);
+}
+
+sound_more : (files : Option Files) (before is : List SessionInput) → All IsSound before → AllInputs files before is → All IsSound (before ++ is)
+sound_more files before [] all h = All-same IsSound (before ++ []) before (append-nil before) all
+sound_more files before (i ∷ is) all h =
+    All-same IsSound (before ++ i ∷ is) ((before ++ i ∷ []) ++ is) (sym (append_assoc before (i ∷ []) is))
+    (sound_more files (before ++ i ∷ []) is (All-push IsSound before i all (sound_opened files i.session.origin before i all refl h.0)) h.1)
+
+-- ---- the first that passes a test
+
+record IsFirst {A B : Type 0} (view : A → B) (test : B → Bool) (xs : List A) (y : B) : Type 0 where
+  pub place : ℕ
+  pub element : A
+  pub first : position_from test 0 (map view xs) ≡ Some place
+  pub there : slice_get xs place ≡ Some element
+  pub seen : view element ≡ y
+
+seen_at : {A B : Type 0} (view : A → B) (test : B → Bool) (xs : List A) (y : B) (place : ℕ) (o : Option A) → position_from test 0 (map view xs) ≡ Some place → slice_get xs place ≡ o
+    → option_map view o ≡ Some y → IsFirst view test xs y
+seen_at view test xs y place None first there seen = absurd (cc)
+seen_at view test xs y place (Some x) first there seen = record { place = place; element = x; first = first; there = there; seen = cc }
+
+find-first : {A B : Type 0} (view : A → B) (test : B → Bool) (xs : List A) (y : B) → find test (map view xs) ≡ Some y → IsFirst view test xs y
+find-first {A} {B} view test xs y found =
+    let place = position_or_len test (map view xs) in
+    let there : slice_get (map view xs) place ≡ Some y = sym (find_at test (map view xs)) ∙ found in
+    let within : place < length (map view xs) = slice_get_within (map view xs) place y there in
+    let passes : nat_lt place (length (map view xs)) ≡ true = grind (arith, nat_tests) in
+    seen_at view test xs y place (slice_get xs place) (sym (position_from-zero test (map view xs)) ∙ ap (λ (t : Bool). cond t (Some place) None) passes) refl
+    (sym (slice_get-map view xs place) ∙ there)
+
+-- ---- the parent
+
+-- it stands before, it is opened, and it has not too many keys
+pub record HasParent (is : List SessionInput) (name : Text) : Type 0 where
+  pub place : ℕ
+  pub parent : SessionInput
+  pub found : IsParent is name place parent
+  pub few : AreFew parent.keys
+
+abbrev seen : SessionInput → SessionEntries
+seen i = session_view i.session
+
+parent_at : (is : List SessionInput) (name : Text) (s : SessionEntries) → All IsSound is → IsFirst seen (is_named name) is s → is_opened s.origin ≡ true → HasParent is name
+parent_at is name s all f opened =
+    let sound = sound_at is f.place f.element all f.there in
+    record {
+      place = f.place;
+      parent = f.element;
+      found = record { first = f.first; there = f.there; opened = sound.opened (ap (λ (x : SessionEntries). is_opened x.origin) f.seen ∙ opened) };
+      few = sound.few;
+    }
+
+parent_by : (is : List SessionInput) (name : Text) (o : Option SessionEntries) → All IsSound is → named_in (map seen is) name ≡ o → is_some (if_opened o) ≡ true → HasParent is name
+parent_by is name None all found some = absurd (cc)
+parent_by is name (Some s) all found some = by_test (is_opened s.origin) refl some
+  where
+    by_test : (t : Bool) → is_opened s.origin ≡ t → is_some (if t then Some s else None) ≡ true → HasParent is name
+    by_test true e g = parent_at is name s all (find-first seen (is_named name) is s found) e
+    by_test false e g = absurd (cc)
+
+pub parent_found : (files : Option Files) (is : List SessionInput) (name : Text) → AllInputs files [] is → is_some (parent_in (map (λ i. session_view i.session) is) name) ≡ true → HasParent is name
+parent_found files is name h some = parent_by is name (named_in (map seen is) name) (sound_more files [] is (All-nil IsSound) h) refl some
+
+-- the parent at a place, and the first keys of a session that is forked from it
+pub record IsReadParent (is : List Input) (name : Text) (place at : ℕ) (first : List Key) : Type 0 where
+  pub parent : SessionInput
+  pub found : IsParent (map given is) name place parent
+  pub few : AreFew first
+  pub keys : first ≡ keys_before at parent.keys
+  pub named : first ≡ keys_before at (keys_in (map given is) name)
+
+pub parent_read : (files : Option Files) (is : List Input) (name : Text) (place at : ℕ) (i : Input) (own first : List Key) → AllInputs files [] (map given is)
+    → is_some (parent_in (map (λ i. session_view i.session) (map given is)) name) ≡ true → Some place ≡ place_in (map given is) name → place < length is → i ≡ get_or is place i
+    → own ≡ (get_or is place i).keys.items → first ≡ keys_before at own → IsReadParent is name place at first
+parent_read files is name place at i own first all some named within is_at own_is first_is =
+    let h = parent_found files (map given is) name all some in
+    let same_place : h.place ≡ place = let f = h.found.first in cc in
+    let there : slice_get (map given is) place ≡ Some (given i) =
+    slice_get-map given is place ∙ ap (option_map given) (slice_get-get_or is place i within ∙ ap (λ (x : Input). Some x) (sym is_at)) in
+    let same : h.parent ≡ given i = let f = ap (slice_get (map given is)) (sym same_place) ∙ h.found.there in cc in
+    let keys : first ≡ keys_before at i.keys.items = first_is ∙ ap (keys_before at) (own_is ∙ ap (λ (x : Input). x.keys.items) (sym is_at)) in
+    let found : keys_in (map given is) name ≡ i.keys.items = ap (λ (p : Option ℕ). keys_if_any (option_and_then (slice_get (map given is)) p)) (sym named) ∙ ap keys_if_any there in
+    record {
+      parent = given i;
+      found = record { first = sym named; there = there; opened = subst (λ (x : SessionInput). IsOpened x.start) same h.found.opened };
+      few = subst AreFew (sym keys) (few-before at i.keys.items (subst (λ (x : SessionInput). AreFew x.keys) same h.few));
+      keys = keys;
+      named = keys ∙ ap (keys_before at) (sym found);
+    }
+
+-- ---- forks that break no rule
+
+seen_sessions : (is : List SessionInput) → map seen is ≡ map session_view (map (λ i. i.session) is)
+seen_sessions [] = refl
+seen_sessions (i ∷ is) = ap (λ ss. seen i ∷ ss) (seen_sessions is)
+
+-- from the sessions that were read
+pub fork_stands : (sessions : List Session) (i : ℕ) (s : Session) (is : List SessionInput) → i < length sessions → s ≡ get_or sessions i s
+    → forks_fault (i + 1) (map session_view (take i sessions)) (map session_view (drop i sessions)) ≡ None → map (λ x. x.session) is ≡ take i sessions
+    → fork_fault (map (λ x. session_view x.session) is) (session_view s) ≡ None
+fork_stands sessions i s is within at none same =
+    ap (λ before. fork_fault before (session_view s)) (seen_sessions is ∙ ap (map session_view) same)
+    ∙ (faultless_step session_view fork_fault (i + 1) sessions i s within at none).0
+
+pub forks_stand : (sessions : List Session) (i : ℕ) (s : Session) → i < length sessions → s ≡ get_or sessions i s
+    → forks_fault (i + 1) (map session_view (take i sessions)) (map session_view (drop i sessions)) ≡ None
+    → forks_fault (i + 1 + 1) (map session_view (take (i + 1) sessions)) (map session_view (drop (i + 1) sessions)) ≡ None
+forks_stand sessions i s within at none = (faultless_step session_view fork_fault (i + 1) sessions i s within at none).1

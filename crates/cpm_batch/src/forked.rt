@@ -1,0 +1,120 @@
+//! Reading what a session needs that is forked from an earlier one.
+ghost use Rattle.std.specs.Prelude.{◌≡◌, ◌<◌, ◌≤◌, ◌∷◌, [], IfErr, IfOk, IfSome, OnErr, OnOk, is_some, length, map, true};
+ghost use Rattle.cpm_config.specs.Rules.{parent_in, session_view};
+ghost use Rattle.cpm_script.specs.Fork.{keys_before};
+ghost use Rattle.cpm_store.specs.Files.{CountsFailure};
+ghost use Rattle.cpm_store.specs.Log.{AreNoWrites, RanBy};
+ghost use Rattle.cpm_batch.specs.Inputs.{AllInputs, ForkedScriptIn, HasForkedKeys, IsFileFault, IsForkedInput, IsForkedScriptIn, IsNeedRefusal, forked_script_needs, given, keys_in, place_in};
+ghost use Rattle.cpm_batch.specs.Reads.{AreForkedKeysRead, IsForkedRead, IsForkedScriptRead, StopsAmongNeeds};
+
+use crate::error::ReadError;
+use crate::input::{Input, Start, read_bytes};
+use cpm_command::shown;
+use cpm_config::Session;
+use cpm_script::{Key, ScriptError, keys_before, read_forked_keys};
+use cpm_store::Store;
+use std::alloc::Global;
+
+/// The place of the first of these sessions that has a name.
+fn place_in(before: &[Input], name: &str) -> Option<usize>
+    ensures place { result ≡ place_in (map given before.now) name.now }
+    ensures within { IfSome result (λ place. place < length before.now) }
+{
+    before
+        .iter()
+        .position(|input| input.session.name.as_str() == name)
+}
+
+/// The keys of a session that is forked at a count of steps: those before it, and then those of the script in a file.
+fn read_forked_script<S: Store>(
+    alloc: Global,
+    store: &mut S,
+    name: &str,
+    at: u64,
+    before: Vec<Key>,
+) -> Result<Vec<Key>, ReadError>
+    requires { length before.items ≤ 4096 }
+    ensures keys { IfOk result (λ v. IsForkedScriptIn (S.files store.old) name.now at before.items v.items) }
+    ensures log { IfOk result (λ v. RanBy S.does (IsForkedScriptRead name.now at before.items v.items) store.old store.new) }
+    ensures refusal { IfErr result (IsNeedRefusal (S.files store.old) (ForkedScriptIn name.now at before.items ∷ [])) }
+    ensures refused_log { IfErr result (λ e. RanBy S.does (StopsAmongNeeds (ForkedScriptIn name.now at before.items ∷ []) e) store.old store.new) }
+    ensures device { IfErr result (λ e. IsFileFault e → CountsFailure (S.failed store.old) (S.failed store.new)) }
+    ensures same { S.files store.new ≡ S.files store.old }
+    ensures unwritten { RanBy S.does AreNoWrites store.old store.new }
+    ensures uncounted { OnOk result (S.failed store.new ≡ S.failed store.old) }
+    ensures memory { IfErr result (λ e. e ≡ ReadError.OutOfMemory → S.failed store.new ≡ S.failed store.old) }
+    ensures counted { S.failed store.old ≤ S.failed store.new }
+{
+    let text = read_bytes(alloc, store, name)?;
+    match read_forked_keys(alloc, text.as_slice(), at, before) {
+        Ok(keys) => Ok(keys),
+        Err(ScriptError::Line { number, fault }) => Err(ReadError::Script {
+            name: shown(name),
+            line: number,
+            fault,
+        }),
+        Err(ScriptError::OutOfMemory) => Err(ReadError::OutOfMemory),
+    }
+}
+
+/// The keys of a session that is forked at a count of steps and may have a script.
+fn read_forked_keys_of<S: Store>(
+    alloc: Global,
+    store: &mut S,
+    name: &Option<String>,
+    at: u64,
+    before: Vec<Key>,
+) -> Result<Vec<Key>, ReadError>
+    requires { length before.items ≤ 4096 }
+    ensures keys { IfOk result (λ v. HasForkedKeys (S.files store.old) name.now at before.items v.items) }
+    ensures log { IfOk result (λ v. RanBy S.does (AreForkedKeysRead name.now at before.items v.items) store.old store.new) }
+    ensures refusal { IfErr result (IsNeedRefusal (S.files store.old) (forked_script_needs at before.items name.now)) }
+    ensures refused_log { IfErr result (λ e. RanBy S.does (StopsAmongNeeds (forked_script_needs at before.items name.now) e) store.old store.new) }
+    ensures device { IfErr result (λ e. IsFileFault e → CountsFailure (S.failed store.old) (S.failed store.new)) }
+    ensures same { S.files store.new ≡ S.files store.old }
+    ensures unwritten { RanBy S.does AreNoWrites store.old store.new }
+    ensures uncounted { OnOk result (S.failed store.new ≡ S.failed store.old) }
+    ensures memory { IfErr result (λ e. e ≡ ReadError.OutOfMemory → S.failed store.new ≡ S.failed store.old) }
+    ensures counted { S.failed store.old ≤ S.failed store.new }
+{
+    match name {
+        Some(name) => read_forked_script(alloc, store, name.as_str(), at, before),
+        None => Ok(before),
+    }
+}
+
+/// What a session needs that is forked from the one of a name, which is opened and stands before it, at a count of steps.
+pub(crate) fn read_forked<'a, S: Store>(
+    alloc: Global,
+    store: &mut S,
+    session: &'a Session,
+    before: &[Input],
+    name: &str,
+    at: u64,
+) -> Result<Input<'a>, ReadError>
+    requires before { AllInputs (S.files store.old) [] (map given before.now) }
+    requires parent { is_some (parent_in (map (λ i. session_view i.session) (map given before.now)) name.now) ≡ true }
+    ensures input { IfOk result (λ i. IsForkedInput (S.files store.old) (map given before.now) name.now at (given i)) }
+    ensures log { IfOk result (λ i. RanBy S.does (IsForkedRead (map given before.now) name.now at (given i)) store.old store.new) }
+    ensures session { IfOk result (λ i. i.session.now ≡ session.entry.now) }
+    ensures refusal { IfErr result (IsNeedRefusal (S.files store.old) (forked_script_needs at (keys_before at (keys_in (map given before.now) name.now)) session.entry.now.keys)) }
+    ensures refused_log { IfErr result (λ e. RanBy S.does (StopsAmongNeeds (forked_script_needs at (keys_before at (keys_in (map given before.now) name.now)) session.entry.now.keys) e) store.old store.new) }
+    ensures device { IfErr result (λ e. IsFileFault e → CountsFailure (S.failed store.old) (S.failed store.new)) }
+    ensures same { S.files store.new ≡ S.files store.old }
+    ensures unwritten { RanBy S.does AreNoWrites store.old store.new }
+    ensures uncounted { OnOk result (S.failed store.new ≡ S.failed store.old) }
+    ensures memory { IfErr result (λ e. e ≡ ReadError.OutOfMemory → S.failed store.new ≡ S.failed store.old) }
+    ensures counted { S.failed store.old ≤ S.failed store.new }
+{
+    let Some(parent) = place_in(before, name) else {
+        unreachable!()
+    };
+    let own = before[parent].keys.as_slice();
+    let first = keys_before(alloc, own, at)?;
+    let keys = read_forked_keys_of(alloc, store, &session.keys, at, first)?;
+    Ok(Input {
+        session,
+        start: Start::Forked { parent, at },
+        keys,
+    })
+}
