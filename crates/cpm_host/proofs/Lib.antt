@@ -5,6 +5,7 @@ pub mod FinishLemmas
 pub mod InputLemmas
 pub mod ListLemmas
 pub mod PlayLemmas
+pub mod PrepareLemmas
 pub mod RunLemmas
 pub mod ScriptLemmas
 pub mod SlotLemmas

@@ -1,160 +1,246 @@
--- Sessions of a configuration in the slots of a host.
-use Rattle.std.proofs.Common.{◌≡◌, ◌∙◌, ⊎_elim, inl, inr, ◌≤◌, ◌<◌, ◌+◌, ℕ, List, [], ◌∷◌, ◌++◌, Some, length, map, ap, subst, sym, refl, arith, append_assoc}
+-- The players of sessions, before and after they are played.
+use Rattle.std.proofs.Common.{◌≡◌, ◌∙◌, ◌≤◌, ◌+◌, ℕ, zero, suc, List, [], ◌∷◌, ◌++◌, Option, Some, None, length, ap, subst, sym, refl, arith, slice_get, sum_by, IfSome}
+use Rattle.std.proofs.lemmas.List.Sums.{sum_by-cons}
 use Rattle.std.specs.Prelude.{⊤}
-use Rattle.cpm_batch.specs.Inputs.{SessionInput, given}
-use Rattle.cpm_batch.specs.declared.input.Input.{Input}
+use Rattle.cpm_batch.specs.Inputs.{Forks, IsOpened, Opens, SessionInput, StartInput}
+use Rattle.cpm_flags.specs.declared.regs.Cpu.{Cpu}
 use Rattle.cpm_geom.specs.Disk.{Disk}
+use Rattle.cpm_script.specs.Fork.{keys_before}
 use Rattle.cpm_script.specs.declared.script.Key.{Key}
-use Rattle.cpm_sessions.specs.Host.{AllBelow, Host, SlotState, opened_slot, slot_at, with_opened}
-use Rattle.cpm_sessions.proofs.SlotLaws.{AllBelow-added, slot_at-added, slot_at-new}
+use Rattle.cpm_sessions.specs.Host.{Host, SlotState, slot_at}
 use Rattle.cpm_slots.specs.MachineState.{MachineState, opened_machine}
 use Rattle.cpm_slots.specs.declared.opening.OpenError.{OpenError}
-use Rattle.cpm_slots.specs.declared.opening.Opening.{Opening}
-use Rattle.cpm_turns.specs.ScriptedSlots.{AllDiffer, AllPlayed, AllReady, HasPlayed, IsNoSlot, IsReady, steps_of}
+use Rattle.cpm_slots.specs.declared.opening.OpenError.TheVariants as fault
+use Rattle.cpm_turns.specs.Players.{AllReady, HasPlayed, HasRoomFor, IsForkReady, IsPlayerReady, fork_pages, forks_of, is_fork, pages_of, player_keys, player_steps, quota_of, slot_of, start_at}
 use Rattle.cpm_turns.specs.Playing.{IsInOrder, IsPlayed}
+use Rattle.cpm_turns.specs.ScriptedSlots.{IsReady, keys_of}
+use Rattle.cpm_turns.specs.declared.player.Fork.{Fork}
+use Rattle.cpm_turns.specs.declared.player.Player.{Player}
+use Rattle.cpm_turns.specs.declared.player.Player.TheVariants.{Playing, Waiting}
 use Rattle.cpm_turns.specs.declared.scripted_slot.ScriptedSlot.{ScriptedSlot}
-use Rattle.cpm_host.specs.Playing.{AllEnded, HaveSlots, ArePressable, HasEnded, IsSlotRefusal, HasSlot, OpensSlot}
+use Rattle.cpm_config.specs.declared.config.Config.{Config}
+use Rattle.cpm_host.specs.Playing.{AllEnded, ArePressable, HasEnded, HasPlayer, HasPlayerBy, HasSlot, HavePlayers, IsForkFor, IsForkPressable, IsForkRefusal, IsPlayRefusal, IsPressableBy}
+use Rattle.cpm_host.specs.Run.{HasForkRoom, IsFirstRefused, IsShortFor, fork_of, fork_pages_in, forks_in, opening_at, opening_of, pages_by, start_by, start_of}
 use Rattle.cpm_host.specs.declared.error.HostError.{HostError}
 use Rattle.cpm_host.specs.declared.error.HostError.TheVariants as refusal
-use Rattle.cpm_host.specs.Run.{AllAccepted, IsFirstRefused, IsOpening, start_of}
 
--- ---- slots
+-- ---- the session of a player, and the slot of a session
 
--- each scripted slot has a slot that was opened before
-abbrev pub AllNumbered : ℕ → List ScriptedSlot → Type 0
-AllNumbered n [] = ⊤
-AllNumbered n (p ∷ ps) = (p.id.0 < n) × AllNumbered n ps
+-- the session at a place, whose player this is
+record IsSessionOf (slots : List SlotState) (is : List SessionInput) (place : ℕ) (p : Player) : Type 0 where
+  input : SessionInput
+  there : slice_get is place ≡ Some input
+  has : HasPlayer slots input p
 
--- the first sessions have their slots, and the rest are still to come
-pub record IsOpened (start now : Host) (all rest : List SessionInput) (ps : List ScriptedSlot) : Type 0 where
-  pub done : List SessionInput
-  pub parts : done ++ rest ≡ all
-  pub slots : HaveSlots now.slots done ps
-  pub below : AllBelow now.openings now.slots
-  pub numbered : AllNumbered now.openings ps
-  pub differ : AllDiffer ps
-  pub system : now.system ≡ start.system
-  pub refused : (fault : OpenError) → IsFirstRefused now rest fault → IsFirstRefused start all fault
-  pub accepted : AllAccepted now rest → AllAccepted start all
+session_at : (slots : List SlotState) (is : List SessionInput) (ps : List Player) (place : ℕ) (p : Player) → HavePlayers slots is ps → slice_get ps place ≡ Some p → IsSessionOf slots is place p
+session_at slots [] [] place p all there = absurd (cc)
+session_at slots [] (q ∷ ps) place p all there = absurd all
+session_at slots (i ∷ is) [] place p all there = absurd all
+session_at slots (i ∷ is) (q ∷ ps) zero p all there = record { input = i; there = refl; has = let same : q ≡ p = cc in subst (λ (x : Player). HasPlayer slots i x) same all.0 }
+session_at slots (i ∷ is) (q ∷ ps) (suc place) p all there =
+    let more = session_at slots is ps place p all.1 there in
+    record { input = more.input; there = more.there; has = more.has }
 
--- at its opening
-opening_is : (i : SessionInput) (o : Opening) → IsOpening i o → opened_slot o ≡ start_of i
-opening_is i o is =
-    ap (λ cpu. opened_machine cpu o.quota o.drives.items) is.cpu ∙ ap (λ quota. opened_machine i.session.cpu quota o.drives.items) is.quota
-    ∙ ap (λ drives. opened_machine i.session.cpu i.session.quota drives) is.drives
+-- the scripted slot of an opened session at a place
+record HasSlotAt (slots : List SlotState) (ps : List Player) (place : ℕ) (i : SessionInput) : Type 0 where
+  slot : ScriptedSlot
+  plays : slice_get ps place ≡ Some (Playing slot)
+  keys : keys_of slot ≡ i.keys
 
-slot_later : (slots : List SlotState) (new : SlotState) (i : SessionInput) (p : ScriptedSlot) → p.id.0 < new.id → HasSlot slots i p → HasSlot (slots ++ new ∷ []) i p
-slot_later slots new i p below s = record { slot = slot_at-added p.id.0 new slots below ∙ s.slot; keys = s.keys; steps = s.steps; unplayed = s.unplayed }
+slot_by : (slots : List SlotState) (ps : List Player) (place : ℕ) (b : StartInput) (i : SessionInput) (p : Player) → IsOpened b → HasPlayerBy slots b i p → slice_get ps place ≡ Some p
+    → HasSlotAt slots ps place i
+slot_by slots ps place (Opens cpu quota drives) i (Playing slot) opened h there = record { slot = slot; plays = there; keys = h.keys }
+slot_by slots ps place (Opens cpu quota drives) i (Waiting fork) opened h there = absurd h
+slot_by slots ps place (Forks parent at) i p opened h there = absurd opened
 
-slot_more : (n : ℕ) (s : MachineState) (slots : List SlotState) (is : List SessionInput) (ps : List ScriptedSlot) (i : SessionInput) (p : ScriptedSlot) → AllNumbered n ps → HaveSlots slots is ps
-    → HasSlot (slots ++ record { id = n; state = s } ∷ []) i p → HaveSlots (slots ++ record { id = n; state = s } ∷ []) (is ++ i ∷ []) (ps ++ p ∷ [])
-slot_more n s slots [] [] i p numbered all one = (one, tt)
-slot_more n s slots [] (q ∷ ps) i p numbered all one = absurd all
-slot_more n s slots (j ∷ is) [] i p numbered all one = absurd all
-slot_more n s slots (j ∷ is) (q ∷ ps) i p numbered all one =
-    (slot_later slots (record { id = n; state = s }) j q numbered.0 all.0, slot_more n s slots is ps i p numbered.1 all.1 one)
+slot_there : (slots : List SlotState) (is : List SessionInput) (ps : List Player) (place : ℕ) (i : SessionInput) → HavePlayers slots is ps → slice_get is place ≡ Some i → IsOpened i.start
+    → HasSlotAt slots ps place i
+slot_there slots [] ps place i all there opened = absurd (cc)
+slot_there slots (j ∷ is) [] place i all there opened = absurd all
+slot_there slots (j ∷ is) (p ∷ ps) zero i all there opened =
+    let same : j ≡ i = cc in
+    slot_by slots (p ∷ ps) zero i.start i p opened (subst (λ (x : SessionInput). HasPlayer slots x p) same all.0) refl
+slot_there slots (j ∷ is) (p ∷ ps) (suc place) i all there opened =
+    let more = slot_there slots is ps place i all.1 there opened in
+    record { slot = more.slot; plays = more.plays; keys = more.keys }
 
-numbered_more : (n : ℕ) (ps : List ScriptedSlot) (p : ScriptedSlot) → AllNumbered n ps → p.id.0 ≡ n → AllNumbered (n + 1) (ps ++ p ∷ [])
-numbered_more n [] p all is = (omega (arith, is), tt)
-numbered_more n (q ∷ ps) p all is = (omega (arith, all.0), numbered_more n ps p all.1 is)
+-- ---- players can be played
 
-no_slot : (id n : ℕ) (ps : List ScriptedSlot) (p : ScriptedSlot) → id < n → p.id.0 ≡ n → IsNoSlot id ps → IsNoSlot id (ps ++ p ∷ [])
-no_slot id n [] p below is none = ((λ h. omega (arith, h, is, below)), tt)
-no_slot id n (q ∷ ps) p below is none = (none.0, no_slot id n ps p below is none.1)
-
-differ_more : (n : ℕ) (ps : List ScriptedSlot) (p : ScriptedSlot) → AllNumbered n ps → p.id.0 ≡ n → AllDiffer ps → AllDiffer (ps ++ p ∷ [])
-differ_more n [] p numbered is all = (tt, tt)
-differ_more n (q ∷ ps) p numbered is all = (no_slot q.id.0 n ps p numbered.0 is all.0, differ_more n ps p numbered.1 is all.1)
-
--- the next of those still to come
-pub opened_next : (start now : Host) (all : List SessionInput) (rest more : List Input) (x : Input) (ps : List ScriptedSlot) → rest ≡ x ∷ more → IsOpened start now all (map given rest) ps
-    → IsOpened start now all (given x ∷ map given more) ps
-opened_next start now all rest more x ps steps h = subst (λ (xs : List Input). IsOpened start now all (map given xs) ps) steps h
-
--- one slot more
-pub opened_more : (start now new : Host) (all rest : List SessionInput) (i : SessionInput) (ps more : List ScriptedSlot) (p : ScriptedSlot) → IsOpened start now all (i ∷ rest) ps → OpensSlot i now new p
-    → more ≡ ps ++ p ∷ [] → IsOpened start new all rest more
-opened_more start now new all rest i ps more p h open_slot pushed =
-    let n = now.openings in
-    let o = open_slot.opening in
-    let next = with_opened now o in
-    let at : slot_at p.id.0 next.slots ≡ Some (start_of i) =
-    ap (λ id. slot_at id next.slots) open_slot.id ∙ slot_at-new n (opened_slot o) now.slots h.below ∙ ap (λ (s : MachineState). Some s) (opening_is i o open_slot.opens) in
-    let one : HasSlot next.slots i p = record { slot = at; keys = open_slot.keys; steps = open_slot.steps; unplayed = open_slot.unplayed } in
-    let made : IsOpened start next all rest (ps ++ p ∷ []) = record {
-      done = h.done ++ i ∷ [];
-      parts = append_assoc h.done (i ∷ []) rest ∙ h.parts;
-      slots = slot_more n (opened_slot o) now.slots h.done ps i p h.numbered h.slots one;
-      below = AllBelow-added n (opened_slot o) now.slots h.below;
-      numbered = numbered_more n ps p h.numbered open_slot.id;
-      differ = differ_more n ps p h.numbered open_slot.id h.differ;
-      system = h.system;
-      refused = λ fault f. h.refused fault (o, open_slot.opens, inr (open_slot.accepted, f));
-      accepted = λ more. h.accepted (o, open_slot.opens, open_slot.accepted, more);
-    } in
-    subst (λ (host : Host). IsOpened start host all rest more) (sym open_slot.host) (subst (λ (qs : List ScriptedSlot). IsOpened start next all rest qs) (sym pushed) made)
-
--- ---- before and after playing
-
-fresh_start : (i : SessionInput) (keys : List Key) (slots : List SlotState) (p : ScriptedSlot) → HasSlot slots i p → IsInOrder 0 i.keys → length i.keys ≤ 4096 → IsReady slots p
-fresh_start i keys slots p open_slot order few = record {
-  unplayed = open_slot.unplayed;
-  order = subst (λ (ks : List Key). IsInOrder 0 ks) (sym open_slot.keys) order;
-  few = subst (λ (ks : List Key). length ks ≤ 4096) (sym open_slot.keys) few;
-  start = start_of i;
-  opened = open_slot.slot;
+slot_ready : (slots : List SlotState) (cpu : Cpu) (quota : ℕ) (drives : List Disk) (i : SessionInput) (p : ScriptedSlot) → HasSlot slots (opened_machine cpu quota drives) i p → IsInOrder 0 i.keys
+    → length i.keys ≤ 4096 → IsReady slots p
+slot_ready slots cpu quota drives i p h order few = record {
+  unplayed = h.unplayed;
+  order = subst (λ (ks : List Key). IsInOrder 0 ks) (sym h.keys) order;
+  few = subst (λ (ks : List Key). length ks ≤ 4096) (sym h.keys) few;
+  start = opened_machine cpu quota drives;
+  opened = h.slot;
   fresh = record { keys = refl; screen = refl; printer = refl };
 }
 
-pub all_ready : (slots : List SlotState) (is : List SessionInput) (ps : List ScriptedSlot) → HaveSlots slots is ps → ArePressable is → AllReady slots ps
-all_ready slots [] [] opened keys = tt
-all_ready slots [] (p ∷ ps) opened keys = absurd opened
-all_ready slots (i ∷ is) [] opened keys = absurd opened
-all_ready slots (i ∷ is) (p ∷ ps) opened keys = (fresh_start i i.keys slots p opened.0 keys.0 keys.1, all_ready slots is ps opened.1 keys.2)
-
-ended : (system : Disk) (before now : List SlotState) (i : SessionInput) (p q : ScriptedSlot) → HasSlot before i p → HasPlayed system before now p q → HasEnded system now i q
-ended system before now i p q open_slot h =
-    let start : h.start ≡ start_of i = let a = h.opened in let b = open_slot.slot in cc in
-    let keys : IsPlayed system i.keys (steps_of p) h.start h.last q.console.items q.list.items =
-    subst (λ (ks : List Key). IsPlayed system ks (steps_of p) h.start h.last q.console.items q.list.items) open_slot.keys h.played in
-    let steps : IsPlayed system i.keys i.session.steps h.start h.last q.console.items q.list.items =
-    subst (λ (n : ℕ). IsPlayed system i.keys n h.start h.last q.console.items q.list.items) open_slot.steps keys in
+fork_ready : (slots : List SlotState) (is : List SessionInput) (ps : List Player) (i : SessionInput) (parent at : ℕ) (fork : Fork) → HavePlayers slots is ps → IsForkFor i parent at fork
+    → IsForkPressable is i parent at → IsForkReady ps fork
+fork_ready slots is ps i parent at fork all h can =
+    let other = slot_there slots is ps parent can.other all can.there can.opened in
     record {
-      last = h.last;
-      stands = ap (λ (id : ℕ). slot_at id now) (ap (λ id. id.0) h.id) ∙ h.stands;
-      played = subst (λ (s : MachineState). IsPlayed system i.keys i.session.steps s h.last q.console.items q.list.items) start steps;
+      parent = other.slot;
+      plays = ap (slice_get ps) h.parent ∙ other.plays;
+      own = can.own;
+      keys = h.keys ∙ can.keys ∙ ap (λ (n : ℕ). keys_before n can.other.keys ++ can.own) (sym h.at) ∙ ap (λ (ks : List Key). keys_before fork.at ks ++ can.own) (sym other.keys);
+      order = subst (λ (n : ℕ). IsInOrder n can.own) (sym h.at) can.order;
+      few = subst (λ (ks : List Key). length ks ≤ 4096) (sym h.keys) can.few;
+      within = let a = h.at in let s = h.steps in let w = can.within in omega (arith, a, s, w);
     }
 
-pub all_ended : (system : Disk) (before now : List SlotState) (is : List SessionInput) (ps qs : List ScriptedSlot) → HaveSlots before is ps → AllPlayed system before now ps qs → AllEnded system now is qs
-all_ended system before now [] [] [] slots h = tt
-all_ended system before now [] [] (q ∷ qs) slots h = absurd h
-all_ended system before now [] (p ∷ ps) qs slots h = absurd slots
-all_ended system before now (i ∷ is) [] qs slots h = absurd slots
-all_ended system before now (i ∷ is) (p ∷ ps) [] slots h = absurd h
-all_ended system before now (i ∷ is) (p ∷ ps) (q ∷ qs) slots h = (ended system before now i p q slots.0 h.0, all_ended system before now is ps qs slots.1 h.1)
+ready_by : (slots : List SlotState) (is : List SessionInput) (ps : List Player) (b : StartInput) (i : SessionInput) (p : Player) → HavePlayers slots is ps → HasPlayerBy slots b i p
+    → IsPressableBy is b i → IsPlayerReady slots ps p
+ready_by slots is ps (Opens cpu quota drives) i (Playing slot) all h can = slot_ready slots cpu quota drives i slot h can.0 can.1
+ready_by slots is ps (Opens cpu quota drives) i (Waiting fork) all h can = absurd h
+ready_by slots is ps (Forks parent at) i (Playing slot) all h can = absurd h
+ready_by slots is ps (Forks parent at) i (Waiting fork) all h can = fork_ready slots is ps i parent at fork all h can
 
-ids_kept : (system : Disk) (before now : List SlotState) (id : ℕ) (ps qs : List ScriptedSlot) → AllPlayed system before now ps qs → IsNoSlot id ps → IsNoSlot id qs
-ids_kept system before now id [] [] h none = tt
-ids_kept system before now id [] (q ∷ qs) h none = absurd h
-ids_kept system before now id (p ∷ ps) [] h none = absurd h
-ids_kept system before now id (p ∷ ps) (q ∷ qs) h none =
-    ((λ same. none.0 (ap (λ x. x.0) (sym h.0.id) ∙ same)), ids_kept system before now id ps qs h.1 none.1)
+pub all_ready : (slots : List SlotState) (is : List SessionInput) (ps : List Player) → HavePlayers slots is ps → ArePressable is → AllReady slots ps
+all_ready slots is ps all can = λ place. by_player place (slice_get ps place) refl
+  where
+    by_player : (place : ℕ) (o : Option Player) → slice_get ps place ≡ o → IfSome o (IsPlayerReady slots ps)
+    by_player place None there = tt
+    by_player place (Some p) there =
+        let s = session_at slots is ps place p all there in
+        let pressable = subst (λ (o : Option SessionInput). IfSome o (λ i. IsPressableBy is i.start i)) s.there (can place) in
+        ready_by slots is ps s.input.start s.input p all s.has pressable
 
-pub differ_kept : (system : Disk) (before now : List SlotState) (ps qs : List ScriptedSlot) → AllPlayed system before now ps qs → AllDiffer ps → AllDiffer qs
-differ_kept system before now [] [] h all = tt
-differ_kept system before now [] (q ∷ qs) h all = absurd h
-differ_kept system before now (p ∷ ps) [] h all = absurd h
-differ_kept system before now (p ∷ ps) (q ∷ qs) h all =
-    (subst (λ (id : ℕ). IsNoSlot id qs) (ap (λ x. x.0) (sym h.0.id)) (ids_kept system before now p.id.0 ps qs h.1 all.0), differ_kept system before now ps qs h.1 all.1)
+-- ---- room for forks
+
+fork_by : (slots : List SlotState) (b : StartInput) (i : SessionInput) (p : Player) → HasPlayerBy slots b i p → is_fork p ≡ fork_of b
+fork_by slots (Opens cpu quota drives) i (Playing slot) h = refl
+fork_by slots (Opens cpu quota drives) i (Waiting fork) h = absurd h
+fork_by slots (Forks parent at) i (Playing slot) h = absurd h
+fork_by slots (Forks parent at) i (Waiting fork) h = refl
+
+pub forks_are : (slots : List SlotState) (is : List SessionInput) (ps : List Player) → HavePlayers slots is ps → forks_of ps ≡ forks_in is
+forks_are slots [] [] all = refl
+forks_are slots [] (p ∷ ps) all = absurd all
+forks_are slots (i ∷ is) [] all = absurd all
+forks_are slots (i ∷ is) (p ∷ ps) all =
+    let first = fork_by slots i.start i p all.0 in
+    let rest = forks_are slots is ps all.1 in
+    let a = sum_by-cons is_fork p ps in
+    let b = sum_by-cons (λ (x : SessionInput). fork_of x.start) i is in
+    omega arith
+
+-- what the slot of a session at a place may write
+quota_by : (slots : List SlotState) (b : StartInput) (i : SessionInput) (p : Player) → HasPlayerBy slots b i p → quota_of (slot_of slots (Some p)) ≡ (opening_of b).quota
+quota_by slots (Opens cpu quota drives) i (Playing slot) h = ap quota_of h.slot
+quota_by slots (Opens cpu quota drives) i (Waiting fork) h = absurd h
+quota_by slots (Forks parent at) i (Playing slot) h = absurd h
+quota_by slots (Forks parent at) i (Waiting fork) h = refl
+
+quota_there : (slots : List SlotState) (is : List SessionInput) (ps : List Player) (place : ℕ) → HavePlayers slots is ps
+    → quota_of (slot_of slots (slice_get ps place)) ≡ (opening_at (slice_get is place)).quota
+quota_there slots [] [] place all = refl
+quota_there slots [] (p ∷ ps) place all = absurd all
+quota_there slots (i ∷ is) [] place all = absurd all
+quota_there slots (i ∷ is) (p ∷ ps) zero all = quota_by slots i.start i p all.0
+quota_there slots (i ∷ is) (p ∷ ps) (suc place) all = quota_there slots is ps place all.1
+
+module _ (slots : List SlotState) (is : List SessionInput) (ps : List Player) (all : HavePlayers slots is ps) where
+  page_by : (b : StartInput) (i : SessionInput) (p : Player) → HasPlayerBy slots b i p → pages_of slots ps p ≡ pages_by is b
+  page_by (Opens cpu quota drives) i (Playing slot) h = refl
+  page_by (Opens cpu quota drives) i (Waiting fork) h = absurd h
+  page_by (Forks parent at) i (Playing slot) h = absurd h
+  page_by (Forks parent at) i (Waiting fork) h = ap (λ (n : ℕ). quota_of (slot_of slots (slice_get ps n))) h.parent ∙ quota_there slots is ps parent all
+
+  pages_from : (js : List SessionInput) (qs : List Player) → HavePlayers slots js qs → sum_by (pages_of slots ps) qs ≡ sum_by (λ (i : SessionInput). pages_by is i.start) js
+  pages_from [] [] some = refl
+  pages_from [] (q ∷ qs) some = absurd some
+  pages_from (j ∷ js) [] some = absurd some
+  pages_from (j ∷ js) (q ∷ qs) some =
+      let first = page_by j.start j q some.0 in
+      let rest = pages_from js qs some.1 in
+      let a = sum_by-cons (pages_of slots ps) q qs in
+      let b = sum_by-cons (λ (i : SessionInput). pages_by is i.start) j js in
+      omega arith
+
+  pub pages_are : fork_pages slots ps ≡ fork_pages_in is
+  pages_are = pages_from is ps all
+
+pub has_room : (h : Host) (is : List SessionInput) (ps : List Player) → HavePlayers h.slots is ps → HasRoomFor h (forks_of ps) (fork_pages h.slots ps) → HasForkRoom is h
+has_room h is ps all room =
+    subst (λ (n : ℕ). HasRoomFor h (forks_in is) n) (pages_are h.slots is ps all) (subst (λ (n : ℕ). HasRoomFor h n (fork_pages h.slots ps)) (forks_are h.slots is ps all) room)
+
+-- ---- once they were played
+
+-- the start of the one that another is forked from
+started_by : (slots : List SlotState) (b : StartInput) (i : SessionInput) (p : Player) (start : MachineState) → HasPlayerBy slots b i p → slot_of slots (Some p) ≡ Some start → start ≡ opening_of b
+started_by slots (Opens cpu quota drives) i (Playing slot) start h is = let at = h.slot in cc
+started_by slots (Opens cpu quota drives) i (Waiting fork) start h is = absurd h
+started_by slots (Forks parent at) i (Playing slot) start h is = absurd h
+started_by slots (Forks parent at) i (Waiting fork) start h is = absurd (cc)
+
+started_there : (slots : List SlotState) (is : List SessionInput) (ps : List Player) (place : ℕ) (start : MachineState) → HavePlayers slots is ps → slot_of slots (slice_get ps place) ≡ Some start
+    → start ≡ opening_at (slice_get is place)
+started_there slots [] [] place start all at = absurd (cc)
+started_there slots [] (p ∷ ps) place start all at = absurd all
+started_there slots (i ∷ is) [] place start all at = absurd all
+started_there slots (i ∷ is) (p ∷ ps) zero start all at = started_by slots i.start i p start all.0 at
+started_there slots (i ∷ is) (p ∷ ps) (suc place) start all at = started_there slots is ps place start all.1 at
+
+module _ (system : Disk) (before now : List SlotState) (is : List SessionInput) (ps : List Player) (all : HavePlayers before is ps) where
+  start_is : (b : StartInput) (i : SessionInput) (p : Player) (start : MachineState) → HasPlayerBy before b i p → start_at before ps p ≡ Some start → start ≡ start_by is b
+  start_is (Opens cpu quota drives) i (Playing slot) start h at = let there = h.slot in cc
+  start_is (Opens cpu quota drives) i (Waiting fork) start h at = absurd h
+  start_is (Forks parent count) i (Playing slot) start h at = absurd h
+  start_is (Forks parent count) i (Waiting fork) start h at = started_there before is ps parent start all (ap (λ (n : ℕ). slot_of before (slice_get ps n)) (sym h.parent) ∙ at)
+
+  keys_are : (b : StartInput) (i : SessionInput) (p : Player) → HasPlayerBy before b i p → player_keys p ≡ i.keys
+  keys_are (Opens cpu quota drives) i (Playing slot) h = h.keys
+  keys_are (Opens cpu quota drives) i (Waiting fork) h = absurd h
+  keys_are (Forks parent at) i (Playing slot) h = absurd h
+  keys_are (Forks parent at) i (Waiting fork) h = h.keys
+
+  steps_are : (b : StartInput) (i : SessionInput) (p : Player) → HasPlayerBy before b i p → player_steps p ≡ i.session.steps
+  steps_are (Opens cpu quota drives) i (Playing slot) h = h.steps
+  steps_are (Opens cpu quota drives) i (Waiting fork) h = absurd h
+  steps_are (Forks parent at) i (Playing slot) h = absurd h
+  steps_are (Forks parent at) i (Waiting fork) h = h.steps
+
+  ended : (i : SessionInput) (p q : Player) → HasPlayer before i p → HasPlayed system before now ps p q → HasEnded system is now i q
+  ended i p q has h =
+      let keys = subst (λ (ks : List Key). IsPlayed system ks (player_steps p) h.start h.last h.slot.console.items h.slot.list.items) (keys_are i.start i p has) h.session in
+      let steps = subst (λ (n : ℕ). IsPlayed system i.keys n h.start h.last h.slot.console.items h.slot.list.items) (steps_are i.start i p has) keys in
+      record {
+        slot = h.slot;
+        plays = h.plays;
+        last = h.last;
+        stands = h.stands;
+        played = subst (λ (s : MachineState). IsPlayed system i.keys i.session.steps s h.last h.slot.console.items h.slot.list.items) (start_is i.start i p h.start has h.started) steps;
+      }
+
+  ended_from : (js : List SessionInput) (qs played : List Player) → HavePlayers before js qs → length played ≡ length qs
+      → ((place : ℕ) (p q : Player) → slice_get qs place ≡ Some p → slice_get played place ≡ Some q → HasPlayed system before now ps p q) → AllEnded system is now js played
+  ended_from [] [] [] some long each = tt
+  ended_from [] [] (r ∷ rs) some long each = absurd (omega (arith, long))
+  ended_from [] (q ∷ qs) rs some long each = absurd some
+  ended_from (j ∷ js) [] rs some long each = absurd some
+  ended_from (j ∷ js) (q ∷ qs) [] some long each = absurd (omega (arith, long))
+  ended_from (j ∷ js) (q ∷ qs) (r ∷ rs) some long each =
+      (ended j q r some.0 (each 0 q r refl refl), ended_from js qs rs some.1 (omega (arith, long)) (λ place p x there got. each (suc place) p x there got))
+
+  pub all_ended : (played : List Player) → length played ≡ length ps
+      → ((place : ℕ) (p q : Player) → slice_get ps place ≡ Some p → slice_get played place ≡ Some q → HasPlayed system before now ps p q) → AllEnded system is now is played
+  all_ended played long each = ended_from is ps played all long each
 
 -- ---- refusals
 
-first_refused_more : (h : Host) (i : SessionInput) (rest : List SessionInput) (fault : OpenError) → IsFirstRefused h (i ∷ []) fault → IsFirstRefused h (i ∷ rest) fault
-first_refused_more h i rest fault f = (f.0, f.1, ⊎_elim (λ r. inl r) (λ r. absurd r.1) f.2)
-
--- a slot that is refused
-pub slot_refused : (start now : Host) (all rest : List SessionInput) (i : SessionInput) (ps : List ScriptedSlot) (e : HostError) → IsOpened start now all (i ∷ rest) ps → IsSlotRefusal now (i ∷ []) e
-    → IsSlotRefusal start all e
-slot_refused start now all rest i ps (refusal.SessionRefused name fault) h r = h.refused fault (first_refused_more now i rest fault r)
-slot_refused start now all rest i ps refusal.OutOfMemory h r = tt
-slot_refused start now all rest i ps _ h r = absurd r
+-- where forks are refused, once all that are opened are open
+pub fork_refused : (config : Config) (start now : Host) (is : List SessionInput) (ps : List Player) (e : HostError) → HavePlayers now.slots is ps
+    → ((whole : List SessionInput) (fault : OpenError) → IsShortFor now (forks_in whole) (fork_pages_in whole) fault → IsFirstRefused whole start is fault)
+    → IsForkRefusal config now (forks_of ps) (fork_pages now.slots ps) e → IsPlayRefusal config start is e
+fork_refused config start now is ps e all short r =
+    by_error e (subst (λ (n : ℕ). IsForkRefusal config now (forks_in is) n e) (pages_are now.slots is ps all)
+    (subst (λ (n : ℕ). IsForkRefusal config now n (fork_pages now.slots ps) e) (forks_are now.slots is ps all) r))
+  where
+    by_error : (e : HostError) → IsForkRefusal config now (forks_in is) (fork_pages_in is) e → IsPlayRefusal config start is e
+    by_error (refusal.SessionRefused name fault) r = (r.0, short is fault r.1)
+    by_error (refusal.FramesExceeded name quotas frames) r = (r.0, r.1, short is fault.NoFrames r.2)
+    by_error refusal.OutOfMemory r = tt
+    by_error _ r = absurd r

@@ -16,24 +16,22 @@ use Rattle.cpm_slots.specs.declared.opening.OpenError.{OpenError}
 use Rattle.cpm_slots.specs.declared.opening.OpenError.TheVariants.{OutOfMemory}
 use Rattle.cpm_slots.specs.declared.opening.Opening.{Opening}
 use Rattle.cpm_slots.specs.declared.reply.Closed.{Closed}
+use Rattle.cpm_turns.specs.declared.player.Player.{Player}
+use Rattle.cpm_turns.specs.declared.player.Player.TheVariants.{Playing}
 use Rattle.cpm_turns.specs.declared.scripted_slot.ScriptedSlot.{ScriptedSlot}
 use Rattle.cpm_config.specs.declared.config.Config.{Config}
 use Rattle.cpm_host.specs.Illegal.{bytes_at_pc}
 use Rattle.cpm_host.specs.Playing.{IsClosed, IsPlayRefusal, IsSlotRefusal}
 use Rattle.cpm_host.specs.declared.error.HostError.{HostError}
 use Rattle.cpm_host.specs.declared.error.HostError.TheVariants as refusal
-use Rattle.cpm_host.specs.Run.{IsFirstRefused, IsOpening}
 
 -- a fault that isn't the want of memory is the opening's
-fault_of : (o : Option OpenError) (e : OpenError) → IsRefusal o e → e ≢ OutOfMemory → o ≡ Some e
+pub fault_of : (o : Option OpenError) (e : OpenError) → IsRefusal o e → e ≢ OutOfMemory → o ≡ Some e
 fault_of None e r other = absurd (other r)
 fault_of (Some f) e r other = ap (λ (x : OpenError). Some x) (sym r)
 
-pub first_refused : (h : Host) (i : SessionInput) (o : Opening) (e : OpenError) → IsOpening i o → IsRefusal (refusal_of h o) e → e ≢ OutOfMemory → IsFirstRefused h (i ∷ []) e
-first_refused h i o e opens r other = (o, opens, inl (fault_of (refusal_of h o) e r other))
-
 -- what was closed
-closed_is : (p : ScriptedSlot) (ps rest : List ScriptedSlot) (s : MachineState) (old new : Host) (c : Closed) → slot_at p.id.0 old.slots ≡ Some s
+closed_is : (p : ScriptedSlot) (ps rest : List Player) (s : MachineState) (old new : Host) (c : Closed) → slot_at p.id.0 old.slots ≡ Some s
     → IfSome (slot_at p.id.0 old.slots) (λ s. (c.look ≡ look_of s) × (c.drives ≡ images_of s.cpm.disks)) → new ≡ after_ask old p.id.0 Closes → rest ≡ ps
     → IsClosed p ps s old new (Some (p, c, bytes_at_pc s)) rest
 closed_is p ps rest s old new c at was is left =
@@ -49,7 +47,7 @@ closed_is p ps rest s old new c at was is left =
     }
 
 -- of a slot that nothing has changed yet, whose bytes at the program counter were read
-pub first_closed : (p q : ScriptedSlot) (ps rest all : List ScriptedSlot) (s : MachineState) (old middle new : Host) (c : Closed) (bytes : List ℕ) → all ≡ p ∷ ps → all ≡ q ∷ rest
+pub first_closed : (p q : ScriptedSlot) (ps rest all : List Player) (s : MachineState) (old middle new : Host) (c : Closed) (bytes : List ℕ) → all ≡ Playing p ∷ ps → all ≡ Playing q ∷ rest
     → slot_at p.id.0 old.slots ≡ Some s → ((t : MachineState) → slot_at q.id.0 old.slots ≡ Some t → bytes ≡ bytes_at_pc t) → middle ≡ old
     → IfSome (slot_at q.id.0 middle.slots) (λ s. (c.look ≡ look_of s) × (c.drives ≡ images_of s.cpm.disks)) → new ≡ after_ask middle q.id.0 Closes
     → IsClosed p ps s old new (Some (q, c, bytes)) rest
@@ -73,14 +71,14 @@ can_close : (h : Host) (id : ℕ) (s : MachineState) (fault : Refusal) → slot_
 unfolding serve_slot
 can_close h id s fault at r = subst IsDone (sym (r ∙ ap (λ o. (serve_slot h.system Closes o).reply) at)) tt
 
-pub first_closes : (p q : ScriptedSlot) (ps rest all : List ScriptedSlot) (s : MachineState) (old h : Host) (fault : Refusal) → all ≡ p ∷ ps → all ≡ q ∷ rest → slot_at p.id.0 old.slots ≡ Some s → h ≡ old
+pub first_closes : (p q : ScriptedSlot) (ps rest all : List Player) (s : MachineState) (old h : Host) (fault : Refusal) → all ≡ Playing p ∷ ps → all ≡ Playing q ∷ rest → slot_at p.id.0 old.slots ≡ Some s → h ≡ old
     → close_reply (Err fault) ≡ reply_at h q.id.0 Closes → ⊥
 first_closes p q ps rest all s old h fault is first at stays r =
     let same : q ≡ p = cc in
     can_close h p.id.0 s fault (ap (λ (x : Host). slot_at p.id.0 x.slots) stays ∙ at) (subst (λ (x : ScriptedSlot). close_reply (Err fault) ≡ reply_at h x.id.0 Closes) same r)
 
 -- how playing is refused, where it is not for want of frames
-pub other_refused : (config : Config) (h : Host) (is : List SessionInput) (e : HostError) → ((name : _) (fault : OpenError) → e ≡ refusal.SessionRefused name fault → ⊥) → IsSlotRefusal h is e → IsPlayRefusal config h is e
+pub other_refused : (config : Config) (h : Host) (is : List SessionInput) (e : HostError) → ((name : _) (fault : OpenError) → e ≡ refusal.SessionRefused name fault → ⊥) → IsSlotRefusal is h is e → IsPlayRefusal config h is e
 other_refused config h is (refusal.SessionRefused name fault) other r = absurd (other name fault refl)
 other_refused config h is refusal.OutOfMemory other r = tt
 other_refused config h is _ other r = absurd r

@@ -30,18 +30,18 @@ use Rattle.cpm_host.specs.declared.error.HostError.TheVariants as refusal
 -- ---- before they are played
 
 -- a slot was opened so, and the scripted slot is to play it by these keys for so many steps
-pub record OpensSlot (opening : Opening) (keys : List Key) (steps : ℕ) (old new : Host) (p : ScriptedSlot) : Type 0 where
+pub record OpensSlot (opening : Opening) (all : List Key) (count : ℕ) (old new : Host) (p : ScriptedSlot) : Type 0 where
   pub accepted : refusal_of old opening ≡ None
   pub host : new ≡ with_opened old opening
   pub id : p.id.0 ≡ old.openings
-  pub keys : keys_of p ≡ keys
-  pub steps : steps_of p ≡ steps
+  pub keys : keys_of p ≡ all
+  pub steps : steps_of p ≡ count
   pub unplayed : IsNew p
 
 -- what is to be forked for a session
-pub record IsForkFor (i : SessionInput) (parent at : ℕ) (fork : Fork) : Type 0 where
-  pub parent : fork.parent ≡ parent
-  pub at : fork.at ≡ at
+pub record IsForkFor (i : SessionInput) (place count : ℕ) (fork : Fork) : Type 0 where
+  pub parent : fork.parent ≡ place
+  pub at : fork.at ≡ count
   pub keys : fork.keys.items ≡ i.keys
   pub steps : fork.steps ≡ i.session.steps
 

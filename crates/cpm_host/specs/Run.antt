@@ -113,10 +113,10 @@ config_fault config = fault_or 0 (top_fault config) (forks_fault 1 [] (config_vi
 -- ---- room for all of them
 
 -- it opens a session with these
-pub record IsOpening (cpu : Cpu) (quota : ℕ) (drives : List Disk) (o : Opening) : Type 0 where
-  pub cpu : o.cpu ≡ cpu
-  pub quota : o.quota ≡ quota
-  pub drives : o.drives.items ≡ drives
+pub record IsOpening (which : Cpu) (pages : ℕ) (images : List Disk) (o : Opening) : Type 0 where
+  pub cpu : o.cpu ≡ which
+  pub quota : o.quota ≡ pages
+  pub drives : o.drives.items ≡ images
 
 -- how many are forked, and how many pages these may write: each as many as the one that it is forked from
 abbrev pub fork_of : StartInput → ℕ

@@ -13,6 +13,7 @@ mod illegal;
 mod input;
 mod list;
 mod play;
+mod quotas;
 mod report;
 mod run;
 

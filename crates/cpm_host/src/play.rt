@@ -57,8 +57,8 @@ fn open_slot(
     opening: Opening,
     keys: Vec<Key>,
 ) -> Result<ScriptedSlot, HostError>
-    ensures opened { IfOk result (OpensSlot opening.entry keys.entry.items session.entry.now.steps host.old.host host.new.host) }
-    ensures refusal { IfErr result (IsOpeningRefusal host.old.host opening.entry) }
+    ensures opened { IfOk result (OpensSlot opening keys.items session.entry.now.steps host.old.host host.new.host) }
+    ensures refusal { IfErr result (IsOpeningRefusal host.old.host opening) }
     ensures unchanged { OnErr result (host.new.host ≡ host.old.host) }
 {
     match host.open(alloc, opening) {

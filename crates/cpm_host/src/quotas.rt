@@ -30,9 +30,7 @@ fn quota_in(sessions: &[Session], session: &Session) -> u16
 {
     match &session.origin {
         Origin::Opened { quota, .. } => *quota,
-        Origin::Forked { parent, .. } => {
-            quota_at(sessions, place_of(sessions, parent.as_str()))
-        }
+        Origin::Forked { parent, .. } => { quota_at(sessions, place_of(sessions, parent.as_str())) }
     }
 }
 

@@ -66,8 +66,7 @@ invariant_of-self-2 c =
     } in
     let memory : Contents = memory_of i.store p.table in
     let state : MachineState = state_of p.runner (contents_at (memories i.store) p.table) in
-    let a = adding i.system i.frames c.args.self.now.host i.store c.share.new.self i.slots.items c.push_reserved.new.self.items c.args.id.0 c.in-Some.index p s k in
-    (
+    let a = adding i.system i.frames c.args.self.now.host i.store c.share.new.self i.slots.items c.push_reserved.new.self.items c.args.id.0 c.in-Some.index p s k in (
       added-host i.system i.frames c.args.self.now.host (memories i.store) (memories c.share.new.self) i.slots.items c.push_reserved.new.self.items s memory state a,
       added-have_tables i.system i.frames c.args.self.now.host (memories i.store) (memories c.share.new.self) i.slots.items c.push_reserved.new.self.items s memory state a,
       ap (λ (x : Frames). x.private) c.in-Ok-share.ensures.shared ∙ c.self.invariant.2,
