@@ -4,20 +4,24 @@
 //! drive alone, `openings TIMES`.
 //!
 //! Or it makes memories to see what room they take: `sessions NUMBER` in one store, each with one written page, or `flats NUMBER` of
-//! their own; or a host with up to 64 sessions of four blank drives each, `drives small NUMBER` or `drives large NUMBER`. It prints what Linux says
-//! of its own memory then.
+//! their own; or a host with up to 64 sessions of four blank drives each, `drives small NUMBER` or `drives large NUMBER`; or one whose sessions
+//! have run RUN.COM of a system drive, each itself, `opened IMAGE NUMBER`, or all but the first as forks of it, `forked IMAGE NUMBER`. It prints
+//! what Linux says of its own memory then. Or it forks such a session and closes the fork, `forks IMAGE TIMES`.
 //!
 //! Or it runs sessions of programs that nobody vouches for, `soak FOLDER NUMBER STEPS`, each by itself, or with a further word QUANTUM all on
 //! one host, and prints a line of what each showed and left.
 #![tactic(auto)]
 
 mod digest;
+mod forks;
 mod sessions;
 mod soak;
 
 use cpm_flags::Cpu;
 use cpm_geom::{Format, Image};
 use cpm_memory::{FlatMemory, FrameStore, has_room};
+use cpm_sessions::Host;
+use forks::{fork_and_close, host_of_forks, host_of_opened};
 use sessions::{
     Turns, host_of_drives, make_openings, open_and_close, run_host, run_machine, run_machine_with,
 };
@@ -71,9 +75,9 @@ fn own(rt: &HostRuntime, number: u16) -> Option<u64> {
     resident(rt)
 }
 
-/// Makes a host with so many sessions of four drives each, and keeps it to the end.
-fn hold(rt: &HostRuntime, format: Format, number: u16) -> Option<u64> {
-    let _host = host_of_drives(rt.alloc(), format, number)?;
+/// Keeps a host to the end.
+fn keep(rt: &HostRuntime, host: Option<Host>) -> Option<u64> {
+    let _host = host?;
     resident(rt)
 }
 
@@ -120,8 +124,35 @@ fn measure(rt: &HostRuntime, words: &[&str]) -> Option<u64> {
     match words {
         ["sessions", number] => share(rt, number.parse().ok()?),
         ["flats", number] => own(rt, number.parse().ok()?),
-        ["drives", "small", number] => hold(rt, Format::Ibm3740, number.parse().ok()?),
-        ["drives", "large", number] => hold(rt, Format::Large, number.parse().ok()?),
+        ["drives", "small", number] => {
+            keep(
+                rt,
+                host_of_drives(rt.alloc(), Format::Ibm3740, number.parse().ok()?),
+            )
+        }
+        ["drives", "large", number] => {
+            keep(
+                rt,
+                host_of_drives(rt.alloc(), Format::Large, number.parse().ok()?),
+            )
+        }
+        ["opened", file, number] => {
+            keep(
+                rt,
+                host_of_opened(rt.alloc(), drive_of(rt, file)?, number.parse().ok()?),
+            )
+        }
+        ["forked", file, number] => {
+            keep(
+                rt,
+                host_of_forks(rt.alloc(), drive_of(rt, file)?, number.parse().ok()?),
+            )
+        }
+        ["forks", file, times] => fork_and_close(
+            rt.alloc(),
+            drive_of(rt, file)?,
+            times.parse().ok()?,
+        ),
         ["machine", cpu, file, steps, image] => {
             let program = fs::read(rt, file).ok()?;
             let drive = drive_of(rt, image)?;

@@ -74,7 +74,7 @@ pub fn host_of_drives(alloc: Global, format: Format, sessions: u16) -> Option<Ho
 }
 
 /// A host with this system drive, whose frames are enough for all pages of so many sessions.
-fn host_of(alloc: Global, system: Image, sessions: u16) -> Option<Host> {
+pub(crate) fn host_of(alloc: Global, system: Image, sessions: u16) -> Option<Host> {
     if sessions == 0 || sessions > 64 {
         return None;
     }
@@ -82,7 +82,7 @@ fn host_of(alloc: Global, system: Image, sessions: u16) -> Option<Host> {
 }
 
 /// Opens a session that starts the program RUN.COM of the system drive.
-fn start(alloc: Global, host: &mut Host, cpu: Cpu, quota: u16) -> Option<SlotId> {
+pub(crate) fn start(alloc: Global, host: &mut Host, cpu: Cpu, quota: u16) -> Option<SlotId> {
     let id = host.open(alloc, opening_of(alloc, cpu, quota)?).ok()?;
     for key in KEYS {
         host.key(id, key).ok()?;

@@ -1,7 +1,7 @@
 -- Which entries the fault of a directory is told of: they are the directory's.
-use Rattle.std.proofs.Common.{◌≡◌, ◌≢◌, ◌∙◌, ℕ, ◌+◌, ◌<◌, ◌≤◌, Bool, true, false, cond, not, eqb, ltb, List, Option, Some, None, length, sym, refl, ap, subst, inl, inr, arith}
+use Rattle.std.proofs.Common.{◌≡◌, ◌≢◌, ◌∙◌, ℕ, ◌<◌, ◌≤◌, Bool, true, false, cond, eqb, ltb, List, Option, Some, None, length, sym, refl, subst, inl, inr, arith}
 use Rattle.std.specs.Prelude.{option_map, Err}
-use Rattle.std.specs.List.{find, list_any, position, position_or_len, range_with_len}
+use Rattle.std.specs.List.{find, position, position_or_len, range_with_len}
 use Rattle.std.specs.Option.{option_or}
 use Rattle.std.proofs.lemmas.List.Folds.{list_any_at}
 use Rattle.std.proofs.lemmas.List.FromFn.{length-range_with_len}

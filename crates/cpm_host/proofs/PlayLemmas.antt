@@ -1,13 +1,12 @@
 -- The players of sessions, before and after they are played.
-use Rattle.std.proofs.Common.{◌≡◌, ◌∙◌, ◌≤◌, ◌+◌, ℕ, zero, suc, List, [], ◌∷◌, ◌++◌, Option, Some, None, length, ap, subst, sym, refl, arith, slice_get, sum_by, IfSome}
+use Rattle.std.proofs.Common.{◌≡◌, ◌∙◌, ◌≤◌, ℕ, zero, suc, List, [], ◌∷◌, ◌++◌, Option, Some, None, length, ap, subst, sym, refl, arith, slice_get, sum_by, IfSome}
 use Rattle.std.proofs.lemmas.List.Sums.{sum_by-cons}
-use Rattle.std.specs.Prelude.{⊤}
 use Rattle.cpm_batch.specs.Inputs.{Forks, IsOpened, Opens, SessionInput, StartInput}
 use Rattle.cpm_flags.specs.declared.regs.Cpu.{Cpu}
 use Rattle.cpm_geom.specs.Disk.{Disk}
 use Rattle.cpm_script.specs.Fork.{keys_before}
 use Rattle.cpm_script.specs.declared.script.Key.{Key}
-use Rattle.cpm_sessions.specs.Host.{Host, SlotState, slot_at}
+use Rattle.cpm_sessions.specs.Host.{Host, SlotState}
 use Rattle.cpm_slots.specs.MachineState.{MachineState, opened_machine}
 use Rattle.cpm_slots.specs.declared.opening.OpenError.{OpenError}
 use Rattle.cpm_slots.specs.declared.opening.OpenError.TheVariants as fault
@@ -20,7 +19,7 @@ use Rattle.cpm_turns.specs.declared.player.Player.TheVariants.{Playing, Waiting}
 use Rattle.cpm_turns.specs.declared.scripted_slot.ScriptedSlot.{ScriptedSlot}
 use Rattle.cpm_config.specs.declared.config.Config.{Config}
 use Rattle.cpm_host.specs.Playing.{AllEnded, ArePressable, HasEnded, HasPlayer, HasPlayerBy, HasSlot, HavePlayers, IsForkFor, IsForkPressable, IsForkRefusal, IsPlayRefusal, IsPressableBy}
-use Rattle.cpm_host.specs.Run.{HasForkRoom, IsFirstRefused, IsShortFor, fork_of, fork_pages_in, forks_in, opening_at, opening_of, pages_by, start_by, start_of}
+use Rattle.cpm_host.specs.Run.{HasForkRoom, IsFirstRefused, IsShortFor, fork_of, fork_pages_in, forks_in, opening_at, opening_of, pages_by, start_by}
 use Rattle.cpm_host.specs.declared.error.HostError.{HostError}
 use Rattle.cpm_host.specs.declared.error.HostError.TheVariants as refusal
 

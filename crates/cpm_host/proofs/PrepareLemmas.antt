@@ -1,8 +1,10 @@
 -- Sessions that are prepared one after another: opened, or to be forked.
-use Rattle.std.proofs.Common.{◌≡◌, ◌∙◌, inl, inr, ◌<◌, ◌+◌, ℕ, List, [], ◌∷◌, ◌++◌, Some, map, ap, refl, subst, sym, arith, append_assoc}
+use Rattle.std.proofs.Common.{◌≡◌, ◌∙◌, inl, inr, ◌<◌, ◌+◌, ℕ, List, [], ◌∷◌, ◌++◌, Some, map, ap, refl, subst, sym, arith, append-nil, append_assoc}
 use Rattle.std.specs.Prelude.{⊤}
-use Rattle.cpm_batch.specs.Inputs.{Forks, Opens, SessionInput, StartInput, given}
+use Rattle.cpm_batch.specs.Inputs.{Forks, Opens, SessionInput, StartInput, given, start_view}
 use Rattle.cpm_batch.specs.declared.input.Input.{Input}
+use Rattle.cpm_batch.specs.declared.input.Start.{Start}
+use Rattle.cpm_batch.specs.declared.input.Start.TheVariants as start
 use Rattle.cpm_config.specs.declared.config.Session.{Session}
 use Rattle.cpm_flags.specs.declared.regs.Cpu.{Cpu}
 use Rattle.cpm_geom.specs.Disk.{Disk}
@@ -18,7 +20,7 @@ use Rattle.cpm_turns.specs.declared.player.Fork.{Fork}
 use Rattle.cpm_turns.specs.declared.player.Player.{Player}
 use Rattle.cpm_turns.specs.declared.player.Player.TheVariants.{Playing, Waiting}
 use Rattle.cpm_turns.specs.declared.scripted_slot.ScriptedSlot.{ScriptedSlot}
-use Rattle.cpm_host.specs.Playing.{HasPlayer, HasPlayerBy, HasSlot, HavePlayers, IsForkFor, IsPreparedBy, IsSlotRefusal, IsStartRefusal, OpensSlot}
+use Rattle.cpm_host.specs.Playing.{HasPlayer, HasPlayerBy, HasSlot, HavePlayers, IsForkFor, IsOpeningRefusal, IsPrepared, IsPreparedBy, IsSlotRefusal, IsStartRefusal, OpensSlot}
 use Rattle.cpm_host.specs.declared.error.HostError.{HostError}
 use Rattle.cpm_host.specs.declared.error.HostError.TheVariants as refusal
 use Rattle.cpm_host.specs.Run.{AllAccepted, IsFirstRefused, IsOpening}
@@ -83,6 +85,22 @@ players_more slots [] [] i p all one = (one, tt)
 players_more slots [] (q ∷ ps) i p all one = absurd all
 players_more slots (j ∷ is) [] i p all one = absurd all
 players_more slots (j ∷ is) (q ∷ ps) i p all one = (all.0, players_more slots is ps i p all.1 one)
+
+-- ---- one session
+
+-- where its slot was opened
+pub opens_slot : (x : Input) (o : Opening) (old new : Host) (slot : ScriptedSlot) → x.start ≡ start.Opened o.cpu o.quota o.drives → OpensSlot o x.keys.items x.session.now.steps old new slot
+    → IsPrepared (given x) old new (Playing slot)
+opens_slot x o old new slot is h =
+    subst (λ (b : Start). IsPreparedBy (start_view b) (given x) old new (Playing slot)) (sym is) (o, record { cpu = refl; quota = refl; drives = refl }, h)
+
+-- where it was refused
+pub start_refused : (x : Input) (o : Opening) (h : Host) (e : HostError) → x.start ≡ start.Opened o.cpu o.quota o.drives → IsOpeningRefusal h o e → IsStartRefusal h (given x).start e
+start_refused x o h e is r = subst (λ (b : Start). IsStartRefusal h (start_view b) e) (sym is) (o, record { cpu = refl; quota = refl; drives = refl }, r)
+
+-- where it is to be forked
+pub waits : (x : Input) (fork : Fork) (h : Host) → x.start ≡ start.Forked fork.parent fork.at → IsForkFor (given x) fork.parent fork.at fork → IsPrepared (given x) h h (Waiting fork)
+waits x fork h is for = subst (λ (b : Start). IsPreparedBy (start_view b) (given x) h h (Waiting fork)) (sym is) (for, refl)
 
 -- ---- one after another
 
@@ -177,3 +195,10 @@ refused_by start now all rest session (Forks parent at) keys ps e whole h r = ab
 pub prepare_refused : (start now : Host) (all rest : List SessionInput) (i : SessionInput) (ps : List Player) (e : HostError) → IsPreparedTo start now all (i ∷ rest) ps
     → IsStartRefusal now i.start e → (whole : List SessionInput) → IsSlotRefusal whole start all e
 prepare_refused start now all rest i ps e h r whole = refused_by start now all rest i.session i.start i.keys ps e whole h r
+
+-- all are prepared
+pub prepared_all : (start now : Host) (all : List SessionInput) (rest : List Input) (ps : List Player) → rest ≡ [] → IsPreparedTo start now all (map given rest) ps → IsPreparedTo start now all [] ps
+prepared_all start now all rest ps none h = subst (λ (xs : List Input). IsPreparedTo start now all (map given xs) ps) none h
+
+pub have_players : (start now : Host) (all : List SessionInput) (ps : List Player) → IsPreparedTo start now all [] ps → HavePlayers now.slots all ps
+have_players start now all ps h = subst (λ (is : List SessionInput). HavePlayers now.slots is ps) (sym (append-nil h.done) ∙ h.parts) h.players

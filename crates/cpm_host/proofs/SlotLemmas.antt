@@ -1,9 +1,9 @@
 -- A slot that is refused, and a slot that is closed.
-use Rattle.std.proofs.Common.{◌≡◌, ◌≢◌, ◌∙◌, inl, ℕ, ◌∷◌, [], List, Option, Some, None, ap, subst, sym, refl}
+use Rattle.std.proofs.Common.{◌≡◌, ◌≢◌, ◌∙◌, ℕ, ◌∷◌, List, Option, Some, None, ap, subst, sym, refl}
 use Rattle.std.specs.Prelude.{⊤, IfSome, Err}
 use Rattle.cpm_batch.specs.Inputs.{SessionInput}
 use Rattle.cpm_disks.specs.Disks.{images_of}
-use Rattle.cpm_sessions.specs.Host.{Host, after_ask, close_reply, refusal_of, reply_at, slot_at}
+use Rattle.cpm_sessions.specs.Host.{Host, after_ask, close_reply, reply_at, slot_at}
 use Rattle.cpm_sessions.specs.Serving.{Closes, serve_slot}
 use Rattle.cpm_sessions.specs.declared.event.Refusal.{Refusal}
 use Rattle.cpm_sessions.specs.declared.event.Reply.{Reply}
@@ -14,7 +14,6 @@ use Rattle.cpm_slots.specs.Opening.{IsRefusal}
 use Rattle.cpm_slots.specs.Serve.{look_of}
 use Rattle.cpm_slots.specs.declared.opening.OpenError.{OpenError}
 use Rattle.cpm_slots.specs.declared.opening.OpenError.TheVariants.{OutOfMemory}
-use Rattle.cpm_slots.specs.declared.opening.Opening.{Opening}
 use Rattle.cpm_slots.specs.declared.reply.Closed.{Closed}
 use Rattle.cpm_turns.specs.declared.player.Player.{Player}
 use Rattle.cpm_turns.specs.declared.player.Player.TheVariants.{Playing}

@@ -2,13 +2,19 @@ use Rattle.std.proofs.Common.{◌∙◌, ap, map, sym}
 use Rattle.std.proofs.lemmas.Result.{err_from_is_err_and}
 use Rattle.cpm_batch.specs.Inputs.{given}
 use Rattle.cpm_batch.specs.Outputs.{files_of_all}
+use Rattle.cpm_config.proofs.FaultLemmas.{neither}
 use Rattle.cpm_store.specs.Writes.{named}
 use Rattle.cpm_host.proofs.RunLemmas.{fails_at_write, play_refused, play_stopped, read_and_written, reading_refused, reading_stopped, writing_stopped}
 use Rattle.cpm_host.proofs.ScriptLemmas.{inputs_pressable}
+use Rattle.cpm_host.specs.Run.{top_fault}
 use Rattle.cpm_host.proofs.run.run_host.Goals as goal
 
+pub read_inputs-requires : goal.read_inputs-requires
+read_inputs-requires g c = record { forks = (neither 0 (top_fault c.args.config.now) _ (sym c.in_default.ensures)).1 }
+
 pub play_all-requires-clause-keys : goal.play_all-requires-clause-keys
-play_all-requires-clause-keys g c = inputs_pressable (g.S.Store.files c.args.store.now) (map given c.in_ok-inputs.inputs.sessions.items) c.in_ok-inputs.ensures.read.all
+play_all-requires-clause-keys g c = inputs_pressable (g.S.Store.files c.args.store.now) c.args.config.now.sessions.items (map given c.in_ok-inputs.inputs.sessions.items) c.in_ok-inputs.ensures.read.sessions
+    c.in_ok-inputs.ensures.read.all (neither 0 (top_fault c.args.config.now) _ (sym c.in_default.ensures)).1
 
 pub returns-in_err-reports-clause-refusal : goal.returns-in_err-reports-clause-refusal
 returns-in_err-reports-clause-refusal g c =
