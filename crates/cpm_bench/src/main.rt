@@ -75,9 +75,25 @@ fn own(rt: &HostRuntime, number: u16) -> Option<u64> {
     resident(rt)
 }
 
-/// Keeps a host to the end.
-fn keep(rt: &HostRuntime, host: Option<Host>) -> Option<u64> {
-    let _host = host?;
+/// Makes the host that the words ask for.
+fn host_by(rt: &HostRuntime, words: &[&str]) -> Option<Host> {
+    let alloc = rt.alloc();
+    match words {
+        ["drives", "small", number] => {
+            host_of_drives(alloc, Format::Ibm3740, number.parse().ok()?)
+        }
+        ["drives", "large", number] => host_of_drives(alloc, Format::Large, number.parse().ok()?),
+        ["opened", file, number] => {
+            host_of_opened(alloc, drive_of(rt, file)?, number.parse().ok()?)
+        }
+        ["forked", file, number] => host_of_forks(alloc, drive_of(rt, file)?, number.parse().ok()?),
+        _ => None,
+    }
+}
+
+/// Makes a host, and keeps it to the end.
+fn hold(rt: &HostRuntime, words: &[&str]) -> Option<u64> {
+    let _host = host_by(rt, words)?;
     resident(rt)
 }
 
@@ -124,30 +140,6 @@ fn measure(rt: &HostRuntime, words: &[&str]) -> Option<u64> {
     match words {
         ["sessions", number] => share(rt, number.parse().ok()?),
         ["flats", number] => own(rt, number.parse().ok()?),
-        ["drives", "small", number] => {
-            keep(
-                rt,
-                host_of_drives(rt.alloc(), Format::Ibm3740, number.parse().ok()?),
-            )
-        }
-        ["drives", "large", number] => {
-            keep(
-                rt,
-                host_of_drives(rt.alloc(), Format::Large, number.parse().ok()?),
-            )
-        }
-        ["opened", file, number] => {
-            keep(
-                rt,
-                host_of_opened(rt.alloc(), drive_of(rt, file)?, number.parse().ok()?),
-            )
-        }
-        ["forked", file, number] => {
-            keep(
-                rt,
-                host_of_forks(rt.alloc(), drive_of(rt, file)?, number.parse().ok()?),
-            )
-        }
         ["forks", file, times] => fork_and_close(
             rt.alloc(),
             drive_of(rt, file)?,
@@ -179,7 +171,7 @@ fn measure(rt: &HostRuntime, words: &[&str]) -> Option<u64> {
         }
         ["slots", times] => open_and_close(rt.alloc(), times.parse().ok()?),
         ["openings", times] => make_openings(rt.alloc(), times.parse().ok()?),
-        _ => None,
+        words => hold(rt, words),
     }
 }
 
