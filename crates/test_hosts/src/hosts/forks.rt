@@ -72,6 +72,7 @@ fn a_store_of_one_is_not_seen_by_the_other_on(
     let parent = open_with(rt, host, rt.alloc(), 16, BYTES)?;
     executes(rt, host, parent, 8)?;
     let used = host.store().used();
+    assert!(rt; used <= 32);
     let child = host.fork(rt.alloc(), parent)?;
     same(rt, host.store().used(), used);
     same(
