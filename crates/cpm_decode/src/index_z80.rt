@@ -7,7 +7,7 @@ use crate::decoder::{arithmetic_of, place_of, row8080};
 use crate::operation_z80::{DecodedZ80, IndexRegister, IndexedOp, OpZ80};
 
 /// Whether an index register stands for HL in the 8080's row of an opcode.
-fn has_index(opcode: u8) -> bool
+pub fn has_index(opcode: u8) -> bool
     ensures { result ≡ is_replaced opcode }
 {
     (opcode & 0xcf == 0x09)

@@ -1,4 +1,7 @@
+pub mod Apart
 pub mod BitLemmas
 pub mod FewStores
+pub mod IndexStep
 pub mod PlainRows
+pub mod Settled
 pub mod ShiftRows

@@ -11,4 +11,4 @@ pub mod quick;
 pub mod registers;
 
 pub use exec::{execz80, stepz80};
-pub use quick::quick_stepz80;
+pub use quick::{kept_stepz80, quick_stepz80};

@@ -34,27 +34,28 @@ pub struct Flags {
 pub struct Alternate {
     pub a: u8,
     pub flags: Flags,
-    pub b: u8,
     pub c: u8,
-    pub d: u8,
+    pub b: u8,
     pub e: u8,
-    pub h: u8,
+    pub d: u8,
     pub l: u8,
+    pub h: u8,
 }
 
-/// The registers of a processor. The 8080 uses those down to `pc`.
+/// The registers of a processor. The 8080 uses those down to `pc`. The low byte of a pair lies before the high one, as the machine below has
+/// words, so that a pair is loaded and stored in one.
 /// Intel 8080 Assembly Language Programming Manual, "Working Registers";
 /// Zilog Z80 CPU User Manual, "CPU Registers".
 #[derive(Clone, Copy, Debug, PartialEq, Eq)]
 pub struct Regs {
     pub a: u8,
     pub flags: Flags,
-    pub b: u8,
     pub c: u8,
-    pub d: u8,
+    pub b: u8,
     pub e: u8,
-    pub h: u8,
+    pub d: u8,
     pub l: u8,
+    pub h: u8,
     pub sp: u16,
     pub pc: u16,
     pub ix: u16,

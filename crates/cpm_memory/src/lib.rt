@@ -15,7 +15,8 @@ pub mod store;
 pub mod view;
 
 pub use access::{
-    change_byte, change_run, change_word, get_run, get_word, has_room, set_byte, set_run, set_word,
+    change_byte, change_run, change_word, get_run, get_whole_word, get_word, has_room, set_byte,
+    set_run, set_settled, set_word, set_word_settled,
 };
 pub use flat::FlatMemory;
 pub use memory::Memory;

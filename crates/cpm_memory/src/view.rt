@@ -98,6 +98,11 @@ impl Memory for View<'_> {
             .raise_stamp(self.table.index(), (address / 256) as u8);
     }
 
+    /// A page that it has not stored to is left to `set` alone, which may have to copy it.
+    fn is_settled(&self, address: u16) -> bool {
+        self.owned[(address / 256) as usize]
+    }
+
     fn touched(&self) -> u16 {
         self.touched
     }

@@ -6,10 +6,10 @@ use Rattle.cpm_slots.specs.MachineState.{MachineState}
 use Rattle.cpm_slots.specs.Step.{after, can_step}
 use Rattle.cpm_slots.specs.Serve.{longest}
 use Rattle.cpm_slots.specs.Laws.{IsLongest}
-use Rattle.cpm_slots.specs.Runner.{IsRun, IsSound}
+use Rattle.cpm_slots.specs.Runner.{IsRun}
 use Rattle.cpm_slots.specs.Until.{begins_at, can_go_on, executed_until}
 use Rattle.cpm_slots.proofs.GrantLaws.{longest-is, longest-unique, after-add}
-use Rattle.cpm_slots.proofs.StepLaws.{IsRun-none, IsRun-on}
+use Rattle.cpm_slots.proofs.StepLaws.{IsRun-on}
 
 -- k steps lead from the one state to the other, each of which may be made by such a grant
 pub record IsRunUntil (system : Disk) (pc k : ℕ) (start now : MachineState) : Type 0 where

@@ -4,6 +4,7 @@
 pub mod laws;
 pub mod machine;
 pub mod opening;
+mod program;
 pub mod reply;
 pub mod steps;
 mod trap;

@@ -1,0 +1,26 @@
+use Rattle.std.proofs.Common.{◌≡◌, ◌≢◌, ℕ, ◌%◌, ◌<◌, true, false, get_or, arith, ap, ◌∙◌}
+use Rattle.cpm_memory.specs.Contents.{Contents, page_of, next, is_written, after_set}
+use Rattle.cpm_memory.specs.Room.{written-after_set}
+use Rattle.cpm_memory.proofs.access.set_word_settled.Goals as goal
+
+-- the next address lies in the same page
+same_page : (address : ℕ) → address < 65536 → address % 256 ≢ 255 → page_of (next address) ≡ page_of address
+same_page address fits ne = omega arith
+
+-- so the store of the high byte writes no page anew
+high-written : (c d : Contents) (address value : ℕ) → address < 65536 → address % 256 ≢ 255 → is_written c (page_of address) ≡ true → d ≡ after_set c (next address) value → d.written ≡ c.written
+high-written c d address value fits ne settled e =
+    ap (λ (m : Contents). m.written) e ∙ written-after_set c (next address) value (ap (is_written c) (same_page address fits ne) ∙ settled)
+
+pub set-requires-2 : goal.set-requires-2
+set-requires-2 g c = λ _.
+    let settled = c.is_settled.ensures c.if-not-is_settled.false in
+    ap (λ ws. get_or ws (page_of c.args.address) false) (high-written _ _ c.args.address _ (omega arith) c.if-address-eq255.false settled c.set.ensures.contents) ∙ settled
+
+pub returns-clause-pages : goal.returns-clause-pages
+returns-clause-pages g c =
+    let settled = c.is_settled.ensures c.if-not-is_settled.false in
+    let first = high-written _ _ c.args.address _ (omega arith) c.if-address-eq255.false settled c.set.ensures.contents in
+    ap (λ (m : Contents). m.written) c.set-2.ensures.contents
+    ∙ written-after_set (g.M.Memory.contents c.set.new.self) c.args.address _ (ap (λ ws. get_or ws (page_of c.args.address) false) first ∙ settled)
+    ∙ first
