@@ -128,7 +128,7 @@ module _ (s : Frames) (t address f value : ℕ) (private : f < s.private) (at : 
 -- ---- the memories after a copy and after a write
 
 -- the memories of tables with the same reservation and equal memories
-same_memory : (s s' : Frames) (t : ℕ) → (table_at s' t).reservation ≡ (table_at s t).reservation → memory_of s' t ≡ memory_of s t → memory_at s' t ≡ memory_at s t
+pub same_memory : (s s' : Frames) (t : ℕ) → (table_at s' t).reservation ≡ (table_at s t).reservation → memory_of s' t ≡ memory_of s t → memory_at s' t ≡ memory_at s t
 same_memory s s' t e m = ap (λ o. option_map (λ _. memory_of s' t) o) e ∙ ap (λ c. option_map (λ _. c) (table_at s t).reservation) m
 
 -- equal bytes and an equal table make an equal memory

@@ -9,6 +9,7 @@ pub mod Tabulated
 pub mod Flat
 pub mod Frames
 pub mod Kept
+pub mod Scratch
 pub mod Memories
 pub mod Room
 pub mod Reserved

@@ -1,5 +1,5 @@
--- What is left of a store when a view of a table ends, with a mirror or without.
-use Rattle.std.proofs.Common.{◌≡◌, ℕ, ◌<◌, subst, None, Some, is_some, unwrap_or, get_or, set, sym, ap, ◌∙◌}
+-- What is left of a store when a view of a table ends, and when a copy of a table's memory is put back.
+use Rattle.std.proofs.Common.{◌≡◌, ℕ, ◌<◌, List, subst, None, Some, is_some, unwrap_or, get_or, set, sym, ap, ◌∙◌}
 use Rattle.std.specs.Borrow.{GName}
 use Rattle.cpm_memory.specs.Contents.{Contents, Surroundings}
 use Rattle.cpm_memory.specs.Frames.{Frames, HasReservation, IsTaken, KeepsStamps, memories, memory_at, memory_of, stamps_at}
@@ -8,8 +8,7 @@ use Rattle.cpm_memory.specs.Tabulated.{length-tabulated}
 use Rattle.cpm_memory.specs.Opening.{opening}
 use Rattle.cpm_memory.specs.View as view
 use Rattle.cpm_memory.specs.declared.view.View.{View}
-use Rattle.cpm_mirror.specs.Mirrored as mirrored
-use Rattle.cpm_mirror.specs.declared.mirrored.MirroredView.{MirroredView}
+use Rattle.cpm_memory.specs.Stamps.{IsStored}
 use Rattle.cpm_decode.specs.Cache.{IsRightFor}
 use Rattle.cpm_decode.specs.declared.cache.DecodeCache.{DecodeCache}
 use Rattle.cpm_sessions.specs.Slots.{contents_at, ChangesAt}
@@ -43,16 +42,11 @@ lent-view v w store table e f g around = record {
   frames = ap (λ (x : Surroundings). x.frames) around;
 }
 
-pub lent-mirrored : (v w : MirroredView) (store : Frames) (table : ℕ) → mirrored.store_of v ≡ store → mirrored.table_of v ≡ table → get_or (memories store) table None ≡ Some (mirrored.contents_of v) → mirrored.surroundings_of w ≡ mirrored.surroundings_of v →
-    Lent store (mirrored.store_of v) (mirrored.store_of w) table (mirrored.table_of v) (mirrored.table_of w)
-lent-mirrored v w store table e f g around = record {
-  whole = e;
-  number = f;
-  memory = g;
-  same = ap (λ (x : Surroundings). x.table) around;
-  left = memories-left v.store.ghost_name w.store.ghost_name v.store.now w.store.now v.table w.table (HasReservation-taken w.store.now w.table w.within w.taken) w.within around;
-  frames = ap (λ (x : Surroundings). x.frames) around;
-}
+-- the memory of a table that is taken
+pub contents-of : (s : Frames) (t : ℕ) → IsTaken s t → contents_at (memories s) t ≡ memory_of s t
+contents-of s t taken =
+    let lt : t < 64 = subst (λ n. t < n) (length-tabulated 64 (memory_at s)) (taken-within (memories s) t taken) in
+    ap (λ o. unwrap_or o (opening 0)) (memory-reserved s t lt (HasReservation-taken s t lt taken))
 
 -- what was lent, and what is left
 pub record Leaves (store new : Frames) (table : ℕ) (lent left : Contents) : Type 0 where
@@ -70,6 +64,15 @@ leaves store s s' table t t' h =
       memories = all;
       frames = h.frames ∙ ap (λ (x : Frames). x.private) h.whole;
     }
+
+-- the same, where a copy was worked on and put back
+pub leaves-copied : (store new : Frames) (table : ℕ) (lent left : Contents) → IsTaken store table → lent ≡ memory_of store table → memories new ≡ set (memories store) table (Some left) → new.private ≡ store.private → Leaves store new table lent left
+leaves-copied store new table lent left taken e all frames = record {
+  old = contents-of store table taken ∙ sym e;
+  now = ap (λ m. contents_at m table) all ∙ contents-set (memories store) table left taken;
+  memories = all;
+  frames = frames;
+}
 
 pub changes : (store new : Frames) (table : ℕ) (lent left : Contents) → Leaves store new table lent left → ChangesAt table (memories store) (memories new)
 changes store new table lent left k = record { memories = k.memories ∙ ap (λ c. set (memories store) table (Some c)) (sym k.now) }
@@ -92,8 +95,19 @@ right-left store s s' table t t' cache h right =
 pub keeps-stamps : (store s s' : Frames) (table t : ℕ) → s ≡ store → t ≡ table → KeepsStamps s s' t → KeepsStamps store s' table
 keeps-stamps store s s' table t e f kept = subst (λ x. KeepsStamps x s' table) e (subst (KeepsStamps s s') f kept)
 
--- the memory of a table that is taken
-pub contents-of : (s : Frames) (t : ℕ) → IsTaken s t → contents_at (memories s) t ≡ memory_of s t
-contents-of s t taken =
-    let lt : t < 64 = subst (λ n. t < n) (length-tabulated 64 (memory_at s)) (taken-within (memories s) t taken) in
-    ap (λ o. unwrap_or o (opening 0)) (memory-reserved s t lt (HasReservation-taken s t lt taken))
+-- a cache that is right for the memory of a table is right for its copy
+pub right-copied : (store : Frames) (table : ℕ) (lent : Contents) (stamps : List ℕ) (cache : DecodeCache) → IsTaken store table → lent ≡ memory_of store table → stamps ≡ stamps_at store table →
+    IsRightFor (contents_at (memories store) table) (stamps_at store table) cache → IsRightFor lent stamps cache
+right-copied store table lent stamps cache taken e q right =
+    subst (λ c. IsRightFor c stamps cache) (contents-of store table taken ∙ sym e)
+    (subst (λ x. IsRightFor (contents_at (memories store) table) x cache) (sym q) right)
+
+-- and back, when the copy was put back
+pub right-put : (store new : Frames) (table : ℕ) (lent left : Contents) (stamps : List ℕ) (cache : DecodeCache) → Leaves store new table lent left → stamps_at new table ≡ stamps → IsRightFor left stamps cache → IsRightFor (contents_at (memories new) table) (stamps_at new table) cache
+right-put store new table lent left stamps cache h e right =
+    subst (λ c. IsRightFor c (stamps_at new table) cache) (sym h.now) (subst (λ x. IsRightFor left x cache) (sym e) right)
+
+-- what the stores to the copy were, are the stores that are put back
+pub stored-copied : (store : Frames) (table : ℕ) (lent left : Contents) (before after : List ℕ) → lent ≡ memory_of store table → before ≡ stamps_at store table → IsStored lent before left after → IsStored (memory_of store table) (stamps_at store table) left after
+stored-copied store table lent left before after e q h =
+    subst (λ c. IsStored c (stamps_at store table) left after) e (subst (λ x. IsStored lent x left after) q h)

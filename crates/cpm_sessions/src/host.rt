@@ -26,8 +26,7 @@ use cpm_bdos::Cpm;
 use cpm_console::{Console, Device};
 use cpm_decode::DecodeCache;
 use cpm_geom::Image;
-use cpm_memory::{FrameStore, TableId};
-use cpm_mirror::Mirror;
+use cpm_memory::{FlatMemory, FrameStore, TableId};
 use cpm_slots::steps::Runner;
 use cpm_slots::{Closed, End, Granted, Look, OpenError, Opening};
 use std::alloc::{AllocError, Global};
@@ -50,8 +49,8 @@ pub struct Host {
     pub(crate) openings: u64,
     pub(crate) store: FrameStore,
     pub(crate) slots: Vec<Slot>,
-    /// A mirror for the memory that is worked on. What is in it makes no difference to any slot.
-    mirror: Mirror,
+    /// A copy of the memory that is worked on. What is in it between calls makes no difference to any slot.
+    scratch: FlatMemory,
 }
 
 impl Model for Host {
@@ -68,8 +67,11 @@ impl Model for Host {
     ghost invariant = { λ h. IsHost (host_with_store h.system h.frames h.openings h.store h.slots.items).host × HaveTables (memories h.store) h.slots.items × (h.store.private ≡ h.frames) × IsSound h.store × AllCached (memories h.store) h.store.stamps h.slots.items };
 }
 
-/// What a host takes memory for: its frames, its places and its mirror.
-fn allocate(alloc: Global, frames: u16) -> Result<(FrameStore, Vec<Slot>, Mirror), AllocError>
+/// What a host takes memory for: its frames, its places and the copy that it works on.
+fn allocate(
+    alloc: Global,
+    frames: u16,
+) -> Result<(FrameStore, Vec<Slot>, FlatMemory), AllocError>
     requires { frames ≤ 16384 }
     ensures frames { IfOk result (λ r. r.0.private ≡ frames) }
     ensures sound { IfOk result (λ r. IsSound r.0) }
@@ -78,8 +80,8 @@ fn allocate(alloc: Global, frames: u16) -> Result<(FrameStore, Vec<Slot>, Mirror
 {
     let store = FrameStore::new(alloc, frames)?;
     let slots = Vec::with_capacity(alloc, MOST_SLOTS)?;
-    let mirror = Mirror::new(alloc)?;
-    Ok((store, slots, mirror))
+    let scratch = FlatMemory::new(alloc)?;
+    Ok((store, slots, scratch))
 }
 
 impl Host {
@@ -94,13 +96,13 @@ impl Host {
         ensures refused { IfErr result (λ r. (r.0 ≡ system) × (r.1 ≡ OpenError.OutOfMemory)) }
     {
         match allocate(alloc, frames) {
-            Ok((store, slots, mirror)) => Ok(Host {
+            Ok((store, slots, scratch)) => Ok(Host {
                 system,
                 frames,
                 openings: 0,
                 store,
                 slots,
-                mirror,
+                scratch,
             }),
             Err(_) => Err((system, OpenError::OutOfMemory)),
         }
@@ -194,7 +196,7 @@ impl Host {
             Some(index) => Ok(grant_at(
                 &mut self.slots,
                 &mut self.store,
-                &mut self.mirror,
+                &mut self.scratch,
                 &self.system,
                 index,
                 steps,

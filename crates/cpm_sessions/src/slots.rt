@@ -22,13 +22,12 @@ use crate::event::{Refusal, Reply, SlotId};
 use cpm_bdos::Mode;
 use cpm_console::{Console, Device};
 use cpm_geom::Image;
-use cpm_memory::{FrameStore, Memory, TableId};
-use cpm_mirror::{Mirror, MirroredView};
+use cpm_memory::{FlatMemory, FrameStore, Memory, TableId};
 use cpm_slots::steps::{self, Runner};
 use cpm_slots::{Closed, Granted, Look, until};
 
-/// The fewest steps for which the memory is mirrored. Below them its copy costs more than the steps gain by it.
-const LEAST_MIRRORED: u64 = 1_500;
+/// The fewest steps for which the memory is copied. Below them its copy costs more than the steps gain by it.
+const LEAST_COPIED: u64 = 1_500;
 
 /// A session under the number of its opening, with the table of its memory.
 #[derive(Drop)]
@@ -159,11 +158,11 @@ fn grant_to<M: Memory>(
 }
 
 /// The same in a session whose memory is a table of the store. Where it begins in a program, and there are steps enough and no
-/// stop, the memory is mirrored for them.
+/// stop, the memory is copied for them, and its copy is put back. What the copy was before makes no difference.
 fn grant_table(
     runner: &mut Runner,
     store: &mut FrameStore,
-    mirror: &mut Mirror,
+    scratch: &mut FlatMemory,
     table: TableId,
     system: &Image,
     steps: u64,
@@ -182,19 +181,21 @@ fn grant_table(
     ensures frames { store.new.private ≡ store.old.private }
     ensures store { IsSoundStore store.new }
 {
-    if stop.is_some() || steps < LEAST_MIRRORED || runner.cpm.mode != Mode::Program {
+    if stop.is_some() || steps < LEAST_COPIED || runner.cpm.mode != Mode::Program {
         let mut view = store.view(table);
         return grant_to(system, runner, &mut view, steps, stop);
     }
-    let mut mirrored = MirroredView::new(store, table, mirror);
-    steps::grant(system, runner, &mut mirrored, steps)
+    scratch.reflect(store, table);
+    let granted = steps::grant(system, runner, scratch, steps);
+    store.put_back(table, scratch);
+    granted
 }
 
 /// The same in the session at a place.
 pub fn grant_at(
     slots: &mut Vec<Slot>,
     store: &mut FrameStore,
-    mirror: &mut Mirror,
+    scratch: &mut FlatMemory,
     system: &Image,
     index: usize,
     steps: u64,
@@ -211,7 +212,7 @@ pub fn grant_at(
 {
     let slot = &mut slots[index];
     let table = slot.table;
-    grant_table(&mut slot.runner, store, mirror, table, system, steps, stop)
+    grant_table(&mut slot.runner, store, scratch, table, system, steps, stop)
 }
 
 /// What is seen of the session at a place. The store is lent for reading alone.

@@ -20,10 +20,10 @@ mod lab;
 #[cfg(test)]
 mod large;
 #[cfg(test)]
-mod mirror;
-#[cfg(test)]
 mod refusals;
 #[cfg(test)]
 mod runs;
 #[cfg(test)]
 mod same;
+#[cfg(test)]
+mod scratch;

@@ -1,4 +1,4 @@
-//! Grants that are long enough for a mirror, beside the same steps one by one.
+//! Grants that are long enough for a copy of the memory, beside the same steps one by one.
 
 use super::{are_alike, executes, host_of, open_with};
 use crate::same::same;

@@ -1,14 +1,14 @@
-use Rattle.std.proofs.Common.{◌≡◌, ◌≢◌, ℕ, List, [], get_or, arith, subst}
+use Rattle.std.proofs.Common.{◌≡◌, ◌≢◌, ℕ, List, [], get_or, arith, subst, sym, ◌∙◌}
 use Rattle.std.proofs.lemmas.Grind.{common_steps}
+use Rattle.cpm_memory.specs.Flat.{flat_contents, flat_stamps}
 use Rattle.cpm_memory.specs.Frames.{Frames, memories, memory_of, stamps_at}
 use Rattle.cpm_memory.specs.View as view
-use Rattle.cpm_mirror.specs.Mirrored as mirrored
 use Rattle.cpm_decode.specs.Cache.{IsRightFor}
 use Rattle.cpm_slots.specs.Runner.{state_of, IsSound}
 use Rattle.cpm_sessions.specs.Slots.{contents_at}
-use Rattle.cpm_sessions.proofs.ViewLaws.{Lent, Leaves, lent-view, lent-mirrored, leaves, right-lent, right-left, keeps-stamps}
+use Rattle.cpm_sessions.proofs.ViewLaws.{Lent, Leaves, lent-view, leaves, leaves-copied, changes, contents-of, right-lent, right-left, right-copied, right-put, stored-copied, keeps-stamps}
 use Rattle.cpm_sessions.proofs.slots.grant_table.Goals as goal
-use Rattle.cpm_sessions.proofs.slots.grant_table.Goals.{After-grant_to, After-grant}
+use Rattle.cpm_sessions.proofs.slots.grant_table.Goals.{After-grant_to, After-put_back}
 
 -- what is lent to the grant, and what is left
 lent : (c : After-grant_to) → Lent c.args.store.now (view.store_of c.view-view.result) (view.store_of c.grant_to.new.memory) c.args.table (view.table_of c.view-view.result) (view.table_of c.grant_to.new.memory)
@@ -50,42 +50,42 @@ returns-then-is_some-clause-stamps c =
     subst (λ (stamps : List (List ℕ)). (t : ℕ) → t ≢ c.args.table → get_or stamps t [] ≡ stamps_at c.args.store.now t) (grind (arith, common_steps))
     (keeps-stamps c.args.store.now (view.store_of c.view-view.result) (view.store_of c.grant_to.new.memory) c.args.table (view.table_of c.view-view.result) c.view-view.ensures.store c.view-view.ensures.table c.grant_to.ensures.leads.other_stamps)
 
--- what is lent to the grant with a mirror, and what is left
-lent_mirrored : (c : After-grant) → Lent c.args.store.now (mirrored.store_of c.new-mirrored.result) (mirrored.store_of c.grant.new.memory) c.args.table (mirrored.table_of c.new-mirrored.result) (mirrored.table_of c.grant.new.memory)
-lent_mirrored c = lent-mirrored c.new-mirrored.result c.grant.new.memory c.args.store.now c.args.table c.new-mirrored.ensures.store c.new-mirrored.ensures.table c.new-mirrored.ensures.memory c.grant.ensures.leads.stores.surroundings
+-- what is lent to the grant as a copy, and what is put back
+copied_leaves : (c : After-put_back) → Leaves c.args.store.now c.put_back.new.self c.args.table (flat_contents c.reflect.new.self) (flat_contents c.grant-granted.new.memory)
+copied_leaves c =
+    leaves-copied c.args.store.now c.put_back.new.self c.args.table (flat_contents c.reflect.new.self) (flat_contents c.grant-granted.new.memory)
+    c.requires.taken c.reflect.ensures.contents c.put_back.ensures.memories c.put_back.ensures.frames
 
-lent_mirrored_leaves : (c : After-grant) → Leaves c.args.store.now (mirrored.store_of c.grant.new.memory) c.args.table (memory_of (mirrored.store_of c.new-mirrored.result) (mirrored.table_of c.new-mirrored.result)) (memory_of (mirrored.store_of c.grant.new.memory) (mirrored.table_of c.grant.new.memory))
-lent_mirrored_leaves c = leaves c.args.store.now (mirrored.store_of c.new-mirrored.result) (mirrored.store_of c.grant.new.memory) c.args.table (mirrored.table_of c.new-mirrored.result) (mirrored.table_of c.grant.new.memory) (lent_mirrored c)
+pub grant-granted-requires-clause-sound : goal.grant-granted-requires-clause-sound
+grant-granted-requires-clause-sound c =
+    subst (λ m. IsSound (state_of c.args.runner.now m)) (contents-of c.args.store.now c.args.table c.requires.taken ∙ sym c.reflect.ensures.contents) c.requires.sound
 
-pub grant-requires-clause-right : goal.grant-requires-clause-right
-grant-requires-clause-right c = right-lent c.args.store.now (mirrored.store_of c.new-mirrored.result) c.args.table (mirrored.table_of c.new-mirrored.result) c.args.runner.now.cache c.new-mirrored.ensures.store c.new-mirrored.ensures.table c.new-mirrored.ensures.memory c.requires.right
+pub grant-granted-requires-clause-right : goal.grant-granted-requires-clause-right
+grant-granted-requires-clause-right c =
+    right-copied c.args.store.now c.args.table (flat_contents c.reflect.new.self) (flat_stamps c.reflect.new.self) c.args.runner.now.cache c.requires.taken c.reflect.ensures.contents c.reflect.ensures.stamps c.requires.right
+
+pub put_back-requires-clause-stored : goal.put_back-requires-clause-stored
+put_back-requires-clause-stored c =
+    stored-copied c.args.store.now c.args.table (flat_contents c.reflect.new.self) (flat_contents c.grant-granted.new.memory) (flat_stamps c.reflect.new.self) (flat_stamps c.grant-granted.new.memory)
+    c.reflect.ensures.contents c.reflect.ensures.stamps c.grant-granted.ensures.leads.stamps
 
 pub returns-clause-state : goal.returns-clause-state
 returns-clause-state c =
-    let k = lent_mirrored_leaves (goal.at.returns-clause-state c).After-grant in
+    let k = copied_leaves (goal.at.returns-clause-state c).After-put_back in
     let old = k.old in
     let now = k.now in
-    let state = c.grant.ensures.state in
+    let state = c.grant-granted.ensures.state in
     grind (arith, common_steps)
 
 pub returns-clause-others : goal.returns-clause-others
-returns-clause-others c =
-    let k = lent_mirrored_leaves (goal.at.returns-clause-others c).After-grant in
-    let now = k.now in
-    let all = k.memories in
-    record { memories = grind (arith, common_steps) }
+returns-clause-others c = changes c.args.store.now c.put_back.new.self c.args.table _ _ (copied_leaves (goal.at.returns-clause-others c).After-put_back)
 
 pub returns-clause-sound : goal.returns-clause-sound
-returns-clause-sound c =
-    let now = (lent_mirrored_leaves (goal.at.returns-clause-sound c).After-grant).now in
-    subst (λ m. IsSound (state_of c.grant.new.runner m)) (grind (arith, common_steps)) c.grant.ensures.sound
+returns-clause-sound c = subst (λ m. IsSound (state_of c.grant-granted.new.runner m)) (sym (copied_leaves (goal.at.returns-clause-sound c).After-put_back).now) c.grant-granted.ensures.sound
 
 pub returns-clause-right : goal.returns-clause-right
 returns-clause-right c =
-    subst (λ (s : Frames). IsRightFor (contents_at (memories s) c.args.table) (stamps_at s c.args.table) c.grant.new.runner.cache) (grind (arith, common_steps))
-    (right-left c.args.store.now (mirrored.store_of c.new-mirrored.result) (mirrored.store_of c.grant.new.memory) c.args.table (mirrored.table_of c.new-mirrored.result) (mirrored.table_of c.grant.new.memory) c.grant.new.runner.cache (lent_mirrored (goal.at.returns-clause-right c).After-grant) c.grant.ensures.right)
+    right-put c.args.store.now c.put_back.new.self c.args.table _ (flat_contents c.grant-granted.new.memory) (flat_stamps c.grant-granted.new.memory) c.grant-granted.new.runner.cache (copied_leaves (goal.at.returns-clause-right c).After-put_back) c.put_back.ensures.stamps c.grant-granted.ensures.right
 
 pub returns-clause-stamps : goal.returns-clause-stamps
-returns-clause-stamps c =
-    subst (λ (stamps : List (List ℕ)). (t : ℕ) → t ≢ c.args.table → get_or stamps t [] ≡ stamps_at c.args.store.now t) (grind (arith, common_steps))
-    (keeps-stamps c.args.store.now (mirrored.store_of c.new-mirrored.result) (mirrored.store_of c.grant.new.memory) c.args.table (mirrored.table_of c.new-mirrored.result) c.new-mirrored.ensures.store c.new-mirrored.ensures.table c.grant.ensures.leads.other_stamps)
+returns-clause-stamps c = c.put_back.ensures.other_stamps
