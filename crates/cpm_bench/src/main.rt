@@ -1,6 +1,7 @@
 //! Runs a program by one grant of a machine, `machine CPU FILE STEPS`, or with IMAGE as its drive A, `machine CPU FILE STEPS IMAGE`, or
 //! RUN.COM of a system drive in the sessions of a host by grants in turn, `host CPU IMAGE SESSIONS QUOTA STEPS ROUNDS`, and prints how
-//! many steps were executed. CPU is `8080` or `z80`. Or it opens and closes a slot with a new blank drive, `slots TIMES`, or makes such a
+//! many steps were executed; or RUN.COM in one session in turn with sessions that wait at their prompts, `waiting IMAGE NUMBER STEPS ROUNDS`.
+//! CPU is `8080` or `z80`. Or it looks at a session, `looks TIMES`, or opens and closes a slot with a new blank drive, `slots TIMES`, or makes such a
 //! drive alone, `openings TIMES`.
 //!
 //! Or it makes memories to see what room they take: `sessions NUMBER` in one store, each with one written page, or `flats NUMBER` of
@@ -23,7 +24,8 @@ use cpm_memory::{FlatMemory, FrameStore, has_room};
 use cpm_sessions::Host;
 use forks::{fork_and_close, host_of_forks, host_of_opened};
 use sessions::{
-    Turns, host_of_drives, make_openings, open_and_close, run_host, run_machine, run_machine_with,
+    Turns, host_of_drives, look_often, make_openings, open_and_close, run_beside, run_host,
+    run_machine, run_machine_with,
 };
 use soak::soak;
 use std::process::ExitCode;
@@ -169,6 +171,14 @@ fn measure(rt: &HostRuntime, words: &[&str]) -> Option<u64> {
             };
             run_host(rt.alloc(), cpu_of(cpu)?, drive_of(rt, file)?, &turns)
         }
+        ["waiting", file, waiting, steps, rounds] => run_beside(
+            rt.alloc(),
+            drive_of(rt, file)?,
+            waiting.parse().ok()?,
+            steps.parse().ok()?,
+            rounds.parse().ok()?,
+        ),
+        ["looks", times] => look_often(rt.alloc(), times.parse().ok()?),
         ["slots", times] => open_and_close(rt.alloc(), times.parse().ok()?),
         ["openings", times] => make_openings(rt.alloc(), times.parse().ok()?),
         words => hold(rt, words),

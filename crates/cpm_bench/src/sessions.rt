@@ -107,6 +107,46 @@ pub fn run_host(alloc: Global, cpu: Cpu, system: Image, turns: &Turns) -> Option
     Some(total)
 }
 
+/// Runs the program RUN.COM of the system drive in one session, in turn with so many sessions at their prompts, and says how many steps it executed.
+pub fn run_beside(
+    alloc: Global,
+    system: Image,
+    waiting: u16,
+    steps: u64,
+    rounds: u64,
+) -> Option<u64> {
+    if waiting > 63 {
+        return None;
+    }
+    let mut host = host_of(alloc, system, waiting + 1)?;
+    let worker = start(alloc, &mut host, Cpu::I8080, 256)?;
+    let mut others = Vec::new(alloc);
+    for _ in 0..waiting {
+        let opening = opening_of(alloc, Cpu::I8080, 256)?;
+        others.push(host.open(alloc, opening).ok()?).ok()?;
+    }
+    let mut total = 0u64;
+    for _ in 0..rounds {
+        let granted = host.grant(worker, steps).ok()?;
+        total = total.saturating_add(granted.executed);
+        for id in &others {
+            host.grant(*id, steps).ok()?;
+        }
+    }
+    Some(total)
+}
+
+/// Looks at a session so many times.
+pub fn look_often(alloc: Global, times: u64) -> Option<u64> {
+    let mut host = host_of(alloc, Image::blank(alloc, Format::Ibm3740).ok()?, 1)?;
+    let opening = opening_of(alloc, Cpu::I8080, 256)?;
+    let id = host.open(alloc, opening).ok()?;
+    for _ in 0..times {
+        host.look(id).ok()?;
+    }
+    Some(times)
+}
+
 /// Opens and closes a slot so many times, each time with a new blank drive.
 pub fn open_and_close(alloc: Global, times: u64) -> Option<u64> {
     let mut host = host_of(alloc, Image::blank(alloc, Format::Ibm3740).ok()?, 1)?;
