@@ -68,10 +68,7 @@ impl Model for Host {
 }
 
 /// What a host takes memory for: its frames, its places and the copy that it works on.
-fn allocate(
-    alloc: Global,
-    frames: u16,
-) -> Result<(FrameStore, Vec<Slot>, FlatMemory), AllocError>
+fn allocate(alloc: Global, frames: u16) -> Result<(FrameStore, Vec<Slot>, FlatMemory), AllocError>
     requires { frames ≤ 16384 }
     ensures frames { IfOk result (λ r. r.0.private ≡ frames) }
     ensures sound { IfOk result (λ r. IsSound r.0) }

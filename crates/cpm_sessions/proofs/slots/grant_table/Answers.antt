@@ -1,10 +1,15 @@
-use Rattle.std.proofs.Common.{◌≡◌, ◌≢◌, ℕ, List, [], get_or, arith, subst, sym, ◌∙◌}
+use Rattle.std.proofs.Common.{◌≡◌, ◌≢◌, ℕ, List, [], get_or, arith, subst, refl, ap, sym, ◌∙◌, false, Option, None, Some, is_some}
 use Rattle.std.proofs.lemmas.Grind.{common_steps}
+use Rattle.std.proofs.lemmas.Bool.{false≢true}
+use Rattle.cpm_geom.specs.Disk.{Disk}
 use Rattle.cpm_memory.specs.Flat.{flat_contents, flat_stamps}
 use Rattle.cpm_memory.specs.Frames.{Frames, memories, memory_of, stamps_at}
 use Rattle.cpm_memory.specs.View as view
 use Rattle.cpm_decode.specs.Cache.{IsRightFor}
+use Rattle.cpm_slots.specs.MachineState.{MachineState}
+use Rattle.cpm_slots.specs.Serve.{executed}
 use Rattle.cpm_slots.specs.Runner.{state_of, IsSound}
+use Rattle.cpm_sessions.specs.Serving.{executed_to}
 use Rattle.cpm_sessions.specs.Slots.{contents_at}
 use Rattle.cpm_sessions.proofs.ViewLaws.{Lent, Leaves, lent-view, leaves, leaves-copied, changes, contents-of, right-lent, right-left, right-copied, right-put, stored-copied, keeps-stamps}
 use Rattle.cpm_sessions.proofs.slots.grant_table.Goals as goal
@@ -68,6 +73,18 @@ pub put_back-requires-clause-stored : goal.put_back-requires-clause-stored
 put_back-requires-clause-stored c =
     stored-copied c.args.store.now c.args.table (flat_contents c.reflect.new.self) (flat_contents c.grant-granted.new.memory) (flat_stamps c.reflect.new.self) (flat_stamps c.grant-granted.new.memory)
     c.reflect.ensures.contents c.reflect.ensures.stamps c.grant-granted.ensures.leads.stamps
+
+-- without a stop a grant executes what it would execute
+without_stop : (system : Disk) (stop : Option ℕ) (steps : ℕ) (s : MachineState) → is_some stop ≡ false → executed_to system stop steps s ≡ executed system steps s
+without_stop system None steps s none = refl
+without_stop system (Some pc) steps s none = absurd (false≢true (sym none))
+
+pub returns-clause-executed : goal.returns-clause-executed
+returns-clause-executed c =
+    let old = (copied_leaves (goal.at.returns-clause-executed c).After-put_back).old in
+    c.grant-granted.ensures.executed
+    ∙ ap (λ m. executed c.args.system.now c.args.steps (state_of c.args.runner.now m)) (sym old)
+    ∙ sym (without_stop c.args.system.now c.args.stop c.args.steps (state_of c.args.runner.now (contents_at (memories c.args.store.now) c.args.table)) (sym c.is_some.ensures ∙ c.if-is_some.false))
 
 pub returns-clause-state : goal.returns-clause-state
 returns-clause-state c =
