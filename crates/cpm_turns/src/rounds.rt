@@ -10,6 +10,7 @@ use crate::forks::fork_due;
 use crate::player::Player;
 use crate::turn::turn;
 use cpm_sessions::Host;
+use cpm_slots::Look;
 use std::alloc::Global;
 
 /// Whether one of the players has steps to execute, or is still to be forked.
@@ -22,11 +23,36 @@ fn goes_on(players: &[Player]) -> bool
     })
 }
 
+/// Whether the sessions are asked in a round whether they wait for a key: in those of the numbers 0, 1, 2, 4, 8 and so on, so that it costs next to nothing.
+fn asks_in(round: u64) -> bool {
+    round & round.wrapping_sub(1) == 0
+}
+
+/// The most steps of a player's turn: a quantum. A session that is asked, and waits for a key, may have all those to its next key, since each changes its
+/// count alone.
+fn most_steps(host: &mut Host, player: &Player, asks: bool, quantum: u64) -> u64
+    requires { 1 ≤ quantum }
+    ensures some { 1 ≤ result }
+    ensures unchanged { host.new ≡ host.old }
+{
+    let Player::Playing(slot) = player else {
+        return quantum;
+    };
+    if !asks {
+        return quantum;
+    }
+    match host.look(slot.id) {
+        Ok(Look { waiting: true, .. }) => u64::MAX,
+        _ => quantum,
+    }
+}
+
 /// Gives each of the players a turn, once those that are to be forked from it now are forked.
 fn round(
     alloc: Global,
     host: &mut Host,
     players: &mut [Player],
+    asks: bool,
     quantum: u64,
 ) -> Result<(), PlayError>
     requires { 1 ≤ quantum }
@@ -35,7 +61,8 @@ fn round(
     ensures refused { IfErr result (λ e. (old : HostValue) (given : List PlayerValue) → AllReady old.slots given → HasCome old host.old.host given players.old → IsPlayRefusal old given e) }
 {
     for place in 0..players.len() {
-        let steps = fork_due(alloc, host, players, place, quantum)?;
+        let most = most_steps(host, &players[place], asks, quantum);
+        let steps = fork_due(alloc, host, players, place, most)?;
         if let Player::Playing(slot) = &mut players[place] {
             turn(host, slot, steps)?;
         }
@@ -43,8 +70,8 @@ fn round(
     Ok(())
 }
 
-/// Plays sessions of a host, and forks those that are to be forked. The players have turns in their order, each of at most `quantum` steps and cut at the
-/// count of the next key and at that of the next fork, and all that a session shows is taken after its turn, until each has executed its steps or ended.
+/// Plays sessions of a host, and forks those that are to be forked. The players have turns in their order, each of at most `quantum` steps (or where the session waits
+/// for a key of as many as it waits) and cut at the count of the next key and at that of the next fork, and all that a session shows is taken after its turn, until each has executed its steps or ended.
 /// A session is forked once the one that it is forked from has executed as many steps, or executes no more, and before that one's keys of this count.
 ///
 /// `ForkRefused` names the place of a session for which there is no slot or are not enough frames; `OutOfMemory` comes only where memory is refused.
@@ -63,8 +90,10 @@ pub fn play(
     ensures refused { IfErr result (IsPlayRefusal host.old.host players.old) }
 {
     host.slots_are_orderly();
+    let mut rounds = 0u64;
     while goes_on(players) {
-        round(alloc, host, players, quantum)?;
+        round(alloc, host, players, asks_in(rounds), quantum)?;
+        rounds = rounds.wrapping_add(1);
     }
     Ok(())
 }

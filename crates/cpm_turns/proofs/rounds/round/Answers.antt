@@ -21,7 +21,7 @@ loop-place-init c = record {
 pub returns-in_err-steps-clause-refused : goal.returns-in_err-steps-clause-refused
 returns-in_err-steps-clause-refused c =
     let p = err_from_is_err_and c.from_residual.result c.from_residual.ensures.1 in
-    rw (p.1, p.2) (λ old given ready come. c.in_err-steps.ensures.refused old given ready (c.loop-place.invariant.come old given ready come))
+    rw (p.1, p.2) (λ old given ready come. c.in_err-steps.ensures.refused old given ready (subst (λ (h : HostWithStore). HasCome old h.host given c.loop-place.players) (sym c.most_steps-most.ensures.unchanged) (c.loop-place.invariant.come old given ready come)))
 
 pub loop-place-preserved : goal.loop-place-preserved
 loop-place-preserved c =
@@ -39,14 +39,14 @@ loop-place-preserved c =
           let slot = w.in-Playing.slot in
           let next = w.turn.new.slot in
           let turned = w.in_ok-turn.ensures in
-          let plays : slice_get players place ≡ Some (Playing slot) = slice_get-get_or players place c.index-players-place.result within ∙ ap Some w.in-Playing.is in
+          let plays : slice_get players place ≡ Some (Playing slot) = slice_get-get_or players place c.index-players-place-in-loop-place.result within ∙ ap Some w.in-Playing.is in
           let after : c.match-players-place.players ≡ set players place (Playing next) = w.players-is in
           let host = ap (λ (h : HostWithStore). h.host) w.host-is in
           record {
             come = λ old given ready come.
                 let t : IsTurn old c.fork_due.new.host.host w.turn.new.host.host given players place steps slot next = record {
                   ready = ready;
-                  come = k.come old given ready (i.come old given ready come);
+                  come = k.come old given ready (subst (λ (h : HostWithStore). HasCome old h.host given c.loop-place.players) (sym c.most_steps-most.ensures.unchanged) (i.come old given ready come));
                   plays = plays;
                   moves = turned.moves;
                   goes = turned.playing;
@@ -61,16 +61,16 @@ loop-place-preserved c =
                 (left-turn c.args.players.now c.loop-place.players players place steps slot next i.left k.left k.far plays turned.left);
           }
       | in_default w ↦
-          let after : c.match-players-place.players ≡ players = w.players-is ∙ set-get_or players place c.index-players-place.result in
+          let after : c.match-players-place.players ≡ players = w.players-is ∙ set-get_or players place c.index-players-place-in-loop-place.result in
           let host = ap (λ (h : HostWithStore). h.host) w.host-is in
           record {
             come = λ old given ready come.
                 subst (λ (h : Host). HasCome old h given c.match-players-place.players) (sym host)
-                (subst (λ (ps : List Player). HasCome old c.fork_due.new.host.host given ps) (sym after) (k.come old given ready (i.come old given ready come)));
+                (subst (λ (ps : List Player). HasCome old c.fork_due.new.host.host given ps) (sym after) (k.come old given ready (subst (λ (h : HostWithStore). HasCome old h.host given c.loop-place.players) (sym c.most_steps-most.ensures.unchanged) (i.come old given ready come))));
             long = ap length after ∙ kept ∙ long;
             left = subst (λ (ps : List Player). IsLeft c.args.players.now ps (place + 1)) (sym after)
                 (left-waits c.args.players.now c.loop-place.players players place i.left k.left
-                (λ slot at. w.in_default.not-Playing slot (get_or_from_slice_get players place (Playing slot) c.index-players-place.result at)));
+                (λ slot at. w.in_default.not-Playing slot (get_or_from_slice_get players place (Playing slot) c.index-players-place-in-loop-place.result at)));
           }
     ]
 
