@@ -1,5 +1,6 @@
 pub mod Apart
 pub mod BitLemmas
+pub mod BitsAt
 pub mod FewStores
 pub mod IndexStep
 pub mod PlainRows
