@@ -5,8 +5,8 @@ An archive is a folder:
     configs/NAME.toml   the configurations; each is run in a folder two below the archive, so it names what it reads
                         ../../images/.. and ../../keys/.., and what it writes by plain names
     images/, keys/      what they read
-    results/NAME/       what a configuration gave: the files that it names, `report` (standard output) and `notes`
-                        (standard error, and `status N` as the last line). A result is there whole or not at all
+    results/NAME/       what a configuration gave: the files that it names, and `report`, which is what the program printed,
+                        with `status N` as its last line. A result is there whole or not at all
     work/               configurations that are being run, or were cut off
     run/                the list of all configurations, and the log of GNU parallel
 """
@@ -125,7 +125,7 @@ def one_by_one(folder, listed):
     # (it inherits the lock of a run, where there is one)
     how = {"cwd": folder, "env": environment(), "stdin": subprocess.DEVNULL, "close_fds": False}
     for at in range(0, len(listed), 500):  # (a command has room for so many words)
-        subprocess.run([JOB, ".", *listed[at : at + 500]], **how)
+        subprocess.run([sys.executable, JOB, ".", *listed[at : at + 500]], **how)
 
 
 # ---- results
@@ -150,19 +150,19 @@ def changed_images(result, session, drives, known):
     return found
 
 
-def refused(name, notes):
-    return [Session(name, "", "", "Refused", None, None, "", {}, notes[-2] if len(notes) > 1 else "")]
+def refused(name, lines):
+    return [Session(name, "", "", "Refused", None, None, "", {}, lines[-2] if len(lines) > 1 else "")]
 
 
 def sessions_of(folder, name, known):
     """The rows of a configuration that has its result. `known` keeps the digests of images that are read."""
     result = f"{folder}/results/{name}"
-    notes = text(result, "notes").splitlines()
-    if notes[-1:] != ["status 0"]:
-        return refused(name, notes)
+    lines = text(result, "report").splitlines()
+    if lines[-1:] != ["status 0"]:
+        return refused(name, lines)
     sessions = tomllib.loads(text(folder, "configs", f"{name}.toml"))["session"]
-    reports = [REPORT.fullmatch(line) for line in text(result, "report").splitlines()]
-    if [it and it[1] for it in reports] != [it["name"] for it in sessions]:
+    reports = [it for it in map(REPORT.fullmatch, lines) if it]
+    if [it[1] for it in reports] != [it["name"] for it in sessions]:
         raise Refusal(f"{result}/report isn't that of configs/{name}.toml: take the folder away, and run the archive again")
     by_name, rows = {it["name"]: it for it in sessions}, []
     for session, report in zip(sessions, reports):
@@ -170,7 +170,7 @@ def sessions_of(folder, name, known):
         images = changed_images(result, session, origin["drives"], known)
         console = digest(result, plain(session["console"]))
         said = f"{session['name']} illegal at "
-        note = next((it[len(session["name"]) + 1 :] for it in notes if it.startswith(said)), "")
+        note = next((it[len(session["name"]) + 1 :] for it in lines if it.startswith(said)), "")
         rows.append(Session(name, session["name"], origin["cpu"], report[2], int(report[3]), int(report[4]), console, images, note))
     return rows
 

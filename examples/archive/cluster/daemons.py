@@ -169,8 +169,16 @@ class Cluster:
         until = time.monotonic() + seconds
         while not holds():
             if time.monotonic() > until:
-                raise TimeoutError(f"no {what} after {seconds} seconds; the daemons' logs are in {self.room}")
+                raise TimeoutError(f"no {what} after {seconds} seconds; the daemons said:\n{self.last_lines()}")
             time.sleep(0.2)
+
+    def last_lines(self):
+        """The ends of the daemons' logs."""
+        found = []
+        for name in sorted(it for it in os.listdir(self.room) if it.endswith((".out", ".log"))):
+            with open(f"{self.room}/{name}", encoding="utf-8", errors="replace") as file:
+                found += [f"{name}: {line}" for line in file.read().splitlines()[-5:]]
+        return "\n".join(found)
 
     def said(self, *words):
         """The lines that a command of Slurm prints."""
