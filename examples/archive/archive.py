@@ -22,6 +22,8 @@ from typing import NamedTuple
 HERE = os.path.dirname(os.path.realpath(__file__))
 TOP = os.path.dirname(os.path.dirname(HERE))
 JOB = f"{HERE}/job"
+# the job by the Python that is running, since what `env` finds may be a script that looks for one; it needs no modules but Python's own
+JOB_WORDS = sys.executable, "-I", "-S", JOB
 # (names are words of commands, of logs and of manifests, so they have no characters that mean something there)
 NAME = re.compile(r"[A-Za-z0-9][A-Za-z0-9._-]*")
 REPORT = re.compile(r"(\S+) ([A-Z][A-Za-z]+) (\d+) (\d+)")
@@ -125,7 +127,7 @@ def one_by_one(folder, listed):
     # (it inherits the lock of a run, where there is one)
     how = {"cwd": folder, "env": environment(), "stdin": subprocess.DEVNULL, "close_fds": False}
     for at in range(0, len(listed), 500):  # (a command has room for so many words)
-        subprocess.run([sys.executable, JOB, ".", *listed[at : at + 500]], **how)
+        subprocess.run([*JOB_WORDS, ".", *listed[at : at + 500]], **how)
 
 
 # ---- results
