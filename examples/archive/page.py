@@ -70,7 +70,7 @@ def plots(rows):
 def page(title, rows, missing):
     told = f"{len({row.configuration for row in rows}):,} configurations with {len(rows):,} rows"
     if missing:
-        told += f"; {len(missing):,} have no result yet"
+        told += f"; without a result yet: {len(missing):,}"
     return f"""<!doctype html>
 <html lang="en">
 <head>
