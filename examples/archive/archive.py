@@ -1,0 +1,185 @@
+"""What the scripts of examples/archive share: where the parts of an archive are, its configurations and their results.
+
+An archive is a folder:
+
+    configs/NAME.toml   the configurations; each is run in a folder two below the archive, so it names what it reads
+                        ../../images/.. and ../../keys/.., and what it writes by plain names
+    images/, keys/      what they read
+    results/NAME/       what a configuration gave: the files that it names, and `report`, which is what the program printed,
+                        with `status N` as its last line. A result is there whole or not at all
+    work/               configurations that are being run, or were cut off
+    run/                the list of all configurations, and the log of GNU parallel
+"""
+
+import hashlib
+import os
+import re
+import subprocess
+import sys
+import tomllib
+from typing import NamedTuple
+
+HERE = os.path.dirname(os.path.realpath(__file__))
+TOP = os.path.dirname(os.path.dirname(HERE))
+JOB = f"{HERE}/job"
+# the job by the Python that is running, since what `env` finds may be a script that looks for one; it needs no modules but Python's own
+JOB_WORDS = sys.executable, "-I", "-S", JOB
+# (names are words of commands, of logs and of manifests, so they have no characters that mean something there)
+NAME = re.compile(r"[A-Za-z0-9][A-Za-z0-9._-]*")
+REPORT = re.compile(r"(\S+) ([A-Z][A-Za-z]+) (\d+) (\d+)")
+
+
+class Refusal(Exception):
+    """Why nothing is done."""
+
+
+class Session(NamedTuple):
+    """A row of the summary: a session, or a configuration that was refused."""
+
+    configuration: str
+    program: str
+    processor: str
+    end: str
+    count: int | None
+    bytes: int | None
+    # the digest of the console, and of each image that isn't as it was, by its name
+    console: str
+    images: dict
+    note: str
+
+
+def time_of(path):
+    return os.stat(path).st_mtime_ns if os.path.exists(path) else -1
+
+
+def program():
+    """The program that CPMHOST names, or ./cpmhost; for that script, the program that it runs, once it has built it where it must."""
+    named = os.path.realpath(os.environ.get("CPMHOST", f"{TOP}/cpmhost"))
+    try:
+        with open(named, "rb") as file:
+            is_script = file.read(2) == b"#!"
+    except OSError as error:
+        raise Refusal(f"can't read {named}: {error.strerror}")
+    if not is_script:
+        return named
+    ran = subprocess.run([named, "help"], stdin=subprocess.DEVNULL, stdout=subprocess.DEVNULL)
+    if ran.returncode:
+        raise Refusal(f"`cpmhost help` ended with status {ran.returncode}, so there is no program")
+    top = os.path.dirname(named)
+    # (the script's mark that it runs the release is newer than a program that it built before)
+    is_built = time_of(f"{top}/out/cpmhost") > time_of(f"{top}/out/release")
+    return f"{top}/{'out' if is_built else 'release'}/cpmhost"
+
+
+def environment():
+    return {**os.environ, "CPMHOST": program()}
+
+
+def digest(*path):
+    with open(os.path.join(*path), "rb") as file:
+        return hashlib.file_digest(file, "sha256").hexdigest()
+
+
+def text(*path):
+    with open(os.path.join(*path), encoding="utf-8", errors="replace") as file:
+        return file.read()
+
+
+def replace(data, *path):
+    """Writes a file that is whole or as it was."""
+    target = os.path.join(*path)
+    with open(f"{target}.new", "w", encoding="utf-8", newline="") as file:
+        file.write(data)
+        file.flush()
+        os.fsync(file.fileno())
+    os.replace(f"{target}.new", target)
+
+
+def names(folder):
+    """The names of an archive's configurations, in their order."""
+    try:
+        found = sorted(it[: -len(".toml")] for it in os.listdir(f"{folder}/configs") if it.endswith(".toml"))
+    except OSError as error:
+        raise Refusal(f"{folder} is no archive: can't read its folder configs: {error.strerror}")
+    for name in found:
+        if not NAME.fullmatch(name):
+            raise Refusal(f"{folder}/configs/{name}.toml: a name of letters, digits and . _ - is wanted")
+    if not found:
+        raise Refusal(f"{folder} has no configurations")
+    return found
+
+
+def has_result(folder, name):
+    return os.path.isdir(f"{folder}/results/{name}")
+
+
+def prepare(folder):
+    """The folders and the list of names, which a run needs; the names."""
+    listed = names(folder)
+    for part in ("work", "results", "run"):
+        os.makedirs(f"{folder}/{part}", exist_ok=True)
+    replace("".join(f"{name}\n" for name in listed), folder, "run", "list")
+    return listed
+
+
+def one_by_one(folder, listed):
+    """Runs the configurations that have no result, one after another."""
+    # (it inherits the lock of a run, where there is one)
+    how = {"cwd": folder, "env": environment(), "stdin": subprocess.DEVNULL, "close_fds": False}
+    for at in range(0, len(listed), 500):  # (a command has room for so many words)
+        subprocess.run([*JOB_WORDS, ".", *listed[at : at + 500]], **how)
+
+
+# ---- results
+
+
+def plain(name):
+    """The name of an output, which lies beside the report."""
+    if "/" in name or name in (".", ".."):
+        raise Refusal(f"the output {name} is no plain name")
+    return name
+
+
+def changed_images(result, session, drives, known):
+    found = {}
+    for name, before in zip(session.get("out", []), drives):
+        before = os.path.normpath(os.path.join(result, before))
+        if before not in known:
+            known[before] = digest(before)
+        after = digest(result, plain(name))
+        if after != known[before]:
+            found[name] = after
+    return found
+
+
+def refused(name, lines):
+    return [Session(name, "", "", "Refused", None, None, "", {}, lines[-2] if len(lines) > 1 else "")]
+
+
+def sessions_of(folder, name, known):
+    """The rows of a configuration that has its result. `known` keeps the digests of images that are read."""
+    result = f"{folder}/results/{name}"
+    lines = text(result, "report").splitlines()
+    if lines[-1:] != ["status 0"]:
+        return refused(name, lines)
+    sessions = tomllib.loads(text(folder, "configs", f"{name}.toml"))["session"]
+    reports = [it for it in map(REPORT.fullmatch, lines) if it]
+    if [it[1] for it in reports] != [it["name"] for it in sessions]:
+        raise Refusal(f"{result}/report isn't that of configs/{name}.toml: take the folder away, and run the archive again")
+    by_name, rows = {it["name"]: it for it in sessions}, []
+    for session, report in zip(sessions, reports):
+        origin = by_name[session["fork"]] if "fork" in session else session
+        images = changed_images(result, session, origin["drives"], known)
+        console = digest(result, plain(session["console"]))
+        said = f"{session['name']} illegal at "
+        note = next((it[len(session["name"]) + 1 :] for it in lines if it.startswith(said)), "")
+        rows.append(Session(name, session["name"], origin["cpu"], report[2], int(report[3]), int(report[4]), console, images, note))
+    return rows
+
+
+def refusals_end(work):
+    """Does the work of a script, whose refusals end it with a line and status 1."""
+    try:
+        return work()
+    except Refusal as refusal:
+        sys.exit(f"{os.path.relpath(os.path.realpath(sys.argv[0]), TOP)}: {refusal}")
