@@ -1,0 +1,3 @@
+pub mod Shelf
+pub mod Appending
+pub mod Laws
