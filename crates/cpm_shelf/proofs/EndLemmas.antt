@@ -34,7 +34,7 @@ named_from user name e plain a b =
     and_from _ _ (eq-eqb _ _ a) (name_matches_plain name e.extent.name plain ∙ (rw b (same_name-refl name)))
 
 -- ---- no further record
-count_past : (number own rc k : ℕ) → own < number → record_count_of number own rc ≡ 0
+pub count_past : (number own rc k : ℕ) → own < number → record_count_of number own rc ≡ 0
 unfolding record_count_of
 count_past number own rc k h = rw (le-ltb number own (omega arith), ne_eqb number own (omega arith)) refl
 

@@ -30,6 +30,9 @@ unfolding place_of
 place_starts d x current format =
     placed (extent_number x % (d.extent_mask + 1)) (128 / (d.block_mask + 1)) (d.block_mask + 1) (current / (d.block_mask + 1)) current format.whole_blocks (div-add-mod' current (d.block_mask + 1))
 
+pub zero_rest : (w : ℕ) → 0 % w ≡ 0
+zero_rest w = sym (ap (λ k. k % w) (let z : 0 * w ≡ 0 = omega arith in z)) ∙ mul-mod_left 0 w
+
 -- a multiple is no multiple and a rest
 pub apart_from : (a b r w : ℕ) → r < w → r ≢ 0 → a * w ≢ b * w + r
 apart_from a b r w below some e =

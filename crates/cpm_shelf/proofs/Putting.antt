@@ -18,6 +18,7 @@ use Rattle.cpm_shelf.proofs.Numbers.{place_starts, apart_from, same_factor}
 pub record PutsAtEnd (d : Dpb) (user : ℕ) (name : List ℕ) (v : Volume) (current : ℕ) (o : Outcome) : Type 0 where
   pub answer : o.answer ≡ done
   pub at_end : IsAtEnd d user name o.volume o.extent o.current
+  pub next : o.current ≡ current + 1
   pub entries : o.volume.entries ≡ v.entries
   pub blocks : unreserved o.volume.reserved + cond {A = ℕ} (eqb (current % (d.block_mask + 1)) 0) 1 0 ≡ unreserved v.reserved
 
@@ -64,7 +65,6 @@ module _ (d : Dpb) (user : ℕ) (name : List ℕ) (v : Volume) (x : Extent) (cur
     last = rw (entries, number) end.last;
     count = (let was = end.count in count ∙ omega arith);
     small = omega arith;
-    begun = λ z. absurd (omega arith);
     taken = λ s h. elim (cases_eq s (place_of d x current)) [
       | inl same ↦ rw same there
       | inr other ↦
@@ -98,6 +98,7 @@ module _ (d : Dpb) (user : ℕ) (name : List ℕ) (v : Volume) (x : Extent) (cur
       rw (old_answer there) (record {
         answer = refl;
         at_end = old_ends there;
+        next = refl;
         entries = refl;
         blocks = rw (ne_eqb _ _ within) (omega arith);
       })
@@ -139,6 +140,7 @@ module _ (d : Dpb) (user : ℕ) (name : List ℕ) (v : Volume) (x : Extent) (cur
       rw (new_answer (none_there begins) free) (record {
         answer = refl;
         at_end = new_ends free;
+        next = refl;
         entries = refl;
         blocks = rw (eq-eqb _ _ begins) (unreserved-taken v.reserved free);
       })

@@ -27,9 +27,13 @@ pub record IsAtEnd (d : Dpb) (user : ℕ) (name : List ℕ) (v : Volume) (x : Ex
   pub last : (i : ℕ) → is_named user name (entry_at v.entries i) ≡ true → extent_number (entry_at v.entries i).extent ≤ extent_number x
   pub count : x.record_count ≡ current
   pub small : current ≤ 128
-  pub begun : current ≡ 0 → extent_number x ≡ 0
   pub taken : (s : ℕ) → s * (d.block_mask + 1) < records_in_entry d x current → block_number x s ≢ 0
   pub rest : (s : ℕ) → records_in_entry d x current ≤ s * (d.block_mask + 1) → block_number x s ≡ 0
+
+-- It does, and its entry is there: only at record 0 it has none before it in the extent. (own)
+pub record IsAppending (d : Dpb) (user : ℕ) (name : List ℕ) (v : Volume) (x : Extent) (current : ℕ) : Type 0 where
+  pub at_end : IsAtEnd d user name v x current
+  pub begun : current ≡ 0 → extent_number x ≡ 0
 
 -- The entries in use of other users and names are as they were, and there are no more of them. (own)
 pub record KeepsEntries (user : ℕ) (name : List ℕ) (es es' : List Entry) : Type 0 where
@@ -47,7 +51,7 @@ blocks_begun d n = if n % (d.block_mask + 1) == 0 then 1 else 0
 -- The record was written at the end: the file control block stands at the new end, and the call took what the record begins. (own)
 pub record IsAppended (d : Dpb) (user : ℕ) (name : List ℕ) (v : Volume) (n : ℕ) (o : Outcome) : Type 0 where
   pub answer : o.answer ≡ done
-  pub at_end : IsAtEnd d user name o.volume o.extent o.current
+  pub appending : IsAppending d user name o.volume o.extent o.current
   pub others : KeepsEntries user name v.entries o.volume.entries
   pub entries : unused o.volume.entries + entries_begun d n ≡ unused v.entries
   pub blocks : unreserved o.volume.reserved + blocks_begun d n ≡ unreserved v.reserved
