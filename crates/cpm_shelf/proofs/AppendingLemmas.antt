@@ -10,7 +10,7 @@ use Rattle.cpm_shelf.specs.Appending.{unused, unreserved, entries_begun, blocks_
 use Rattle.cpm_shelf.specs.Laws.{AppendingLaw}
 use Rattle.cpm_shelf.proofs.Numbers.{blocks_begun_at, extent_begins_block, begins_no_entry, extent_begins_no_entry, extent_begins_entry, zero_rest}
 use Rattle.cpm_shelf.proofs.EndLemmas.{no_more_records, keeps-refl, keeps-trans}
-use Rattle.cpm_shelf.proofs.Putting.{PutsAtEnd, LacksThere, IsReady, puts_at_end}
+use Rattle.cpm_shelf.proofs.PutLemmas.{PutsAtEnd, LacksThere, IsReady, puts_at_end}
 use Rattle.cpm_shelf.proofs.Crossing.{MovesToEnd, moves_on, moves_or_stops}
 
 abbrev Appends : Dpb → ℕ → List ℕ → Volume → ℕ → Outcome → Type 0
@@ -84,9 +84,9 @@ module _ (d : Dpb) (user : ℕ) (name : List ℕ) (v : Volume) (x : Extent) (byt
   appends_behind =
       elim (cases_eq (group_of d (extent_number x + 1)) (group_of d (extent_number x))) [
         | inl same ↦
-            let moved = moves_on d user name v x bytes user_ok format sound end more same in
+            let moved = moves_on d user name v x 128 user_ok sound end bytes format refl more same in
             appends_there moved.0 moved.1 moved.2 (rw (extent_begins_no_entry d x same) (let e = moved.3 in omega arith))
-        | inr other ↦ elim (moves_or_stops d user name v x bytes user_ok format sound end more other) [
+        | inr other ↦ elim (moves_or_stops d user name v x 128 user_ok sound end bytes format refl more other) [
           | inl moved ↦ appends_there moved.0 moved.1 moved.2 (rw (extent_begins_entry d x other) moved.3)
           | inr stops ↦ inr (inl (record { answer = stops.0; due = extent_begins_entry d x other; none = stops.1 }))
         ]

@@ -2,6 +2,6 @@ pub mod WildcardLemmas
 pub mod Counting
 pub mod Numbers
 pub mod EndLemmas
-pub mod Putting
+pub mod PutLemmas
 pub mod Crossing
 pub mod AppendingLemmas

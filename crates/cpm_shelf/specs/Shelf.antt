@@ -67,9 +67,13 @@ blocks_for d records = (records + d.block_mask) / (d.block_mask + 1)
 abbrev pub entries_for : Dpb → ℕ → ℕ
 entries_for d records = max 1 ((records + 128 * (d.extent_mask + 1) - 1) / (128 * (d.extent_mask + 1)))
 
--- how many entries are free for a file of this user and name: those not in use, and those of a file that it replaces (own)
+-- the entry is free for a file of this user and name: it is not in use, or of a file that it replaces (own)
+abbrev pub is_free_for : ℕ → List ℕ → Entry → Bool
+is_free_for user name e = (e.user == deleted) || is_named user name e
+
+-- how many entries are free for a file of this user and name (own)
 unfoldable pub free_entries : ℕ → List ℕ → List Entry → ℕ
-free_entries user name es = count_by (λ e. (e.user == deleted) || is_named user name e) es
+free_entries user name es = count_by (is_free_for user name) es
 
 -- how many blocks are free for it (own)
 unfoldable pub free_blocks : Dpb → ℕ → List ℕ → List Entry → ℕ

@@ -3,7 +3,10 @@
 
 pub mod laws;
 pub mod name;
+mod needs;
+pub mod putting;
 pub mod refusal;
 
 pub use name::FileName;
+pub use putting::put;
 pub use refusal::{Refusal, ShelfError};

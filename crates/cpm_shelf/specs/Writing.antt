@@ -1,0 +1,41 @@
+-- What holds of a drive while a file is put on its disk.
+use Rattle.std.specs.Prelude.{◌≡◌, ◌≢◌, ℕ, ◌+◌, ◌<◌, ◌≤◌, Bool, true, false, List}
+use Rattle.cpm_geom.specs.Geometry.{dpb_of}
+use Rattle.cpm_geom.specs.Disk.{Disk, records_of}
+use Rattle.cpm_files.specs.declared.fcb.Fcb.{Fcb}
+use Rattle.cpm_files.specs.Files.{deleted, same_name, entry_at, open_file_record, IsSound, IsSoundDrive}
+use Rattle.cpm_files.specs.Names.{is_named}
+use Rattle.cpm_files.specs.Laws.{position}
+use Rattle.cpm_directory.specs.Directory.{entries_of}
+use Rattle.cpm_drive.specs.declared.drive.Drive.{Drive}
+use Rattle.cpm_drive.specs.Drive.{volume_of}
+use Rattle.cpm_drive.specs.Laws.{IsWritable, IsOfBytes}
+use Rattle.cpm_shelf.specs.Shelf.{record_of, record_on, entries_for, blocks_for, free_entries, free_blocks}
+use Rattle.cpm_shelf.specs.Appending.{unused, unreserved, IsAppending, KeepsEntries}
+
+-- the other files of a disk are as they were on another of its format (own)
+pub record KeepsDisk (old : Disk) (user : ℕ) (name : List ℕ) (drive : Drive) : Type 0 where
+  pub format : drive.image.format ≡ old.format
+  pub writable : IsWritable drive
+  pub entries : KeepsEntries user name (entries_of old) (entries_of drive.image)
+  pub records : (other : ℕ) (other_name : List ℕ) (m : ℕ) → other ≢ deleted → (other ≡ user → same_name other_name name ≡ true → ⊥)
+      → record_on drive.image other other_name m ≡ record_on old other other_name m
+
+-- No file of the name is there any more, and all is free that is free for one. (own)
+pub record IsCleared (old : Disk) (user : ℕ) (name : List ℕ) (drive : Drive) : Type 0 where
+  pub keeps : KeepsDisk old user name drive
+  pub sound : IsSoundDrive (dpb_of old.format) (volume_of drive.image drive.marks.reserved)
+  pub gone : (i : ℕ) → is_named user name (entry_at (entries_of drive.image) i) ≡ false
+  pub entries_left : unused (entries_of drive.image) ≡ free_entries user name (entries_of old)
+  pub blocks_left : unreserved drive.marks.reserved ≡ free_blocks (dpb_of old.format) user name (entries_of old)
+
+-- So many records of the file are there, the file control block stands behind them, and all is free that they didn't need. (own)
+pub record IsWriting (old : Disk) (user : ℕ) (name bytes : List ℕ) (count : ℕ) (drive : Drive) (fcb : Fcb) : Type 0 where
+  pub keeps : KeepsDisk old user name drive
+  pub fits : IsOfBytes (dpb_of old.format) fcb.extent
+  pub sound : IsSound (dpb_of old.format) (volume_of drive.image drive.marks.reserved) user fcb.extent
+  pub appending : IsAppending (dpb_of old.format) user name (volume_of drive.image drive.marks.reserved) fcb.extent fcb.current_record
+  pub count_is : position fcb.extent fcb.current_record ≡ count
+  pub records : (m : ℕ) → m < count → open_file_record (dpb_of old.format) (entries_of drive.image) (records_of drive.image) user fcb.extent m ≡ record_of bytes m
+  pub entries_left : unused (entries_of drive.image) + entries_for (dpb_of old.format) count ≡ free_entries user name (entries_of old)
+  pub blocks_left : unreserved drive.marks.reserved + blocks_for (dpb_of old.format) count ≡ free_blocks (dpb_of old.format) user name (entries_of old)

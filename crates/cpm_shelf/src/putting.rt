@@ -1,0 +1,106 @@
+//! Puts a file on a disk.
+
+ghost use Rattle.std.specs.Prelude.{◌≡◌, ◌≤◌, ◌<◌, ◌*◌, ◌+◌, Some, None, length, MatchResult, ℕ, List, false};
+ghost use Rattle.cpm_geom.specs.Geometry.{dpb_of};
+ghost use Rattle.cpm_geom.specs.Disk.{Disk};
+ghost use Rattle.cpm_directory.specs.Directory.{entries_of};
+ghost use Rattle.cpm_directory.specs.Login.{reserved_at_login};
+ghost use Rattle.cpm_drive.specs.Laws.{IsWritable};
+ghost use Rattle.cpm_shelf.specs.Shelf.{record_of, records_for, refusal_of, IsSoundDisk, IsPut, IsPutRefusal};
+ghost use Rattle.cpm_shelf.specs.Writing.{IsWriting};
+
+use crate::name::FileName;
+use crate::needs::{RECORD_SIZE, records_for, refusal_of};
+use crate::refusal::ShelfError;
+use cpm_directory::{LentImage, well_formed};
+use cpm_drive::Drive;
+use cpm_files::{Extent, Fcb};
+use cpm_geom::Image;
+use std::alloc::Global;
+
+/// What the last record of a file is filled up with.
+const FILLER: u8 = 0x1A;
+
+/// The disk with a file of these bytes on it, in place of the one of its name if there is one. The image is only looked
+/// at. A disk that is damaged is refused, and one that has no room for the file, before any work is done.
+pub fn put(
+    alloc: Global,
+    image: &Image,
+    file: &FileName,
+    bytes: &[u8],
+) -> Result<Image, ShelfError>
+    ensures { MatchResult result
+        (λ new. IsPut image.now file.now.user file.now.name bytes.now new)
+        (λ e. IsPutRefusal image.now file.now.user file.now.name (records_for (length bytes.now)) e) }
+{
+    if let Err(fault) = well_formed(image) {
+        return Err(ShelfError::Damaged(fault));
+    }
+    if let Some(refusal) = refusal_of(&LentImage::new(image), file, records_for(bytes)) {
+        return Err(ShelfError::Refused(refusal));
+    }
+    match image.copy(alloc) {
+        Ok(copy) => Ok(written(copy, file, bytes)),
+        Err(_) => Err(ShelfError::OutOfMemory),
+    }
+}
+
+/// The image with a file on it, for which there is room.
+fn written(image: Image, file: &FileName, bytes: &[u8]) -> Image
+    requires sound { IsSoundDisk image }
+    requires room { refusal_of (dpb_of image.format) (entries_of image) file.now.user file.now.name (records_for (length bytes.now)) ≡ None }
+    ensures { IsPut image file.now.user file.now.name bytes.now result }
+{
+    let mut drive = Drive::new(image);
+    drive.log_in();
+    let mut fcb = begin(&mut drive, file);
+    write_records(&mut drive, file, &mut fcb, bytes);
+    drive.close_file(file.user(), &mut fcb).unwrap();
+    drive.image.into_image()
+}
+
+/// Erases the file of a name if there is one, and makes an empty one. The file control block stands at its first record.
+fn begin(drive: &mut Drive, file: &FileName) -> Fcb
+{
+    drive.erase_files(file.user(), file.name()).unwrap();
+    let mut fcb = fcb_of(file);
+    drive.make_file(file.user(), &mut fcb).unwrap();
+    fcb
+}
+
+/// The file control block of a name, as a program would lay it out.
+fn fcb_of(file: &FileName) -> Fcb {
+    Fcb {
+        drive: 0,
+        extent: Extent {
+            name: *file.name(),
+            ex: 0,
+            s1: 0,
+            s2: 0,
+            record_count: 0,
+            blocks: [0; 16],
+        },
+        current_record: 0,
+        random_record: [0; 3],
+    }
+}
+
+/// Writes the records of a file, one after the other.
+fn write_records(drive: &mut Drive, file: &FileName, fcb: &mut Fcb, bytes: &[u8])
+{
+    for number in 0..records_for(bytes) {
+        drive.write_next(file.user(), fcb, &record_of(bytes, number));
+    }
+}
+
+/// A record of a file of these bytes, the last one filled up.
+fn record_of(bytes: &[u8], number: usize) -> [u8; RECORD_SIZE]
+    requires { 128 * number < length bytes.now }
+    ensures { Some result ≡ record_of bytes.now number }
+{
+    let start = RECORD_SIZE * number;
+    let size = (bytes.len() - start).min(RECORD_SIZE);
+    let mut record = [FILLER; RECORD_SIZE];
+    record[..size].copy_from_slice(&bytes[start..start + size]);
+    record
+}
