@@ -1,7 +1,7 @@
 -- Counts of entries that are not in use, and of blocks that are not reserved.
-use Rattle.std.proofs.Common.{◌≡◌, ◌≢◌, ℕ, ◌+◌, ◌<◌, ◌≤◌, Bool, true, false, not, cond, eqb, List, [], ◌∷◌, length, get_or, set, sym, refl, ap, ◌∙◌, inl, inr, arith}
+use Rattle.std.proofs.Common.{◌≡◌, ◌≢◌, ℕ, ◌+◌, ◌<◌, ◌≤◌, Bool, true, false, not, cond, eqb, List, [], ◌∷◌, length, get_or, set, take, length-take, sym, refl, ap, ◌∙◌, inl, inr, arith}
 use Rattle.std.specs.List.{count_by, position_or_len}
-use Rattle.std.proofs.lemmas.List.Sums.{sum_by-cons, sum_by-set, passes_at_first}
+use Rattle.std.proofs.lemmas.List.Sums.{sum_by-cons, sum_by-set, passes_at_first, count_by-le-length}
 use Rattle.std.proofs.lemmas.Bool.{eq-eqb, ne_eqb, eqb-true, cases_Bool, cond-true, cond-false, not-true}
 use Rattle.cpm_files.specs.declared.extent.Entry.{Entry}
 use Rattle.cpm_files.specs.Reserved.{is_reserved, least_free}
@@ -24,6 +24,13 @@ count_by-none p (x ∷ xs) h =
 
 count_by-set : {X : Type 0} (p : X → Bool) (xs : List X) (i : ℕ) (y d : X) → i < length xs → count_by p (set xs i y) + cond (p (get_or xs i d)) 1 0 ≡ count_by p xs + cond (p y) 1 0
 count_by-set p xs i y d h = sum_by-set (λ x. cond (p x) 1 0) xs i y d h
+
+-- no more are counted than there are
+pub counted_below : {X : Type 0} (p : X → Bool) (xs : List X) (i : ℕ) → count_by p (take i xs) ≤ length xs
+counted_below p xs i =
+    let most = count_by-le-length p (take i xs) in
+    let size = length-take i xs in
+    omega arith
 
 -- ---- entries
 pub unused-none : (es : List Entry) → length es ≤ first_free es → unused es ≡ 0

@@ -1,5 +1,6 @@
 pub mod WildcardLemmas
 pub mod Counting
+pub mod FreeLemmas
 pub mod Numbers
 pub mod EndLemmas
 pub mod PutLemmas

@@ -1,10 +1,13 @@
 -- What holds of a drive while a file is put on its disk.
-use Rattle.std.specs.Prelude.{◌≡◌, ◌≢◌, ℕ, ◌+◌, ◌<◌, ◌≤◌, Bool, true, false, List}
+use Rattle.std.specs.Prelude.{◌≡◌, ◌≢◌, ℕ, ◌+◌, ◌<◌, ◌≤◌, Bool, true, false, List, replicate}
+use Rattle.std.specs.List.{list_any}
+use Rattle.cpm_geom.specs.declared.dpb.Dpb.{Dpb}
 use Rattle.cpm_geom.specs.Geometry.{dpb_of}
 use Rattle.cpm_geom.specs.Disk.{Disk, records_of}
+use Rattle.cpm_files.specs.declared.extent.Entry.{Entry}
 use Rattle.cpm_files.specs.declared.fcb.Fcb.{Fcb}
 use Rattle.cpm_files.specs.Files.{deleted, same_name, entry_at, open_file_record, IsSound, IsSoundDrive}
-use Rattle.cpm_files.specs.Names.{is_named}
+use Rattle.cpm_files.specs.Names.{is_named, protects}
 use Rattle.cpm_files.specs.Laws.{position}
 use Rattle.cpm_directory.specs.Directory.{entries_of}
 use Rattle.cpm_drive.specs.declared.drive.Drive.{Drive}
@@ -12,6 +15,22 @@ use Rattle.cpm_drive.specs.Drive.{volume_of}
 use Rattle.cpm_drive.specs.Laws.{IsWritable, IsOfBytes}
 use Rattle.cpm_shelf.specs.Shelf.{record_of, record_on, entries_for, blocks_for, free_entries, free_blocks}
 use Rattle.cpm_shelf.specs.Appending.{unused, unreserved, IsAppending, KeepsEntries}
+
+-- the file control block of a name that stands before its first record (own)
+abbrev pub new_fcb : List ℕ → Fcb
+new_fcb name =
+    record {
+      drive = 0;
+      extent = record { name = name; ex = 0; s1 = 0; s2 = 0; record_count = 0; blocks = replicate 16 0 };
+      current_record = 0;
+      random_record = replicate 3 0;
+    }
+
+-- There is no reason against a file of so many records. (own)
+pub record HasRoom (d : Dpb) (es : List Entry) (user : ℕ) (name : List ℕ) (records : ℕ) : Type 0 where
+  pub unprotected : list_any (protects user name) es ≡ false
+  pub entries : entries_for d records ≤ free_entries user name es
+  pub blocks : blocks_for d records ≤ free_blocks d user name es
 
 -- the other files of a disk are as they were on another of its format (own)
 pub record KeepsDisk (old : Disk) (user : ℕ) (name : List ℕ) (drive : Drive) : Type 0 where

@@ -118,7 +118,8 @@ fn free_blocks(image: &LentImage<'_>, file: &FileName) -> usize
 
 /// How many blocks of a drive with this last block are not reserved.
 fn count_free(reserved: &Reserved, last_block: u16) -> usize
-    requires { length reserved.now ≤ last_block + 1 }
+    requires size { length reserved.now ≡ last_block + 1 }
+    requires small { last_block < 512 }
     ensures { result ≡ count_by not reserved.now }
 {
     let mut free = 0;

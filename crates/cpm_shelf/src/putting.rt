@@ -7,7 +7,7 @@ ghost use Rattle.cpm_directory.specs.Directory.{entries_of};
 ghost use Rattle.cpm_directory.specs.Login.{reserved_at_login};
 ghost use Rattle.cpm_drive.specs.Laws.{IsWritable};
 ghost use Rattle.cpm_shelf.specs.Shelf.{record_of, records_for, refusal_of, IsSoundDisk, IsPut, IsPutRefusal};
-ghost use Rattle.cpm_shelf.specs.Writing.{IsWriting};
+ghost use Rattle.cpm_shelf.specs.Writing.{HasRoom, IsWriting, new_fcb};
 
 use crate::name::FileName;
 use crate::needs::{RECORD_SIZE, records_for, refusal_of};
@@ -54,26 +54,36 @@ fn written(image: Image, file: &FileName, bytes: &[u8]) -> Image
     let mut drive = Drive::new(image);
     drive.log_in();
     let mut fcb = begin(&mut drive, file);
-    write_records(&mut drive, file, &mut fcb, bytes);
+    for number in 0..records_for(bytes) {
+        let record = record_of(bytes, number);
+        drive.write_next(file.user(), &mut fcb, &record);
+    }
     drive.close_file(file.user(), &mut fcb).unwrap();
     drive.image.into_image()
 }
 
 /// Erases the file of a name if there is one, and makes an empty one. The file control block stands at its first record.
 fn begin(drive: &mut Drive, file: &FileName) -> Fcb
+    requires writable { IsWritable drive.old }
+    requires sound { IsSoundDisk drive.old.image }
+    requires fresh { drive.old.marks.reserved ≡ reserved_at_login (dpb_of drive.old.image.format) (entries_of drive.old.image) }
+    requires room { HasRoom (dpb_of drive.old.image.format) (entries_of drive.old.image) file.now.user file.now.name 0 }
+    ensures { (bytes : List ℕ) → IsWriting drive.old.image file.now.user file.now.name bytes 0 drive.new result }
 {
     drive.erase_files(file.user(), file.name()).unwrap();
-    let mut fcb = fcb_of(file);
+    let mut fcb = fcb_of(file.name());
     drive.make_file(file.user(), &mut fcb).unwrap();
     fcb
 }
 
 /// The file control block of a name, as a program would lay it out.
-fn fcb_of(file: &FileName) -> Fcb {
+fn fcb_of(name: &[u8; 11]) -> Fcb
+    ensures { result ≡ new_fcb name.now }
+{
     Fcb {
         drive: 0,
         extent: Extent {
-            name: *file.name(),
+            name: *name,
             ex: 0,
             s1: 0,
             s2: 0,
@@ -82,14 +92,6 @@ fn fcb_of(file: &FileName) -> Fcb {
         },
         current_record: 0,
         random_record: [0; 3],
-    }
-}
-
-/// Writes the records of a file, one after the other.
-fn write_records(drive: &mut Drive, file: &FileName, fcb: &mut Fcb, bytes: &[u8])
-{
-    for number in 0..records_for(bytes) {
-        drive.write_next(file.user(), fcb, &record_of(bytes, number));
     }
 }
 
