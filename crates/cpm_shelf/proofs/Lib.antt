@@ -1,6 +1,8 @@
 pub mod WildcardLemmas
 pub mod Counting
 pub mod FreeLemmas
+pub mod RecordLemmas
+pub mod Amounts
 pub mod Numbers
 pub mod EndLemmas
 pub mod PutLemmas

@@ -1,0 +1,8 @@
+use Rattle.std.proofs.Common.{◌≡◌, ◌+◌, ◌-◌, ◌*◌, drop, take, ap, ◌∙◌, arith}
+use Rattle.cpm_shelf.proofs.RecordLemmas.{record_made}
+use Rattle.cpm_shelf.proofs.putting.record_of.Goals as goal
+
+pub returns : goal.returns
+returns c =
+    let whole : (128 * c.args.number + c.min-size.result) - 128 * c.args.number ≡ c.min-size.result = omega arith in
+    record_made c.args.bytes.now c.args.number c.min-size.result c.copy_from_slice.new.self c.requires c.min-size.ensures (c.copy_from_slice.ensures.after ∙ ap (λ k. take k (drop (128 * c.args.number) c.args.bytes.now)) whole)
