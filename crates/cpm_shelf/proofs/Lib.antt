@@ -8,3 +8,5 @@ pub mod EndLemmas
 pub mod PutLemmas
 pub mod Crossing
 pub mod AppendingLemmas
+pub mod DiskLemmas
+pub mod StepLemmas
