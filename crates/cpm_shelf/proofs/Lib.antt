@@ -10,3 +10,4 @@ pub mod Crossing
 pub mod AppendingLemmas
 pub mod DiskLemmas
 pub mod StepLemmas
+pub mod ErasedLemmas
