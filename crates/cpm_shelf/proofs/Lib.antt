@@ -11,3 +11,4 @@ pub mod AppendingLemmas
 pub mod DiskLemmas
 pub mod StepLemmas
 pub mod ErasedLemmas
+pub mod MadeLemmas

@@ -1,5 +1,6 @@
 use Rattle.cpm_shelf.proofs.StepLemmas as step
 use Rattle.cpm_shelf.proofs.DiskLemmas as disk
+use Rattle.cpm_shelf.proofs.MadeLemmas as made
 use Rattle.cpm_shelf.proofs.ErasedLemmas as erased
 use Rattle.cpm_shelf.proofs.putting.written.Goals as goal
 
