@@ -12,3 +12,4 @@ pub mod DiskLemmas
 pub mod StepLemmas
 pub mod ErasedLemmas
 pub mod MadeLemmas
+pub mod DoneLemmas
