@@ -12,4 +12,5 @@ pub mod DiskLemmas
 pub mod StepLemmas
 pub mod ErasedLemmas
 pub mod MadeLemmas
+pub mod BytesLemmas
 pub mod DoneLemmas
