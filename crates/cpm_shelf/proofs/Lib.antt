@@ -12,5 +12,6 @@ pub mod DiskLemmas
 pub mod StepLemmas
 pub mod ErasedLemmas
 pub mod MadeLemmas
+pub mod BeginLemmas
 pub mod BytesLemmas
 pub mod DoneLemmas

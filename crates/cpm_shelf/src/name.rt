@@ -16,6 +16,7 @@ pub struct FileName {
     name: [u8; 11],
     ghost within: { user < 16 },
     ghost plain: { has_wildcard name ≡ false },
+    ghost bytes: { AreBytes 11 name },
 }
 
 impl FileName {

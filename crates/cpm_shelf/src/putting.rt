@@ -4,6 +4,7 @@ ghost use Rattle.std.specs.Prelude.{◌≡◌, ◌≢◌, ◌≤◌, ◌<◌, �
 ghost use Rattle.std.specs.List.{concat};
 ghost use Rattle.cpm_geom.specs.Geometry.{dpb_of, format_of_length};
 ghost use Rattle.cpm_geom.specs.Disk.{IsDisk};
+ghost use Rattle.cpm_files.specs.Encoding.{AreBytes};
 ghost use Rattle.cpm_directory.specs.Directory.{entries_of};
 ghost use Rattle.cpm_directory.specs.Login.{reserved_at_login};
 ghost use Rattle.cpm_drive.specs.Laws.{HasBytes, IsWritable};
@@ -97,9 +98,11 @@ fn begin(drive: &mut Drive, file: &FileName) -> Fcb
     requires room { HasRoom (dpb_of drive.old.image.format) (entries_of drive.old.image) file.now.user file.now.name 0 }
     ensures { (bytes : List ℕ) → IsWriting drive.old.image file.now.user file.now.name bytes 0 drive.new result }
 {
-    drive.erase_files(file.user(), file.name()).unwrap();
-    let mut fcb = fcb_of(file.name());
-    drive.make_file(file.user(), &mut fcb).unwrap();
+    let user = file.user();
+    let name = file.name();
+    drive.erase_files(user, name).unwrap();
+    let mut fcb = fcb_of(name);
+    drive.make_file(user, &mut fcb).unwrap();
     fcb
 }
 
@@ -125,7 +128,8 @@ fn fcb_of(name: &[u8; 11]) -> Fcb
 /// A record of a file of these bytes, the last one filled up.
 fn record_of(bytes: &[u8], number: usize) -> [u8; RECORD_SIZE]
     requires { 128 * number < length bytes.now }
-    ensures { Some result ≡ record_of bytes.now number }
+    ensures value { Some result ≡ record_of bytes.now number }
+    ensures bytes { AreBytes 128 result }
 {
     let start = RECORD_SIZE * number;
     let size = (bytes.len() - start).min(RECORD_SIZE);
