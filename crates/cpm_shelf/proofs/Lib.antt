@@ -12,6 +12,7 @@ pub mod DiskLemmas
 pub mod StepLemmas
 pub mod ErasedLemmas
 pub mod MadeLemmas
+pub mod StartLemmas
 pub mod BeginLemmas
 pub mod BytesLemmas
 pub mod DoneLemmas

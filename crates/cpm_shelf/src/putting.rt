@@ -54,14 +54,15 @@ fn written(image: Image, file: &FileName, bytes: &[u8]) -> Image
     requires room { refusal_of (dpb_of image.format) (entries_of image) file.now.user file.now.name (records_for (length bytes.now)) ≡ None }
     ensures { IsPut image file.now.user file.now.name bytes.now result }
 {
+    let user = file.user();
     let mut drive = Drive::new(of_bytes(image));
     drive.log_in();
     let mut fcb = begin(&mut drive, file);
     for number in 0..records_for(bytes) {
         let record = record_of(bytes, number);
-        drive.write_next(file.user(), &mut fcb, &record);
+        drive.write_next(user, &mut fcb, &record);
     }
-    drive.close_file(file.user(), &mut fcb).unwrap();
+    drive.close_file(user, &mut fcb).unwrap();
     drive.image.into_image()
 }
 

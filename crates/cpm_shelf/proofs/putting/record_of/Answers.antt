@@ -9,4 +9,4 @@ returns-clause-value c =
 
 pub returns-clause-bytes : goal.returns-clause-bytes
 returns-clause-bytes c =
-    record_fits c.args.bytes.now c.args.number _ c.requires c.type_inv.bytes (returns-clause-value c)
+    record_fits c.args.bytes.now c.args.number _ c.requires (λ k. let fits = c.type_inv.bytes k in omega arith) (returns-clause-value c)
