@@ -1,5 +1,5 @@
 -- A file is begun: the one that it replaces is erased, and an empty one made.
-use Rattle.std.proofs.Common.{◌≡◌, ℕ, ◌<◌, ◌≤◌, Bool, false, List, Option, Some, Result, Ok, arith}
+use Rattle.std.proofs.Common.{◌≡◌, ℕ, ◌<◌, false, List, Option, Some, Result, Ok, arith}
 use Rattle.cpm_geom.specs.Geometry.{dpb_of}
 use Rattle.cpm_files.specs.declared.answer.Fault.{Fault}
 use Rattle.cpm_files.specs.declared.fcb.Fcb.{Fcb}

@@ -1,18 +1,17 @@
 -- The file is closed, and is on the disk.
-use Rattle.std.proofs.Common.{◌≡◌, ◌≢◌, ◌⊎◌, ℕ, ◌+◌, ◌*◌, ◌<◌, ◌≤◌, Bool, true, false, List, [], Option, Some, None, Result, Ok, length, sym, subst, refl, ap, ◌∙◌, inl, inr, arith}
+use Rattle.std.proofs.Common.{◌≡◌, ◌≢◌, ℕ, ◌<◌, ◌≤◌, Bool, true, false, List, Option, Some, None, Result, Ok, length, sym, subst, ap, ◌∙◌, inl, inr, arith}
+use Rattle.std.specs.Result.{is_ok}
 use Rattle.std.proofs.lemmas.Bool.{cases_lt}
 use Rattle.cpm_geom.specs.declared.dpb.Dpb.{Dpb}
 use Rattle.cpm_geom.specs.declared.format.Format.{Format}
 use Rattle.cpm_geom.specs.Geometry.{dpb_of}
 use Rattle.cpm_geom.specs.Disk.{Disk, records_of}
-use Rattle.cpm_files.specs.declared.extent.Extent.{Extent}
 use Rattle.cpm_files.specs.declared.extent.Entry.{Entry}
 use Rattle.cpm_files.specs.declared.fcb.Fcb.{Fcb}
 use Rattle.cpm_files.specs.declared.answer.Fault.{Fault}
-use Rattle.cpm_files.specs.Files.{deleted, same_name, entry_at, file_block, file_record, open_file_block, open_file_record, record_in, IsFormat, IsStored, IsWellFormed, IsSoundDrive, Volume}
+use Rattle.cpm_files.specs.Files.{deleted, same_name, entry_at, file_block, file_record, open_file_block, open_file_record, record_in, IsFormat, IsWellFormed, IsSoundDrive, Volume}
 use Rattle.cpm_files.specs.Names.{is_named}
 use Rattle.cpm_files.specs.Operations.{with_entry, closed, close_file}
-use Rattle.cpm_files.specs.Laws.{position}
 use Rattle.cpm_files.proofs.Formats.{each_format}
 use Rattle.cpm_files.proofs.Closing as closing
 use Rattle.cpm_files.proofs.Closing.{after as entries_closed}
@@ -25,7 +24,7 @@ use Rattle.cpm_drive.specs.Drive.{volume_of, drive_after, directory_code}
 use Rattle.cpm_drive.specs.Calls.{ClosedFile, closed_file, close_answer, drive_closed, after_close}
 use Rattle.cpm_drive.specs.Laws.{IsOfBytes, CallsReach, Reaches}
 use Rattle.cpm_drive.proofs.DiskReach.{calls_reach}
-use Rattle.cpm_shelf.specs.Shelf.{record_of, records_for, record_on, refusal_of, IsSoundDisk, HasFile, KeepsOthers, IsPut}
+use Rattle.cpm_shelf.specs.Shelf.{record_of, records_for, record_on, refusal_of, IsSoundDisk, IsPut}
 use Rattle.cpm_shelf.specs.Appending.{KeepsEntries}
 use Rattle.cpm_shelf.specs.Writing.{KeepsDisk, IsWriting}
 use Rattle.cpm_shelf.proofs.RecordLemmas.{no_record_of}
@@ -165,9 +164,9 @@ module _ (old : Disk) (user : ℕ) (name bytes : List ℕ) (drive : Drive) (fcb 
     sound = sound_after;
   }
 
-  pub closes_put : (code : Result (Option ℕ) Fault) (drive' : Drive) (fcb' : Fcb) → closed_file code drive' fcb' ≡ after_close drive fcb (close_file (dpb_of drive.image.format) drive.marks.is_protected (entries_of drive.image) user fcb.extent) → ((k : Option ℕ) × (code ≡ Ok k)) × IsPut old user name bytes drive'.image
+  pub closes_put : (code : Result (Option ℕ) Fault) (drive' : Drive) (fcb' : Fcb) → closed_file code drive' fcb' ≡ after_close drive fcb (close_file (dpb_of drive.image.format) drive.marks.is_protected (entries_of drive.image) user fcb.extent) → (is_ok code ≡ true) × IsPut old user name bytes drive'.image
   unfolding after_close close_answer drive_closed volume_now
   closes_put code drive' fcb' e =
       let answered : close_file (dpb_of drive.image.format) drive.marks.is_protected (entries_of drive.image) user fcb.extent ≡ closed writing.sound.kept.index after fcb.extent = subst (λ (g : Format). close_file (dpb_of g) drive.marks.is_protected (entries_of drive.image) user fcb.extent ≡ closed writing.sound.kept.index after fcb.extent) (sym writing.keeps.format) (ap (λ p. close_file (dpb_of old.format) p (entries_of drive.image) user fcb.extent) writing.keeps.writable.free ∙ answer) in
       let is : closed_file code drive' fcb' ≡ closed_file (Ok (Some (directory_code writing.sound.kept.index))) (drive_after drive volume_now) (record fcb { extent = fcb.extent }) = rw answered at e in
-      ((Some (directory_code writing.sound.kept.index), ap (λ (c : ClosedFile). c.code) is), subst (λ (c : ClosedFile). IsPut old user name bytes c.drive.image) (sym is) put)
+      (ap (λ (c : ClosedFile). is_ok c.code) is, subst (λ (c : ClosedFile). IsPut old user name bytes c.drive.image) (sym is) put)

@@ -1,18 +1,18 @@
 -- The file that is replaced is erased.
-use Rattle.std.proofs.Common.{◌≡◌, ◌≢◌, ◌⊎◌, ℕ, zero, suc, ◌+◌, ◌<◌, ◌≤◌, Bool, true, false, not, ◌&&◌, ◌||◌, cond, eqb, ltb, List, [], ◌∷◌, ◌++◌, Option, Some, None, Result, Ok, length, get_or, map, sym, subst, refl, ap, ap₂, ◌∙◌, inl, inr, arith}
-use Rattle.std.specs.List.{list_any, count_by, range_with_len}
+use Rattle.std.proofs.Common.{◌≡◌, ◌≢◌, ℕ, suc, ◌+◌, ◌<◌, ◌≤◌, Bool, true, false, not, ◌&&◌, ◌||◌, cond, eqb, ltb, List, [], ◌∷◌, ◌++◌, Option, Some, None, Result, Ok, length, get_or, map, sym, subst, refl, ap, ap₂, ◌∙◌, inl, inr, arith}
+use Rattle.std.specs.List.{list_any, count_by}
 use Rattle.std.proofs.lemmas.List.{get_or_past, get_or-map, length-map, same_lists, get_or_default}
 use Rattle.std.proofs.lemmas.List.Folds.{list_any_at}
 use Rattle.std.proofs.lemmas.List.FromFn.{get_or-map-range_with_len}
 use Rattle.std.proofs.lemmas.List.Sums.{sum_by-cons}
-use Rattle.std.proofs.lemmas.Bool.{false≢true, eqb-true, eq-eqb, ne_eqb, and_parts, and_from, and_left, or_right, cases_Bool, cases_lt, lt-ltb, le-ltb, false_from_ne_true}
+use Rattle.std.proofs.lemmas.Bool.{false≢true, ne_eqb, and_parts, and_from, and_left, cases_Bool, cases_lt, lt-ltb, le-ltb, false_from_ne_true}
 use Rattle.cpm_geom.specs.declared.dpb.Dpb.{Dpb}
 use Rattle.cpm_geom.specs.Geometry.{dpb_of}
-use Rattle.cpm_geom.specs.Disk.{Disk, records_of}
+use Rattle.cpm_geom.specs.Disk.{records_of}
 use Rattle.cpm_files.specs.declared.extent.Entry.{Entry}
 use Rattle.cpm_files.specs.declared.answer.Fault.{Fault}
 use Rattle.cpm_files.specs.Reserved.{is_reserved, is_directory_block}
-use Rattle.cpm_files.specs.Files.{deleted, has_wildcard, same_name, name_matches, no_entry, entry_at, InUse, file_record, Volume, IsSoundDrive}
+use Rattle.cpm_files.specs.Files.{deleted, has_wildcard, same_name, no_entry, entry_at, InUse, file_record, Volume, IsSoundDrive}
 use Rattle.cpm_files.specs.Names.{is_named, first_named, is_read_only, change_named, named_writes, Named, none_named, file_read_only, named, protects, deletion, is_erased, reserved_after, erase_files}
 use Rattle.cpm_files.specs.NameLaws.{ErasesFiles}
 use Rattle.cpm_files.proofs.Entries.{in_use_within, any_index}
@@ -25,12 +25,12 @@ use Rattle.cpm_directory.proofs.CheckedLemmas.{checked}
 use Rattle.cpm_drive.specs.declared.drive.Drive.{Drive}
 use Rattle.cpm_drive.specs.Drive.{volume_of, drive_after, directory_code}
 use Rattle.cpm_drive.specs.Named.{after_named}
-use Rattle.cpm_drive.specs.Laws.{IsWritable, Reaches}
+use Rattle.cpm_drive.specs.Laws.{IsWritable}
 use Rattle.cpm_drive.proofs.DiskLemmas.{disk_is_volume}
 use Rattle.cpm_drive.proofs.DiskReach.{calls_reach}
 use Rattle.cpm_shelf.specs.Shelf.{IsSoundDisk, is_free_for, free_entries, free_blocks}
 use Rattle.cpm_shelf.specs.Appending.{unused, unreserved, KeepsEntries}
-use Rattle.cpm_shelf.specs.Writing.{KeepsDisk, IsCleared}
+use Rattle.cpm_shelf.specs.Writing.{IsCleared}
 use Rattle.cpm_shelf.proofs.FreeLemmas.{login_length, after_length}
 use Rattle.cpm_shelf.proofs.EndLemmas.{keeps-refl, named_parts}
 use Rattle.cpm_shelf.proofs.DiskLemmas.{HasVolume, has_volume, keeps_on}

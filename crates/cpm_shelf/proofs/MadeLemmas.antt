@@ -1,6 +1,6 @@
 -- An empty file is made.
-use Rattle.std.proofs.Common.{◌≡◌, ◌≢◌, ◌⊎◌, ℕ, ◌+◌, ◌*◌, ◌%◌, ◌<◌, ◌≤◌, Bool, true, false, List, [], Option, Some, None, length, get_or, set, replicate, sym, subst, refl, ap, ◌∙◌, inl, inr, arith}
-use Rattle.std.proofs.lemmas.List.{get_or-replicate, get_or_past, length-replicate}
+use Rattle.std.proofs.Common.{◌≡◌, ◌≢◌, ℕ, ◌+◌, ◌<◌, ◌≤◌, true, false, List, Option, Some, length, set, sym, subst, refl, ap, ◌∙◌, inl, inr, arith}
+use Rattle.std.proofs.lemmas.List.{get_or-replicate, length-replicate}
 use Rattle.std.proofs.lemmas.Bool.{false≢true, cases_lt, lt-ltb, le-ltb, false_from_ne_true}
 use Rattle.cpm_geom.specs.declared.dpb.Dpb.{Dpb}
 use Rattle.cpm_geom.specs.declared.format.Format.{Format}
@@ -9,9 +9,9 @@ use Rattle.cpm_geom.specs.Disk.{Disk, records_of}
 use Rattle.cpm_files.specs.declared.extent.Extent.{Extent}
 use Rattle.cpm_files.specs.declared.extent.Entry.{Entry}
 use Rattle.cpm_files.specs.declared.fcb.Fcb.{Fcb}
-use Rattle.cpm_files.specs.Files.{deleted, extent_number, group_of, has_wildcard, same_name, entry_at, InUse, is_of, first_free, block_number, file_block, file_record, IsWellFormed, record_in, Volume, IsSound}
+use Rattle.cpm_files.specs.Files.{deleted, extent_number, group_of, has_wildcard, same_name, entry_at, is_of, first_free, file_block, file_record, IsWellFormed, record_in, Volume, IsSound}
 use Rattle.cpm_files.specs.Names.{is_named}
-use Rattle.cpm_files.specs.Encoding.{IsStorable, AreBytes, place_limit}
+use Rattle.cpm_files.specs.Encoding.{AreBytes, place_limit}
 use Rattle.cpm_files.specs.Operations.{with_entry, made, make_extent, make_file}
 use Rattle.cpm_files.specs.Laws.{position}
 use Rattle.cpm_files.proofs.Making as making
@@ -23,7 +23,7 @@ use Rattle.cpm_drive.specs.Calls.{MadeFile, made_file, after_make}
 use Rattle.cpm_drive.specs.Laws.{IsOfBytes, CallsReach, Reaches}
 use Rattle.cpm_drive.proofs.DiskReach.{calls_reach}
 use Rattle.cpm_shelf.specs.Shelf.{entries_for, blocks_for, free_entries, free_blocks}
-use Rattle.cpm_shelf.specs.Appending.{unused, unreserved, IsAtEnd, IsAppending, KeepsEntries}
+use Rattle.cpm_shelf.specs.Appending.{unused, unreserved, IsAppending, KeepsEntries}
 use Rattle.cpm_shelf.specs.Writing.{new_fcb, KeepsDisk, IsCleared, IsWriting}
 use Rattle.cpm_shelf.proofs.Counting.{unused-none, unused-taken, free_user}
 use Rattle.cpm_shelf.proofs.Amounts.{entries_none, blocks_none}

@@ -1,5 +1,5 @@
 -- A record is written at the end of the file that is put on a disk.
-use Rattle.std.proofs.Common.{◌≡◌, ◌≢◌, ◌⊎◌, ℕ, ◌+◌, ◌*◌, ◌<◌, ◌≤◌, Bool, true, false, List, Option, Some, None, length, sym, subst, refl, ap, ◌∙◌, inl, inr, arith}
+use Rattle.std.proofs.Common.{◌≡◌, ◌≢◌, ℕ, ◌+◌, ◌<◌, ◌≤◌, true, List, Some, length, sym, subst, ap, ◌∙◌, inl, inr, arith}
 use Rattle.std.proofs.lemmas.Bool.{cases_eq}
 use Rattle.cpm_geom.specs.declared.dpb.Dpb.{Dpb}
 use Rattle.cpm_geom.specs.declared.format.Format.{Format}
@@ -9,23 +9,23 @@ use Rattle.cpm_files.specs.declared.extent.Extent.{Extent}
 use Rattle.cpm_files.specs.declared.fcb.Fcb.{Fcb}
 use Rattle.cpm_files.specs.declared.answer.Answer.{Answer}
 use Rattle.cpm_files.specs.declared.answer.Answer.TheVariants.{Done as done, NoRecord as no_record, NoBlock as no_block}
-use Rattle.cpm_files.specs.Files.{deleted, same_name, file_record, open_file_record, IsSound, IsSoundDrive, Volume}
+use Rattle.cpm_files.specs.Files.{deleted, same_name, file_record, open_file_record, Volume}
 use Rattle.cpm_files.specs.Encoding.{AreBytes}
 use Rattle.cpm_files.specs.Operations.{Outcome, write_next}
-use Rattle.cpm_files.specs.Laws.{position, OthersStay, HasWritten, HasDone, StaysSound}
+use Rattle.cpm_files.specs.Laws.{position, HasDone, StaysSound}
 use Rattle.cpm_files.proofs.Formats.{each_format}
 use Rattle.cpm_files.proofs.Sequential.{writes_next}
 use Rattle.cpm_directory.specs.Directory.{entries_of}
 use Rattle.cpm_drive.specs.declared.drive.Drive.{Drive}
 use Rattle.cpm_drive.specs.Drive.{volume_of, drive_after, Called, called, after_call}
-use Rattle.cpm_drive.specs.Laws.{IsOfBytes, CallsReach, OutcomeReaches, Reaches}
+use Rattle.cpm_drive.specs.Laws.{IsOfBytes, CallsReach, OutcomeReaches}
 use Rattle.cpm_drive.proofs.DiskReach.{calls_reach}
 use Rattle.cpm_shelf.specs.Shelf.{record_of, records_for, entries_for, blocks_for, free_entries, free_blocks}
-use Rattle.cpm_shelf.specs.Appending.{unused, unreserved, entries_begun, blocks_begun, IsAtEnd, IsAppending, IsAppended}
-use Rattle.cpm_shelf.specs.Writing.{HasRoom, KeepsDisk, IsWriting}
+use Rattle.cpm_shelf.specs.Appending.{unused, unreserved, entries_begun, blocks_begun, IsAppending, IsAppended}
+use Rattle.cpm_shelf.specs.Writing.{HasRoom, IsWriting}
 use Rattle.cpm_shelf.proofs.Amounts.{entries_grow, blocks_grow, entries_less, blocks_less, room_small}
 use Rattle.cpm_shelf.proofs.RecordLemmas.{is_record}
-use Rattle.cpm_shelf.proofs.DiskLemmas.{HasVolume, has_volume, keeps_on, volume_entries}
+use Rattle.cpm_shelf.proofs.DiskLemmas.{HasVolume, has_volume, keeps_on}
 use Rattle.cpm_shelf.proofs.AppendingLemmas.{appends}
 
 -- where a file control block stands depends on the entries alone
@@ -147,23 +147,23 @@ module _ (old : Disk) (user : ℕ) (name bytes : List ℕ) (count : ℕ) (drive 
     count_is = written.1.position_is ∙ ap (λ n. n + 1) writing.count_is;
     records = λ m h. has.opened user o.extent m live written.0.sound ∙ new_record m h;
     entries_left = (
-      let now = ap unused has.entries in
-      let due = appended.entries in
-      let begun = ap (entries_begun (dpb_of old.format)) writing.count_is in
-      let grow = entries_grow old.format count in
-      let left = writing.entries_left in
-      omega arith);
+        let now = ap unused has.entries in
+        let due = appended.entries in
+        let begun = ap (entries_begun (dpb_of old.format)) writing.count_is in
+        let grow = entries_grow old.format count in
+        let left = writing.entries_left in
+        omega arith);
     blocks_left = (
-      let now = ap unreserved has.reserved in
-      let due = appended.blocks in
-      let begun = ap (blocks_begun (dpb_of old.format)) writing.count_is in
-      let grow = blocks_grow old.format count in
-      let left = writing.blocks_left in
-      omega arith);
+        let now = ap unreserved has.reserved in
+        let due = appended.blocks in
+        let begun = ap (blocks_begun (dpb_of old.format)) writing.count_is in
+        let grow = blocks_grow old.format count in
+        let left = writing.blocks_left in
+        omega arith);
   }
 
-  pub wrote : (answer : Answer) (drive' : Drive) (fcb' : Fcb) → called answer drive' fcb' record_bytes ≡ after_call drive fcb record_bytes (write_next (dpb_of drive.image.format) (volume_of drive.image drive.marks.reserved) user fcb.extent fcb.current_record record_bytes) → IsWriting old user name bytes (count + 1) drive' fcb'
+  pub wrote : (answer : Answer) (drive' : Drive) (fcb' : Fcb) → called answer drive' fcb' record_bytes ≡ after_call drive fcb record_bytes (write_next (dpb_of drive.image.format) (volume_of drive.image drive.marks.reserved) user fcb.extent fcb.current_record record_bytes) → (answer ≡ done) × IsWriting old user name bytes (count + 1) drive' fcb'
   unfolding after_call after_fcb v o
   wrote answer drive' fcb' e =
       let same : called answer drive' fcb' record_bytes ≡ after_call drive fcb record_bytes (write_next (dpb_of old.format) (volume_of drive.image drive.marks.reserved) user fcb.extent fcb.current_record record_bytes) = subst (λ (g : Format). called answer drive' fcb' record_bytes ≡ after_call drive fcb record_bytes (write_next (dpb_of g) (volume_of drive.image drive.marks.reserved) user fcb.extent fcb.current_record record_bytes)) writing.keeps.format e in
-      subst (λ (c : Called). IsWriting old user name bytes (count + 1) c.drive c.fcb) (sym same) next
+      (ap (λ (c : Called). c.answer) same ∙ appended.answer, subst (λ (c : Called). IsWriting old user name bytes (count + 1) c.drive c.fcb) (sym same) next)

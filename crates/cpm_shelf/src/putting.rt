@@ -16,7 +16,7 @@ use crate::needs::{RECORD_SIZE, records_for, refusal_of};
 use crate::refusal::ShelfError;
 use cpm_directory::{LentImage, well_formed};
 use cpm_drive::Drive;
-use cpm_files::{Extent, Fcb};
+use cpm_files::{Answer, Extent, Fcb};
 use cpm_geom::Image;
 use std::alloc::Global;
 
@@ -25,12 +25,7 @@ const FILLER: u8 = 0x1A;
 
 /// The disk with a file of these bytes on it, in place of the one of its name if there is one. The image is only looked
 /// at. A disk that is damaged is refused, and one that has no room for the file, before any work is done.
-pub fn put(
-    alloc: Global,
-    image: &Image,
-    file: &FileName,
-    bytes: &[u8],
-) -> Result<Image, ShelfError>
+pub fn put(alloc: Global, image: &Image, file: &FileName, bytes: &[u8]) -> Result<Image, ShelfError>
     ensures { MatchResult result
         (λ new. IsPut image.now file.now.user file.now.name bytes.now new)
         (λ e. IsPutRefusal image.now file.now.user file.now.name (records_for (length bytes.now)) e) }
@@ -60,7 +55,10 @@ fn written(image: Image, file: &FileName, bytes: &[u8]) -> Image
     let mut fcb = begin(&mut drive, file);
     for number in 0..records_for(bytes) {
         let record = record_of(bytes, number);
-        drive.write_next(user, &mut fcb, &record);
+        match drive.write_next(user, &mut fcb, &record) {
+            Answer::Done => {}
+            _ => unreachable!(),
+        }
     }
     drive.close_file(user, &mut fcb).unwrap();
     drive.image.into_image()

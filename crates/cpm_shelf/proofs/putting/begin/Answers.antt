@@ -1,4 +1,4 @@
-use Rattle.std.proofs.Common.{◌≡◌, ℕ, List, ap, sym}
+use Rattle.std.proofs.Common.{ℕ, List, ap}
 use Rattle.std.specs.Option.{is_some}
 use Rattle.std.specs.Result.{is_ok}
 use Rattle.cpm_geom.specs.Geometry.{dpb_of}

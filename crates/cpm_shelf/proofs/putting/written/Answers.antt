@@ -1,9 +1,7 @@
-use Rattle.std.proofs.Common.{◌≡◌, ◌<◌, ◌≤◌, ℕ, ap, sym, ◌∙◌, length, arith}
-use Rattle.std.specs.Result.{is_ok}
+use Rattle.std.proofs.Common.{◌≡◌, ◌<◌, length, arith}
 use Rattle.cpm_geom.specs.Geometry.{dpb_of}
-use Rattle.cpm_geom.specs.Disk.{Disk}
 use Rattle.cpm_directory.specs.Directory.{entries_of}
-use Rattle.cpm_shelf.specs.Shelf.{records_for, IsPut}
+use Rattle.cpm_shelf.specs.Shelf.{records_for}
 use Rattle.cpm_shelf.specs.Writing.{IsWriting}
 use Rattle.cpm_shelf.proofs.Amounts.{room_of}
 use Rattle.cpm_shelf.proofs.StartLemmas.{is_writable, has_room, is_started}
@@ -32,7 +30,15 @@ loop-number-preserved c =
     let room = room_of (dpb_of c.args.image.format) (entries_of c.args.image) c.args.file.now.user c.args.file.now.name (records_for (length c.args.bytes.now)) c.requires.room in
     let count = c.records_for-number-end.ensures.value in
     let more : c.loop-number.number < records_for (length c.args.bytes.now) = rw count at c.loop-number-test.true in
-    wrote c.args.image c.args.file.now.user c.args.file.now.name c.args.bytes.now c.loop-number.number c.loop-number.drive c.loop-number.fcb c.record_of-record.result (rw user at c.user-user.ensures.within) c.loop-number.invariant room more c.record_of-record.ensures.value c.record_of-record.ensures.bytes c.write_next.result c.write_next.new.self c.write_next.new.fcb (rw user at c.write_next.ensures)
+    (wrote c.args.image c.args.file.now.user c.args.file.now.name c.args.bytes.now c.loop-number.number c.loop-number.drive c.loop-number.fcb c.record_of-record.result (rw user at c.user-user.ensures.within) c.loop-number.invariant room more c.record_of-record.ensures.value c.record_of-record.ensures.bytes c.write_next.result c.write_next.new.self c.write_next.new.fcb (rw user at c.write_next.ensures)).1
+
+pub unreachable-requires : goal.unreachable-requires
+unreachable-requires c =
+    let user = c.user-user.ensures.value in
+    let room = room_of (dpb_of c.args.image.format) (entries_of c.args.image) c.args.file.now.user c.args.file.now.name (records_for (length c.args.bytes.now)) c.requires.room in
+    let count = c.records_for-number-end.ensures.value in
+    let more : c.loop-number.number < records_for (length c.args.bytes.now) = rw count at c.loop-number-test.true in
+    c.in_default.not-Done (wrote c.args.image c.args.file.now.user c.args.file.now.name c.args.bytes.now c.loop-number.number c.loop-number.drive c.loop-number.fcb c.record_of-record.result (rw user at c.user-user.ensures.within) c.loop-number.invariant room more c.record_of-record.ensures.value c.record_of-record.ensures.bytes c.write_next.result c.write_next.new.self c.write_next.new.fcb (rw user at c.write_next.ensures)).0
 
 pub unwrap-requires : goal.unwrap-requires
 unwrap-requires c =
@@ -40,7 +46,7 @@ unwrap-requires c =
     let count = c.records_for-number-end.ensures.value in
     let all : c.loop-number.number ≡ records_for (length c.args.bytes.now) = omega arith in
     let writing : IsWriting c.args.image c.args.file.now.user c.args.file.now.name c.args.bytes.now (records_for (length c.args.bytes.now)) c.loop-number.drive c.loop-number.fcb = rw (← all) c.loop-number.invariant in
-    ap is_ok (closes_put c.args.image c.args.file.now.user c.args.file.now.name c.args.bytes.now c.loop-number.drive c.loop-number.fcb (rw user at c.user-user.ensures.within) writing c.requires.sound c.requires.room c.close_file.result c.close_file.new.self c.close_file.new.fcb (rw user at c.close_file.ensures)).0.1
+    (closes_put c.args.image c.args.file.now.user c.args.file.now.name c.args.bytes.now c.loop-number.drive c.loop-number.fcb (rw user at c.user-user.ensures.within) writing c.requires.sound c.requires.room c.close_file.result c.close_file.new.self c.close_file.new.fcb (rw user at c.close_file.ensures)).0
 
 pub returns : goal.returns
 returns c =

@@ -1,4 +1,3 @@
-use Rattle.std.proofs.Common.{◌≡◌, ◌≤◌, ◌+◌, ◌/◌, length}
 use Rattle.cpm_shelf.specs.Writing.{IsWriting}
 use Rattle.cpm_shelf.proofs.putting.written.Given as goal
 
