@@ -14,6 +14,7 @@ use Rattle.cpm_shelf.specs.Shelf.{record_on}
 use Rattle.cpm_shelf.specs.Appending.{KeepsEntries}
 use Rattle.cpm_shelf.specs.Writing.{KeepsDisk}
 use Rattle.cpm_shelf.proofs.EndLemmas.{keeps-trans}
+use Rattle.cpm_shelf.proofs.SystemLemmas.{system_after}
 
 -- the drive's disk is of the format and has what a call left of its volume
 pub record HasVolume (f : Format) (drive : Drive) (v : Volume) : Type 0 where
@@ -56,13 +57,14 @@ has_volume f drive v format free reaches =
     }
 
 -- the other files are kept on the way
-pub keeps_on : (old : Disk) (user : ℕ) (name : List ℕ) (drive after : Drive) (v : Volume) → KeepsDisk old user name drive → HasVolume old.format after v → KeepsEntries user name (entries_of drive.image) v.entries → IsSoundDrive (dpb_of old.format) v → ((other : ℕ) (other_name : List ℕ) (m : ℕ) → other ≢ deleted → (other ≡ user → same_name other_name name ≡ true → ⊥) → file_record (dpb_of old.format) v.entries v.records other other_name m ≡ file_record (dpb_of old.format) (entries_of drive.image) (records_of drive.image) other other_name m) → KeepsDisk old user name after
-keeps_on old user name drive after v keeps has entries sound others = record {
+pub keeps_on : (old : Disk) (user : ℕ) (name : List ℕ) (drive : Drive) (v : Volume) → KeepsDisk old user name drive → HasVolume old.format (drive_after drive v) v → KeepsEntries user name (entries_of drive.image) v.entries → IsSoundDrive (dpb_of old.format) v → ((other : ℕ) (other_name : List ℕ) (m : ℕ) → other ≢ deleted → (other ≡ user → same_name other_name name ≡ true → ⊥) → file_record (dpb_of old.format) v.entries v.records other other_name m ≡ file_record (dpb_of old.format) (entries_of drive.image) (records_of drive.image) other other_name m) → KeepsDisk old user name (drive_after drive v)
+keeps_on old user name drive v keeps has entries sound others = record {
   format = has.format;
   writable = has.writable;
   entries = subst (λ es. KeepsEntries user name (entries_of old) es) (sym has.entries) (keeps-trans user name (entries_of old) (entries_of drive.image) v.entries keeps.entries entries);
   records = λ other other_name m ok apart.
       has.listed other other_name m ok sound ∙ (others other other_name m ok apart ∙ (sym (record_in_format old.format drive.image other other_name m keeps.format) ∙ keeps.records other other_name m ok apart));
+  system = λ place h. system_after drive v place keeps.writable.free (rw keeps.format h) ∙ keeps.system place h;
 }
 
 -- a volume's entries and records are the disk's

@@ -134,7 +134,7 @@ module _ (old : Disk) (user : ℕ) (name bytes : List ℕ) (drive : Drive) (fcb 
 
   keeps : KeepsDisk old user name (drive_after drive volume_now)
   unfolding volume_now with_entry
-  keeps = keeps_on old user name drive (drive_after drive volume_now) volume_now writing.keeps has keeps_now sound_now others
+  keeps = keeps_on old user name drive volume_now writing.keeps has keeps_now sound_now others
 
   on_disk : (m : ℕ) → record_on (drive_after drive volume_now).image user name m ≡ record_of bytes m
   unfolding volume_now with_entry volume_of
@@ -160,6 +160,7 @@ module _ (old : Disk) (user : ℕ) (name bytes : List ℕ) (drive : Drive) (fcb 
       entries = keeps.entries.stay;
       no_more = keeps.entries.no_more;
       records = keeps.records;
+      system = keeps.system;
     };
     sound = sound_after;
   }

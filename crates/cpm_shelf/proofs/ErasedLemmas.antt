@@ -201,7 +201,7 @@ module _ (drive : Drive) (user : ℕ) (name : List ℕ) (user_ok : user < 16) (p
   -- ---- no file of the name
   none_cleared : ((i : ℕ) → is_named user name (entry_at (entries_of drive.image) i) ≡ false) → IsCleared drive.image user name drive
   none_cleared none = record {
-    keeps = record { format = refl; writable = writable; entries = keeps-refl user name (entries_of drive.image); records = λ other other_name m ok apart. refl };
+    keeps = record { format = refl; writable = writable; entries = keeps-refl user name (entries_of drive.image); records = λ other other_name m ok apart. refl; system = λ place h. refl };
     sound = sound_drive;
     gone = none;
     entries_left = unused_none user name (entries_of drive.image) live none;
@@ -241,7 +241,7 @@ module _ (drive : Drive) (user : ℕ) (name : List ℕ) (user_ok : user < 16) (p
 
     erased_cleared : IsCleared drive.image user name (drive_after drive v')
     erased_cleared = record {
-      keeps = keeps_on drive.image user name drive (drive_after drive v') v' (record { format = refl; writable = writable; entries = keeps-refl user name (entries_of drive.image); records = λ other other_name m ok apart. refl }) has (subst (λ es. KeepsEntries user name (entries_of drive.image) es) (sym entries_is) (erase_keeps user name (entries_of drive.image) live)) erasing.sound others;
+      keeps = keeps_on drive.image user name drive v' (record { format = refl; writable = writable; entries = keeps-refl user name (entries_of drive.image); records = λ other other_name m ok apart. refl; system = λ place h. refl }) has (subst (λ es. KeepsEntries user name (entries_of drive.image) es) (sym entries_is) (erase_keeps user name (entries_of drive.image) live)) erasing.sound others;
       sound = has.sound_drive erasing.sound;
       gone = λ i. ap (λ es. is_named user name (entry_at es i)) (has.entries ∙ entries_is) ∙ none_named_after user name (entries_of drive.image) live i;
       entries_left = ap unused (has.entries ∙ entries_is) ∙ unused_after user name (entries_of drive.image) live;

@@ -8,6 +8,7 @@ pub mod EndLemmas
 pub mod PutLemmas
 pub mod Crossing
 pub mod AppendingLemmas
+pub mod SystemLemmas
 pub mod DiskLemmas
 pub mod StepLemmas
 pub mod ErasedLemmas

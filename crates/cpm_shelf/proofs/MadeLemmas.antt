@@ -179,7 +179,7 @@ module _ (old : Disk) (user : ℕ) (name : List ℕ) (drive : Drive) (user_ok : 
 
   keeps : KeepsDisk old user name (drive_after drive new_volume)
   unfolding new_volume with_entry
-  keeps = keeps_on old user name drive (drive_after drive new_volume) new_volume cleared.keeps has keeps_new (record { volume = sound.volume; well_formed = sound.well_formed }) others
+  keeps = keeps_on old user name drive new_volume cleared.keeps has keeps_new (record { volume = sound.volume; well_formed = sound.well_formed }) others
 
   entries_left : unused (entries_of (drive_after drive new_volume).image) + entries_for (dpb_of old.format) 0 ≡ free_entries user name (entries_of old)
   unfolding new_volume with_entry

@@ -140,7 +140,7 @@ module _ (old : Disk) (user : ℕ) (name bytes : List ℕ) (count : ℕ) (drive 
   next : IsWriting old user name bytes (count + 1) (drive_after drive o.volume) after_fcb
   unfolding after_fcb v volume_of
   next = record {
-    keeps = keeps_on old user name drive (drive_after drive o.volume) o.volume writing.keeps has appended.others (record { volume = written.0.sound.volume; well_formed = written.0.sound.well_formed }) others;
+    keeps = keeps_on old user name drive o.volume writing.keeps has appended.others (record { volume = written.0.sound.volume; well_formed = written.0.sound.well_formed }) others;
     fits = subst (λ (g : Format). IsOfBytes (dpb_of g) o.extent) writing.keeps.format reaches.extent;
     sound = has.sound user o.extent written.0.sound;
     appending = appending_on (dpb_of old.format) user name o.volume (volume_of (drive_after drive o.volume).image (drive_after drive o.volume).marks.reserved) o.extent o.current has.entries appended.appending;
