@@ -1,0 +1,4 @@
+pub mod Shelf
+pub mod Appending
+pub mod Laws
+pub mod Writing
