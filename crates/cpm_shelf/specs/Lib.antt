@@ -1,3 +1,6 @@
+pub mod Texts
+pub mod Taken
+pub mod Reach
 pub mod Shelf
 pub mod Appending
 pub mod Laws

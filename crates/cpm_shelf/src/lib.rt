@@ -1,12 +1,18 @@
 //! Files on a disk image as wholes: a file is put on a disk, or the reason is given why it isn't.
 #![tactic(auto)]
 
+mod copies;
 pub mod laws;
 pub mod name;
 mod needs;
 pub mod putting;
+mod records;
 pub mod refusal;
+pub mod removing;
+pub mod text;
 
 pub use name::FileName;
 pub use putting::put;
 pub use refusal::{Refusal, ShelfError};
+pub use removing::remove;
+pub use text::{from_text, to_text};

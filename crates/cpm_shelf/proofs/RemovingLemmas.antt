@@ -1,0 +1,168 @@
+-- A file is taken off a disk.
+use Rattle.std.proofs.Common.{◌≡◌, ◌≢◌, ◌⊎◌, ℕ, ◌+◌, ◌<◌, ◌≤◌, Bool, true, false, not, ◌&&◌, ◌||◌, eqb, ltb, List, Option, Some, None, Result, Ok, Err, length, get_or, sym, subst, refl, ap, ◌∙◌, inl, inr, arith}
+use Rattle.std.specs.List.{list_any}
+use Rattle.std.proofs.lemmas.List.Sums.{passes_at_first, fails_before_first}
+use Rattle.std.proofs.lemmas.List.{get_or_past}
+use Rattle.std.proofs.lemmas.Bool.{false≢true, and_left, and_parts, eqb-true, ne_eqb, cases_Bool, cases_lt, lt-ltb, le-ltb}
+use Rattle.cpm_geom.specs.declared.dpb.Dpb.{Dpb}
+use Rattle.cpm_geom.specs.declared.format.Format.{Format}
+use Rattle.cpm_geom.specs.Geometry.{dpb_of}
+use Rattle.cpm_geom.specs.Disk.{Disk, IsDisk, records_of}
+use Rattle.cpm_files.specs.declared.extent.Entry.{Entry}
+use Rattle.cpm_files.specs.declared.answer.Fault.{Fault}
+use Rattle.cpm_files.specs.declared.answer.Fault.TheVariants.{FileReadOnly}
+use Rattle.cpm_files.specs.Files.{deleted, has_wildcard, same_name, no_entry, entry_at, InUse, IsWellFormed, IsSoundDrive, Volume}
+use Rattle.cpm_files.specs.Names.{is_named, first_named, protects, erase_files}
+use Rattle.cpm_files.proofs.Formats.{each_format}
+use Rattle.cpm_directory.specs.Directory.{entries_of}
+use Rattle.cpm_directory.specs.Login.{reserved_at_login}
+use Rattle.cpm_directory.proofs.CheckedLemmas.{checked}
+use Rattle.cpm_directory.proofs.LawLemmas.{reserves}
+use Rattle.cpm_drive.specs.declared.drive.Drive.{Drive}
+use Rattle.cpm_drive.specs.Drive.{volume_of, drive_after, directory_code, new_marks}
+use Rattle.cpm_drive.specs.Calls.{logged_in}
+use Rattle.cpm_drive.specs.Reads.{lent_drive}
+use Rattle.cpm_drive.specs.Named.{after_named}
+use Rattle.cpm_drive.specs.Laws.{IsWritable, HasBytes}
+use Rattle.cpm_shelf.specs.Shelf.{IsSoundDisk, KeepsOthers}
+use Rattle.cpm_shelf.specs.Writing.{IsCleared}
+use Rattle.cpm_shelf.specs.Taken.{IsThere, IsAbsent, IsRemoved}
+use Rattle.cpm_shelf.proofs.EndLemmas.{named_parts}
+use Rattle.cpm_shelf.proofs.ErasedLemmas.{erased}
+
+-- ---- a drive that agrees with itself has a sound disk
+
+pub at_login : (d : Dpb) (es : List Entry) (reserved : List Bool) → (f : Format) → d ≡ dpb_of f → IsWellFormed d es reserved → IsWellFormed d es (reserved_at_login d es)
+at_login d es reserved f of_format well =
+    let login = reserves d es (rw of_format (each_format f)) in
+    record {
+      once = well.once;
+      stored = λ i s used some. record {
+        within = (well.stored i s used some).within;
+        outside = (well.stored i s used some).outside;
+        kept = login.numbers i s used some;
+      };
+      directory = login.directory;
+      apart = well.apart;
+    }
+
+pub sound_again : (disk : Disk) (reserved : List Bool) → IsWellFormed (dpb_of disk.format) (entries_of disk) reserved → IsSoundDisk disk
+sound_again disk reserved well = (checked disk).1 (at_login (dpb_of disk.format) (entries_of disk) reserved disk.format refl well)
+
+-- ---- whether a file is there
+
+pub user_of : (user : ℕ) (name : List ℕ) (e : Entry) → is_named user name e ≡ true → e.user ≡ user
+unfolding is_named
+user_of user name e h = eqb-true _ _ (and_parts (eqb e.user user) _ h).0
+
+pub no_entry_named : (user : ℕ) (name : List ℕ) → user ≢ deleted → is_named user name no_entry ≡ false
+unfolding is_named no_entry
+no_entry_named user name ok = and_left _ _ (ne_eqb _ _ (λ z. ok (sym z)))
+
+pub first_there : (es : List Entry) (user : ℕ) (name : List ℕ) → user ≢ deleted → first_named es user name < length es → (i : ℕ) × InUse es i × (is_named user name (entry_at es i) ≡ true)
+unfolding first_named entry_at
+first_there es user name ok there =
+    let passes : is_named user name (entry_at es (first_named es user name)) ≡ true = passes_at_first (is_named user name) es no_entry there in
+    (first_named es user name, record { used = λ z. ok (sym (user_of user name _ passes) ∙ z) }, passes)
+
+pub none_there : (es : List Entry) (user : ℕ) (name : List ℕ) → user ≢ deleted → length es ≤ first_named es user name → (i : ℕ) → is_named user name (entry_at es i) ≡ false
+unfolding first_named entry_at
+none_there es user name ok past i =
+    elim (cases_lt i (length es)) [
+      | inl lt ↦ fails_before_first (is_named user name) es i no_entry (omega arith)
+      | inr ge ↦ rw (get_or_past es i no_entry ge) (no_entry_named user name ok)
+    ]
+
+-- ---- what the answer of the call says
+
+abbrev Answered : Type 0
+Answered = Result (Option ℕ) Fault × Drive
+
+none_some : (code : ℕ) (a b : Drive) → ◌≡◌ {A = Answered} (Ok (Some code), a) (Ok None, b) → ⊥
+none_some code a b e =
+    let h : ◌≡◌ {A = Result (Option ℕ) Fault} (Ok (Some code)) (Ok None) = ap (λ (p : Answered). p.0) e in cc
+
+err_ok : (code : Option ℕ) (which : Fault) (a b : Drive) → ◌≡◌ {A = Answered} (Ok code, a) (Err which, b) → ⊥
+err_ok code which a b e =
+    let h : ◌≡◌ {A = Result (Option ℕ) Fault} (Ok code) (Err which) = ap (λ (p : Answered). p.0) e in cc
+
+module _ (drive : Drive) (user : ℕ) (name : List ℕ) where
+  pub some_erased : (code : ℕ) (drive' : Drive) → (Ok (Some code), drive') ≡ after_named drive (erase_files (dpb_of drive.image.format) (volume_of drive.image drive.marks.reserved) user name) → (first_named (entries_of drive.image) user name < length (entries_of drive.image)) × (list_any (protects user name) (entries_of drive.image) ≡ false)
+  unfolding erase_files after_named volume_of
+  some_erased code drive' e =
+      elim (cases_lt (first_named (entries_of drive.image) user name) (length (entries_of drive.image))) [
+        | inr past ↦ absurd (none_some code drive' drive (rw (le-ltb _ _ past) at e))
+        | inl there ↦ elim (cases_Bool (list_any (protects user name) (entries_of drive.image))) [
+          | inl t ↦ absurd (err_ok (Some code) FileReadOnly drive' drive (rw (lt-ltb _ _ there, t) at e))
+          | inr f ↦ (there, f)
+        ]
+      ]
+
+  pub none_erased : (drive' : Drive) → (Ok None, drive') ≡ after_named drive (erase_files (dpb_of drive.image.format) (volume_of drive.image drive.marks.reserved) user name) → length (entries_of drive.image) ≤ first_named (entries_of drive.image) user name
+  unfolding erase_files after_named volume_of
+  none_erased drive' e =
+      elim (cases_lt (first_named (entries_of drive.image) user name) (length (entries_of drive.image))) [
+        | inr past ↦ past
+        | inl there ↦ elim (cases_Bool (list_any (protects user name) (entries_of drive.image))) [
+          | inl t ↦ absurd (err_ok None FileReadOnly drive' drive (rw (lt-ltb _ _ there, t) at e))
+          | inr f ↦ absurd (none_some _ _ _ (sym (rw (lt-ltb _ _ there, f) at e)))
+        ]
+      ]
+
+  pub locked_erased : (which : Fault) (drive' : Drive) → (Err which, drive') ≡ after_named drive (erase_files (dpb_of drive.image.format) (volume_of drive.image drive.marks.reserved) user name) → list_any (protects user name) (entries_of drive.image) ≡ true
+  unfolding erase_files after_named volume_of
+  locked_erased which drive' e =
+      elim (cases_lt (first_named (entries_of drive.image) user name) (length (entries_of drive.image))) [
+        | inr past ↦ absurd (err_ok _ _ _ _ (sym (rw (le-ltb _ _ past) at e)))
+        | inl there ↦ elim (cases_Bool (list_any (protects user name) (entries_of drive.image))) [
+          | inl t ↦ t
+          | inr f ↦ absurd (err_ok _ _ _ _ (sym (rw (lt-ltb _ _ there, f) at e)))
+        ]
+      ]
+
+-- ---- the disk then
+
+pub others_kept : (old : Disk) (user : ℕ) (name : List ℕ) (drive : Drive) → IsCleared old user name drive → KeepsOthers user name old drive.image
+others_kept old user name drive cleared = record {
+  format = cleared.keeps.format;
+  entries = cleared.keeps.entries.stay;
+  no_more = cleared.keeps.entries.no_more;
+  records = cleared.keeps.records;
+}
+
+pub sound_cleared : (old : Disk) (user : ℕ) (name : List ℕ) (drive : Drive) → IsCleared old user name drive → IsSoundDisk drive.image
+unfolding volume_of
+sound_cleared old user name drive cleared =
+    sound_again drive.image drive.marks.reserved (subst (λ (f : Format). IsWellFormed (dpb_of f) (entries_of drive.image) drive.marks.reserved) (sym cleared.keeps.format) cleared.sound.well_formed)
+
+-- ---- a drive of a disk that is logged in
+
+abbrev pub fresh_drive : Disk → Drive
+fresh_drive image =
+    record {
+      image = image;
+      marks = record { reserved = reserved_at_login (dpb_of image.format) (entries_of image); is_logged_in = true; is_protected = false };
+    }
+
+pub fresh : (image : Disk) (made drive : Drive) → made ≡ lent_drive image (new_marks image.format false) → drive ≡ logged_in made → drive ≡ fresh_drive image
+fresh image made drive a b = b ∙ ap logged_in a
+
+pub writable : (image : Disk) → IsDisk image → HasBytes image → IsWritable (fresh_drive image)
+writable image whole bytes = record { disk = whole; bytes = bytes; free = refl }
+
+pub answered : (image : Disk) (drive : Drive) (u user : ℕ) (n name : List ℕ) (answer : Answered) → drive ≡ fresh_drive image → u ≡ user → n ≡ name → answer ≡ after_named drive (erase_files (dpb_of drive.image.format) (volume_of drive.image drive.marks.reserved) u n) → answer ≡ after_named (fresh_drive image) (erase_files (dpb_of image.format) (volume_of image (reserved_at_login (dpb_of image.format) (entries_of image))) user name)
+answered image drive u user n name answer a b c e = e ∙ rw (a, b, c) refl
+
+pub removed : (image : Disk) (drive' : Drive) (user : ℕ) (name : List ℕ) (code : ℕ) → user < 16 → has_wildcard name ≡ false → IsDisk image → HasBytes image → IsSoundDisk image → (Ok (Some code), drive') ≡ after_named (fresh_drive image) (erase_files (dpb_of image.format) (volume_of image (reserved_at_login (dpb_of image.format) (entries_of image))) user name) → IsRemoved image user name drive'.image
+removed image drive' user name code small plain whole bytes sound e =
+    let live : user ≢ deleted = λ z. absurd (omega arith) in
+    let parts = some_erased (fresh_drive image) user name code drive' e in
+    let cleared = (erased (fresh_drive image) user name small plain (writable image whole bytes) sound refl parts.1 (Ok (Some code)) drive' e).1 in
+    record {
+      sound_before = sound;
+      there = first_there (entries_of image) user name live parts.0;
+      unprotected = parts.1;
+      absent = cleared.gone;
+      others = others_kept image user name drive' cleared;
+      sound = sound_cleared image user name drive' cleared;
+    }
