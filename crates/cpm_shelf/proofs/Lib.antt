@@ -1,3 +1,8 @@
+pub mod ListingLemmas
+pub mod TextLemmas
+pub mod RemovingLemmas
+pub mod GettingLemmas
+pub mod CountLemmas
 pub mod WildcardLemmas
 pub mod Counting
 pub mod FreeLemmas

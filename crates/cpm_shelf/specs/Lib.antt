@@ -1,3 +1,4 @@
+pub mod Listing
 pub mod Texts
 pub mod Taken
 pub mod Reach

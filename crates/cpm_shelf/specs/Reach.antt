@@ -1,10 +1,10 @@
 -- How far the records of an entry reach, and those of a file.
-use Rattle.std.specs.Prelude.{◌≡◌, ◌≢◌, ℕ, ◌+◌, ◌-◌, ◌*◌, ◌/◌, ◌<◌, ◌≤◌, Bool, true, ◌==◌, ◌&&◌, List, Option, MatchOption, length}
+use Rattle.std.specs.Prelude.{◌≡◌, ◌≢◌, ℕ, ◌+◌, ◌-◌, ◌*◌, ◌/◌, ◌<◌, ◌≤◌, Bool, true, ◌==◌, ◌&&◌, List, Option, Some, None, MatchOption, length}
 use Rattle.cpm_geom.specs.declared.dpb.Dpb.{Dpb}
 use Rattle.cpm_geom.specs.Geometry.{dpb_of}
 use Rattle.cpm_geom.specs.Disk.{Disk}
 use Rattle.cpm_files.specs.declared.extent.Entry.{Entry}
-use Rattle.cpm_files.specs.Files.{same_name, extent_number, group_of, first_of, entry_block, entry_at}
+use Rattle.cpm_files.specs.Files.{same_name, extent_number, group_of, first_of, entry_block, entry_at, block_number}
 use Rattle.cpm_directory.specs.Directory.{entries_of}
 
 -- an entry of a user and a name, whatever the attribute bits and a question mark in the name (own)
@@ -36,3 +36,12 @@ IsEntryOf disk user name n entry =
     MatchOption entry
     (length (entries_of disk) ≤ first_for disk user name n)
     (λ e. (e ≡ entry_at (entries_of disk) (first_for disk user name n)) × (first_for disk user name n < length (entries_of disk)))
+
+-- the block of a record by the entry of its group, 0 where there is none (own)
+abbrev pub block_by : Dpb → Option Entry → ℕ → ℕ
+block_by d None n = 0
+block_by d (Some e) n = entry_block d e n
+
+-- the numbers of an entry's map are of blocks that the drive has (own)
+abbrev pub IsOnDrive : Dpb → Entry → Type 0
+IsOnDrive d e = (place : ℕ) → block_number e.extent place ≤ d.last_block

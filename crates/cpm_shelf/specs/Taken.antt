@@ -38,6 +38,26 @@ IsThere disk user name = (i : ℕ) × InUse (entries_of disk) i × (is_named use
 abbrev pub IsAbsent : Disk → ℕ → List ℕ → Type 0
 IsAbsent disk user name = (i : ℕ) → is_named user name (entry_on disk i) ≡ false
 
+-- The bytes that are taken off a disk: they are its file's. (own)
+pub record IsGot (disk : Disk) (user : ℕ) (name : List ℕ) (bytes : List ℕ) : Type 0 where
+  pub sound : IsSoundDisk disk
+  pub there : IsThere disk user name
+  pub file : AreBytesOf disk user name bytes
+
+-- Why they are not: there is no such file. (own)
+abbrev pub IsGetReason : Disk → ℕ → List ℕ → Refusal → Type 0
+IsGetReason disk user name NoFile = IsAbsent disk user name
+IsGetReason disk user name ReadOnly = ⊥
+IsGetReason disk user name Exists = ⊥
+IsGetReason disk user name DirectoryFull = ⊥
+IsGetReason disk user name DiskFull = ⊥
+
+-- The fault of the first entry that has one; or the disk is sound, and this is the reason; or there was no memory. (own)
+abbrev pub IsGetRefusal : Disk → ℕ → List ℕ → ShelfError → Type 0
+IsGetRefusal disk user name (Damaged fault) = IsChecked (dpb_of disk.format) (entries_of disk) (Err fault)
+IsGetRefusal disk user name (Refused refusal) = IsSoundDisk disk × IsGetReason disk user name refusal
+IsGetRefusal disk user name OutOfMemory = ⊤
+
 -- A disk once a file was taken from it: there is no such file, each other is as it was, and no entry has a fault. (own)
 pub record IsRemoved (old : Disk) (user : ℕ) (name : List ℕ) (new : Disk) : Type 0 where
   pub sound_before : IsSoundDisk old

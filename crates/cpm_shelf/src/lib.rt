@@ -2,7 +2,9 @@
 #![tactic(auto)]
 
 mod copies;
+pub mod getting;
 pub mod laws;
+pub mod listing;
 pub mod name;
 mod needs;
 pub mod putting;
@@ -11,6 +13,8 @@ pub mod refusal;
 pub mod removing;
 pub mod text;
 
+pub use getting::get;
+pub use listing::{Listed, Shelf, list};
 pub use name::FileName;
 pub use putting::put;
 pub use refusal::{Refusal, ShelfError};

@@ -1,16 +1,18 @@
 //! The records of a file, by the entries of a directory.
 
-ghost use Rattle.std.specs.Prelude.{◌≡◌, ◌≢◌, ◌<◌, ◌≤◌, ◌+◌, ◌-◌, ◌*◌, ◌/◌, ◌%◌, ◌==◌, ℕ, MatchOption, length, replicate};
-ghost use Rattle.std.specs.List.{list_all, zip};
+ghost use Rattle.std.specs.Prelude.{◌≡◌, ◌≢◌, ◌<◌, ◌≤◌, ◌+◌, ◌-◌, ◌*◌, ◌/◌, ◌%◌, ◌==◌, ℕ, IfSome, length};
+ghost use Rattle.std.specs.List.{list_all, list_any, zip};
 ghost use Rattle.cpm_geom.specs.Geometry.{dpb_of, IsRecord};
 ghost use Rattle.cpm_geom.specs.Disk.{records_of};
-ghost use Rattle.cpm_files.specs.Files.{deleted, same_name, extent_number, group_of, is_of, first_of, entry_at, block_number, record_count_of, map_place, entry_block, drive_record, record_in};
+ghost use Rattle.cpm_files.specs.Files.{deleted, same_name, extent_number, group_of, is_of, record_count_of, map_place, entry_block, drive_record, record_in};
+ghost use Rattle.cpm_files.specs.Names.{is_named};
 ghost use Rattle.cpm_directory.specs.Directory.{entries_of};
 ghost use Rattle.cpm_shelf.specs.Shelf.{IsSoundDisk};
-ghost use Rattle.cpm_shelf.specs.Reach.{is_of_file, IsEnd, IsEndBefore, IsEntryOf};
+ghost use Rattle.cpm_shelf.specs.Reach.{is_of_file, IsEnd, IsEntryOf, block_by, IsOnDrive};
 ghost use Rattle.cpm_shelf.specs.Taken.{HasRecords, taken_record};
 
-use cpm_directory::LentImage;
+use crate::name::FileName;
+use cpm_directory::{LentImage, is_named};
 use cpm_files::Entry;
 use cpm_geom::Format;
 
@@ -145,15 +147,73 @@ fn drive_record(format: Format, block: u16, number: u32) -> u16
 }
 
 /// A record of a file as it is taken off a disk, by the entry of its group: zeros where it has no block.
-fn record_by(image: &LentImage<'_>, entry: &Entry, number: u32) -> [u8; 128]
-    requires { (place : ℕ) → block_number entry.now.extent place ≤ (dpb_of image.now.format).last_block }
-    ensures { result ≡ taken_record (record_in (dpb_of image.now.format) (records_of image.now) (entry_block (dpb_of image.now.format) entry.now number) number) }
+pub(crate) fn record_by(image: &LentImage<'_>, entry: Option<Entry>, number: u32) -> [u8; 128]
+    requires { IfSome entry (λ entry. IsOnDrive (dpb_of image.now.format) entry) }
+    ensures value { result ≡ taken_record (record_in (dpb_of image.now.format) (records_of image.now) (block_by (dpb_of image.now.format) entry number) number) }
+    ensures size { length result ≡ 128 }
+{
+    match entry {
+        Some(entry) => record_in(image, block_of(image.format(), &entry, number), number),
+        None => [0; 128],
+    }
+}
+
+/// A record of a file by its block, zeros where it is 0.
+fn record_in(image: &LentImage<'_>, block: u16, number: u32) -> [u8; 128]
+    requires { block ≤ (dpb_of image.now.format).last_block }
+    ensures { result ≡ taken_record (record_in (dpb_of image.now.format) (records_of image.now) block number) }
 {
     let mut record = [0; 128];
-    let block = block_of(image.format(), entry, number);
-    if block != 0 {
-        let place = drive_record(image.format(), block, number);
-        record.copy_from_slice(image.record(place).unwrap());
+    if block == 0 {
+        return record;
     }
+    let place = drive_record(image.format(), block, number);
+    record.copy_from_slice(image.record(place).unwrap());
     record
+}
+
+/// The number behind the last record that an entry has a block for; 0 where it has none.
+fn end_of(format: Format, entry: &Entry) -> u32
+    ensures end { IsEnd (dpb_of format) entry.now result }
+    ensures small { result ≤ 65536 }
+{
+    let size = records_in_entry(format);
+    let start = group_of(format, u32::from(entry.extent.number())) * size;
+    let mut end = 0;
+    for number in start..start + size {
+        if block_of(format, entry, number) != 0 {
+            end = number + 1;
+        }
+    }
+    end
+}
+
+/// How many records a file has, up to its last; 0 where there is no such file.
+pub(crate) fn record_count(image: &LentImage<'_>, user: u8, name: &[u8; 11]) -> u32
+    requires user { user ≢ deleted }
+    requires sound { IsSoundDisk image.now }
+    ensures records { HasRecords image.now user name.now result }
+    ensures small { result ≤ 65536 }
+{
+    let format = image.format();
+    let mut count = 0;
+    for index in 0..format.dpb().last_entry + 1 {
+        let entry = image.entry(index);
+        if is_of_file(user, name, &entry) {
+            count = count.max(end_of(format, &entry));
+        }
+    }
+    count
+}
+
+/// Whether the directory has an entry of a file.
+pub(crate) fn is_there(image: &LentImage<'_>, file: &FileName) -> bool
+    ensures { result ≡ list_any (is_named file.now.user file.now.name) (entries_of image.now) }
+{
+    for index in 0..image.format().dpb().last_entry + 1 {
+        if is_named(file.user(), file.name(), &image.entry(index)) {
+            return true;
+        }
+    }
+    false
 }
