@@ -1,15 +1,15 @@
 -- The law of records that are written at the end of a file.
-use Rattle.std.proofs.Common.{◌≡◌, ◌≢◌, ◌⊎◌, ℕ, ◌+◌, ◌*◌, ◌%◌, ◌<◌, ◌≤◌, Bool, true, false, cond, eqb, List, sym, refl, ap, ◌∙◌, inl, inr, arith}
+use Rattle.std.proofs.Common.{◌≡◌, ◌≢◌, ◌⊎◌, ℕ, ◌+◌, ◌%◌, ◌<◌, false, cond, eqb, List, sym, refl, ◌∙◌, inl, inr, arith}
 use Rattle.std.proofs.lemmas.Bool.{cases_eq, cases_lt, lt-ltb, cond-true, eq-eqb}
 use Rattle.cpm_geom.specs.declared.dpb.Dpb.{Dpb}
 use Rattle.cpm_files.specs.declared.extent.Extent.{Extent}
 use Rattle.cpm_files.specs.Files.{deleted, extent_number, group_of, IsFormat, IsSound, Volume}
-use Rattle.cpm_files.specs.Operations.{Outcome, writing, next_place, put_record, write_in, write_next}
+use Rattle.cpm_files.specs.Operations.{Outcome, next_place, put_record, write_in, write_next}
 use Rattle.cpm_files.specs.Laws.{position}
-use Rattle.cpm_shelf.specs.Appending.{unused, unreserved, entries_begun, blocks_begun, IsAtEnd, IsAppending, KeepsEntries, IsAppended, LacksEntry, LacksBlock}
+use Rattle.cpm_shelf.specs.Appending.{unused, entries_begun, IsAtEnd, IsAppending, IsAppended, LacksEntry, LacksBlock}
 use Rattle.cpm_shelf.specs.Laws.{AppendingLaw}
 use Rattle.cpm_shelf.proofs.Numbers.{blocks_begun_at, extent_begins_block, begins_no_entry, extent_begins_no_entry, extent_begins_entry, zero_rest}
-use Rattle.cpm_shelf.proofs.EndLemmas.{no_more_records, keeps-refl, keeps-trans}
+use Rattle.cpm_shelf.proofs.EndLemmas.{no_more_records, keeps-refl}
 use Rattle.cpm_shelf.proofs.PutLemmas.{PutsAtEnd, LacksThere, IsReady, puts_at_end}
 use Rattle.cpm_shelf.proofs.Crossing.{MovesToEnd, moves_on, moves_or_stops}
 

@@ -1,15 +1,15 @@
 -- A record that is put behind an extent at the end of its file: the extent is closed, and the next one opened or made.
-use Rattle.std.proofs.Common.{◌≡◌, ◌≢◌, ◌⊎◌, ℕ, ◌+◌, ◌*◌, ◌/◌, ◌%◌, ◌<◌, ◌≤◌, Bool, true, false, List, [], Some, None, length, set, replicate, sym, refl, ap, ◌∙◌, inl, inr, arith}
+use Rattle.std.proofs.Common.{◌≡◌, ◌≢◌, ◌⊎◌, ℕ, ◌+◌, ◌<◌, ◌≤◌, true, false, List, Some, None, length, set, sym, refl, ap, ◌∙◌, inl, inr, arith}
 use Rattle.std.proofs.lemmas.List.{length-replicate}
-use Rattle.std.proofs.lemmas.Bool.{false≢true, eq-eqb, ne_eqb, cases_eq, cases_lt, lt-ltb, le-ltb, false_from_ne_true}
+use Rattle.std.proofs.lemmas.Bool.{false≢true, ne_eqb, cases_lt, lt-ltb, le-ltb, false_from_ne_true}
 use Rattle.cpm_geom.specs.declared.dpb.Dpb.{Dpb}
 use Rattle.cpm_files.specs.declared.extent.Extent.{Extent}
 use Rattle.cpm_files.specs.declared.extent.Entry.{Entry}
-use Rattle.cpm_files.specs.declared.answer.Answer.TheVariants.{Done as done, NoRecord as no_record}
+use Rattle.cpm_files.specs.declared.answer.Answer.TheVariants.{NoRecord as no_record}
 use Rattle.cpm_files.specs.Reserved.{is_reserved}
-use Rattle.cpm_files.specs.Files.{deleted, extent_number, group_of, has_wildcard, entry_at, InUse, is_of, first_of, first_match, first_free, block_number, IsFormat, IsWellFormed, IsSound, Volume}
+use Rattle.cpm_files.specs.Files.{deleted, extent_number, group_of, has_wildcard, entry_at, is_of, first_of, first_free, block_number, IsFormat, IsWellFormed, IsSound, Volume}
 use Rattle.cpm_files.specs.Names.{is_named}
-use Rattle.cpm_files.specs.Operations.{Outcome, ends, with_entry, closed, closed_entry, close_extent, opened, open_extent, made, make_extent, writing, made_in, opened_or_made, have_extent, closed_in, cross, next_target, next_place, put_record, write_in, write_next}
+use Rattle.cpm_files.specs.Operations.{Outcome, ends, with_entry, closed, closed_entry, close_extent, opened, open_extent, made, make_extent, made_in, opened_or_made, have_extent, closed_in, cross, next_target, next_place, put_record, write_in, write_next}
 use Rattle.cpm_files.proofs.Entries.{entry_at-set_same, in_use_within, is_of_parts, is_of_from, first_of_passes}
 use Rattle.cpm_files.proofs.NameLemmas.{first_match_plain, same_name-refl}
 use Rattle.cpm_files.proofs.Closing as closing

@@ -1,14 +1,14 @@
 -- At the end of a file there is no further record; and what a written entry leaves of an end.
-use Rattle.std.proofs.Common.{◌≡◌, ◌≢◌, ℕ, ◌+◌, ◌*◌, ◌/◌, ◌%◌, ◌<◌, ◌≤◌, Bool, true, false, ltb, List, [], None, length, set, sym, refl, ap, ◌∙◌, inl, inr, arith}
+use Rattle.std.proofs.Common.{◌≡◌, ◌≢◌, ℕ, ◌/◌, ◌%◌, ◌<◌, ◌≤◌, true, false, List, None, length, set, sym, refl, ap, ◌∙◌, inl, inr, arith}
 use Rattle.std.proofs.lemmas.List.{get_or_past}
-use Rattle.std.proofs.lemmas.Bool.{false≢true, eqb-true, eq-eqb, ne_eqb, and_parts, and_from, cases_eq, cases_lt, cases_Bool, lt-ltb, le-ltb, cond-false, false_from_ne_true}
+use Rattle.std.proofs.lemmas.Bool.{false≢true, eqb-true, eq-eqb, ne_eqb, and_parts, and_from, cases_eq, cases_lt, le-ltb, cond-false, false_from_ne_true}
 use Rattle.cpm_geom.specs.declared.dpb.Dpb.{Dpb}
 use Rattle.cpm_files.specs.declared.extent.Extent.{Extent}
 use Rattle.cpm_files.specs.declared.extent.Entry.{Entry}
-use Rattle.cpm_files.specs.Files.{deleted, extent_number, group_of, map_place, same_name, has_wildcard, no_entry, entry_at, InUse, is_of, first_of, record_count_of, open_record_count, block_number, block_if, entry_block, file_block, open_block, open_file_block, open_file_record, record_in, Volume}
+use Rattle.cpm_files.specs.Files.{deleted, extent_number, group_of, same_name, has_wildcard, no_entry, entry_at, InUse, is_of, first_of, record_count_of, open_record_count, block_if, open_block, open_file_block, open_file_record, Volume}
 use Rattle.cpm_files.specs.Names.{is_named}
 use Rattle.cpm_files.specs.Laws.{position}
-use Rattle.cpm_files.proofs.Entries.{entry_at-set_same, entry_at-set_other, in_use_within, is_of_parts, is_of_from, first_of_passes}
+use Rattle.cpm_files.proofs.Entries.{entry_at-set_same, entry_at-set_other, is_of_parts, first_of_passes}
 use Rattle.cpm_files.proofs.NameLemmas.{name_matches_plain, same_name-refl}
 use Rattle.cpm_files.proofs.Making.{none_block}
 use Rattle.cpm_files.proofs.Moving.{no_file}

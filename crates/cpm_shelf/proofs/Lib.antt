@@ -13,3 +13,12 @@ pub mod EndLemmas
 pub mod PutLemmas
 pub mod Crossing
 pub mod AppendingLemmas
+pub mod SystemLemmas
+pub mod DiskLemmas
+pub mod StepLemmas
+pub mod ErasedLemmas
+pub mod MadeLemmas
+pub mod StartLemmas
+pub mod BeginLemmas
+pub mod BytesLemmas
+pub mod DoneLemmas

@@ -1,8 +1,8 @@
 -- Where a record is among the records of its block and of its entry.
-use Rattle.std.proofs.Common.{◌≡◌, ◌≢◌, ℕ, ◌+◌, ◌*◌, ◌/◌, ◌%◌, ◌<◌, ◌≤◌, Bool, ◌&&◌, ltb, eqb, cond, sym, refl, ap, ◌∙◌, inl, inr, arith}
-use Rattle.std.proofs.Math.Nat.{mul_comm, mul_assoc, add-mul, mul-add-mod_self_right, mul-mod_left, mul-le-mul_right}
+use Rattle.std.proofs.Common.{◌≡◌, ◌≢◌, ℕ, ◌+◌, ◌*◌, ◌/◌, ◌%◌, ◌<◌, ◌≤◌, eqb, cond, sym, refl, ap, ◌∙◌, inl, inr, arith}
+use Rattle.std.proofs.Math.Nat.{mul_comm, mul_assoc, add-mul, mul-add-mod_self_right, mul-mod_left}
 use Rattle.std.proofs.lemmas.Nat.{div-add-mod', div-mul-add, mod-mul-add, mod_below, le-div, same_from_place}
-use Rattle.std.proofs.lemmas.Bool.{eq-eqb, ne_eqb, lt-ltb, le-ltb, cases_eq, cases_lt}
+use Rattle.std.proofs.lemmas.Bool.{eq-eqb, ne_eqb, lt-ltb, cases_eq, cases_lt}
 use Rattle.cpm_geom.specs.declared.dpb.Dpb.{Dpb}
 use Rattle.cpm_files.specs.declared.extent.Extent.{Extent}
 use Rattle.cpm_files.specs.Files.{extent_number, group_of, place_of, IsFormat}
@@ -90,8 +90,8 @@ next_group a e pos other =
     let low = mod_below a e pos in
     elim (cases_lt (a % e + 1) e) [
       | inl within ↦ absurd (other (
-        let same : a + 1 ≡ a / e * e + (a % e + 1) = omega arith in
-        ap (λ k. k / e) same ∙ div-mul-add (a / e) e (a % e + 1) within))
+          let same : a + 1 ≡ a / e * e + (a % e + 1) = omega arith in
+          ap (λ k. k / e) same ∙ div-mul-add (a / e) e (a % e + 1) within))
       | inr past ↦
           let row = add-mul (a / e) 1 e in
           let same : a + 1 ≡ (a / e + 1) * e = omega arith in

@@ -1,9 +1,10 @@
 -- The files on a disk, and what it is to put one there.
-use Rattle.std.specs.Prelude.{◌≡◌, ◌≢◌, ℕ, ◌+◌, ◌-◌, ◌*◌, ◌/◌, Bool, true, false, not, ◌||◌, ◌==◌, nat_lt, if◌then◌else◌, List, [], ◌++◌, Option, Some, None, Err, ⊤, length, take, drop, replicate, max, count_by}
+use Rattle.std.specs.Prelude.{◌≡◌, ◌≢◌, ℕ, ◌+◌, ◌-◌, ◌*◌, ◌/◌, ◌<◌, Bool, true, false, not, ◌||◌, ◌==◌, nat_lt, if◌then◌else◌, List, ◌++◌, Option, Some, None, Err, ⊤, length, take, drop, replicate, max, count_by}
 use Rattle.std.specs.List.{list_any}
 use Rattle.cpm_geom.specs.declared.dpb.Dpb.{Dpb}
-use Rattle.cpm_geom.specs.Geometry.{dpb_of}
-use Rattle.cpm_geom.specs.Disk.{Disk, records_of}
+use Rattle.cpm_geom.specs.declared.format.Format.{Format}
+use Rattle.cpm_geom.specs.Geometry.{dpb_of, sectors_per_track}
+use Rattle.cpm_geom.specs.Disk.{Disk, records_of, sector_at}
 use Rattle.cpm_files.specs.declared.extent.Entry.{Entry}
 use Rattle.cpm_files.specs.Files.{deleted, entry_at, file_record, same_name, InUse}
 use Rattle.cpm_files.specs.Names.{is_named, protects, reserved_after}
@@ -45,13 +46,19 @@ pub record HasFile (disk : Disk) (user : ℕ) (name bytes : List ℕ) : Type 0 w
   pub attributes : (i : ℕ) → is_named user name (entry_on disk i) ≡ true → (entry_on disk i).extent.name ≡ name
   pub records : (m : ℕ) → record_on disk user name m ≡ record_of bytes m
 
--- Each file but that of this user and name has what it had, and its entries are as they were. (own)
+-- the sectors of the tracks before a disk's first record, which the system is in
+-- CP/M 2.2 Operating System Manual, section 6.10, Disk Parameter Tables: OFF is the number of reserved tracks
+abbrev pub system_sectors : Format → ℕ
+system_sectors f = (dpb_of f).track_offset * sectors_per_track f
+
+-- Each file but that of this user and name has what it had, and its entries are as they were; so is the system. (own)
 pub record KeepsOthers (user : ℕ) (name : List ℕ) (old new : Disk) : Type 0 where
   pub format : new.format ≡ old.format
   pub entries : (i : ℕ) → InUse (entries_of old) i → is_named user name (entry_on old i) ≡ false → entry_on new i ≡ entry_on old i
   pub no_more : (i : ℕ) → InUse (entries_of new) i → is_named user name (entry_on new i) ≡ false → entry_on old i ≡ entry_on new i
   pub records : (other : ℕ) (other_name : List ℕ) (m : ℕ) → other ≢ deleted → (other ≡ user → same_name other_name name ≡ true → ⊥)
       → record_on new other other_name m ≡ record_on old other other_name m
+  pub system : (place : ℕ) → place < system_sectors old.format → sector_at new place ≡ sector_at old place
 
 -- ---- what a file needs
 

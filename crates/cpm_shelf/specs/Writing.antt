@@ -1,9 +1,9 @@
 -- What holds of a drive while a file is put on its disk.
-use Rattle.std.specs.Prelude.{◌≡◌, ◌≢◌, ℕ, ◌+◌, ◌<◌, ◌≤◌, Bool, true, false, List, replicate}
+use Rattle.std.specs.Prelude.{◌≡◌, ◌≢◌, ℕ, ◌+◌, ◌<◌, ◌≤◌, true, false, List, replicate}
 use Rattle.std.specs.List.{list_any}
 use Rattle.cpm_geom.specs.declared.dpb.Dpb.{Dpb}
 use Rattle.cpm_geom.specs.Geometry.{dpb_of}
-use Rattle.cpm_geom.specs.Disk.{Disk, records_of}
+use Rattle.cpm_geom.specs.Disk.{Disk, records_of, sector_at}
 use Rattle.cpm_files.specs.declared.extent.Entry.{Entry}
 use Rattle.cpm_files.specs.declared.fcb.Fcb.{Fcb}
 use Rattle.cpm_files.specs.Files.{deleted, same_name, entry_at, open_file_record, IsSound, IsSoundDrive}
@@ -13,7 +13,7 @@ use Rattle.cpm_directory.specs.Directory.{entries_of}
 use Rattle.cpm_drive.specs.declared.drive.Drive.{Drive}
 use Rattle.cpm_drive.specs.Drive.{volume_of}
 use Rattle.cpm_drive.specs.Laws.{IsWritable, IsOfBytes}
-use Rattle.cpm_shelf.specs.Shelf.{record_of, record_on, entries_for, blocks_for, free_entries, free_blocks}
+use Rattle.cpm_shelf.specs.Shelf.{record_of, record_on, system_sectors, entries_for, blocks_for, free_entries, free_blocks}
 use Rattle.cpm_shelf.specs.Appending.{unused, unreserved, IsAppending, KeepsEntries}
 
 -- the file control block of a name that stands before its first record (own)
@@ -39,6 +39,7 @@ pub record KeepsDisk (old : Disk) (user : ℕ) (name : List ℕ) (drive : Drive)
   pub entries : KeepsEntries user name (entries_of old) (entries_of drive.image)
   pub records : (other : ℕ) (other_name : List ℕ) (m : ℕ) → other ≢ deleted → (other ≡ user → same_name other_name name ≡ true → ⊥)
       → record_on drive.image other other_name m ≡ record_on old other other_name m
+  pub system : (place : ℕ) → place < system_sectors old.format → sector_at drive.image place ≡ sector_at old place
 
 -- No file of the name is there any more, and all is free that is free for one. (own)
 pub record IsCleared (old : Disk) (user : ℕ) (name : List ℕ) (drive : Drive) : Type 0 where

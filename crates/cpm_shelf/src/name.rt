@@ -2,6 +2,7 @@
 
 ghost use Rattle.std.specs.Prelude.{◌≡◌, ◌≤◌, ◌<◌, ◌==◌, ◌%◌, ◌⊎◌, MatchOption, IfSome, true, false};
 ghost use Rattle.std.specs.List.{list_any};
+ghost use Rattle.cpm_files.specs.Encoding.{AreBytes};
 ghost use Rattle.cpm_files.specs.Files.{has_wildcard};
 
 /// The greatest user number.
@@ -15,6 +16,7 @@ pub struct FileName {
     name: [u8; 11],
     ghost within: { user < 16 },
     ghost plain: { has_wildcard name ≡ false },
+    ghost bytes: { AreBytes 11 name },
 }
 
 impl FileName {
@@ -42,6 +44,7 @@ impl FileName {
     pub fn name(&self) -> &[u8; 11]
         ensures value { result.now ≡ self.now.name }
         ensures plain { has_wildcard result.now ≡ false }
+        ensures bytes { AreBytes 11 result.now }
     {
         &self.name
     }

@@ -3,6 +3,7 @@
 ghost use Rattle.std.specs.Prelude.{◌≡◌, ◌≤◌, ◌<◌, ◌+◌, ◌^◌, length, count_by, not, true};
 ghost use Rattle.std.specs.List.{list_any};
 ghost use Rattle.cpm_geom.specs.Geometry.{dpb_of};
+ghost use Rattle.cpm_geom.specs.Disk.{IsDisk};
 ghost use Rattle.cpm_files.specs.Names.{protects};
 ghost use Rattle.cpm_directory.specs.Directory.{entries_of};
 ghost use Rattle.cpm_shelf.specs.Shelf.{records_for, blocks_for, entries_for, free_entries, free_blocks, refusal_of, is_free_for};
@@ -34,7 +35,8 @@ pub(crate) fn records_for(bytes: &[u8]) -> usize
 #[tactic(auto, unfolding(crate::specs::Shelf::refusal_of))]
 pub(crate) fn refusal_of(image: &LentImage<'_>, file: &FileName, records: usize) -> Option<Refusal>
     requires { records < 2 ^ 60 }
-    ensures { result ≡ refusal_of (dpb_of image.now.format) (entries_of image.now) file.now.user file.now.name records }
+    ensures whole { IsDisk image.now }
+    ensures value { result ≡ refusal_of (dpb_of image.now.format) (entries_of image.now) file.now.user file.now.name records }
 {
     let dpb = image.format().dpb();
     if is_read_only(image, file) {

@@ -1,11 +1,13 @@
 //! Puts a file on a disk.
 
-ghost use Rattle.std.specs.Prelude.{◌≡◌, ◌≤◌, ◌<◌, ◌*◌, ◌+◌, Some, None, length, MatchResult, ℕ, List, false};
-ghost use Rattle.cpm_geom.specs.Geometry.{dpb_of};
-ghost use Rattle.cpm_geom.specs.Disk.{Disk};
+ghost use Rattle.std.specs.Prelude.{◌≡◌, ◌≢◌, ◌≤◌, ◌<◌, ◌*◌, ◌+◌, Some, None, length, slice_index, MatchResult, ℕ, List, false};
+ghost use Rattle.std.specs.List.{concat};
+ghost use Rattle.cpm_geom.specs.Geometry.{dpb_of, format_of_length};
+ghost use Rattle.cpm_geom.specs.Disk.{IsDisk};
+ghost use Rattle.cpm_files.specs.Encoding.{AreBytes};
 ghost use Rattle.cpm_directory.specs.Directory.{entries_of};
 ghost use Rattle.cpm_directory.specs.Login.{reserved_at_login};
-ghost use Rattle.cpm_drive.specs.Laws.{IsWritable};
+ghost use Rattle.cpm_drive.specs.Laws.{HasBytes, IsWritable};
 ghost use Rattle.cpm_shelf.specs.Shelf.{record_of, records_for, refusal_of, IsSoundDisk, IsPut, IsPutRefusal};
 ghost use Rattle.cpm_shelf.specs.Writing.{HasRoom, IsWriting, new_fcb};
 
@@ -14,7 +16,7 @@ use crate::needs::{RECORD_SIZE, records_for, refusal_of};
 use crate::refusal::ShelfError;
 use cpm_directory::{LentImage, well_formed};
 use cpm_drive::Drive;
-use cpm_files::{Extent, Fcb};
+use cpm_files::{Answer, Extent, Fcb};
 use cpm_geom::Image;
 use std::alloc::Global;
 
@@ -23,12 +25,7 @@ const FILLER: u8 = 0x1A;
 
 /// The disk with a file of these bytes on it, in place of the one of its name if there is one. The image is only looked
 /// at. A disk that is damaged is refused, and one that has no room for the file, before any work is done.
-pub fn put(
-    alloc: Global,
-    image: &Image,
-    file: &FileName,
-    bytes: &[u8],
-) -> Result<Image, ShelfError>
+pub fn put(alloc: Global, image: &Image, file: &FileName, bytes: &[u8]) -> Result<Image, ShelfError>
     ensures { MatchResult result
         (λ new. IsPut image.now file.now.user file.now.name bytes.now new)
         (λ e. IsPutRefusal image.now file.now.user file.now.name (records_for (length bytes.now)) e) }
@@ -47,19 +44,49 @@ pub fn put(
 
 /// The image with a file on it, for which there is room.
 fn written(image: Image, file: &FileName, bytes: &[u8]) -> Image
+    requires whole { IsDisk image }
     requires sound { IsSoundDisk image }
     requires room { refusal_of (dpb_of image.format) (entries_of image) file.now.user file.now.name (records_for (length bytes.now)) ≡ None }
     ensures { IsPut image file.now.user file.now.name bytes.now result }
 {
-    let mut drive = Drive::new(image);
+    let user = file.user();
+    let mut drive = Drive::new(of_bytes(image));
     drive.log_in();
     let mut fcb = begin(&mut drive, file);
     for number in 0..records_for(bytes) {
         let record = record_of(bytes, number);
-        drive.write_next(file.user(), &mut fcb, &record);
+        match drive.write_next(user, &mut fcb, &record) {
+            Answer::Done => {}
+            _ => unreachable!(),
+        }
     }
-    drive.close_file(file.user(), &mut fcb).unwrap();
+    drive.close_file(user, &mut fcb).unwrap();
     drive.image.into_image()
+}
+
+/// The same image, made anew of its bytes, which takes no memory: that it has nothing but bytes is known of these.
+fn of_bytes(image: Image) -> Image
+    requires { IsDisk image }
+    ensures same { result ≡ image }
+    ensures bytes { HasBytes result }
+{
+    let bytes = image.into_bytes();
+    image_of(bytes)
+}
+
+/// The image of as many bytes as a format has.
+fn image_of(bytes: Vec<u8>) -> Image
+    requires size { format_of_length (length bytes.items) ≢ None }
+    requires bytes { (k : ℕ) → slice_index bytes.items k < 256 }
+    ensures whole { IsDisk result }
+    ensures format { format_of_length (length bytes.items) ≡ Some result.format }
+    ensures sectors { concat result.sectors ≡ bytes.items }
+    ensures bytes { HasBytes result }
+{
+    match Image::from_bytes(bytes) {
+        Ok(image) => image,
+        Err(_) => unreachable!(),
+    }
 }
 
 /// Erases the file of a name if there is one, and makes an empty one. The file control block stands at its first record.
@@ -70,9 +97,11 @@ fn begin(drive: &mut Drive, file: &FileName) -> Fcb
     requires room { HasRoom (dpb_of drive.old.image.format) (entries_of drive.old.image) file.now.user file.now.name 0 }
     ensures { (bytes : List ℕ) → IsWriting drive.old.image file.now.user file.now.name bytes 0 drive.new result }
 {
-    drive.erase_files(file.user(), file.name()).unwrap();
-    let mut fcb = fcb_of(file.name());
-    drive.make_file(file.user(), &mut fcb).unwrap();
+    let user = file.user();
+    let name = file.name();
+    drive.erase_files(user, name).unwrap();
+    let mut fcb = fcb_of(name);
+    drive.make_file(user, &mut fcb).unwrap();
     fcb
 }
 
@@ -98,7 +127,8 @@ fn fcb_of(name: &[u8; 11]) -> Fcb
 /// A record of a file of these bytes, the last one filled up.
 fn record_of(bytes: &[u8], number: usize) -> [u8; RECORD_SIZE]
     requires { 128 * number < length bytes.now }
-    ensures { Some result ≡ record_of bytes.now number }
+    ensures value { Some result ≡ record_of bytes.now number }
+    ensures bytes { AreBytes 128 result }
 {
     let start = RECORD_SIZE * number;
     let size = (bytes.len() - start).min(RECORD_SIZE);

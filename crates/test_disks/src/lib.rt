@@ -26,6 +26,8 @@ mod session_drives;
 #[cfg(test)]
 mod session_writes;
 #[cfg(test)]
+mod shelf;
+#[cfg(test)]
 mod steps;
 #[cfg(test)]
 mod written_by_cpmtools;

@@ -1,4 +1,4 @@
-use Rattle.std.proofs.Common.{◌≡◌, ◌<◌, ◌+◌, Bool, true, false, not, length, get_or, take, sym, ap, ◌∙◌, arith}
+use Rattle.std.proofs.Common.{◌≡◌, ◌<◌, ◌+◌, true, false, not, length, get_or, take, sym, ap, ◌∙◌, arith}
 use Rattle.std.specs.List.{count_by}
 use Rattle.std.proofs.Math.Seq.{take-length}
 use Rattle.std.proofs.lemmas.List.Sums.{count_by_more_yes, count_by_more_no}
@@ -22,11 +22,11 @@ loop-block-preserved c =
     let so_far = c.loop-block.invariant in
     elim c.if-not-contains.branch [
       | then-not-contains w ↦ (
-        let free : not (get_or c.args.reserved.now c.loop-block.block true) ≡ true = ap not (sym c.contains.ensures ∙ w.if-not-contains.true) in
-        w.free-is ∙ (ap (λ n. n + 1) so_far ∙ sym (count_by_more_yes not c.args.reserved.now c.loop-block.block true below free)))
+          let free : not (get_or c.args.reserved.now c.loop-block.block true) ≡ true = ap not (sym c.contains.ensures ∙ w.if-not-contains.true) in
+          w.free-is ∙ (ap (λ n. n + 1) so_far ∙ sym (count_by_more_yes not c.args.reserved.now c.loop-block.block true below free)))
       | else-not-contains w ↦ (
-        let taken : not (get_or c.args.reserved.now c.loop-block.block true) ≡ false = ap not (sym c.contains.ensures ∙ w.if-not-contains.false) in
-        w.free-is ∙ (so_far ∙ sym (count_by_more_no not c.args.reserved.now c.loop-block.block true below taken)))
+          let taken : not (get_or c.args.reserved.now c.loop-block.block true) ≡ false = ap not (sym c.contains.ensures ∙ w.if-not-contains.false) in
+          w.free-is ∙ (so_far ∙ sym (count_by_more_no not c.args.reserved.now c.loop-block.block true below taken)))
     ]
 
 pub returns : goal.returns

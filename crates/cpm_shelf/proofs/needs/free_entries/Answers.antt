@@ -1,4 +1,4 @@
-use Rattle.std.proofs.Common.{◌≡◌, ◌<◌, ◌+◌, true, length, get_or, take, sym, ap, ◌∙◌, arith}
+use Rattle.std.proofs.Common.{◌≡◌, ◌<◌, ◌+◌, length, get_or, take, sym, ap, ◌∙◌, arith}
 use Rattle.std.specs.List.{count_by}
 use Rattle.std.proofs.Math.Seq.{take-length}
 use Rattle.std.proofs.lemmas.List.Sums.{count_by_more_yes, count_by_more_no}
@@ -37,13 +37,13 @@ loop-index-preserved c =
     let so_far = c.loop-index.invariant in
     elim c.if-is_free_for.branch [
       | then-is_free_for w ↦ (
-        let more = count_by_more_yes (is_free_for c.args.file.now.user c.args.file.now.name) (entries_of c.args.image.now) c.loop-index.index no_entry below (test ∙ w.if-is_free_for.true) in
-        let is = w.free-is in
-        is ∙ (ap (λ n. n + 1) so_far ∙ sym more))
+          let more = count_by_more_yes (is_free_for c.args.file.now.user c.args.file.now.name) (entries_of c.args.image.now) c.loop-index.index no_entry below (test ∙ w.if-is_free_for.true) in
+          let is = w.free-is in
+          is ∙ (ap (λ n. n + 1) so_far ∙ sym more))
       | else-is_free_for w ↦ (
-        let more = count_by_more_no (is_free_for c.args.file.now.user c.args.file.now.name) (entries_of c.args.image.now) c.loop-index.index no_entry below (test ∙ w.if-is_free_for.false) in
-        let is = w.free-is in
-        is ∙ (so_far ∙ sym more))
+          let more = count_by_more_no (is_free_for c.args.file.now.user c.args.file.now.name) (entries_of c.args.image.now) c.loop-index.index no_entry below (test ∙ w.if-is_free_for.false) in
+          let is = w.free-is in
+          is ∙ (so_far ∙ sym more))
     ]
 
 pub returns : goal.returns
