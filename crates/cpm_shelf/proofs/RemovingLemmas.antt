@@ -128,6 +128,7 @@ others_kept old user name drive cleared = record {
   entries = cleared.keeps.entries.stay;
   no_more = cleared.keeps.entries.no_more;
   records = cleared.keeps.records;
+  system = cleared.keeps.system;
 }
 
 pub sound_cleared : (old : Disk) (user : ℕ) (name : List ℕ) (drive : Drive) → IsCleared old user name drive → IsSoundDisk drive.image
