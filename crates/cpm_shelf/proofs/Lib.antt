@@ -1,3 +1,5 @@
+pub mod RenamedLemmas
+pub mod RenamingLemmas
 pub mod ListingLemmas
 pub mod TextLemmas
 pub mod RemovingLemmas

@@ -75,14 +75,14 @@ none_there es user name ok past i =
 
 -- ---- what the answer of the call says
 
-abbrev Answered : Type 0
+abbrev pub Answered : Type 0
 Answered = Result (Option ℕ) Fault × Drive
 
-none_some : (code : ℕ) (a b : Drive) → ◌≡◌ {A = Answered} (Ok (Some code), a) (Ok None, b) → ⊥
+pub none_some : (code : ℕ) (a b : Drive) → ◌≡◌ {A = Answered} (Ok (Some code), a) (Ok None, b) → ⊥
 none_some code a b e =
     let h : ◌≡◌ {A = Result (Option ℕ) Fault} (Ok (Some code)) (Ok None) = ap (λ (p : Answered). p.0) e in cc
 
-err_ok : (code : Option ℕ) (which : Fault) (a b : Drive) → ◌≡◌ {A = Answered} (Ok code, a) (Err which, b) → ⊥
+pub err_ok : (code : Option ℕ) (which : Fault) (a b : Drive) → ◌≡◌ {A = Answered} (Ok code, a) (Err which, b) → ⊥
 err_ok code which a b e =
     let h : ◌≡◌ {A = Result (Option ℕ) Fault} (Ok code) (Err which) = ap (λ (p : Answered). p.0) e in cc
 

@@ -1,13 +1,14 @@
 -- What is taken off a disk: a file's bytes, and the list of its files.
-use Rattle.std.specs.Prelude.{◌≡◌, ◌≢◌, ℕ, ◌+◌, ◌-◌, ◌*◌, ◌<◌, ◌≤◌, Bool, true, false, ◌==◌, ◌&&◌, List, Option, Some, None, Err, ⊤, length, take, drop, replicate, slice_index_or}
+use Rattle.std.specs.Prelude.{◌≡◌, ◌≢◌, ◌⊎◌, ℕ, ◌-◌, ◌*◌, ◌<◌, ◌≤◌, true, false, List, Option, Some, None, Err, ⊤, length, take, drop, replicate}
 use Rattle.std.specs.List.{list_any}
 use Rattle.cpm_geom.specs.Geometry.{dpb_of}
-use Rattle.cpm_geom.specs.Disk.{Disk}
-use Rattle.cpm_files.specs.Files.{same_name, InUse}
-use Rattle.cpm_files.specs.Names.{is_named, protects}
+use Rattle.cpm_geom.specs.Disk.{Disk, sector_at}
+use Rattle.cpm_files.specs.declared.extent.Entry.{Entry}
+use Rattle.cpm_files.specs.Files.{deleted, same_name, InUse}
+use Rattle.cpm_files.specs.Names.{is_named, first_named, protects, with_attributes}
 use Rattle.cpm_directory.specs.Directory.{entries_of}
 use Rattle.cpm_directory.specs.WellFormed.{IsChecked}
-use Rattle.cpm_shelf.specs.Shelf.{record_on, entry_on, IsSoundDisk, KeepsOthers}
+use Rattle.cpm_shelf.specs.Shelf.{record_on, entry_on, system_sectors, IsSoundDisk, KeepsOthers}
 use Rattle.cpm_shelf.specs.declared.refusal.Refusal.{Refusal}
 use Rattle.cpm_shelf.specs.declared.refusal.Refusal.TheVariants.{ReadOnly, DirectoryFull, DiskFull, NoFile, Exists}
 use Rattle.cpm_shelf.specs.declared.refusal.ShelfError.{ShelfError}
@@ -80,3 +81,49 @@ abbrev pub IsRemovalRefusal : Disk → ℕ → List ℕ → ShelfError → Type 
 IsRemovalRefusal old user name (Damaged fault) = IsChecked (dpb_of old.format) (entries_of old) (Err fault)
 IsRemovalRefusal old user name (Refused refusal) = IsSoundDisk old × IsRemovalReason old user name refusal
 IsRemovalRefusal old user name OutOfMemory = ⊤
+
+-- ---- another name
+
+-- the entry whose attributes a file keeps: its first (own)
+abbrev pub first_entry : Disk → ℕ → List ℕ → Entry
+first_entry disk user name = entry_on disk (first_named (entries_of disk) user name)
+
+-- a new name with the attributes that the file has (own)
+abbrev pub kept_name : Disk → ℕ → List ℕ → List ℕ → List ℕ
+kept_name disk user name new_name = with_attributes new_name (first_entry disk user name).extent.name
+
+-- no other file has the new name: it is the file's own, whatever its attributes, or there is none of it (own)
+abbrev pub IsFreeName : Disk → ℕ → List ℕ → List ℕ → Type 0
+IsFreeName disk user name new_name = (same_name name new_name ≡ true) ⊎ IsAbsent disk user new_name
+
+-- A disk once a file got another name of its user: the file has it, with the attributes of its first entry, and record for record what it had; each other is as it was, and so is the system; no entry has a fault. (own)
+pub record IsRenamed (old : Disk) (user : ℕ) (name new_name : List ℕ) (new : Disk) : Type 0 where
+  pub sound_before : IsSoundDisk old
+  pub there_before : IsThere old user name
+  pub free : IsFreeName old user name new_name
+  pub unprotected : list_any (protects user name) (entries_of old) ≡ false
+  pub there : IsThere new user new_name
+  pub attributes : (i : ℕ) → is_named user new_name (entry_on new i) ≡ true → (entry_on new i).extent.name ≡ kept_name old user name new_name
+  pub file : (m : ℕ) → record_on new user new_name m ≡ record_on old user name m
+  pub absent : same_name name new_name ≡ false → IsAbsent new user name
+  pub format : new.format ≡ old.format
+  pub entries : (i : ℕ) → InUse (entries_of old) i → is_named user name (entry_on old i) ≡ false → entry_on new i ≡ entry_on old i
+  pub no_more : (i : ℕ) → InUse (entries_of new) i → is_named user new_name (entry_on new i) ≡ false → entry_on old i ≡ entry_on new i
+  pub records : (other : ℕ) (other_name : List ℕ) (m : ℕ) → other ≢ deleted → (other ≡ user → same_name other_name name ≡ true → ⊥)
+      → (other ≡ user → same_name other_name new_name ≡ true → ⊥) → record_on new other other_name m ≡ record_on old other other_name m
+  pub system : (place : ℕ) → place < system_sectors old.format → sector_at new place ≡ sector_at old place
+  pub sound : IsSoundDisk new
+
+-- Why it got none: there is no such file; there is another of the new name; or an entry of the file is read-only. The first of these. (own)
+abbrev pub IsRenameReason : Disk → ℕ → List ℕ → List ℕ → Refusal → Type 0
+IsRenameReason old user name new_name NoFile = IsAbsent old user name
+IsRenameReason old user name new_name Exists = IsThere old user name × (same_name name new_name ≡ false) × IsThere old user new_name
+IsRenameReason old user name new_name ReadOnly = IsFreeName old user name new_name × (list_any (protects user name) (entries_of old) ≡ true)
+IsRenameReason old user name new_name DirectoryFull = ⊥
+IsRenameReason old user name new_name DiskFull = ⊥
+
+-- The fault of the first entry that has one; or the disk is sound, and this is the reason; or there was no memory. (own)
+abbrev pub IsRenameRefusal : Disk → ℕ → List ℕ → List ℕ → ShelfError → Type 0
+IsRenameRefusal old user name new_name (Damaged fault) = IsChecked (dpb_of old.format) (entries_of old) (Err fault)
+IsRenameRefusal old user name new_name (Refused refusal) = IsSoundDisk old × IsRenameReason old user name new_name refusal
+IsRenameRefusal old user name new_name OutOfMemory = ⊤

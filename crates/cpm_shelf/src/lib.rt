@@ -11,6 +11,7 @@ pub mod putting;
 mod records;
 pub mod refusal;
 pub mod removing;
+pub mod renaming;
 pub mod text;
 
 pub use getting::get;
@@ -19,4 +20,5 @@ pub use name::FileName;
 pub use putting::put;
 pub use refusal::{Refusal, ShelfError};
 pub use removing::remove;
+pub use renaming::rename;
 pub use text::{from_text, to_text};
