@@ -1,5 +1,5 @@
 -- How far the records of an entry reach, and those of a file.
-use Rattle.std.proofs.Common.{◌≡◌, ◌≢◌, ◌⊎◌, ℕ, max, ◌+◌, ◌-◌, ◌*◌, ◌/◌, ◌%◌, ◌<◌, ◌≤◌, Bool, true, false, cond, not, ◌&&◌, eqb, ltb, List, [], ◌∷◌, Option, Some, None, length, get_or, sym, subst, refl, ap, ◌∙◌, inl, inr, arith}
+use Rattle.std.proofs.Common.{◌≡◌, ◌≢◌, ℕ, max, ◌+◌, ◌-◌, ◌*◌, ◌/◌, ◌<◌, ◌≤◌, true, false, eqb, List, Option, Some, None, length, get_or, sym, refl, ap, ◌∙◌, inl, inr, arith}
 use Rattle.std.specs.List.{list_any}
 use Rattle.std.proofs.lemmas.List.{get_or_past}
 use Rattle.std.proofs.lemmas.List.Folds.{list_any_at}
@@ -18,7 +18,7 @@ use Rattle.cpm_files.proofs.Making.{none_block}
 use Rattle.cpm_directory.specs.Directory.{entries_of}
 use Rattle.cpm_directory.specs.Login.{reserved_at_login}
 use Rattle.cpm_directory.proofs.CheckedLemmas.{checked}
-use Rattle.cpm_shelf.specs.Shelf.{record_on, IsSoundDisk}
+use Rattle.cpm_shelf.specs.Shelf.{IsSoundDisk}
 use Rattle.cpm_shelf.specs.Taken.{HasRecords, IsThere, IsAbsent}
 use Rattle.cpm_shelf.specs.Reach.{is_of_file, IsInGroup, IsEnd, IsEndBefore}
 use Rattle.cpm_shelf.proofs.RemovingLemmas.{user_of, no_entry_named}

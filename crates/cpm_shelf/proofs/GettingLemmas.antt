@@ -1,19 +1,18 @@
 -- The records of a file, by the entries of its groups.
-use Rattle.std.proofs.Common.{◌≡◌, ◌≢◌, ◌⊎◌, ℕ, ◌+◌, ◌-◌, ◌*◌, ◌/◌, ◌%◌, ◌<◌, ◌≤◌, Bool, true, false, cond, not, ◌&&◌, eqb, ltb, List, [], ◌∷◌, ◌++◌, Option, Some, None, length, replicate, take, drop, get_or, sym, subst, refl, ap, ◌∙◌, inl, inr, arith}
+use Rattle.std.proofs.Common.{◌≡◌, ◌≢◌, ℕ, ◌+◌, ◌-◌, ◌*◌, ◌/◌, ◌%◌, ◌<◌, ◌≤◌, true, false, List, [], ◌++◌, Option, Some, None, length, replicate, take, drop, get_or, sym, subst, refl, ap, ◌∙◌, inl, inr, arith}
 use Rattle.std.specs.Prelude.{IfSome}
 use Rattle.std.proofs.lemmas.List.{get_or_past, length-append, length-drop, drop_at, take_all, drop-append-le, take-append-le}
 use Rattle.std.proofs.lemmas.List.Sums.{position_or_len_is}
-use Rattle.std.proofs.lemmas.Bool.{false≢true, lt-ltb, le-ltb, eq-eqb, ne_eqb, cases_lt, cases_eq, and_parts, and_from, eqb-true}
+use Rattle.std.proofs.lemmas.Bool.{lt-ltb, le-ltb, eq-eqb, ne_eqb, cases_lt, cases_eq}
 use Rattle.cpm_geom.specs.declared.dpb.Dpb.{Dpb}
 use Rattle.cpm_geom.specs.declared.format.Format.{Format}
 use Rattle.cpm_geom.specs.declared.format.Format.TheVariants.{Ibm3740, Large}
 use Rattle.cpm_geom.specs.Geometry.{dpb_of}
 use Rattle.cpm_geom.specs.Disk.{Disk, records_of}
 use Rattle.cpm_files.specs.declared.extent.Entry.{Entry}
-use Rattle.cpm_files.specs.Files.{deleted, extent_number, group_of, no_entry, entry_at, InUse, block_number, is_of, first_of, record_count_of, map_place, block_if, entry_block, file_block, drive_record, record_in, file_record, IsWellFormed}
+use Rattle.cpm_files.specs.Files.{deleted, extent_number, group_of, no_entry, entry_at, InUse, block_number, is_of, first_of, record_count_of, map_place, block_if, entry_block, file_block, drive_record, record_in, file_record}
 use Rattle.cpm_files.proofs.Entries.{is_of_parts, first_of_passes}
 use Rattle.cpm_directory.specs.Directory.{entries_of}
-use Rattle.cpm_directory.specs.Login.{reserved_at_login}
 use Rattle.cpm_directory.proofs.CheckedLemmas.{checked}
 use Rattle.cpm_shelf.specs.Shelf.{record_on, IsSoundDisk}
 use Rattle.cpm_shelf.specs.Taken.{taken_record}

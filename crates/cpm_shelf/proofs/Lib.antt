@@ -1,3 +1,4 @@
+pub mod FilledLemmas
 pub mod RenamedLemmas
 pub mod RenamingLemmas
 pub mod ListingLemmas

@@ -1,12 +1,12 @@
 -- The list of a disk's files, an entry on.
-use Rattle.std.proofs.Common.{◌≡◌, ◌≢◌, ℕ, ◌+◌, ◌<◌, ◌≤◌, Bool, true, false, ◌&&◌, eqb, List, [], ◌∷◌, ◌++◌, length, get_or, sym, subst, refl, ap, ◌∙◌, inl, inr, arith}
+use Rattle.std.proofs.Common.{◌≡◌, ℕ, ◌+◌, ◌<◌, true, false, List, [], ◌∷◌, ◌++◌, length, sym, refl, ap, ◌∙◌, inl, inr, arith}
 use Rattle.std.specs.List.{list_any}
 use Rattle.std.proofs.lemmas.List.{length_push, get_or_push, get_or_append_left}
 use Rattle.std.proofs.lemmas.List.Folds.{list_any_at}
-use Rattle.std.proofs.lemmas.Bool.{false≢true, cases_lt, cases_eq, and_from, eq-eqb}
+use Rattle.std.proofs.lemmas.Bool.{false≢true, cases_eq, and_from, eq-eqb}
 use Rattle.cpm_geom.specs.Disk.{Disk}
 use Rattle.cpm_files.specs.declared.extent.Entry.{Entry}
-use Rattle.cpm_files.specs.Files.{deleted, same_name, entry_at, InUse}
+use Rattle.cpm_files.specs.Files.{deleted, same_name, InUse}
 use Rattle.cpm_files.proofs.Entries.{any_index}
 use Rattle.cpm_files.proofs.NameLemmas.{same_name-refl, same_name-trans}
 use Rattle.cpm_directory.specs.Directory.{entries_of}

@@ -1,17 +1,17 @@
 -- A file is taken off a disk.
-use Rattle.std.proofs.Common.{◌≡◌, ◌≢◌, ◌⊎◌, ℕ, ◌+◌, ◌<◌, ◌≤◌, Bool, true, false, not, ◌&&◌, ◌||◌, eqb, ltb, List, Option, Some, None, Result, Ok, Err, length, get_or, sym, subst, refl, ap, ◌∙◌, inl, inr, arith}
+use Rattle.std.proofs.Common.{◌≡◌, ◌≢◌, ℕ, ◌<◌, ◌≤◌, Bool, true, false, eqb, List, Option, Some, None, Result, Ok, Err, length, sym, subst, refl, ap, ◌∙◌, inl, inr, arith}
 use Rattle.std.specs.List.{list_any}
 use Rattle.std.proofs.lemmas.List.Sums.{passes_at_first, fails_before_first}
 use Rattle.std.proofs.lemmas.List.{get_or_past}
-use Rattle.std.proofs.lemmas.Bool.{false≢true, and_left, and_parts, eqb-true, ne_eqb, cases_Bool, cases_lt, lt-ltb, le-ltb}
+use Rattle.std.proofs.lemmas.Bool.{and_left, and_parts, eqb-true, ne_eqb, cases_Bool, cases_lt, lt-ltb, le-ltb}
 use Rattle.cpm_geom.specs.declared.dpb.Dpb.{Dpb}
 use Rattle.cpm_geom.specs.declared.format.Format.{Format}
 use Rattle.cpm_geom.specs.Geometry.{dpb_of}
-use Rattle.cpm_geom.specs.Disk.{Disk, IsDisk, records_of}
+use Rattle.cpm_geom.specs.Disk.{Disk, IsDisk}
 use Rattle.cpm_files.specs.declared.extent.Entry.{Entry}
 use Rattle.cpm_files.specs.declared.answer.Fault.{Fault}
 use Rattle.cpm_files.specs.declared.answer.Fault.TheVariants.{FileReadOnly}
-use Rattle.cpm_files.specs.Files.{deleted, has_wildcard, same_name, no_entry, entry_at, InUse, IsWellFormed, IsSoundDrive, Volume}
+use Rattle.cpm_files.specs.Files.{deleted, has_wildcard, no_entry, entry_at, InUse, IsWellFormed}
 use Rattle.cpm_files.specs.Names.{is_named, first_named, protects, erase_files}
 use Rattle.cpm_files.proofs.Formats.{each_format}
 use Rattle.cpm_directory.specs.Directory.{entries_of}
@@ -19,15 +19,14 @@ use Rattle.cpm_directory.specs.Login.{reserved_at_login}
 use Rattle.cpm_directory.proofs.CheckedLemmas.{checked}
 use Rattle.cpm_directory.proofs.LawLemmas.{reserves}
 use Rattle.cpm_drive.specs.declared.drive.Drive.{Drive}
-use Rattle.cpm_drive.specs.Drive.{volume_of, drive_after, directory_code, new_marks}
+use Rattle.cpm_drive.specs.Drive.{volume_of, new_marks}
 use Rattle.cpm_drive.specs.Calls.{logged_in}
 use Rattle.cpm_drive.specs.Reads.{lent_drive}
 use Rattle.cpm_drive.specs.Named.{after_named}
 use Rattle.cpm_drive.specs.Laws.{IsWritable, HasBytes}
 use Rattle.cpm_shelf.specs.Shelf.{IsSoundDisk, KeepsOthers}
 use Rattle.cpm_shelf.specs.Writing.{IsCleared}
-use Rattle.cpm_shelf.specs.Taken.{IsThere, IsAbsent, IsRemoved}
-use Rattle.cpm_shelf.proofs.EndLemmas.{named_parts}
+use Rattle.cpm_shelf.specs.Taken.{IsRemoved}
 use Rattle.cpm_shelf.proofs.ErasedLemmas.{erased}
 
 -- ---- a drive that agrees with itself has a sound disk

@@ -1,5 +1,5 @@
 -- A disk whose file got another name.
-use Rattle.std.proofs.Common.{◌≡◌, ◌≢◌, ◌⊎◌, ℕ, ◌+◌, ◌<◌, ◌≤◌, Bool, true, false, not, ◌&&◌, ◌++◌, eqb, ltb, List, Option, Some, None, Result, Ok, Err, length, get_or, sym, subst, refl, ap, ◌∙◌, inl, inr, arith}
+use Rattle.std.proofs.Common.{◌≡◌, ◌≢◌, ◌⊎◌, ℕ, ◌<◌, ◌≤◌, Bool, true, false, ◌&&◌, ◌++◌, eqb, List, Some, None, Ok, Err, length, sym, subst, refl, ap, ◌∙◌, inl, inr, arith}
 use Rattle.std.specs.List.{list_any}
 use Rattle.std.proofs.lemmas.List.Sums.{position_or_len_is}
 use Rattle.std.proofs.lemmas.Bool.{false≢true, cases_Bool, cases_lt, lt-ltb, le-ltb, false_from_ne_true}
@@ -11,23 +11,23 @@ use Rattle.cpm_files.specs.declared.extent.Entry.{Entry}
 use Rattle.cpm_files.specs.declared.answer.Fault.{Fault}
 use Rattle.cpm_files.specs.declared.answer.Fault.TheVariants.{FileReadOnly}
 use Rattle.cpm_files.specs.Encoding.{AreBytes}
-use Rattle.cpm_files.specs.Files.{deleted, has_wildcard, same_name, no_entry, entry_at, InUse, file_block, file_record, record_in, IsWellFormed, IsVolume, IsSoundDrive, Volume}
-use Rattle.cpm_files.specs.Names.{is_named, first_named, protects, change_named, named_writes, renaming, rename_files, named, with_attributes}
+use Rattle.cpm_files.specs.Files.{deleted, has_wildcard, same_name, no_entry, entry_at, file_block, file_record, record_in, IsWellFormed, IsVolume, IsSoundDrive, Volume}
+use Rattle.cpm_files.specs.Names.{is_named, first_named, protects, change_named, named_writes, renaming, rename_files, named}
 use Rattle.cpm_files.proofs.NameLemmas.{name_matches_plain, same_name_as, same_name-sym, same_name-trans, file_block_same}
 use Rattle.cpm_directory.specs.Directory.{entries_of}
 use Rattle.cpm_directory.specs.Login.{reserved_at_login}
 use Rattle.cpm_directory.proofs.CheckedLemmas.{checked}
 use Rattle.cpm_drive.specs.declared.drive.Drive.{Drive}
-use Rattle.cpm_drive.specs.Drive.{volume_of, drive_after, directory_code}
+use Rattle.cpm_drive.specs.Drive.{volume_of, drive_after}
 use Rattle.cpm_drive.specs.Named.{after_named}
-use Rattle.cpm_drive.specs.Laws.{IsWritable, HasBytes}
+use Rattle.cpm_drive.specs.Laws.{HasBytes}
 use Rattle.cpm_drive.proofs.DiskLemmas.{disk_is_volume}
 use Rattle.cpm_drive.proofs.DiskReach.{calls_reach}
 use Rattle.cpm_shelf.specs.Shelf.{record_on, system_sectors, IsSoundDisk}
-use Rattle.cpm_shelf.specs.Taken.{kept_name, IsFreeName, IsThere, IsAbsent, IsRenamed}
+use Rattle.cpm_shelf.specs.Taken.{kept_name, IsFreeName, IsThere, IsRenamed}
 use Rattle.cpm_shelf.proofs.FreeLemmas.{login_length}
 use Rattle.cpm_shelf.proofs.SystemLemmas.{system_after}
-use Rattle.cpm_shelf.proofs.DiskLemmas.{HasVolume, has_volume, record_in_format}
+use Rattle.cpm_shelf.proofs.DiskLemmas.{HasVolume, has_volume}
 use Rattle.cpm_shelf.proofs.RemovingLemmas.{fresh_drive, writable, sound_again, user_of, first_there, Answered, none_some, err_ok}
 use Rattle.cpm_shelf.proofs.RenamingLemmas as entries
 

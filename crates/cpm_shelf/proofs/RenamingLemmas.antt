@@ -1,14 +1,13 @@
 -- The entries of a file under another name.
-use Rattle.std.proofs.Common.{◌≡◌, ◌≢◌, ◌⊎◌, ℕ, zero, suc, ◌+◌, ◌*◌, ◌/◌, ◌%◌, ◌<◌, ◌≤◌, Bool, true, false, cond, not, ◌&&◌, ◌||◌, eqb, ltb, List, [], ◌∷◌, Option, Some, None, length, get_or, map, sym, subst, refl, ap, ap₂, ◌∙◌, inl, inr, arith}
-use Rattle.std.specs.List.{list_any, position_or_len}
+use Rattle.std.proofs.Common.{◌≡◌, ◌≢◌, ◌⊎◌, ℕ, ◌/◌, ◌<◌, ◌≤◌, Bool, true, false, cond, not, List, [], ◌∷◌, length, get_or, map, sym, refl, ap, ◌∙◌, inl, inr, arith}
 use Rattle.std.proofs.lemmas.List.{get_or_past, get_or-map, length-map}
-use Rattle.std.proofs.lemmas.List.Sums.{passes_at_first, fails_before_first, prefix_len-le-length}
-use Rattle.std.proofs.lemmas.Bool.{false≢true, eqb-true, eq-eqb, ne_eqb, and_parts, and_from, and_left, and_right, cases_Bool, cases_lt, false_from_ne_true}
+use Rattle.std.proofs.lemmas.List.Sums.{fails_before_first, prefix_len-le-length}
+use Rattle.std.proofs.lemmas.Bool.{false≢true, eq-eqb, and_from, cases_Bool, cases_lt, false_from_ne_true}
 use Rattle.cpm_geom.specs.declared.dpb.Dpb.{Dpb}
 use Rattle.cpm_files.specs.declared.extent.Entry.{Entry}
-use Rattle.cpm_files.specs.Files.{deleted, extent_number, group_of, same_name, has_wildcard, no_entry, entry_at, InUse, block_number, is_of, first_of, record_count_of, block_if, entry_block, file_block, IsStored, IsWellFormed}
+use Rattle.cpm_files.specs.Files.{deleted, extent_number, group_of, same_name, has_wildcard, no_entry, entry_at, InUse, block_number, is_of, first_of, block_if, entry_block, file_block, IsWellFormed}
 use Rattle.cpm_files.specs.Names.{is_named, change_named, renaming, with_attributes}
-use Rattle.cpm_files.proofs.Entries.{in_use_within, is_of_parts, is_of_from, first_of_passes}
+use Rattle.cpm_files.proofs.Entries.{is_of_parts, is_of_from, first_of_passes}
 use Rattle.cpm_files.proofs.NameLemmas.{name_matches_plain, same_name-sym, same_name-refl, same_name-trans, same_wildcard}
 use Rattle.cpm_shelf.proofs.EndLemmas.{named_parts}
 use Rattle.cpm_shelf.proofs.RemovingLemmas.{no_entry_named}

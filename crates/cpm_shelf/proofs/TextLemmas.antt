@@ -1,9 +1,9 @@
 -- Texts, a byte on and at their end.
-use Rattle.std.proofs.Common.{◌≡◌, ◌≢◌, ℕ, zero, suc, ◌+◌, ◌<◌, ◌≤◌, Bool, true, false, cond, not, ◌&&◌, ◌||◌, eqb, List, [], ◌∷◌, ◌++◌, length, replicate, get_or, drop, sym, refl, ap, ◌∙◌, inl, inr, arith}
+use Rattle.std.proofs.Common.{◌≡◌, ◌≢◌, ℕ, zero, suc, ◌+◌, ◌<◌, ◌≤◌, true, false, cond, not, ◌&&◌, eqb, List, [], ◌∷◌, ◌++◌, length, replicate, get_or, drop, sym, refl, ap, ◌∙◌, inl, inr, arith}
 use Rattle.std.specs.List.{list_any}
 use Rattle.std.proofs.lemmas.List.{at_drop_more, at_drop_all, append_assoc, append-nil}
 use Rattle.std.proofs.lemmas.Bool.{eq-eqb, ne_eqb, cases_eq, false≢true}
-use Rattle.cpm_shelf.specs.Texts.{text_behind, from_text, to_text, begins_with_line_feed, is_control, TextLaw}
+use Rattle.cpm_shelf.specs.Texts.{text_behind, from_text, begins_with_line_feed, is_control, TextLaw}
 
 -- ---- a line feed that is next
 

@@ -3,6 +3,7 @@
 ghost use Rattle.std.specs.Prelude.{◌≡◌, MatchResult, IfOk};
 ghost use Rattle.cpm_geom.specs.Geometry.{dpb_of};
 ghost use Rattle.cpm_shelf.specs.Shelf.{IsSoundDisk};
+ghost use Rattle.cpm_shelf.specs.Filled.{FilledLaw};
 ghost use Rattle.cpm_shelf.specs.Taken.{AreBytesOf, IsGot, IsGetRefusal};
 
 use crate::name::FileName;
@@ -52,3 +53,8 @@ fn bytes_of(
     }
     Ok(bytes)
 }
+
+/// The bytes of a file that was put are those that it was put with, filled up to whole records.
+pub fn what_is_put_is_taken()
+    ensures { FilledLaw }
+{}

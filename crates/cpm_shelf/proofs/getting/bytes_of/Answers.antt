@@ -1,6 +1,4 @@
-use Rattle.std.proofs.Common.{◌≡◌, ◌≢◌, ◌<◌, ◌≤◌, ◌+◌, ◌-◌, ◌*◌, ℕ, List, ◌++◌, length, take, drop, sym, subst, ap, ◌∙◌, arith}
-use Rattle.cpm_geom.specs.Geometry.{dpb_of}
-use Rattle.cpm_geom.specs.Disk.{records_of}
+use Rattle.std.proofs.Common.{◌≡◌, ◌≢◌, ◌+◌, ◌-◌, sym, ap, ◌∙◌, arith}
 use Rattle.cpm_files.specs.Files.{deleted}
 use Rattle.cpm_shelf.specs.Shelf.{record_on}
 use Rattle.cpm_shelf.specs.Taken.{taken_record, HasRecords}

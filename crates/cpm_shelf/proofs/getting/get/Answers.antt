@@ -1,4 +1,4 @@
-use Rattle.std.proofs.Common.{◌≡◌, ◌≢◌, true, false, sym, subst, ap, ◌∙◌, arith}
+use Rattle.std.proofs.Common.{◌≡◌, ◌≢◌, true, false, subst, arith}
 use Rattle.std.specs.List.{list_any}
 use Rattle.cpm_geom.specs.Disk.{Disk}
 use Rattle.cpm_files.specs.Files.{deleted}

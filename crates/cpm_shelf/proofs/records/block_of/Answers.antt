@@ -1,4 +1,4 @@
-use Rattle.std.proofs.Common.{◌≡◌, get_or, ap, ◌∙◌, sym}
+use Rattle.std.proofs.Common.{get_or, ap, ◌∙◌}
 use Rattle.cpm_geom.specs.Geometry.{dpb_of}
 use Rattle.cpm_shelf.proofs.GettingLemmas.{block_counted, block_past}
 use Rattle.cpm_shelf.proofs.records.block_of.Goals as goal

@@ -1,9 +1,7 @@
-use Rattle.std.proofs.Common.{◌≡◌, ◌≤◌, Some, refl, ap, ◌∙◌, sym, subst}
-use Rattle.std.specs.Prelude.{IfSome, Option}
+use Rattle.std.proofs.Common.{◌≡◌, refl, ap, ◌∙◌}
 use Rattle.cpm_geom.specs.Geometry.{dpb_of}
 use Rattle.cpm_geom.specs.Disk.{records_of}
 use Rattle.cpm_geom.specs.declared.format.Format.{Format}
-use Rattle.cpm_files.specs.declared.extent.Entry.{Entry}
 use Rattle.cpm_files.specs.Files.{entry_block}
 use Rattle.cpm_shelf.specs.Reach.{IsOnDrive}
 use Rattle.cpm_shelf.proofs.GettingLemmas.{on_drive, taken_none}

@@ -1,4 +1,4 @@
-use Rattle.std.proofs.Common.{◌≡◌, ◌<◌, ◌≤◌, length, sym, subst, ap, ◌∙◌, arith}
+use Rattle.std.proofs.Common.{◌≡◌, length, subst, ap, arith}
 use Rattle.cpm_geom.specs.Geometry.{dpb_of}
 use Rattle.cpm_geom.specs.declared.dpb.Dpb.{Dpb}
 use Rattle.cpm_directory.specs.Directory.{entries_of}

@@ -1,4 +1,4 @@
-use Rattle.std.proofs.Common.{◌≡◌, ap, ◌∙◌, sym, get_or, List, []}
+use Rattle.std.proofs.Common.{◌≡◌, ap, ◌∙◌, sym, get_or, []}
 use Rattle.cpm_geom.specs.Geometry.{dpb_of}
 use Rattle.cpm_geom.specs.declared.format.Format.{Format}
 use Rattle.cpm_geom.specs.Disk.{records_of}

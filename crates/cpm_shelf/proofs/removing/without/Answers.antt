@@ -1,6 +1,5 @@
-use Rattle.std.proofs.Common.{◌≡◌, ◌≢◌, ◌<◌, Option, Some, None, Result, Ok, Err, sym, subst, ap, ◌∙◌, refl, arith}
+use Rattle.std.proofs.Common.{◌≡◌, ◌≢◌, Some, None, Ok, Err, sym, subst, ap, ◌∙◌, arith}
 use Rattle.cpm_geom.specs.Disk.{Disk}
-use Rattle.cpm_files.specs.declared.answer.Fault.{Fault}
 use Rattle.cpm_files.specs.Files.{deleted}
 use Rattle.cpm_directory.specs.Directory.{entries_of}
 use Rattle.cpm_shelf.specs.Taken.{IsRemoved}

@@ -1,11 +1,9 @@
-use Rattle.std.proofs.Common.{◌≡◌, ◌<◌, ◌≤◌, length, true, false, List, sym, subst, ap, ◌∙◌, arith}
-use Rattle.std.proofs.lemmas.List.Sums.{position_or_len_is}
+use Rattle.std.proofs.Common.{◌≡◌, length, true, sym, ap, ◌∙◌, arith}
 use Rattle.cpm_geom.specs.Geometry.{dpb_of}
 use Rattle.cpm_geom.specs.declared.dpb.Dpb.{Dpb}
 use Rattle.cpm_files.specs.declared.extent.Entry.{Entry}
-use Rattle.cpm_files.specs.Files.{entry_at, no_entry}
+use Rattle.cpm_files.specs.Files.{entry_at}
 use Rattle.cpm_files.specs.Names.{is_named, first_named, with_attributes}
-use Rattle.cpm_files.specs.Encoding.{AreBytes}
 use Rattle.cpm_directory.specs.Directory.{entries_of}
 use Rattle.cpm_directory.proofs.DriveLemmas.{last_entry_small, entries_length}
 use Rattle.cpm_shelf.specs.Taken.{kept_name}

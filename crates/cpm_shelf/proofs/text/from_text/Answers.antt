@@ -1,4 +1,4 @@
-use Rattle.std.proofs.Common.{◌≡◌, ◌≢◌, ◌<◌, ◌≤◌, ◌+◌, Bool, true, false, ◌&&◌, eqb, not, List, [], ◌∷◌, ◌++◌, length, get_or, drop, sym, ap, ◌∙◌, refl, arith}
+use Rattle.std.proofs.Common.{◌≡◌, ◌≢◌, ◌<◌, ◌≤◌, ◌+◌, true, false, ◌&&◌, eqb, List, [], ◌∷◌, ◌++◌, length, get_or, drop, sym, ap, ◌∙◌, arith}
 use Rattle.cpm_shelf.specs.Texts.{from_text, begins_with_line_feed}
 use Rattle.cpm_shelf.proofs.TextLemmas.{from_end, from_stop, from_line, from_byte, more_written, same_written, all_written}
 use Rattle.cpm_shelf.proofs.text.from_text.Goals as goal

@@ -1,5 +1,5 @@
-use Rattle.std.proofs.Common.{◌≡◌, ◌≢◌, ◌<◌, ◌≤◌, ◌+◌, Bool, true, false, ◌&&◌, eqb, not, List, [], ◌∷◌, ◌++◌, length, get_or, drop, sym, ap, ◌∙◌, refl, arith}
-use Rattle.std.proofs.lemmas.Bool.{eqb-true, and_parts, cases_eq, eq-eqb, false≢true}
+use Rattle.std.proofs.Common.{◌≡◌, ◌≢◌, ◌<◌, ◌≤◌, ◌+◌, true, false, ◌&&◌, eqb, not, List, [], ◌∷◌, ◌++◌, length, get_or, drop, sym, ap, ◌∙◌, refl, arith}
+use Rattle.std.proofs.lemmas.Bool.{eqb-true, and_parts, eq-eqb, false≢true}
 use Rattle.cpm_shelf.specs.Texts.{text_behind}
 use Rattle.cpm_shelf.proofs.TextLemmas.{behind_end, line_more, byte_more, more_written, all_written}
 use Rattle.cpm_shelf.proofs.text.to_text.Goals as goal
