@@ -31,7 +31,7 @@ same_group Ibm3740 n h = omega arith
 same_group Large n h = omega arith
 
 pub not_first : (f : Format) (n : ℕ) → n % (128 * ((dpb_of f).extent_mask + 1)) ≢ 0 → 0 < n
-not_first f n h = elim (cases_eq n 0) [ | inl z ↦ absurd (h (rw z (omega arith))) | inr some ↦ omega arith ]
+not_first f n h = elim (cases_eq n 0) [ inl z ↦ absurd (h (rw z (omega arith))) | inr some ↦ omega arith ]
 
 -- ---- the block of a record
 
@@ -107,15 +107,16 @@ known_on_drive disk user name n (Some e) live sound is =
 -- ---- records behind one another
 
 pub more_records : (record_at : ℕ → List ℕ) (bytes bytes' one : List ℕ) (n : ℕ) → length bytes ≡ 128 * n → ((m : ℕ) → m < n → take 128 (drop (128 * m) bytes) ≡ record_at m) → bytes' ≡ bytes ++ one → length one ≡ 128 → one ≡ record_at n → (length bytes' ≡ 128 * (n + 1)) × ((m : ℕ) → m < n + 1 → take 128 (drop (128 * m) bytes') ≡ record_at m)
-more_records record_at bytes bytes' one n size each is whole here =
-    (ap length is ∙ (length-append bytes one ∙ omega arith),
-    λ m below. elim (cases_eq m n) [
-      | inl e ↦
-          let start : length bytes ≡ 128 * m = size ∙ ap (λ k. 128 * k) (sym e) in
-          rw is (ap (take 128) (drop_at bytes one (128 * m) start) ∙ (take_all 128 one (omega arith) ∙ (here ∙ ap record_at (sym e))))
-      | inr other ↦
-          let before : m < n = omega arith in
-          let front : 128 * m ≤ length bytes = omega arith in
-          let rest : 128 ≤ length (drop (128 * m) bytes) = rw (length-drop (128 * m) bytes) (omega arith) in
-          rw is (ap (take 128) (drop-append-le (128 * m) bytes one front) ∙ (take-append-le 128 (drop (128 * m) bytes) one rest ∙ each m before))
-    ])
+more_records record_at bytes bytes' one n size each is whole here = (
+  ap length is ∙ (length-append bytes one ∙ omega arith),
+  λ m below. elim (cases_eq m n) [
+    | inl e ↦
+        let start : length bytes ≡ 128 * m = size ∙ ap (λ k. 128 * k) (sym e) in
+        rw is (ap (take 128) (drop_at bytes one (128 * m) start) ∙ (take_all 128 one (omega arith) ∙ (here ∙ ap record_at (sym e))))
+    | inr other ↦
+        let before : m < n = omega arith in
+        let front : 128 * m ≤ length bytes = omega arith in
+        let rest : 128 ≤ length (drop (128 * m) bytes) = rw (length-drop (128 * m) bytes) (omega arith) in
+        rw is (ap (take 128) (drop-append-le (128 * m) bytes one front) ∙ (take-append-le 128 (drop (128 * m) bytes) one rest ∙ each m before))
+  ],
+)

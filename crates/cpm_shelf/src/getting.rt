@@ -1,7 +1,6 @@
 //! Takes the bytes of a file off a disk.
 
-ghost use Rattle.std.specs.Prelude.{◌≡◌, MatchResult, IfOk};
-ghost use Rattle.cpm_geom.specs.Geometry.{dpb_of};
+ghost use Rattle.std.specs.Prelude.{MatchResult, IfOk};
 ghost use Rattle.cpm_shelf.specs.Shelf.{IsSoundDisk};
 ghost use Rattle.cpm_shelf.specs.Filled.{FilledLaw};
 ghost use Rattle.cpm_shelf.specs.Taken.{AreBytesOf, IsGot, IsGetRefusal};
@@ -35,11 +34,7 @@ pub fn get(alloc: Global, image: &Image, file: &FileName) -> Result<Vec<u8>, She
 }
 
 /// The bytes of a file of a sound disk; refused for want of memory.
-fn bytes_of(
-    alloc: Global,
-    image: &LentImage<'_>,
-    file: &FileName,
-) -> Result<Vec<u8>, AllocError>
+fn bytes_of(alloc: Global, image: &LentImage<'_>, file: &FileName) -> Result<Vec<u8>, AllocError>
     requires { IsSoundDisk image.now }
     ensures { IfOk result (λ bytes. AreBytesOf image.now file.now.user file.now.name bytes.items) }
 {

@@ -1,6 +1,6 @@
 //! The records of a file, by the entries of a directory.
 
-ghost use Rattle.std.specs.Prelude.{◌≡◌, ◌≢◌, ◌<◌, ◌≤◌, ◌+◌, ◌-◌, ◌*◌, ◌/◌, ◌%◌, ◌==◌, ℕ, IfSome, length};
+ghost use Rattle.std.specs.Prelude.{◌≡◌, ◌≢◌, ◌<◌, ◌≤◌, ◌+◌, ◌-◌, ◌*◌, ◌/◌, ◌%◌, ◌==◌, IfSome, length};
 ghost use Rattle.std.specs.List.{list_all, list_any, zip};
 ghost use Rattle.cpm_geom.specs.Geometry.{dpb_of, IsRecord};
 ghost use Rattle.cpm_geom.specs.Disk.{records_of};

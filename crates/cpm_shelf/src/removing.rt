@@ -1,10 +1,7 @@
 //! Takes a file off a disk.
 
-ghost use Rattle.std.specs.Prelude.{◌≡◌, false, MatchResult};
-ghost use Rattle.cpm_geom.specs.Geometry.{dpb_of};
+ghost use Rattle.std.specs.Prelude.{MatchResult};
 ghost use Rattle.cpm_geom.specs.Disk.{IsDisk};
-ghost use Rattle.cpm_directory.specs.Directory.{entries_of};
-ghost use Rattle.cpm_directory.specs.Login.{reserved_at_login};
 ghost use Rattle.cpm_drive.specs.Laws.{HasBytes};
 ghost use Rattle.cpm_shelf.specs.Shelf.{IsSoundDisk};
 ghost use Rattle.cpm_shelf.specs.Taken.{IsRemoved, IsRemovalReason, IsRemovalRefusal};

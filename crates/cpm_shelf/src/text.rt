@@ -6,6 +6,7 @@ ghost use Rattle.cpm_shelf.specs.Texts.{to_text, from_text, carriage_return, lin
 use std::alloc::{AllocError, Global};
 
 const LINE_FEED: u8 = 0x0A;
+
 const CARRIAGE_RETURN: u8 = 0x0D;
 
 /// Ends a text.

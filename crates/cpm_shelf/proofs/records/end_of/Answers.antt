@@ -32,10 +32,14 @@ loop-number-preserved c =
           rw w.end-is (omega arith, λ h. (omega arith, some), λ n a b past. absurd (omega arith))
       | else-block_of-ne0 w ↦
           let so_far = c.loop-number.invariant in
-          rw w.end-is (omega (arith, so_far.0), so_far.1, λ n a b past. elim (cases_eq n c.loop-number.number) [
-            | inl e ↦ rw e (sym c.block_of.ensures ∙ w.if-block_of-ne0.false)
-            | inr other ↦ so_far.2 n a (omega arith) past
-          ])
+          rw w.end-is (
+            omega (arith, so_far.0),
+            so_far.1,
+            λ n a b past. elim (cases_eq n c.loop-number.number) [
+              | inl e ↦ rw e (sym c.block_of.ensures ∙ w.if-block_of-ne0.false)
+              | inr other ↦ so_far.2 n a (omega arith) past
+            ],
+          )
     ]
 
 pub returns : goal.returns

@@ -15,13 +15,14 @@ pub loop-place-preserved : goal.loop-place-preserved
 loop-place-preserved c =
     let within : c.loop-place.place < length c.loop-place.marked = omega (arith, c.loop-place.invariant.0) in
     let fits : c.with_attribute.result < 256 = omega arith in
-    let size : length (set c.loop-place.marked c.loop-place.place c.with_attribute.result) ≡ length c.loop-place.marked = length-set c.loop-place.marked c.loop-place.place c.with_attribute.result in
-    (size ∙ c.loop-place.invariant.0,
-    λ k h. elim (cases_eq k c.loop-place.place) [
-      | inl e ↦ rw (e, get_or-set_same c.loop-place.marked c.loop-place.place c.with_attribute.result 0 within) c.with_attribute.ensures
-      | inr other ↦ rw (get_or-set_other c.loop-place.marked c.loop-place.place k c.with_attribute.result 0 other) (c.loop-place.invariant.1 k (omega arith))
-    ],
-    λ k. fits_set c.loop-place.marked c.loop-place.place c.with_attribute.result within fits c.loop-place.invariant.2 k)
+    let size : length (set c.loop-place.marked c.loop-place.place c.with_attribute.result) ≡ length c.loop-place.marked = length-set c.loop-place.marked c.loop-place.place c.with_attribute.result in (
+      size ∙ c.loop-place.invariant.0,
+      λ k h. elim (cases_eq k c.loop-place.place) [
+        | inl e ↦ rw (e, get_or-set_same c.loop-place.marked c.loop-place.place c.with_attribute.result 0 within) c.with_attribute.ensures
+        | inr other ↦ rw (get_or-set_other c.loop-place.marked c.loop-place.place k c.with_attribute.result 0 other) (c.loop-place.invariant.1 k (omega arith))
+      ],
+      λ k. fits_set c.loop-place.marked c.loop-place.place c.with_attribute.result within fits c.loop-place.invariant.2 k,
+    )
 
 pub returns-clause-value : goal.returns-clause-value
 returns-clause-value c =
