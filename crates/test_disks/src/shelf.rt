@@ -52,7 +52,12 @@ fn read_back(
 /// Fails unless a disk has a file of these bytes, the last record filled up with 1Ah.
 fn check_file(rt: &impl Abort, alloc: Global, image: &Image, name: &[u8; 11], bytes: &[u8]) {
     let found = read_back(rt, alloc, image, 0, name).expect(rt, "the file");
-    same_at(rt, bytes.len(), found.len(), (bytes.len() + 127) / 128 * 128);
+    same_at(
+        rt,
+        bytes.len(),
+        found.len(),
+        (bytes.len() + 127) / 128 * 128,
+    );
     assert!(rt; found.starts_with(bytes));
     assert!(rt; found.iter().skip(bytes.len()).all(|byte| *byte == 0x1A));
 }
