@@ -1,18 +1,16 @@
 -- A file is taken off a disk.
-use Rattle.std.proofs.Common.{◌≡◌, ◌≢◌, ℕ, ◌<◌, ◌≤◌, Bool, true, false, eqb, List, Option, Some, None, Result, Ok, Err, length, sym, subst, refl, ap, ◌∙◌, inl, inr, arith}
-use Rattle.std.specs.List.{list_any}
+use Rattle.std.proofs.Common.{◌≡◌, ◌≢◌, ℕ, ◌<◌, ◌≤◌, Bool, true, false, eqb, List, Option, Result, Ok, length, sym, subst, refl, ap, ◌∙◌, inl, inr, arith}
 use Rattle.std.proofs.lemmas.List.Sums.{passes_at_first, fails_before_first}
 use Rattle.std.proofs.lemmas.List.{get_or_past}
-use Rattle.std.proofs.lemmas.Bool.{and_left, and_parts, eqb-true, ne_eqb, cases_Bool, cases_lt, lt-ltb, le-ltb}
+use Rattle.std.proofs.lemmas.Bool.{and_left, and_parts, eqb-true, ne_eqb, cases_lt}
 use Rattle.cpm_geom.specs.declared.dpb.Dpb.{Dpb}
 use Rattle.cpm_geom.specs.declared.format.Format.{Format}
 use Rattle.cpm_geom.specs.Geometry.{dpb_of}
 use Rattle.cpm_geom.specs.Disk.{Disk, IsDisk}
 use Rattle.cpm_files.specs.declared.extent.Entry.{Entry}
 use Rattle.cpm_files.specs.declared.answer.Fault.{Fault}
-use Rattle.cpm_files.specs.declared.answer.Fault.TheVariants.{FileReadOnly}
 use Rattle.cpm_files.specs.Files.{deleted, has_wildcard, no_entry, entry_at, InUse, IsWellFormed}
-use Rattle.cpm_files.specs.Names.{is_named, first_named, protects, erase_files}
+use Rattle.cpm_files.specs.Names.{is_named, first_named, erase_files}
 use Rattle.cpm_files.proofs.Formats.{each_format}
 use Rattle.cpm_directory.specs.Directory.{entries_of}
 use Rattle.cpm_directory.specs.Login.{reserved_at_login}
@@ -26,7 +24,7 @@ use Rattle.cpm_drive.specs.Named.{after_named}
 use Rattle.cpm_drive.specs.Laws.{IsWritable, HasBytes}
 use Rattle.cpm_shelf.specs.Shelf.{IsSoundDisk, KeepsOthers}
 use Rattle.cpm_shelf.specs.Writing.{IsCleared}
-use Rattle.cpm_shelf.specs.Taken.{IsRemoved}
+use Rattle.cpm_shelf.specs.Taken.{IsRemovable, IsRemoved}
 use Rattle.cpm_shelf.proofs.ErasedLemmas.{erased}
 
 -- ---- a drive that agrees with itself has a sound disk
@@ -72,52 +70,10 @@ none_there es user name ok past i =
       | inr ge ↦ rw (get_or_past es i no_entry ge) (no_entry_named user name ok)
     ]
 
--- ---- what the answer of the call says
+-- ---- the answer of a call on all entries of a name
 
 abbrev pub Answered : Type 0
 Answered = Result (Option ℕ) Fault × Drive
-
-pub none_some : (code : ℕ) (a b : Drive) → ◌≡◌ {A = Answered} (Ok (Some code), a) (Ok None, b) → ⊥
-none_some code a b e =
-    let h : ◌≡◌ {A = Result (Option ℕ) Fault} (Ok (Some code)) (Ok None) = ap (λ (p : Answered). p.0) e in cc
-
-pub err_ok : (code : Option ℕ) (which : Fault) (a b : Drive) → ◌≡◌ {A = Answered} (Ok code, a) (Err which, b) → ⊥
-err_ok code which a b e =
-    let h : ◌≡◌ {A = Result (Option ℕ) Fault} (Ok code) (Err which) = ap (λ (p : Answered). p.0) e in cc
-
-module _ (drive : Drive) (user : ℕ) (name : List ℕ) where
-  pub some_erased : (code : ℕ) (drive' : Drive) → (Ok (Some code), drive') ≡ after_named drive (erase_files (dpb_of drive.image.format) (volume_of drive.image drive.marks.reserved) user name) → (first_named (entries_of drive.image) user name < length (entries_of drive.image)) × (list_any (protects user name) (entries_of drive.image) ≡ false)
-  unfolding erase_files after_named volume_of
-  some_erased code drive' e =
-      elim (cases_lt (first_named (entries_of drive.image) user name) (length (entries_of drive.image))) [
-        | inr past ↦ absurd (none_some code drive' drive (rw (le-ltb _ _ past) at e))
-        | inl there ↦ elim (cases_Bool (list_any (protects user name) (entries_of drive.image))) [
-          | inl t ↦ absurd (err_ok (Some code) FileReadOnly drive' drive (rw (lt-ltb _ _ there, t) at e))
-          | inr f ↦ (there, f)
-        ]
-      ]
-
-  pub none_erased : (drive' : Drive) → (Ok None, drive') ≡ after_named drive (erase_files (dpb_of drive.image.format) (volume_of drive.image drive.marks.reserved) user name) → length (entries_of drive.image) ≤ first_named (entries_of drive.image) user name
-  unfolding erase_files after_named volume_of
-  none_erased drive' e =
-      elim (cases_lt (first_named (entries_of drive.image) user name) (length (entries_of drive.image))) [
-        | inr past ↦ past
-        | inl there ↦ elim (cases_Bool (list_any (protects user name) (entries_of drive.image))) [
-          | inl t ↦ absurd (err_ok None FileReadOnly drive' drive (rw (lt-ltb _ _ there, t) at e))
-          | inr f ↦ absurd (none_some _ _ _ (sym (rw (lt-ltb _ _ there, f) at e)))
-        ]
-      ]
-
-  pub locked_erased : (which : Fault) (drive' : Drive) → (Err which, drive') ≡ after_named drive (erase_files (dpb_of drive.image.format) (volume_of drive.image drive.marks.reserved) user name) → list_any (protects user name) (entries_of drive.image) ≡ true
-  unfolding erase_files after_named volume_of
-  locked_erased which drive' e =
-      elim (cases_lt (first_named (entries_of drive.image) user name) (length (entries_of drive.image))) [
-        | inr past ↦ absurd (err_ok _ _ _ _ (sym (rw (le-ltb _ _ past) at e)))
-        | inl there ↦ elim (cases_Bool (list_any (protects user name) (entries_of drive.image))) [
-          | inl t ↦ t
-          | inr f ↦ absurd (err_ok _ _ _ _ (sym (rw (lt-ltb _ _ there, f) at e)))
-        ]
-      ]
 
 -- ---- the disk then
 
@@ -153,16 +109,16 @@ writable image whole bytes = record { disk = whole; bytes = bytes; free = refl }
 pub answered : (image : Disk) (drive : Drive) (u user : ℕ) (n name : List ℕ) (answer : Answered) → drive ≡ fresh_drive image → u ≡ user → n ≡ name → answer ≡ after_named drive (erase_files (dpb_of drive.image.format) (volume_of drive.image drive.marks.reserved) u n) → answer ≡ after_named (fresh_drive image) (erase_files (dpb_of image.format) (volume_of image (reserved_at_login (dpb_of image.format) (entries_of image))) user name)
 answered image drive u user n name answer a b c e = e ∙ rw (a, b, c) refl
 
-pub removed : (image : Disk) (drive' : Drive) (user : ℕ) (name : List ℕ) (code : ℕ) → user < 16 → has_wildcard name ≡ false → IsDisk image → HasBytes image → IsSoundDisk image → (Ok (Some code), drive') ≡ after_named (fresh_drive image) (erase_files (dpb_of image.format) (volume_of image (reserved_at_login (dpb_of image.format) (entries_of image))) user name) → IsRemoved image user name drive'.image
-removed image drive' user name code small plain whole bytes sound e =
-    let live : user ≢ deleted = λ z. absurd (omega arith) in
-    let parts = some_erased (fresh_drive image) user name code drive' e in
-    let cleared = (erased (fresh_drive image) user name small plain (writable image whole bytes) sound refl parts.1 (Ok (Some code)) drive' e).1 in
-    record {
-      sound_before = sound;
-      there = first_there (entries_of image) user name live parts.0;
-      unprotected = parts.1;
-      absent = cleared.gone;
-      others = others_kept image user name drive' cleared;
-      sound = sound_cleared image user name drive' cleared;
-    }
+pub removed : (image : Disk) (user : ℕ) (name : List ℕ) (result : Result (Option ℕ) Fault) (drive' : Drive) → user < 16 → has_wildcard name ≡ false → IsDisk image → HasBytes image → IsSoundDisk image → IsRemovable image user name → (result, drive') ≡ after_named (fresh_drive image) (erase_files (dpb_of image.format) (volume_of image (reserved_at_login (dpb_of image.format) (entries_of image))) user name) → ((code : Option ℕ) × (result ≡ Ok code)) × IsRemoved image user name drive'.image
+removed image user name result drive' small plain whole bytes sound removable e =
+    let done = erased (fresh_drive image) user name small plain (writable image whole bytes) sound refl removable.1 result drive' e in (
+      done.0,
+      record {
+        sound_before = sound;
+        there = removable.0;
+        unprotected = removable.1;
+        absent = done.1.gone;
+        others = others_kept image user name drive' done.1;
+        sound = sound_cleared image user name drive' done.1;
+      },
+    )

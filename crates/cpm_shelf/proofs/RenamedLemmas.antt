@@ -1,15 +1,14 @@
 -- A disk whose file got another name.
-use Rattle.std.proofs.Common.{◌≡◌, ◌≢◌, ◌⊎◌, ℕ, ◌<◌, ◌≤◌, Bool, true, false, ◌&&◌, ◌++◌, eqb, List, Some, None, Ok, Err, length, sym, subst, refl, ap, ◌∙◌, inl, inr, arith}
+use Rattle.std.proofs.Common.{◌≡◌, ◌≢◌, ◌⊎◌, ℕ, ◌<◌, ◌≤◌, Bool, true, false, ◌&&◌, ◌++◌, eqb, List, Some, Ok, length, sym, subst, refl, ap, ◌∙◌, inl, inr, arith, Option, Result}
 use Rattle.std.specs.List.{list_any}
 use Rattle.std.proofs.lemmas.List.Sums.{position_or_len_is}
-use Rattle.std.proofs.lemmas.Bool.{false≢true, cases_Bool, cases_lt, lt-ltb, le-ltb, false_from_ne_true}
+use Rattle.std.proofs.lemmas.Bool.{false≢true, cases_lt, lt-ltb, false_from_ne_true}
 use Rattle.cpm_geom.specs.declared.dpb.Dpb.{Dpb}
 use Rattle.cpm_geom.specs.declared.format.Format.{Format}
 use Rattle.cpm_geom.specs.Geometry.{dpb_of}
 use Rattle.cpm_geom.specs.Disk.{Disk, IsDisk, records_of, sector_at}
 use Rattle.cpm_files.specs.declared.extent.Entry.{Entry}
 use Rattle.cpm_files.specs.declared.answer.Fault.{Fault}
-use Rattle.cpm_files.specs.declared.answer.Fault.TheVariants.{FileReadOnly}
 use Rattle.cpm_files.specs.Encoding.{AreBytes}
 use Rattle.cpm_files.specs.Files.{deleted, has_wildcard, same_name, no_entry, entry_at, file_block, file_record, record_in, IsWellFormed, IsVolume, IsSoundDrive, Volume}
 use Rattle.cpm_files.specs.Names.{is_named, first_named, protects, change_named, named_writes, renaming, rename_files, named}
@@ -18,17 +17,17 @@ use Rattle.cpm_directory.specs.Directory.{entries_of}
 use Rattle.cpm_directory.specs.Login.{reserved_at_login}
 use Rattle.cpm_directory.proofs.CheckedLemmas.{checked}
 use Rattle.cpm_drive.specs.declared.drive.Drive.{Drive}
-use Rattle.cpm_drive.specs.Drive.{volume_of, drive_after}
+use Rattle.cpm_drive.specs.Drive.{volume_of, drive_after, directory_code}
 use Rattle.cpm_drive.specs.Named.{after_named}
 use Rattle.cpm_drive.specs.Laws.{HasBytes}
 use Rattle.cpm_drive.proofs.DiskLemmas.{disk_is_volume}
 use Rattle.cpm_drive.proofs.DiskReach.{calls_reach}
 use Rattle.cpm_shelf.specs.Shelf.{record_on, system_sectors, IsSoundDisk}
-use Rattle.cpm_shelf.specs.Taken.{kept_name, IsFreeName, IsThere, IsRenamed}
+use Rattle.cpm_shelf.specs.Taken.{kept_name, IsFreeName, IsThere, IsRenamable, IsRenamed}
 use Rattle.cpm_shelf.proofs.FreeLemmas.{login_length}
 use Rattle.cpm_shelf.proofs.SystemLemmas.{system_after}
 use Rattle.cpm_shelf.proofs.DiskLemmas.{HasVolume, has_volume}
-use Rattle.cpm_shelf.proofs.RemovingLemmas.{fresh_drive, writable, sound_again, user_of, first_there, Answered, none_some, err_ok}
+use Rattle.cpm_shelf.proofs.RemovingLemmas.{fresh_drive, writable, sound_again, user_of, first_there, none_there, Answered}
 use Rattle.cpm_shelf.proofs.RenamingLemmas as entries
 
 pub first_named_is : (es : List Entry) (user : ℕ) (name : List ℕ) (i : ℕ) → i ≤ length es → ((k : ℕ) → k < i → is_named user name (entry_at es k) ≡ false) → (i < length es → is_named user name (entry_at es i) ≡ true) → first_named es user name ≡ i
@@ -41,41 +40,16 @@ unfolding is_named
 named_same user a b e pa pb h =
     ap (λ (t : Bool). eqb e.user user && t) (name_matches_plain a e.extent.name pa ∙ (same_name_as a b e.extent.name h ∙ sym (name_matches_plain b e.extent.name pb)))
 
--- ---- what the answer of the call says
+-- an entry of the name is there: the first
+pub first_below : (es : List Entry) (user : ℕ) (name : List ℕ) (i : ℕ) → user ≢ deleted → is_named user name (entry_at es i) ≡ true → first_named es user name < length es
+first_below es user name i live h =
+    elim (cases_lt (first_named es user name) (length es)) [
+      | inl lt ↦ lt
+      | inr ge ↦ absurd (false≢true (sym (none_there es user name live ge i) ∙ h))
+    ]
+
+-- ---- the answer of the call
 module _ (drive : Drive) (user : ℕ) (name kept : List ℕ) where
-  pub some_renamed : (code : ℕ) (drive' : Drive) → (Ok (Some code), drive') ≡ after_named drive (rename_files (volume_of drive.image drive.marks.reserved) user name kept) → (first_named (entries_of drive.image) user name < length (entries_of drive.image)) × (list_any (protects user name) (entries_of drive.image) ≡ false)
-  unfolding rename_files after_named volume_of
-  some_renamed code drive' e =
-      elim (cases_lt (first_named (entries_of drive.image) user name) (length (entries_of drive.image))) [
-        | inr past ↦ absurd (none_some code drive' drive (rw (le-ltb _ _ past) at e))
-        | inl there ↦ elim (cases_Bool (list_any (protects user name) (entries_of drive.image))) [
-          | inl t ↦ absurd (err_ok (Some code) FileReadOnly drive' drive (rw (lt-ltb _ _ there, t) at e))
-          | inr f ↦ (there, f)
-        ]
-      ]
-
-  pub none_renamed : (drive' : Drive) → (Ok None, drive') ≡ after_named drive (rename_files (volume_of drive.image drive.marks.reserved) user name kept) → length (entries_of drive.image) ≤ first_named (entries_of drive.image) user name
-  unfolding rename_files after_named volume_of
-  none_renamed drive' e =
-      elim (cases_lt (first_named (entries_of drive.image) user name) (length (entries_of drive.image))) [
-        | inr past ↦ past
-        | inl there ↦ elim (cases_Bool (list_any (protects user name) (entries_of drive.image))) [
-          | inl t ↦ absurd (err_ok None FileReadOnly drive' drive (rw (lt-ltb _ _ there, t) at e))
-          | inr f ↦ absurd (none_some _ _ _ (sym (rw (lt-ltb _ _ there, f) at e)))
-        ]
-      ]
-
-  pub locked_renamed : (which : Fault) (drive' : Drive) → (Err which, drive') ≡ after_named drive (rename_files (volume_of drive.image drive.marks.reserved) user name kept) → list_any (protects user name) (entries_of drive.image) ≡ true
-  unfolding rename_files after_named volume_of
-  locked_renamed which drive' e =
-      elim (cases_lt (first_named (entries_of drive.image) user name) (length (entries_of drive.image))) [
-        | inr past ↦ absurd (err_ok _ _ _ _ (sym (rw (le-ltb _ _ past) at e)))
-        | inl there ↦ elim (cases_Bool (list_any (protects user name) (entries_of drive.image))) [
-          | inl t ↦ t
-          | inr f ↦ absurd (err_ok _ _ _ _ (sym (rw (lt-ltb _ _ there, f) at e)))
-        ]
-      ]
-
   unfoldable pub volume_now : Volume
   volume_now =
       record (volume_of drive.image drive.marks.reserved) { entries = change_named user name (renaming kept) (entries_of drive.image); written = (volume_of drive.image drive.marks.reserved).written ++ named_writes user name 0 (entries_of drive.image) (change_named user name (renaming kept) (entries_of drive.image)) }
@@ -84,9 +58,9 @@ module _ (drive : Drive) (user : ℕ) (name kept : List ℕ) where
   unfolding rename_files volume_of volume_now
   answer_is there free = rw (lt-ltb _ _ there, free) refl
 
-  pub drive_is : (code : ℕ) (drive' : Drive) → first_named (entries_of drive.image) user name < length (entries_of drive.image) → list_any (protects user name) (entries_of drive.image) ≡ false → (Ok (Some code), drive') ≡ after_named drive (rename_files (volume_of drive.image drive.marks.reserved) user name kept) → drive' ≡ drive_after drive volume_now
+  pub drive_is : (answer : Answered) → first_named (entries_of drive.image) user name < length (entries_of drive.image) → list_any (protects user name) (entries_of drive.image) ≡ false → answer ≡ after_named drive (rename_files (volume_of drive.image drive.marks.reserved) user name kept) → answer ≡ (Ok (Some (directory_code (first_named (entries_of drive.image) user name))), drive_after drive volume_now)
   unfolding after_named
-  drive_is code drive' there free e = ap (λ (p : Answered). p.1) (rw (answer_is there free) at e)
+  drive_is answer there free e = rw (answer_is there free) at e
 
 -- ---- the disk then
 pub fresh_answer : (image : Disk) (drive : Drive) (u user : ℕ) (n name kept : List ℕ) (answer : Answered) → drive ≡ fresh_drive image → u ≡ user → n ≡ name → answer ≡ after_named drive (rename_files (volume_of drive.image drive.marks.reserved) u n kept) → answer ≡ after_named (fresh_drive image) (rename_files (volume_of image (reserved_at_login (dpb_of image.format) (entries_of image))) user name kept)
@@ -222,9 +196,10 @@ module _ (image : Disk) (user : ℕ) (name new_name kept : List ℕ) (small : us
     sound = sound_after;
   }
 
-pub renamed_by : (image : Disk) (user : ℕ) (name new_name kept : List ℕ) (code : ℕ) (drive' : Drive) → user < 16 → has_wildcard name ≡ false → has_wildcard new_name ≡ false → AreBytes 11 kept → IsDisk image → HasBytes image → IsSoundDisk image → IsFreeName image user name new_name → kept ≡ kept_name image user name new_name → (Ok (Some code), drive') ≡ after_named (fresh_drive image) (rename_files (volume_of image (reserved_at_login (dpb_of image.format) (entries_of image))) user name kept) → IsRenamed image user name new_name drive'.image
+pub renamed_by : (image : Disk) (user : ℕ) (name new_name kept : List ℕ) (result : Result (Option ℕ) Fault) (drive' : Drive) → user < 16 → has_wildcard name ≡ false → has_wildcard new_name ≡ false → AreBytes 11 kept → IsDisk image → HasBytes image → IsSoundDisk image → IsRenamable image user name new_name → kept ≡ kept_name image user name new_name → (result, drive') ≡ after_named (fresh_drive image) (rename_files (volume_of image (reserved_at_login (dpb_of image.format) (entries_of image))) user name kept) → ((code : Option ℕ) × (result ≡ Ok code)) × IsRenamed image user name new_name drive'.image
 unfolding now
-renamed_by image user name new_name kept code drive' small plain new_plain bytes whole has_bytes sound free kept_is e =
-    let parts = some_renamed (fresh_drive image) user name kept code drive' e in
-    let is = drive_is (fresh_drive image) user name kept code drive' parts.0 parts.1 e in
-    subst (λ (x : Drive). IsRenamed image user name new_name x.image) (sym is) (is_renamed image user name new_name kept small plain new_plain bytes whole has_bytes sound free kept_is parts.0 parts.1)
+renamed_by image user name new_name kept result drive' small plain new_plain bytes whole has_bytes sound renamable kept_is e =
+    let live : user ≢ deleted = λ z. absurd (omega arith) in
+    let there = first_below (entries_of image) user name renamable.0.0 live renamable.0.2 in
+    let is = drive_is (fresh_drive image) user name kept (result, drive') there renamable.2 e in
+    ((Some (directory_code (first_named (entries_of image) user name)), ap (λ (p : Answered). p.0) is), subst (λ (p : Answered). IsRenamed image user name new_name p.1.image) (sym is) (is_renamed image user name new_name kept small plain new_plain bytes whole has_bytes sound renamable.1 kept_is there renamable.2))

@@ -1,5 +1,5 @@
 -- The list of a disk's files.
-use Rattle.std.specs.Prelude.{◌≡◌, ℕ, ◌<◌, Bool, true, List, [], Err, ⊤, length, slice_index_or}
+use Rattle.std.specs.Prelude.{◌≡◌, ℕ, ◌<◌, Bool, true, List, [], Err, length, slice_index_or}
 use Rattle.cpm_geom.specs.Geometry.{dpb_of}
 use Rattle.cpm_geom.specs.Disk.{Disk}
 use Rattle.cpm_files.specs.declared.extent.Entry.{Entry}
@@ -44,8 +44,8 @@ pub record IsListed (disk : Disk) (shelf : Shelf) : Type 0 where
   pub files : AreListed disk (length (entries_of disk)) shelf.files.items
   pub free : shelf.free_blocks ≡ unreserved (reserved_at_login (dpb_of disk.format) (entries_of disk))
 
--- Why there is none: the fault of the first entry that has one; or there was no memory. (own)
+-- Why there is none: the fault of the first entry that has one; or the disk is sound, but there was no memory. (own)
 abbrev pub IsListRefusal : Disk → ShelfError → Type 0
 IsListRefusal disk (Damaged fault) = IsChecked (dpb_of disk.format) (entries_of disk) (Err fault)
 IsListRefusal disk (Refused refusal) = ⊥
-IsListRefusal disk OutOfMemory = ⊤
+IsListRefusal disk OutOfMemory = IsSoundDisk disk

@@ -1,5 +1,5 @@
 -- What is taken off a disk: a file's bytes, and the list of its files.
-use Rattle.std.specs.Prelude.{◌≡◌, ◌≢◌, ◌⊎◌, ℕ, ◌-◌, ◌*◌, ◌<◌, ◌≤◌, true, false, List, Option, Some, None, Err, ⊤, length, take, drop, replicate}
+use Rattle.std.specs.Prelude.{◌≡◌, ◌≢◌, ◌⊎◌, ℕ, ◌-◌, ◌*◌, ◌<◌, ◌≤◌, true, false, List, Option, Some, None, Err, length, take, drop, replicate}
 use Rattle.std.specs.List.{list_any}
 use Rattle.cpm_geom.specs.Geometry.{dpb_of}
 use Rattle.cpm_geom.specs.Disk.{Disk, sector_at}
@@ -53,11 +53,11 @@ IsGetReason disk user name Exists = ⊥
 IsGetReason disk user name DirectoryFull = ⊥
 IsGetReason disk user name DiskFull = ⊥
 
--- The fault of the first entry that has one; or the disk is sound, and this is the reason; or there was no memory. (own)
+-- The fault of the first entry that has one; or the disk is sound, and this is the reason; or there is none, but no memory. (own)
 abbrev pub IsGetRefusal : Disk → ℕ → List ℕ → ShelfError → Type 0
 IsGetRefusal disk user name (Damaged fault) = IsChecked (dpb_of disk.format) (entries_of disk) (Err fault)
 IsGetRefusal disk user name (Refused refusal) = IsSoundDisk disk × IsGetReason disk user name refusal
-IsGetRefusal disk user name OutOfMemory = ⊤
+IsGetRefusal disk user name OutOfMemory = IsSoundDisk disk × IsThere disk user name
 
 -- A disk once a file was taken from it: there is no such file, each other is as it was, and no entry has a fault. (own)
 pub record IsRemoved (old : Disk) (user : ℕ) (name : List ℕ) (new : Disk) : Type 0 where
@@ -68,6 +68,10 @@ pub record IsRemoved (old : Disk) (user : ℕ) (name : List ℕ) (new : Disk) : 
   pub others : KeepsOthers user name old new
   pub sound : IsSoundDisk new
 
+-- nothing is against it that a file is taken from a sound disk: it is there, and no entry of it is read-only (own)
+abbrev pub IsRemovable : Disk → ℕ → List ℕ → Type 0
+IsRemovable old user name = IsThere old user name × (list_any (protects user name) (entries_of old) ≡ false)
+
 -- Why a file is not taken from a disk: there is none; or an entry of it is read-only. (own)
 abbrev pub IsRemovalReason : Disk → ℕ → List ℕ → Refusal → Type 0
 IsRemovalReason old user name NoFile = IsAbsent old user name
@@ -76,11 +80,11 @@ IsRemovalReason old user name Exists = ⊥
 IsRemovalReason old user name DirectoryFull = ⊥
 IsRemovalReason old user name DiskFull = ⊥
 
--- The fault of the first entry that has one; or the disk is sound, and this is the reason; or there was no memory. (own)
+-- The fault of the first entry that has one; or the disk is sound, and this is the reason; or there is none, but no memory. (own)
 abbrev pub IsRemovalRefusal : Disk → ℕ → List ℕ → ShelfError → Type 0
 IsRemovalRefusal old user name (Damaged fault) = IsChecked (dpb_of old.format) (entries_of old) (Err fault)
 IsRemovalRefusal old user name (Refused refusal) = IsSoundDisk old × IsRemovalReason old user name refusal
-IsRemovalRefusal old user name OutOfMemory = ⊤
+IsRemovalRefusal old user name OutOfMemory = IsSoundDisk old × IsRemovable old user name
 
 -- ---- another name
 
@@ -114,6 +118,11 @@ pub record IsRenamed (old : Disk) (user : ℕ) (name new_name : List ℕ) (new :
   pub system : (place : ℕ) → place < system_sectors old.format → sector_at new place ≡ sector_at old place
   pub sound : IsSoundDisk new
 
+-- nothing is against it that a file of a sound disk gets another name: it is there, the name is free, and no entry of the file is read-only (own)
+abbrev pub IsRenamable : Disk → ℕ → List ℕ → List ℕ → Type 0
+IsRenamable old user name new_name =
+    IsThere old user name × IsFreeName old user name new_name × (list_any (protects user name) (entries_of old) ≡ false)
+
 -- Why it got none: there is no such file; there is another of the new name; or an entry of the file is read-only. The first of these. (own)
 abbrev pub IsRenameReason : Disk → ℕ → List ℕ → List ℕ → Refusal → Type 0
 IsRenameReason old user name new_name NoFile = IsAbsent old user name
@@ -122,8 +131,8 @@ IsRenameReason old user name new_name ReadOnly = IsFreeName old user name new_na
 IsRenameReason old user name new_name DirectoryFull = ⊥
 IsRenameReason old user name new_name DiskFull = ⊥
 
--- The fault of the first entry that has one; or the disk is sound, and this is the reason; or there was no memory. (own)
+-- The fault of the first entry that has one; or the disk is sound, and this is the reason; or there is none, but no memory. (own)
 abbrev pub IsRenameRefusal : Disk → ℕ → List ℕ → List ℕ → ShelfError → Type 0
 IsRenameRefusal old user name new_name (Damaged fault) = IsChecked (dpb_of old.format) (entries_of old) (Err fault)
 IsRenameRefusal old user name new_name (Refused refusal) = IsSoundDisk old × IsRenameReason old user name new_name refusal
-IsRenameRefusal old user name new_name OutOfMemory = ⊤
+IsRenameRefusal old user name new_name OutOfMemory = IsSoundDisk old × IsRenamable old user name new_name

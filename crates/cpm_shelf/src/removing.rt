@@ -1,21 +1,22 @@
 //! Takes a file off a disk.
 
-ghost use Rattle.std.specs.Prelude.{MatchResult};
+ghost use Rattle.std.specs.Prelude.{MatchOption, MatchResult};
 ghost use Rattle.cpm_geom.specs.Disk.{IsDisk};
 ghost use Rattle.cpm_drive.specs.Laws.{HasBytes};
 ghost use Rattle.cpm_shelf.specs.Shelf.{IsSoundDisk};
-ghost use Rattle.cpm_shelf.specs.Taken.{IsRemoved, IsRemovalReason, IsRemovalRefusal};
+ghost use Rattle.cpm_shelf.specs.Taken.{IsRemovable, IsRemoved, IsRemovalReason, IsRemovalRefusal};
 
 use crate::copies::copy_of;
 use crate::name::FileName;
+use crate::records::{is_protected, is_there};
 use crate::refusal::{Refusal, ShelfError};
-use cpm_directory::well_formed;
+use cpm_directory::{LentImage, well_formed};
 use cpm_drive::Drive;
 use cpm_geom::Image;
 use std::alloc::Global;
 
 /// The disk without a file. The image is only looked at. Refused where the disk is damaged, where it has no such file and
-/// where an entry of the file is read-only, and for want of memory.
+/// where an entry of the file is read-only, and where nothing is against it for want of memory.
 pub fn remove(alloc: Global, image: &Image, file: &FileName) -> Result<Image, ShelfError>
     ensures { MatchResult result
         (λ new. IsRemoved image.now file.now.user file.now.name new)
@@ -24,30 +25,40 @@ pub fn remove(alloc: Global, image: &Image, file: &FileName) -> Result<Image, Sh
     if let Err(fault) = well_formed(image) {
         return Err(ShelfError::Damaged(fault));
     }
-    let copy = match copy_of(alloc, image) {
-        Ok(copy) => copy,
-        Err(_) => return Err(ShelfError::OutOfMemory),
-    };
-    match without(copy, file) {
-        Ok(image) => Ok(image),
-        Err(refusal) => Err(ShelfError::Refused(refusal)),
+    if let Some(refusal) = refusal_of(&LentImage::new(image), file) {
+        return Err(ShelfError::Refused(refusal));
+    }
+    match copy_of(alloc, image) {
+        Ok(copy) => Ok(without(copy, file)),
+        Err(_) => Err(ShelfError::OutOfMemory),
     }
 }
 
-/// The image without a file, or why it can't be taken off.
-fn without(image: Image, file: &FileName) -> Result<Image, Refusal>
+/// Why a file is not taken off a disk.
+fn refusal_of(image: &LentImage<'_>, file: &FileName) -> Option<Refusal>
+    ensures { MatchOption result
+        (IsRemovable image.now file.now.user file.now.name)
+        (λ e. IsRemovalReason image.now file.now.user file.now.name e) }
+{
+    if !is_there(image, file) {
+        return Some(Refusal::NoFile);
+    }
+    if is_protected(image, file) {
+        return Some(Refusal::ReadOnly);
+    }
+    None
+}
+
+/// The image without a file, against which nothing is.
+fn without(image: Image, file: &FileName) -> Image
     requires whole { IsDisk image }
     requires bytes { HasBytes image }
     requires sound { IsSoundDisk image }
-    ensures { MatchResult result
-        (λ new. IsRemoved image file.now.user file.now.name new)
-        (λ e. IsRemovalReason image file.now.user file.now.name e) }
+    requires removable { IsRemovable image file.now.user file.now.name }
+    ensures { IsRemoved image file.now.user file.now.name result }
 {
     let mut drive = Drive::new(image);
     drive.log_in();
-    match drive.erase_files(file.user(), file.name()) {
-        Ok(Some(_)) => Ok(drive.image.into_image()),
-        Ok(None) => Err(Refusal::NoFile),
-        Err(_) => Err(Refusal::ReadOnly),
-    }
+    drive.erase_files(file.user(), file.name()).unwrap();
+    drive.image.into_image()
 }

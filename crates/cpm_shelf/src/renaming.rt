@@ -9,11 +9,11 @@ ghost use Rattle.cpm_files.specs.Names.{is_named, first_named, with_attributes};
 ghost use Rattle.cpm_directory.specs.Directory.{entries_of};
 ghost use Rattle.cpm_drive.specs.Laws.{HasBytes};
 ghost use Rattle.cpm_shelf.specs.Shelf.{IsSoundDisk};
-ghost use Rattle.cpm_shelf.specs.Taken.{kept_name, IsFreeName, IsRenamed, IsRenameReason, IsRenameRefusal};
+ghost use Rattle.cpm_shelf.specs.Taken.{kept_name, IsRenamable, IsRenamed, IsRenameReason, IsRenameRefusal};
 
 use crate::copies::copy_of;
 use crate::name::FileName;
-use crate::records::{is_same_name, is_there};
+use crate::records::{is_protected, is_same_name, is_there};
 use crate::refusal::{Refusal, ShelfError};
 use cpm_directory::{LentImage, is_named, well_formed};
 use cpm_drive::Drive;
@@ -22,7 +22,8 @@ use std::alloc::Global;
 
 /// The disk with a file under another name of its user. The file keeps its attributes, those of its first entry; the new
 /// name's count for nothing. The image is only looked at. Refused, in this order, where the disk is damaged, where it has no
-/// such file, where another has the new name and where an entry of the file is read-only; and for want of memory.
+/// such file, where another has the new name and where an entry of the file is read-only, and where nothing is against it for
+/// want of memory.
 pub fn rename(
     alloc: Global,
     image: &Image,
@@ -40,21 +41,17 @@ pub fn rename(
     if let Some(refusal) = refusal_of(&LentImage::new(image), file, name) {
         return Err(ShelfError::Refused(refusal));
     }
-    let copy = match copy_of(alloc, image) {
-        Ok(copy) => copy,
-        Err(_) => return Err(ShelfError::OutOfMemory),
-    };
-    match renamed(copy, file, name) {
-        Ok(image) => Ok(image),
-        Err(refusal) => Err(ShelfError::Refused(refusal)),
+    match copy_of(alloc, image) {
+        Ok(copy) => Ok(renamed(copy, file, name)),
+        Err(_) => Err(ShelfError::OutOfMemory),
     }
 }
 
-/// Why a file doesn't get another name, but for its attributes.
+/// Why a file doesn't get another name.
 fn refusal_of(image: &LentImage<'_>, file: &FileName, name: &FileName) -> Option<Refusal>
     requires { name.now.user ≡ file.now.user }
     ensures { MatchOption result
-        (IsFreeName image.now file.now.user file.now.name name.now.name)
+        (IsRenamable image.now file.now.user file.now.name name.now.name)
         (λ e. IsRenameReason image.now file.now.user file.now.name name.now.name e) }
 {
     if !is_there(image, file) {
@@ -62,6 +59,9 @@ fn refusal_of(image: &LentImage<'_>, file: &FileName, name: &FileName) -> Option
     }
     if is_taken(image, file, name) {
         return Some(Refusal::Exists);
+    }
+    if is_protected(image, file) {
+        return Some(Refusal::ReadOnly);
     }
     None
 }
@@ -73,26 +73,19 @@ fn is_taken(image: &LentImage<'_>, file: &FileName, name: &FileName) -> bool
     !is_same_name(file.name(), name.name()) && is_there(image, name)
 }
 
-/// The image with a file under a name that is free, or why it doesn't get it.
-fn renamed(image: Image, file: &FileName, name: &FileName) -> Result<Image, Refusal>
+/// The image with a file under another name, against which nothing is.
+fn renamed(image: Image, file: &FileName, name: &FileName) -> Image
     requires whole { IsDisk image }
     requires bytes { HasBytes image }
     requires sound { IsSoundDisk image }
-    requires free { IsFreeName image file.now.user file.now.name name.now.name }
-    ensures { MatchResult result
-        (λ new. IsRenamed image file.now.user file.now.name name.now.name new)
-        (λ e. IsRenameReason image file.now.user file.now.name name.now.name e) }
+    requires renamable { IsRenamable image file.now.user file.now.name name.now.name }
+    ensures { IsRenamed image file.now.user file.now.name name.now.name result }
 {
     let mut drive = Drive::new(image);
     drive.log_in();
-    let Some(kept) = kept_name(&drive.image.lent(), file, name) else {
-        return Err(Refusal::NoFile);
-    };
-    match drive.rename_files(file.user(), file.name(), &kept) {
-        Ok(Some(_)) => Ok(drive.image.into_image()),
-        Ok(None) => Err(Refusal::NoFile),
-        Err(_) => Err(Refusal::ReadOnly),
-    }
+    let kept = kept_name(&drive.image.lent(), file, name).unwrap();
+    drive.rename_files(file.user(), file.name(), &kept).unwrap();
+    drive.image.into_image()
 }
 
 /// A new name with the attributes of a file's first entry, if the file is there.

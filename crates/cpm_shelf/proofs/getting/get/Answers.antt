@@ -23,3 +23,9 @@ returns-in-Ok c =
       there = any_there c.args.image.now c.args.file.now.user c.args.file.now.name live some;
       file = subst (λ (x : Disk). AreBytesOf x c.args.file.now.user c.args.file.now.name c.in-Ok.bytes.items) c.new-image.ensures c.in-Ok.ensures;
     }
+
+pub returns-in-Err-bytes_of : goal.returns-in-Err-bytes_of
+returns-in-Err-bytes_of c =
+    let live : c.args.file.now.user ≢ deleted = λ z. absurd (let small = c.args.file.now.within in omega arith) in
+    let some : list_any (is_named c.args.file.now.user c.args.file.now.name) (entries_of c.args.image.now) ≡ true = cc in
+    (λ i. c.in_default.ensures i, any_there c.args.image.now c.args.file.now.user c.args.file.now.name live some)
