@@ -1,4 +1,4 @@
--- What is taken off a disk: a file's bytes, and the list of its files.
+-- What is taken off a disk: the bytes of a file, a file, and its name for another.
 use Rattle.std.specs.Prelude.{◌≡◌, ◌≢◌, ◌⊎◌, ℕ, ◌-◌, ◌*◌, ◌<◌, ◌≤◌, true, false, List, Option, Some, None, Err, length, take, drop, replicate}
 use Rattle.std.specs.List.{list_any}
 use Rattle.cpm_geom.specs.Geometry.{dpb_of}

@@ -1,4 +1,5 @@
-//! Files on a disk image as wholes: a file is put on a disk, or the reason is given why it isn't.
+//! Files on a disk image as wholes: a file is put on a disk, taken from it, given another name or removed, and all are listed;
+//! or the reason is given why not. Texts are made fit for either side.
 #![tactic(auto)]
 
 mod copies;
