@@ -1,3 +1,11 @@
+pub mod FilledLemmas
+pub mod RenamedLemmas
+pub mod RenamingLemmas
+pub mod ListingLemmas
+pub mod TextLemmas
+pub mod RemovingLemmas
+pub mod GettingLemmas
+pub mod CountLemmas
 pub mod WildcardLemmas
 pub mod Counting
 pub mod FreeLemmas

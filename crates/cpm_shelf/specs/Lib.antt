@@ -1,3 +1,8 @@
+pub mod Filled
+pub mod Listing
+pub mod Texts
+pub mod Taken
+pub mod Reach
 pub mod Shelf
 pub mod Appending
 pub mod Laws

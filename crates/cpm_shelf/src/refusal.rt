@@ -15,6 +15,12 @@ pub enum Refusal {
     /// Fewer blocks are free than the file needs.
     #[error("the disk is full")]
     DiskFull,
+    /// The disk has no file of the name.
+    #[error("no such file")]
+    NoFile,
+    /// The disk has a file of the name that another is to get.
+    #[error("a file of that name is there")]
+    Exists,
 }
 
 /// Why nothing is done.

@@ -30,4 +30,6 @@ mod shelf;
 #[cfg(test)]
 mod steps;
 #[cfg(test)]
+mod taken;
+#[cfg(test)]
 mod written_by_cpmtools;
