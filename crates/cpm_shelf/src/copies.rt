@@ -19,7 +19,7 @@ pub(crate) fn copy_of(alloc: Global, image: &Image) -> Result<Image, AllocError>
 }
 
 /// The same image, made anew of its bytes, which takes no memory: that it has nothing but bytes is known of these.
-fn of_bytes(image: Image) -> Image
+pub(crate) fn of_bytes(image: Image) -> Image
     requires { IsDisk image }
     ensures same { result ≡ image }
     ensures whole { IsDisk result }

@@ -11,6 +11,7 @@ ghost use Rattle.cpm_files.specs.Files.{deleted};
 ghost use Rattle.cpm_shelf.specs.Taken.{HasRecords};
 ghost use Rattle.cpm_shelf.specs.Listing.{lists, AreListed, IsListed, IsListRefusal};
 
+use crate::needs::count_free;
 use crate::records::{is_of_file, record_count};
 use crate::refusal::ShelfError;
 use cpm_directory::directory::DELETED;
@@ -102,12 +103,5 @@ fn file_of(image: &LentImage<'_>, entry: &Entry) -> Listed
 fn free_blocks(image: &LentImage<'_>) -> u16
     ensures { result ≡ unreserved (reserved_at_login (dpb_of image.now.format) (entries_of image.now)) }
 {
-    let reserved = login(image);
-    let mut free = 0;
-    for block in 0..image.format().dpb().last_block + 1 {
-        if !reserved.contains(block) {
-            free += 1;
-        }
-    }
-    free
+    count_free(&login(image), image.format().dpb().last_block)
 }

@@ -39,7 +39,7 @@ pub(crate) fn refusal_of(image: &LentImage<'_>, file: &FileName, records: usize)
     ensures value { result ≡ refusal_of (dpb_of image.now.format) (entries_of image.now) file.now.user file.now.name records }
 {
     let dpb = image.format().dpb();
-    if is_read_only(image, file) {
+    if is_protected(image, file) {
         return Some(Refusal::ReadOnly);
     }
     if free_entries(image, file) < entries_for(&dpb, records) {
@@ -70,7 +70,7 @@ fn blocks_for(dpb: &Dpb, records: usize) -> usize
 }
 
 /// Whether an entry of the file is read-only.
-fn is_read_only(image: &LentImage<'_>, file: &FileName) -> bool
+pub(crate) fn is_protected(image: &LentImage<'_>, file: &FileName) -> bool
     ensures { result ≡ list_any (protects file.now.user file.now.name) (entries_of image.now) }
 {
     for index in 0..image.format().dpb().last_entry + 1 {
@@ -115,11 +115,11 @@ fn free_blocks(image: &LentImage<'_>, file: &FileName) -> usize
     ensures { result ≡ free_blocks (dpb_of image.now.format) file.now.user file.now.name (entries_of image.now) }
 {
     let reserved = without_files(&login(image), image, file.user(), file.name());
-    count_free(&reserved, image.format().dpb().last_block)
+    usize::from(count_free(&reserved, image.format().dpb().last_block))
 }
 
 /// How many blocks of a drive with this last block are not reserved.
-fn count_free(reserved: &Reserved, last_block: u16) -> usize
+pub(crate) fn count_free(reserved: &Reserved, last_block: u16) -> u16
     requires size { length reserved.now ≡ last_block + 1 }
     requires small { last_block < 512 }
     ensures { result ≡ count_by not reserved.now }

@@ -1,16 +1,16 @@
 //! Puts a file on a disk.
 
-ghost use Rattle.std.specs.Prelude.{◌≡◌, ◌≢◌, ◌≤◌, ◌<◌, ◌*◌, ◌+◌, Some, None, length, slice_index, MatchResult, ℕ, List, false};
-ghost use Rattle.std.specs.List.{concat};
-ghost use Rattle.cpm_geom.specs.Geometry.{dpb_of, format_of_length};
+ghost use Rattle.std.specs.Prelude.{◌≡◌, ◌<◌, ◌*◌, Some, None, length, MatchResult, ℕ, List};
+ghost use Rattle.cpm_geom.specs.Geometry.{dpb_of};
 ghost use Rattle.cpm_geom.specs.Disk.{IsDisk};
 ghost use Rattle.cpm_files.specs.Encoding.{AreBytes};
 ghost use Rattle.cpm_directory.specs.Directory.{entries_of};
 ghost use Rattle.cpm_directory.specs.Login.{reserved_at_login};
-ghost use Rattle.cpm_drive.specs.Laws.{HasBytes, IsWritable};
+ghost use Rattle.cpm_drive.specs.Laws.{IsWritable};
 ghost use Rattle.cpm_shelf.specs.Shelf.{record_of, records_for, refusal_of, IsSoundDisk, IsPut, IsPutRefusal};
 ghost use Rattle.cpm_shelf.specs.Writing.{HasRoom, IsWriting, new_fcb};
 
+use crate::copies::of_bytes;
 use crate::name::FileName;
 use crate::needs::{RECORD_SIZE, records_for, refusal_of};
 use crate::refusal::ShelfError;
@@ -62,31 +62,6 @@ fn written(image: Image, file: &FileName, bytes: &[u8]) -> Image
     }
     drive.close_file(user, &mut fcb).unwrap();
     drive.image.into_image()
-}
-
-/// The same image, made anew of its bytes, which takes no memory: that it has nothing but bytes is known of these.
-fn of_bytes(image: Image) -> Image
-    requires { IsDisk image }
-    ensures same { result ≡ image }
-    ensures bytes { HasBytes result }
-{
-    let bytes = image.into_bytes();
-    image_of(bytes)
-}
-
-/// The image of as many bytes as a format has.
-fn image_of(bytes: Vec<u8>) -> Image
-    requires size { format_of_length (length bytes.items) ≢ None }
-    requires bytes { (k : ℕ) → slice_index bytes.items k < 256 }
-    ensures whole { IsDisk result }
-    ensures format { format_of_length (length bytes.items) ≡ Some result.format }
-    ensures sectors { concat result.sectors ≡ bytes.items }
-    ensures bytes { HasBytes result }
-{
-    match Image::from_bytes(bytes) {
-        Ok(image) => image,
-        Err(_) => unreachable!(),
-    }
 }
 
 /// Erases the file of a name if there is one, and makes an empty one. The file control block stands at its first record.

@@ -5,7 +5,7 @@ ghost use Rattle.std.specs.List.{list_all, list_any, zip};
 ghost use Rattle.cpm_geom.specs.Geometry.{dpb_of, IsRecord};
 ghost use Rattle.cpm_geom.specs.Disk.{records_of};
 ghost use Rattle.cpm_files.specs.Files.{deleted, same_name, extent_number, group_of, is_of, record_count_of, map_place, entry_block, drive_record, record_in};
-ghost use Rattle.cpm_files.specs.Names.{is_named, protects};
+ghost use Rattle.cpm_files.specs.Names.{is_named};
 ghost use Rattle.cpm_directory.specs.Directory.{entries_of};
 ghost use Rattle.cpm_shelf.specs.Shelf.{IsSoundDisk};
 ghost use Rattle.cpm_shelf.specs.Reach.{is_of_file, IsEnd, IsEntryOf, block_by, IsOnDrive};
@@ -216,24 +216,4 @@ pub(crate) fn is_there(image: &LentImage<'_>, file: &FileName) -> bool
         }
     }
     false
-}
-
-/// Whether an entry of a file is read-only.
-pub(crate) fn is_protected(image: &LentImage<'_>, file: &FileName) -> bool
-    ensures { result ≡ list_any (protects file.now.user file.now.name) (entries_of image.now) }
-{
-    for index in 0..image.format().dpb().last_entry + 1 {
-        if protects(file, &image.entry(index)) {
-            return true;
-        }
-    }
-    false
-}
-
-/// Whether an entry is one of a file and read-only.
-#[tactic(auto, unfolding(cpm_files::specs::Names::protects))]
-fn protects(file: &FileName, entry: &Entry) -> bool
-    ensures { result ≡ protects file.now.user file.now.name entry.now }
-{
-    is_named(file.user(), file.name(), entry) && entry.extent.is_read_only()
 }

@@ -8,7 +8,8 @@ ghost use Rattle.cpm_shelf.specs.Taken.{IsRemovable, IsRemoved, IsRemovalReason,
 
 use crate::copies::copy_of;
 use crate::name::FileName;
-use crate::records::{is_protected, is_there};
+use crate::needs::is_protected;
+use crate::records::is_there;
 use crate::refusal::{Refusal, ShelfError};
 use cpm_directory::{LentImage, well_formed};
 use cpm_drive::Drive;

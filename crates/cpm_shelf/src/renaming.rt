@@ -13,7 +13,8 @@ ghost use Rattle.cpm_shelf.specs.Taken.{kept_name, IsRenamable, IsRenamed, IsRen
 
 use crate::copies::copy_of;
 use crate::name::FileName;
-use crate::records::{is_protected, is_same_name, is_there};
+use crate::needs::is_protected;
+use crate::records::{is_same_name, is_there};
 use crate::refusal::{Refusal, ShelfError};
 use cpm_directory::{LentImage, is_named, well_formed};
 use cpm_drive::Drive;

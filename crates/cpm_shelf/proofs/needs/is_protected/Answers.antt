@@ -8,7 +8,7 @@ use Rattle.cpm_files.specs.Files.{entry_at, no_entry}
 use Rattle.cpm_files.specs.Names.{protects}
 use Rattle.cpm_directory.specs.Directory.{entries_of}
 use Rattle.cpm_directory.proofs.DriveLemmas.{last_entry_small, entries_length}
-use Rattle.cpm_shelf.proofs.needs.is_read_only.Goals as goal
+use Rattle.cpm_shelf.proofs.needs.is_protected.Goals as goal
 
 pub overflow_add-index-end : goal.overflow_add-index-end
 overflow_add-index-end c =

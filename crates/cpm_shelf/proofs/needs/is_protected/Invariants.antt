@@ -2,7 +2,7 @@ use Rattle.std.proofs.Common.{◌≡◌, take, false}
 use Rattle.std.specs.List.{list_any}
 use Rattle.cpm_files.specs.Names.{protects}
 use Rattle.cpm_directory.specs.Directory.{entries_of}
-use Rattle.cpm_shelf.proofs.needs.is_read_only.Given as goal
+use Rattle.cpm_shelf.proofs.needs.is_protected.Given as goal
 
 abbrev pub invariant-loop-index : goal.invariant-loop-index
 invariant-loop-index l =
