@@ -19,7 +19,7 @@ use Rattle.cpm_shelf.specs.declared.refusal.ShelfError.TheVariants.{Damaged, Ref
 -- ---- files
 
 -- the byte that fills the last record of a file up
--- CP/M 2.2 Operating System Manual, section 5.1, Introduction: the end of an ASCII file is a control-Z
+-- CP/M 2.2 Operating System Manual, section 5.2, Operating System Call Conventions: the end of an ASCII file is a control-Z
 abbrev pub filler : ℕ
 filler = 0x1A
 

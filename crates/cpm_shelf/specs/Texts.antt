@@ -16,7 +16,7 @@ text_behind previous (b ∷ bs) =
     if (b == line_feed) && not (previous == carriage_return) then carriage_return ∷ line_feed ∷ text_behind b bs
     else b ∷ text_behind b bs
 
--- CP/M 2.2 Operating System Manual, section 5.1, Introduction: each line of an ASCII file ends in a carriage return and a line feed
+-- CP/M 2.2 Operating System Manual, section 5.2, Operating System Call Conventions: each line of an ASCII file ends in a carriage return and a line feed
 abbrev pub to_text : List ℕ → List ℕ
 to_text bytes = text_behind 0 bytes
 
@@ -25,7 +25,7 @@ unfoldable pub begins_with_line_feed : List ℕ → Bool
 begins_with_line_feed [] = false
 begins_with_line_feed (b ∷ bs) = b == line_feed
 
--- CP/M 2.2 Operating System Manual, section 5.1, Introduction: the end of an ASCII file is a control-Z; a carriage return before a line feed is left out (own)
+-- CP/M 2.2 Operating System Manual, section 5.2, Operating System Call Conventions: the end of an ASCII file is a control-Z; a carriage return before a line feed is left out (own)
 unfoldable pub from_text : List ℕ → List ℕ
 from_text [] = []
 from_text (b ∷ bs) =
