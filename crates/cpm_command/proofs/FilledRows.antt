@@ -14,7 +14,7 @@ use Rattle.clap.specs.ValueTests.{accepts}
 use Rattle.clap.specs.Kinds.{Kinds, or_else, range_kinds, request_kinds, value_kinds, values_kinds}
 use Rattle.clap.specs.Faults.{action_fault, default_fault, defaults_fault, repeat_fault, use_fault, values_fault}
 use Rattle.clap.specs.declared.builder.action.ArgAction.{ArgAction}
-use Rattle.clap.specs.declared.builder.action.ArgAction.TheVariants.{Set, SetTrue}
+use Rattle.clap.specs.declared.builder.action.ArgAction.TheVariants.{Append, Set, SetTrue}
 use Rattle.clap.specs.declared.builder.value_parser.ValueParser.{ValueParser}
 use Rattle.clap.specs.Values.{read_as, refused_kind}
 use Rattle.clap.specs.declared.builder.value_parser.Reading.{Reading}
@@ -71,9 +71,9 @@ abbrev pub AllFilled : List Rule → List Row → Type 0
 AllFilled c [] = ⊤
 AllFilled c (r ∷ rs) = IsFilled c r × AllFilled c rs
 
--- a use of the argument sets values, and has one at least
+-- a use of the argument sets or adds values, and has one at least
 pub record IsSetting (a : Rule) : Type 0 where
-  pub action : (action_of a ≡ Set) ⊎ (action_of a ≡ SetTrue)
+  pub action : (action_of a ≡ Set) ⊎ (action_of a ≡ SetTrue) ⊎ (action_of a ≡ Append)
   pub values : (nat_lt 0 (unwrap_or_range a.range).start_inclusive ≡ true) ⊎ HasFirst a.missing
 
 -- no two arguments have one id, and each sets its values
@@ -167,7 +167,10 @@ module _ (a : Rule) (setting : IsSetting a) (again : Bool) (rows : List Row) whe
   set_faultless : (vs : List Text) → action_fault (action_of a) again a vs rows ≡ [] → values_fault a vs ≡ []
   set_faultless vs e = ⊎_elim
       (λ (h : action_of a ≡ Set). (nothing (repeat_fault again a.id rows) (values_fault a vs) (subst (λ (x : ArgAction). action_fault x again a vs rows ≡ []) h e)).1)
+      (λ others. ⊎_elim
       (λ (h : action_of a ≡ SetTrue). (nothing (repeat_fault again a.id rows) (values_fault a vs) (subst (λ (x : ArgAction). action_fault x again a vs rows ≡ []) h e)).1)
+      (λ (h : action_of a ≡ Append). subst (λ (x : ArgAction). action_fault x again a vs rows ≡ []) h e)
+      others)
       setting.action
 
   has_values : (values : List Text) → use_fault again a values rows ≡ [] → HasFirst (values_or_missing a values)
@@ -190,12 +193,16 @@ pub used_filled : (c : List Rule) → IsPlain c → (a : Rule) → IsIn c a → 
     → AllFilled c rows → AllFilled c (used a values rows)
 used_filled c plain a among again values rows e all =
     let setting = plain.sets a among in
-    let filled : AllFilled c (with_values a.id (reading_by a) CommandLine (values_or_missing a values) (without a.id rows)) =
-    with_values_filled c plain a among CommandLine (values_or_missing a values) (without a.id rows) (used_passes a setting again rows values e)
-    (has_values a setting again rows values e) (without_filled c a.id rows all) in
+    let filled : (before : List Row) → AllFilled c before → AllFilled c (with_values a.id (reading_by a) CommandLine (values_or_missing a values) before) =
+    λ before full. with_values_filled c plain a among CommandLine (values_or_missing a values) before (used_passes a setting again rows values e)
+    (has_values a setting again rows values e) full in
+    let set = filled (without a.id rows) (without_filled c a.id rows all) in
     ⊎_elim
-    (λ (h : action_of a ≡ Set). subst (λ (x : ArgAction). AllFilled c (used_as x a.id (reading_by a) (values_or_missing a values) rows)) (sym h) filled)
-    (λ (h : action_of a ≡ SetTrue). subst (λ (x : ArgAction). AllFilled c (used_as x a.id (reading_by a) (values_or_missing a values) rows)) (sym h) filled)
+    (λ (h : action_of a ≡ Set). subst (λ (x : ArgAction). AllFilled c (used_as x a.id (reading_by a) (values_or_missing a values) rows)) (sym h) set)
+    (λ others. ⊎_elim
+    (λ (h : action_of a ≡ SetTrue). subst (λ (x : ArgAction). AllFilled c (used_as x a.id (reading_by a) (values_or_missing a values) rows)) (sym h) set)
+    (λ (h : action_of a ≡ Append). subst (λ (x : ArgAction). AllFilled c (used_as x a.id (reading_by a) (values_or_missing a values) rows)) (sym h) (filled rows all))
+    others)
     setting.action
 
 -- ---- defaults

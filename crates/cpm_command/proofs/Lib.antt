@@ -1,7 +1,9 @@
 pub mod EntryLemmas
 pub mod FilledRows
 pub mod WalkRows
+pub mod LeafRows
 pub mod WholeCom
+pub mod WholeDisk
 pub mod HelpLemmas
 pub mod RefusalLemmas
 pub mod ShownLemmas

@@ -1,19 +1,19 @@
 -- Words with no fault give the whole entries of a subcommand.
-use Rattle.std.proofs.Common.{◌≡◌, ◌∙◌, ◌&&◌, ◌||◌, ap, sym, subst, refl, inl, inr, Bool, true, false, cond, not, true≢false, List, [], Option, Some, None, IsSome, option_map, is_some, codes}
+use Rattle.std.proofs.Common.{◌≡◌, ◌∙◌, ◌||◌, ap, sym, refl, inl, inr, Bool, true, false, cond, true≢false, List, [], Option, Some, None, option_map, is_some, codes}
 use Rattle.std.specs.Option.{option_map_or}
 use Rattle.std.specs.Str.{bytes_eq}
-use Rattle.clap.specs.Walk.{Row, Rule, Text, finished, nothing_held, one_of, rows_after, settled, walk}
+use Rattle.clap.specs.Walk.{Row, Rule, Text, finished, nothing_held, one_of, rows_after, walk}
 use Rattle.clap.specs.Simple.{App, Shape, argument_words, built, built_leaf, entered, filled, inherited, label_of, marked_built, names_of, rows_at, subcommand_of, with_index, with_leaf_noted}
 use Rattle.clap.specs.Takes.{is_given}
 use Rattle.clap.specs.Walk.{answers_to}
-use Rattle.clap.specs.Kinds.{check_kinds}
 use Rattle.clap.specs.Faults.{check_fault, entered_fault, fault_of, level_fault}
 use Rattle.clap.specs.declared.builder.value_parser.ValueParser.TheVariants as parser
 use Rattle.clap.proofs.ValueTestLemmas.{accepts-Accepts}
 use Rattle.cpm_command.specs.CommandLine.{IsCount, IsPick, IsWhole, IsWholeAsm, IsWholeCheck, IsWholeCom, IsWholeDebug, IsWholeList, IsWholeRun, asm_app, check_app, com_app, debug_app, host_app, list_app, operand, run_app, steps_option, z80_flag}
 use Rattle.cpm_flags.specs.declared.regs.Cpu.TheVariants.{I8080, Z80}
-use Rattle.cpm_command.proofs.FilledRows.{AllFilled, HasText, IsPlain, defaults_have, given_has, plain_by_ids, same_bytes, text_filled}
-use Rattle.cpm_command.proofs.WalkRows.{HasNoShorts, level_checked, level_filled}
+use Rattle.cpm_command.proofs.FilledRows.{HasText, IsPlain, plain_by_ids, same_bytes}
+use Rattle.cpm_command.proofs.LeafRows.{both_given, default_text, given_first, leaf_checked, one_given}
+use Rattle.cpm_command.proofs.WalkRows.{HasNoShorts, level_checked}
 
 -- ---- the subcommand `com` as clap builds it
 
@@ -45,7 +45,7 @@ com_plain : IsPlain com_built.rules
 com_plain = plain_by_ids com_built.rules refl (
   record { action = inl refl; values = inl refl },
   (
-    record { action = inr refl; values = inr tt },
+    record { action = inr (inl refl); values = inr tt },
     (record { action = inl refl; values = inl refl }, (record { action = inl refl; values = inl refl }, tt)),
   ),
 )
@@ -77,36 +77,16 @@ count_of rows has =
     record { digits = has.text; given = has.one; numeral = taken.0; fits = taken.1 }
 
 com_whole : (words : List Text) → level_fault com_built [] nothing_held words false [] ≡ [] → IsWholeCom (rows_after com_built.rules [] words)
-com_whole words e = record {
-  file = subst IsSome (sym (text_filled com_built.rules com_plain file_rule (inl refl) rows all
-      (given_has (codes "file") rows (given (is_given (codes "file") rows) checked))).first) refl;
-  z80 = pick_of rows (text_filled com_built.rules com_plain z80_rule (inr (inl refl)) rows all
-      (defaults_have com_built.rules z80_rule (inr (inl refl)) tt settled_rows));
-  steps = count_of rows (text_filled com_built.rules com_plain steps_rule (inr (inr (inl refl))) rows all
-      (defaults_have com_built.rules steps_rule (inr (inr (inl refl))) tt settled_rows));
-}
-  where
-    settled_rows : List Row
-    settled_rows = (settled com_built.rules (walk com_built.rules [] nothing_held words).held).rows
-
-    rows : List Row
-    rows = rows_after com_built.rules [] words
-
-    all : AllFilled com_built.rules rows
-    all = level_filled com_built com_plain com_no_shorts [] nothing_held words false [] e tt
-
-    checked : check_fault com_built rows false ≡ []
-    checked = (level_checked com_built [] nothing_held words false [] e).1
-
-    given : (b : Bool) → check_kinds false false ((true && not b) || false) ≡ [] → b ≡ true
-    given true h = refl
-    given false h = absurd (let bad : ⊥ = cc in bad)
+com_whole words e =
+    let rows = rows_after com_built.rules [] words in
+    let file = one_given (is_given (codes "file") rows) (leaf_checked com_built com_plain com_no_shorts words e) in
+    record {
+      file = given_first com_built com_plain com_no_shorts words e file_rule (inl refl) file;
+      z80 = pick_of rows (default_text com_built com_plain com_no_shorts words e z80_rule (inr (inl refl)) tt);
+      steps = count_of rows (default_text com_built com_plain com_no_shorts words e steps_rule (inr (inr (inl refl))) tt);
+    }
 
 -- ---- subcommands with one word, and with two
-
-given_word : (b : Bool) → check_kinds false false ((true && not b) || false) ≡ [] → b ≡ true
-given_word true h = refl
-given_word false h = absurd (let bad : ⊥ = cc in bad)
 
 list_plain : IsPlain list_built.rules
 list_plain = plain_by_ids list_built.rules refl (record { action = inl refl; values = inl refl }, tt)
@@ -116,13 +96,8 @@ list_no_shorts x = refl
 
 list_whole : (words : List Text) → level_fault list_built [] nothing_held words false [] ≡ [] → IsWholeList (rows_after list_built.rules [] words)
 list_whole words e =
-    let rows = rows_after list_built.rules [] words in
-    let all = level_filled list_built list_plain list_no_shorts [] nothing_held words false [] e tt in
-    let checked : check_fault list_built rows false ≡ [] = (level_checked list_built [] nothing_held words false [] e).1 in
-    record {
-      file = subst IsSome (sym (text_filled list_built.rules list_plain file_rule (inl refl) rows all
-          (given_has (codes "file") rows (given_word (is_given (codes "file") rows) checked))).first) refl;
-    }
+    let file = one_given (is_given (codes "file") (rows_after list_built.rules [] words)) (leaf_checked list_built list_plain list_no_shorts words e) in
+    record { file = given_first list_built list_plain list_no_shorts words e file_rule (inl refl) file }
 
 asm_plain : IsPlain asm_built.rules
 asm_plain = plain_by_ids asm_built.rules refl
@@ -137,20 +112,13 @@ source_rule = with_index 1 (filled (operand (codes "source")))
 abbrev out_rule : Rule
 out_rule = with_index 2 (filled (operand (codes "out")))
 
-given_words : (a b : Bool) → check_kinds false false ((true && not a) || ((true && not b) || false)) ≡ [] → (a ≡ true) × (b ≡ true)
-given_words true true h = (refl, refl)
-given_words true false h = absurd (let bad : ⊥ = cc in bad)
-given_words false b h = absurd (let bad : ⊥ = cc in bad)
-
 asm_whole : (words : List Text) → level_fault asm_built [] nothing_held words false [] ≡ [] → IsWholeAsm (rows_after asm_built.rules [] words)
 asm_whole words e =
     let rows = rows_after asm_built.rules [] words in
-    let all = level_filled asm_built asm_plain asm_no_shorts [] nothing_held words false [] e tt in
-    let checked : check_fault asm_built rows false ≡ [] = (level_checked asm_built [] nothing_held words false [] e).1 in
-    let given = given_words (is_given (codes "source") rows) (is_given (codes "out") rows) checked in
+    let given = both_given (is_given (codes "source") rows) (is_given (codes "out") rows) (leaf_checked asm_built asm_plain asm_no_shorts words e) in
     record {
-      source = subst IsSome (sym (text_filled asm_built.rules asm_plain source_rule (inl refl) rows all (given_has (codes "source") rows given.0)).first) refl;
-      out = subst IsSome (sym (text_filled asm_built.rules asm_plain out_rule (inr (inl refl)) rows all (given_has (codes "out") rows given.1)).first) refl;
+      source = given_first asm_built asm_plain asm_no_shorts words e source_rule (inl refl) given.0;
+      out = given_first asm_built asm_plain asm_no_shorts words e out_rule (inr (inl refl)) given.1;
     }
 
 check_plain : IsPlain check_built.rules
@@ -164,13 +132,8 @@ image_rule = with_index 1 (filled (operand (codes "image")))
 
 check_whole : (words : List Text) → level_fault check_built [] nothing_held words false [] ≡ [] → IsWholeCheck (rows_after check_built.rules [] words)
 check_whole words e =
-    let rows = rows_after check_built.rules [] words in
-    let all = level_filled check_built check_plain check_no_shorts [] nothing_held words false [] e tt in
-    let checked : check_fault check_built rows false ≡ [] = (level_checked check_built [] nothing_held words false [] e).1 in
-    record {
-      image = subst IsSome (sym (text_filled check_built.rules check_plain image_rule (inl refl) rows all
-          (given_has (codes "image") rows (given_word (is_given (codes "image") rows) checked))).first) refl;
-    }
+    let image = one_given (is_given (codes "image") (rows_after check_built.rules [] words)) (leaf_checked check_built check_plain check_no_shorts words e) in
+    record { image = given_first check_built check_plain check_no_shorts words e image_rule (inl refl) image }
 
 run_plain : IsPlain run_built.rules
 run_plain = plain_by_ids run_built.rules refl (record { action = inl refl; values = inl refl }, tt)
@@ -183,17 +146,12 @@ config_rule = with_index 1 (filled (operand (codes "config")))
 
 run_whole : (words : List Text) → level_fault run_built [] nothing_held words false [] ≡ [] → IsWholeRun (rows_after run_built.rules [] words)
 run_whole words e =
-    let rows = rows_after run_built.rules [] words in
-    let all = level_filled run_built run_plain run_no_shorts [] nothing_held words false [] e tt in
-    let checked : check_fault run_built rows false ≡ [] = (level_checked run_built [] nothing_held words false [] e).1 in
-    record {
-      config = subst IsSome (sym (text_filled run_built.rules run_plain config_rule (inl refl) rows all
-          (given_has (codes "config") rows (given_word (is_given (codes "config") rows) checked))).first) refl;
-    }
+    let config = one_given (is_given (codes "config") (rows_after run_built.rules [] words)) (leaf_checked run_built run_plain run_no_shorts words e) in
+    record { config = given_first run_built run_plain run_no_shorts words e config_rule (inl refl) config }
 
 debug_plain : IsPlain debug_built.rules
 debug_plain = plain_by_ids debug_built.rules refl
-    (record { action = inl refl; values = inl refl }, (record { action = inr refl; values = inr tt }, tt))
+    (record { action = inl refl; values = inl refl }, (record { action = inr (inl refl); values = inr tt }, tt))
 
 debug_no_shorts : HasNoShorts debug_built.rules
 debug_no_shorts x = refl
@@ -201,14 +159,10 @@ debug_no_shorts x = refl
 debug_whole : (words : List Text) → level_fault debug_built [] nothing_held words false [] ≡ [] → IsWholeDebug (rows_after debug_built.rules [] words)
 debug_whole words e =
     let rows = rows_after debug_built.rules [] words in
-    let settled_rows = (settled debug_built.rules (walk debug_built.rules [] nothing_held words).held).rows in
-    let all = level_filled debug_built debug_plain debug_no_shorts [] nothing_held words false [] e tt in
-    let checked : check_fault debug_built rows false ≡ [] = (level_checked debug_built [] nothing_held words false [] e).1 in
+    let file = one_given (is_given (codes "file") rows) (leaf_checked debug_built debug_plain debug_no_shorts words e) in
     record {
-      file = subst IsSome (sym (text_filled debug_built.rules debug_plain file_rule (inl refl) rows all
-          (given_has (codes "file") rows (given_word (is_given (codes "file") rows) checked))).first) refl;
-      z80 = pick_of rows (text_filled debug_built.rules debug_plain z80_rule (inr (inl refl)) rows all
-          (defaults_have debug_built.rules z80_rule (inr (inl refl)) tt settled_rows));
+      file = given_first debug_built debug_plain debug_no_shorts words e file_rule (inl refl) file;
+      z80 = pick_of rows (default_text debug_built debug_plain debug_no_shorts words e z80_rule (inr (inl refl)) tt);
     }
 
 -- ---- the whole command line

@@ -10,7 +10,7 @@ use Rattle.clap.specs.declared.builder.value_parser.ValueParser.TheVariants as p
 use Rattle.cpm_flags.specs.declared.regs.Cpu.{Cpu}
 use Rattle.cpm_flags.specs.declared.regs.Cpu.TheVariants.{I8080, Z80}
 use Rattle.cpm_command.specs.declared.task.Task.{Task}
-use Rattle.cpm_command.specs.declared.task.Task.TheVariants.{Asm, Check, Com, Debug, List as Listing, Run}
+use Rattle.cpm_command.specs.declared.task.Task.TheVariants.{Asm, Check, Com, Debug, Disk, List as Listing, Run}
 
 -- a word that has to be there, with a name in usage
 abbrev pub operand : List ℕ → Rule
@@ -60,19 +60,20 @@ run_app = with_rule (new_app (codes "run")) (operand (codes "config"))
 abbrev pub debug_app : App
 debug_app = with_rule (with_rule (new_app (codes "debug")) (operand (codes "file"))) z80_flag
 
--- the program's command without its subcommands: it wants one, and adds no help of its own
-abbrev pub top_app : App
-top_app = record (new_app (codes "cpmhost")) {
-  top = record (new_app (codes "cpmhost")).top {
+-- a command without its subcommands: it wants one, and adds no help of its own
+abbrev pub top_app : List ℕ → App
+top_app name = record (new_app name) {
+  top = record (new_app name).top {
     subcommand_required = true;
     disable_help_flag = true;
     disable_help_subcommand = true;
   };
 }
 
+-- the program's command, but for `disk`, which has commands of its own
 abbrev pub host_app : App
-host_app = with_subcommand (with_subcommand (with_subcommand (with_subcommand (with_subcommand (with_subcommand top_app
-    com_app.top) asm_app.top) list_app.top) check_app.top) run_app.top) debug_app.top
+host_app = with_subcommand (with_subcommand (with_subcommand (with_subcommand (with_subcommand (with_subcommand
+    (top_app (codes "cpmhost")) com_app.top) asm_app.top) list_app.top) check_app.top) run_app.top) debug_app.top
 
 -- an argument of clap with this rule, which is the command's own
 pub record IsArgumentOf (r : Rule) (a : Arg) : Type 0 where
@@ -117,6 +118,7 @@ HasEntriesOf given (Run config) =
 HasEntriesOf given (Debug file cpu) =
     (given.0 ≡ codes "debug") × (first_of (codes "file") given.1 ≡ Some file.now)
     × (one_of (codes "z80") given.1 ≡ Some (flag_text cpu))
+HasEntriesOf given (Disk task) = ⊥
 
 -- ---- entries that make a task
 

@@ -1,4 +1,6 @@
 pub mod CommandLine
+pub mod DiskLine
 pub mod HelpWords
+pub mod Line
 pub mod Refusals
 pub mod Shown

@@ -1,9 +1,9 @@
 -- Which refusal a command line gets.
-use Rattle.std.specs.Prelude.{⊤, List, [], ◌∷◌}
-use Rattle.clap.specs.Words.{IsAmong, Kinds, Text, fault_of}
+use Rattle.std.specs.Prelude.{◌≡◌, ⊤, Bool, true, false, List, [], ◌∷◌}
+use Rattle.clap.specs.Words.{App, IsAmong, Kinds, Text, fault_of}
 use Rattle.clap.specs.declared.error.kind.ErrorKind.{ErrorKind}
 use Rattle.clap.specs.declared.error.kind.ErrorKind.TheVariants as kind
-use Rattle.cpm_command.specs.CommandLine.{host_app}
+use Rattle.cpm_command.specs.Line.{app_of_line, names_disk, words_of_line}
 use Rattle.cpm_command.specs.declared.fault.Fault.{Fault}
 use Rattle.cpm_command.specs.declared.fault.Fault.TheVariants as fault
 use Rattle.cpm_command.specs.declared.fault.UsageError.{UsageError}
@@ -13,23 +13,38 @@ use Rattle.cpm_command.specs.declared.fault.UsageError.TheVariants.{Usage, OutOf
 abbrev pub kinds_of : Fault → Kinds
 kinds_of fault.NoCommand =
     kind.MissingSubcommand ∷ kind.DisplayHelpOnMissingArgumentOrSubcommand ∷ []
+kinds_of fault.NoDiskCommand =
+    kind.MissingSubcommand ∷ kind.DisplayHelpOnMissingArgumentOrSubcommand ∷ []
 kinds_of (fault.UnknownCommand word) = kind.InvalidSubcommand ∷ []
 kinds_of (fault.UnexpectedArgument word) = kind.UnknownArgument ∷ []
 kinds_of (fault.MissingArgument word) = kind.MissingRequiredArgument ∷ []
 kinds_of (fault.MissingValue word) = kind.InvalidValue ∷ []
 kinds_of (fault.NotANumber word) = kind.ValueValidation ∷ []
+kinds_of (fault.NotAUser word) = kind.ValueValidation ∷ []
 kinds_of (fault.GivenTwice word) = kind.ArgumentConflict ∷ []
 kinds_of (fault.Other word) =
     kind.NoEquals ∷ kind.TooManyValues ∷ kind.TooFewValues ∷ kind.WrongNumberOfValues
     ∷ kind.DisplayHelp ∷ kind.DisplayVersion ∷ kind.Io ∷ kind.Format ∷ []
 
--- the refusal stands for an error of this kind, or memory was refused while it was made
-abbrev pub IsOfKind : ErrorKind → UsageError → Type 0
-IsOfKind k (Usage f) = IsAmong k (kinds_of f)
-IsOfKind k OutOfMemory = ⊤
+-- own: the fault is one of a line that names `disk`, or of one that doesn't
+abbrev pub IsOfLine : Bool → Fault → Type 0
+IsOfLine is_disk fault.NoCommand = is_disk ≡ false
+IsOfLine is_disk fault.NoDiskCommand = is_disk ≡ true
+IsOfLine is_disk (fault.NotANumber word) = is_disk ≡ false
+IsOfLine is_disk (fault.NotAUser word) = is_disk ≡ true
+IsOfLine is_disk f = ⊤
 
--- the refusal is for what is wrong first with the words, by clap's rules, or memory was refused
+-- the refusal stands for an error of this kind, or memory was refused while it was made
+abbrev pub IsOfKind : Bool → ErrorKind → UsageError → Type 0
+IsOfKind is_disk k (Usage f) = IsAmong k (kinds_of f) × IsOfLine is_disk f
+IsOfKind is_disk k OutOfMemory = ⊤
+
+-- the refusal is for what is wrong first with the words that the command reads, by clap's rules, or memory was refused
+abbrev pub IsRefusalBy : Bool → App → List Text → UsageError → Type 0
+IsRefusalBy is_disk app words (Usage f) =
+    (k : ErrorKind) × IsAmong k (kinds_of f) × IsOfLine is_disk f × IsAmong k (fault_of app words)
+IsRefusalBy is_disk app words OutOfMemory = ⊤
+
+-- own: the refusal is for what is wrong first with the line
 abbrev pub IsRefusalOf : List Text → UsageError → Type 0
-IsRefusalOf words (Usage f) =
-    (k : ErrorKind) × IsAmong k (kinds_of f) × IsAmong k (fault_of host_app words)
-IsRefusalOf words OutOfMemory = ⊤
+IsRefusalOf words = IsRefusalBy (names_disk words) (app_of_line words) (words_of_line words)

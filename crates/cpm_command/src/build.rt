@@ -7,7 +7,7 @@ use clap::{Arg, ArgAction, Command};
 use std::alloc::{AllocError, Global};
 
 /// A word that has to be there.
-fn required_word<'a>(alloc: Global, id: &'a str, shown: &'a str) -> Arg<'a>
+pub(crate) fn required_word<'a>(alloc: Global, id: &'a str, shown: &'a str) -> Arg<'a>
     ensures { IsArgumentOf (operand id.now) result }
 {
     Arg::new(alloc, id).value_name(shown).required(true)
@@ -41,25 +41,28 @@ fn keys_argument<'a>(alloc: Global) -> Arg<'a>
 }
 
 /// A subcommand with no argument yet.
-fn named<'a>(alloc: Global, name: &'a str) -> Command<'a>
+pub(crate) fn named<'a>(alloc: Global, name: &'a str) -> Command<'a>
     ensures { IsCommandOf (new_app name.now) result }
 {
     Command::new(alloc, name)
 }
 
-/// The program's command with no subcommand yet. It adds no help of its own: the program answers
+/// A command that wants a subcommand, with none yet. It adds no help of its own: the program answers
 /// that before it reads a task.
-fn top_command<'a>(alloc: Global) -> Command<'a>
-    ensures { IsCommandOf top_app result }
+pub(crate) fn top_command<'a>(alloc: Global, name: &'a str) -> Command<'a>
+    ensures { IsCommandOf (top_app name.now) result }
 {
-    Command::new(alloc, "cpmhost")
+    Command::new(alloc, name)
         .subcommand_required(true)
         .disable_help_flag(true)
         .disable_help_subcommand(true)
 }
 
 /// The command with one more argument.
-fn with_argument<'a>(command: Command<'a>, argument: Arg<'a>) -> Result<Command<'a>, AllocError>
+pub(crate) fn with_argument<'a>(
+    command: Command<'a>,
+    argument: Arg<'a>,
+) -> Result<Command<'a>, AllocError>
     ensures { IfOk result (λ c. (a : App) (r : Rule) → IsCommandOf a command.entry
         → IsArgumentOf r argument.entry → IsCommandOf (with_rule a r) c) }
 {
@@ -68,7 +71,7 @@ fn with_argument<'a>(command: Command<'a>, argument: Arg<'a>) -> Result<Command<
 
 /// The command with one more subcommand, where both could be made. It takes them as they were made:
 /// so its caller has no branch, and no command to drop there.
-fn with_command<'a>(
+pub(crate) fn with_command<'a>(
     command: Result<Command<'a>, AllocError>,
     inner: Result<Command<'a>, AllocError>,
 ) -> Result<Command<'a>, AllocError>
@@ -135,11 +138,11 @@ fn debug_command<'a>(alloc: Global) -> Result<Command<'a>, AllocError>
     with_argument(with_file, z80_argument(alloc))
 }
 
-/// The program's command, with its subcommands.
+/// The program's command, with its subcommands but for `disk`.
 pub(crate) fn host_command<'a>(alloc: Global) -> Result<Command<'a>, AllocError>
     ensures { IfOk result (IsCommandOf host_app) }
 {
-    let with_com = with_command(Ok(top_command(alloc)), com_command(alloc));
+    let with_com = with_command(Ok(top_command(alloc, "cpmhost")), com_command(alloc));
     let with_asm = with_command(with_com, asm_command(alloc));
     let with_list = with_command(with_asm, list_command(alloc));
     let with_check = with_command(with_list, check_command(alloc));

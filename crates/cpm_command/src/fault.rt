@@ -1,5 +1,5 @@
 //! What was wrong with the words of a command line.
-ghost use Rattle.std.specs.Prelude.{◌≡◌, ◌+◌, ◌<◌, ◌≤◌, ◌++◌, false, IsTrue, chars, codes, encode_utf8, length};
+ghost use Rattle.std.specs.Prelude.{◌≡◌, ◌+◌, ◌<◌, ◌≤◌, ◌++◌, false, IsTrue, if◌then◌else◌, chars, codes, encode_utf8, length};
 ghost use Rattle.clap.specs.Words.{kind_of};
 ghost use Rattle.cpm_command.specs.Refusals.{IsOfKind};
 ghost use Rattle.cpm_command.specs.Shown.{characters_of, has_room, shown_character, shown_of};
@@ -20,6 +20,9 @@ pub enum Fault {
     /// There is no word after the program's name.
     #[error("no command was given; try 'cpmhost com FILE' or 'cpmhost --help'")]
     NoCommand,
+    /// There is no word after `disk`.
+    #[error("no command of 'disk' was given: new, list, put, get, remove or rename; try 'cpmhost --help'")]
+    NoDiskCommand,
     /// The word stands where a command does, and names none.
     #[error("unknown command '{0}'; try 'cpmhost --help'")]
     UnknownCommand(Word),
@@ -35,6 +38,9 @@ pub enum Fault {
     /// The value of `--steps` is no number of 64 bits.
     #[error("invalid value '{0}' for '--steps': a number from 0 to 18446744073709551615 is wanted; try 'cpmhost --help'")]
     NotANumber(Word),
+    /// The value of `--user` is no number of a user.
+    #[error("invalid value '{0}' for '--user': a number from 0 to 15 is wanted; try 'cpmhost --help'")]
+    NotAUser(Word),
     /// An option was given twice.
     #[error("the argument '{0}' was given twice; try 'cpmhost --help'")]
     GivenTwice(Word),
@@ -131,20 +137,43 @@ fn message_of(text: &str) -> &str {
     message.strip_prefix("error: ").unwrap_or(message)
 }
 
-/// The refusal for an error of `clap` of this kind, which says `message`.
-fn refusal_of(kind: ErrorKind, message: &str) -> UsageError
-    ensures { IsOfKind kind result }
+/// What is wrong where no command was given, in a line of `disk` or another.
+fn missing_command(is_disk: bool) -> Fault
+    ensures { result ≡ (if is_disk then Fault.NoDiskCommand else Fault.NoCommand) }
+{
+    if is_disk {
+        Fault::NoDiskCommand
+    } else {
+        Fault::NoCommand
+    }
+}
+
+/// What is wrong where a number is none, in a line of `disk` or another.
+fn wrong_number(word: Word, is_disk: bool) -> Fault
+    ensures { result ≡ (if is_disk then Fault.NotAUser word else Fault.NotANumber word) }
+{
+    if is_disk {
+        Fault::NotAUser(word)
+    } else {
+        Fault::NotANumber(word)
+    }
+}
+
+/// The refusal for an error of `clap` of this kind, which says `message`, in a line of `disk` or
+/// another.
+fn refusal_of(kind: ErrorKind, message: &str, is_disk: bool) -> UsageError
+    ensures { IsOfKind is_disk kind result }
 {
     let fault = match kind {
         ErrorKind::OutOfMemory => return UsageError::OutOfMemory,
         ErrorKind::MissingSubcommand | ErrorKind::DisplayHelpOnMissingArgumentOrSubcommand => {
-            Fault::NoCommand
+            missing_command(is_disk)
         }
         ErrorKind::InvalidSubcommand => Fault::UnknownCommand(quoted(message, "'")),
         ErrorKind::UnknownArgument => Fault::UnexpectedArgument(quoted(message, "' found")),
         ErrorKind::MissingRequiredArgument => Fault::MissingArgument(missing_name(message)),
         ErrorKind::InvalidValue => Fault::MissingValue(quoted(message, "' but")),
-        ErrorKind::ValueValidation => Fault::NotANumber(quoted(message, "' for '")),
+        ErrorKind::ValueValidation => wrong_number(quoted(message, "' for '"), is_disk),
         ErrorKind::ArgumentConflict => Fault::GivenTwice(quoted(message, "' cannot")),
         ErrorKind::NoEquals
         | ErrorKind::TooManyValues
@@ -158,13 +187,13 @@ fn refusal_of(kind: ErrorKind, message: &str) -> UsageError
     UsageError::Usage(fault)
 }
 
-/// The refusal for an error of `clap`.
-pub(crate) fn refusal(alloc: Global, error: &Error) -> UsageError
-    ensures kind { IsOfKind (kind_of error.now) result }
+/// The refusal for an error of `clap`, in a line of `disk` or another.
+pub(crate) fn refusal(alloc: Global, error: &Error, is_disk: bool) -> UsageError
+    ensures kind { IsOfKind is_disk (kind_of error.now) result }
     ensures memory { kind_of error.now ≡ ErrorKind.OutOfMemory → result ≡ UsageError.OutOfMemory }
 {
     match error.to_string(alloc) {
-        Ok(text) => refusal_of(error.kind(), message_of(text.as_str())),
+        Ok(text) => refusal_of(error.kind(), message_of(text.as_str()), is_disk),
         Err(_) => UsageError::OutOfMemory,
     }
 }

@@ -2,6 +2,9 @@
 #![tactic(auto)]
 
 mod build;
+mod build_disk;
+mod disk;
+mod entries;
 mod fault;
 mod read;
 mod task;
@@ -9,5 +12,5 @@ mod usage;
 
 pub use fault::{Fault, UsageError, Word, shown, shown_line};
 pub use read::command;
-pub use task::Task;
+pub use task::{DiskTask, Task};
 pub use usage::{HELP_TEXT, help};

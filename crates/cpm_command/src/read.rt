@@ -1,50 +1,17 @@
 //! Reading the entries that a command line gave.
-ghost use Rattle.std.specs.Prelude.{◌≡◌, [], IfOk, IfErr, IsSomeAnd, IsSome, Some, codes, map, option_map, true};
-ghost use Rattle.clap.specs.Words.{fault_of, first_of, found_of, one_of, rows_of, subcommand_of, subcommand_rows_of, takes};
-ghost use Rattle.cpm_command.specs.CommandLine.{HasEntriesOf, IsCount, IsPick, IsWhole, IsWholeAsm, IsWholeCheck, IsWholeCom, IsWholeDebug, IsWholeList, IsWholeOf, IsWholeRun, ReadsCount, flag_text, host_app};
-ghost use Rattle.cpm_command.specs.Refusals.{IsRefusalOf};
+ghost use Rattle.std.specs.Prelude.{◌≡◌, [], IfOk, IfErr, IsSomeAnd, codes, map, true, false};
+ghost use Rattle.clap.specs.Words.{fault_of, found_of, rows_of, subcommand_of, subcommand_rows_of, takes};
+ghost use Rattle.cpm_command.specs.CommandLine.{HasEntriesOf, IsWhole, IsWholeAsm, IsWholeCheck, IsWholeCom, IsWholeDebug, IsWholeList, IsWholeOf, IsWholeRun, host_app};
+ghost use Rattle.cpm_command.specs.Line.{IsTaskOf, app_of_line, names_disk, words_of_line};
+ghost use Rattle.cpm_command.specs.Refusals.{IsRefusalBy, IsRefusalOf};
 
 use crate::build::host_command;
+use crate::disk::disk_task;
+use crate::entries::{cpu_of, steps_of, text_if_any, text_of};
 use crate::fault::{UsageError, refusal};
 use crate::task::Task;
 use clap::ArgMatches;
-use cpm_flags::Cpu;
 use std::alloc::Global;
-
-/// The text of an argument that is there.
-fn text_of<'a>(matches: &ArgMatches<'a>, id: &str) -> &'a str
-    requires { IsSome (first_of id.now (rows_of (found_of matches.now))) }
-    ensures { first_of id.now (rows_of (found_of matches.now)) ≡ Some result.now }
-{
-    matches.get_str(id).unwrap()
-}
-
-/// The text of an argument that may be left out.
-fn text_if_any<'a>(matches: &ArgMatches<'a>, id: &str) -> Option<&'a str>
-    ensures { first_of id.now (rows_of (found_of matches.now)) ≡ option_map (λ t. t.now) result }
-{
-    matches.get_str(id)
-}
-
-/// The processor that the flag picks.
-fn cpu_of(matches: &ArgMatches<'_>) -> Cpu
-    requires { IsPick (one_of (codes "z80") (rows_of (found_of matches.now))) }
-    ensures { one_of (codes "z80") (rows_of (found_of matches.now)) ≡ Some (flag_text result) }
-{
-    if matches.get_flag("z80") {
-        Cpu::Z80
-    } else {
-        Cpu::I8080
-    }
-}
-
-/// The number of steps.
-fn steps_of(matches: &ArgMatches<'_>) -> u64
-    requires { IsCount (one_of (codes "steps") (rows_of (found_of matches.now))) }
-    ensures { ReadsCount (one_of (codes "steps") (rows_of (found_of matches.now))) result }
-{
-    matches.get_one::<u64>("steps").unwrap()
-}
 
 /// The task of `com`.
 fn com_task<'a>(matches: &ArgMatches<'a>) -> Task<'a>
@@ -138,22 +105,14 @@ fn task_of<'a>(matches: &ArgMatches<'a>) -> Task<'a>
     }
 }
 
-/// The task that the words name, of which the first is the program's own name.
-///
-/// `Usage` says what is wrong first with words that name none. `OutOfMemory` comes only where memory
-/// is refused, whatever is wrong with the words behind that place.
-pub fn command<'a>(alloc: Global, words: &'a [&'a str]) -> Result<Task<'a>, UsageError>
-    // The task has the subcommand and all entries that clap's rules give the words.
+/// The task that words name which don't name `disk`.
+fn host_task<'a>(alloc: Global, words: &'a [&'a str]) -> Result<Task<'a>, UsageError>
     ensures task { IfOk result (λ t. IsSomeAnd
         (subcommand_of host_app (map (λ w. w.now) words.entry.now)) (λ given. HasEntriesOf given t)) }
-
-    // Words with a fault are refused, and words that the rules take are not.
     ensures faultless { IfOk result (λ _. fault_of host_app (map (λ w. w.now) words.entry.now) ≡ []) }
     ensures taken { takes host_app (map (λ w. w.now) words.entry.now) ≡ true
         → IfErr result (λ e. e ≡ UsageError.OutOfMemory) }
-
-    // A refusal says what is wrong first.
-    ensures refusal { IfErr result (IsRefusalOf (map (λ w. w.now) words.entry.now)) }
+    ensures refusal { IfErr result (IsRefusalBy false host_app (map (λ w. w.now) words.entry.now)) }
 {
     let command = match host_command(alloc) {
         Ok(command) => command,
@@ -161,6 +120,44 @@ pub fn command<'a>(alloc: Global, words: &'a [&'a str]) -> Result<Task<'a>, Usag
     };
     match command.try_get_matches_from(words) {
         Ok(matches) => Ok(task_of(&matches)),
-        Err(error) => Err(refusal(alloc, &error)),
+        Err(error) => Err(refusal(alloc, &error, false)),
+    }
+}
+
+/// Whether the word behind the program's name is `disk`.
+fn is_disk_line(words: &[&str]) -> bool
+    ensures { result ≡ names_disk (map (λ w. w.now) words.now) }
+{
+    match words {
+        [_, first, ..] => *first == "disk",
+        _ => false,
+    }
+}
+
+/// The task that the words name, of which the first is the program's own name.
+///
+/// `Usage` says what is wrong first with words that name none. `OutOfMemory` comes only where memory
+/// is refused, whatever is wrong with the words behind that place.
+pub fn command<'a>(alloc: Global, words: &'a [&'a str]) -> Result<Task<'a>, UsageError>
+    // The task has the subcommand and all entries that clap's rules give the words.
+    ensures task { IfOk result (IsTaskOf (map (λ w. w.now) words.entry.now)) }
+
+    // Words with a fault are refused, and words that the rules take are not.
+    ensures faultless { IfOk result (λ _. fault_of (app_of_line (map (λ w. w.now) words.entry.now))
+        (words_of_line (map (λ w. w.now) words.entry.now)) ≡ []) }
+    ensures taken { takes (app_of_line (map (λ w. w.now) words.entry.now))
+        (words_of_line (map (λ w. w.now) words.entry.now)) ≡ true
+        → IfErr result (λ e. e ≡ UsageError.OutOfMemory) }
+
+    // A refusal says what is wrong first.
+    ensures refusal { IfErr result (IsRefusalOf (map (λ w. w.now) words.entry.now)) }
+{
+    if is_disk_line(words) {
+        match disk_task(alloc, &words[1..]) {
+            Ok(task) => Ok(Task::Disk(task)),
+            Err(error) => Err(error),
+        }
+    } else {
+        host_task(alloc, words)
     }
 }

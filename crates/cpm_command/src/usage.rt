@@ -2,7 +2,7 @@
 ghost use Rattle.std.specs.Prelude.{◌≡◌, ◌↔◌, IsTrue, IsSome, IfSome, codes, map, not, take_while};
 ghost use Rattle.std.specs.List.{list_any};
 ghost use Rattle.std.specs.Str.{bytes_eq};
-ghost use Rattle.cpm_command.specs.HelpWords.{asks_below, asks_help, begins_with_help, is_command_name, is_help_flag};
+ghost use Rattle.cpm_command.specs.HelpWords.{asks_after_disk, asks_below, asks_help, begins_with_help, is_command_name, is_disk_command_name, is_help_flag};
 
 /// What `cpmhost --help` prints.
 pub const HELP_TEXT: &str = "\
@@ -25,6 +25,19 @@ Usage:
                    share a block and each block can be a file's
   cpmhost debug FILE [--z80]
                    run the program in FILE as the lines of standard input say
+  cpmhost disk new IMAGE [--large]
+                   write the image of a blank disk to the file IMAGE
+  cpmhost disk list IMAGE [--user N]
+                   list the files in the image IMAGE of a disk
+  cpmhost disk put IMAGE FILE.. [--user N] [--text] [--read-only] [--system]
+                   copy files into the image, each under its own name or, as
+                   FILE=NAME.TYP, under another
+  cpmhost disk get IMAGE NAME.TYP.. [--user N] [--text] [--to PATH]
+                   copy files out of the image
+  cpmhost disk remove IMAGE NAME.TYP.. [--user N]
+                   remove files from the image
+  cpmhost disk rename IMAGE NEW=OLD [--user N]
+                   give the file OLD in the image the name NEW
   cpmhost --help   print this help
 
 Options of com, and --z80 of debug:
@@ -38,6 +51,15 @@ Options of com, and --z80 of debug:
               that come after so many steps: a character from ' ' to '~' is
               itself, '^M' is Return, '^C' is Control and C, '^?' is Rubout,
               and '^~' is a caret
+
+Options of disk:
+  --large     make a large disk, of 2105344 bytes in place of 256256
+  --user N    the files of user N: N is a number from 0 to 15, and 0 where it is
+              left out
+  --text      change the ends of lines to those of CP/M, or back
+  --read-only, --system
+              mark the files as read-only, or as files of the system
+  --to PATH   write to PATH
 
 Lines that debug reads, where HHHH is an address of four hexadecimal digits:
   S N         make N steps
@@ -57,6 +79,7 @@ Examples:
   cpmhost asm hello.asm hello.com
   cpmhost list hello.com
   cpmhost check work.img
+  cpmhost disk put work.img life.com notes.txt=NOTES.DOC --user 3
 
 For com, standard output has what the program wrote to its console. The last
 line on standard error says how it ended, after how many steps, and where its
@@ -96,7 +119,7 @@ fn is_flag(word: &str) -> bool
     word == "-h" || word == "--help"
 }
 
-/// Whether the word is the name of a command.
+/// Whether the word is the name of a command, but for `disk`.
 fn is_command(word: &str) -> bool
     ensures { result ≡ is_command_name word.now }
 {
@@ -106,6 +129,18 @@ fn is_command(word: &str) -> bool
         || word == "check"
         || word == "run"
         || word == "debug"
+}
+
+/// Whether the word is the name of a command of `disk`.
+fn is_disk_command(word: &str) -> bool
+    ensures { result ≡ is_disk_command_name word.now }
+{
+    word == "new"
+        || word == "list"
+        || word == "put"
+        || word == "get"
+        || word == "remove"
+        || word == "rename"
 }
 
 /// Whether a flag for help stands before any `--`.
@@ -136,20 +171,35 @@ fn is_asked_below(words: &[&str]) -> bool
     is_help_first(words) || has_flag(words)
 }
 
+/// Whether the words after `disk` ask for help.
+fn is_asked_of_disk(words: &[&str]) -> bool
+    ensures { result ≡ asks_after_disk (map (λ w. w.now) words.now) }
+{
+    match words {
+        [first, rest @ ..] => {
+            *first == "help" || is_flag(first) || (is_disk_command(first) && is_asked_below(rest))
+        }
+        [] => false,
+    }
+}
+
 /// Whether the words, of which the first is the program's own name, ask for help.
 fn is_asked(words: &[&str]) -> bool
     ensures { result ≡ asks_help (map (λ w. w.now) words.now) }
 {
     match words {
         [_, first, rest @ ..] => {
-            *first == "help" || is_flag(first) || (is_command(first) && is_asked_below(rest))
+            *first == "help"
+                || is_flag(first)
+                || (is_command(first) && is_asked_below(rest))
+                || (*first == "disk" && is_asked_of_disk(rest))
         }
         _ => false,
     }
 }
 
 /// The help, where the words ask for it, of which the first is the program's own name: by `help`,
-/// `-h` or `--help`, alone or after a command's name.
+/// `-h` or `--help`, alone or after a command's name, also one of `disk`.
 pub fn help(words: &[&str]) -> Option<&'static str>
     ensures asked { IsSome result ↔ IsTrue (asks_help (map (λ w. w.now) words.now)) }
     ensures text { IfSome result (λ text. text.now ≡ HELP_TEXT.now) }

@@ -155,7 +155,18 @@ fn takes_an_image_to_check(rt: HostRuntime) {
 
 #[test]
 fn knows_who_asks_for_help(rt: HostRuntime) {
-    let lines: [(&[&str], bool); 25] = [
+    let lines: [(&[&str], bool); 36] = [
+        (&["cpmhost", "disk", "help"], true),
+        (&["cpmhost", "disk", "-h"], true),
+        (&["cpmhost", "disk", "put", "--help"], true),
+        (&["cpmhost", "disk", "new", "help"], true),
+        (&["cpmhost", "disk", "put", "a.img", "a", "--help"], true),
+        (&["cpmhost", "disk", "put", "a.img", "help"], false),
+        (&["cpmhost", "disk", "get", "a.img", "--", "-h"], false),
+        (&["cpmhost", "disk", "frob", "--help"], false),
+        (&["cpmhost", "disk", "--user", "--help"], false),
+        (&["cpmhost", "disk", "com", "--help"], false),
+        (&["cpmhost", "disk"], false),
         (&["cpmhost", "asm", "--help"], true),
         (&["cpmhost", "list", "help"], true),
         (&["cpmhost", "list", "a.com", "help"], false),

@@ -9,6 +9,8 @@ mod command_lines;
 #[cfg(test)]
 mod configurations;
 #[cfg(test)]
+mod disk_lines;
+#[cfg(test)]
 mod expressions;
 #[cfg(test)]
 mod key_scripts;

@@ -219,6 +219,109 @@ fn names_what_is_wrong(rt: HostRuntime) {
     }
 }
 
+/// Lines of `disk` that are no task, and what is said of them before the word on help.
+const WRONG_DISKS: [(&[&str], &str); 24] = [
+    (
+        &["cpmhost", "disk"],
+        "no command of 'disk' was given: new, list, put, get, remove or rename",
+    ),
+    (
+        &["cpmhost", "disk", "frob", "a.img"],
+        "unknown command 'frob'",
+    ),
+    (
+        &["cpmhost", "disk", "com", "a.com"],
+        "unknown command 'com'",
+    ),
+    (&["cpmhost", "disk", ""], "unknown command ''"),
+    (
+        &["cpmhost", "disk", "--large", "new", "a.img"],
+        "unexpected argument '--large'",
+    ),
+    (
+        &["cpmhost", "--large", "disk", "new", "a.img"],
+        "unexpected argument '--large'",
+    ),
+    (&["cpmhost", "new", "a.img"], "unknown command 'new'"),
+    (
+        &["cpmhost", "disk", "new"],
+        "the argument <IMAGE> is missing",
+    ),
+    (
+        &["cpmhost", "disk", "new", "a", "b"],
+        "unexpected argument 'b'",
+    ),
+    (
+        &["cpmhost", "disk", "new", "a", "--user", "1"],
+        "unexpected argument '--user'",
+    ),
+    (
+        &["cpmhost", "disk", "list", "a", "--large"],
+        "unexpected argument '--large'",
+    ),
+    (
+        &["cpmhost", "disk", "list", "a", "--user", "16"],
+        "invalid value '16' for '--user': a number from 0 to 15 is wanted",
+    ),
+    (
+        &["cpmhost", "disk", "list", "a", "--user=x"],
+        "invalid value 'x' for '--user': a number from 0 to 15 is wanted",
+    ),
+    (
+        &["cpmhost", "disk", "list", "a", "--user=-1"],
+        "invalid value '-1' for '--user': a number from 0 to 15 is wanted",
+    ),
+    (
+        &["cpmhost", "disk", "list", "a", "--user"],
+        "a value is wanted for '--user <N>'",
+    ),
+    (
+        &["cpmhost", "disk", "list", "a", "--user=1", "--user=2"],
+        "the argument '--user <N>' was given twice",
+    ),
+    (
+        &["cpmhost", "disk", "put", "a"],
+        "the argument <FILE>... is missing",
+    ),
+    (
+        &["cpmhost", "disk", "put", "a", "b", "--to", "c"],
+        "unexpected argument '--to'",
+    ),
+    (
+        &["cpmhost", "disk", "put", "a", "b", "--text", "c", "--text"],
+        "the argument '--text' was given twice",
+    ),
+    (
+        &["cpmhost", "disk", "get", "a"],
+        "the argument <NAME.TYP>... is missing",
+    ),
+    (
+        &["cpmhost", "disk", "get", "a", "B", "--to"],
+        "a value is wanted for '--to <PATH>'",
+    ),
+    (
+        &["cpmhost", "disk", "remove", "a", "B", "--text"],
+        "unexpected argument '--text'",
+    ),
+    (
+        &["cpmhost", "disk", "rename", "a"],
+        "the argument <NEW=OLD> is missing",
+    ),
+    (
+        &["cpmhost", "disk", "rename", "a", "B=C", "D=E"],
+        "unexpected argument 'D=E'",
+    ),
+];
+
+#[test]
+fn names_what_is_wrong_with_disk(rt: HostRuntime) {
+    for (words, said) in WRONG_DISKS {
+        let shown = refusal(&rt, words);
+        let wanted = format!(in rt.alloc(); "{said}; try 'cpmhost --help'").expect(&rt, "memory");
+        same_at(&rt, words, shown.as_str(), wanted.as_str());
+    }
+}
+
 #[test]
 fn cuts_a_long_word(rt: HostRuntime) {
     let mut long = String::new(rt.alloc());

@@ -1,0 +1,4 @@
+pub mod DamageLemmas
+pub mod NameLemmas
+pub mod MatchLemmas
+pub mod ListingLemmas

@@ -1,0 +1,7 @@
+pub mod Damage
+pub mod Filing
+pub mod HostNames
+pub mod Listing
+pub mod Matching
+pub mod Names
+pub mod Refusals

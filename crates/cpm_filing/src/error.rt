@@ -1,0 +1,79 @@
+//! Why a command on disk images is refused.
+ghost use Rattle.std.specs.Prelude.{◌≡◌};
+ghost use Rattle.cpm_filing.specs.Refusals.{status_of};
+
+use crate::damage::{Damage, NamedFile};
+use cpm_command::Word;
+use cpm_shelf::Refusal;
+use std::io;
+use thiserror::Error;
+
+/// Why a command is refused. Its text is one line that begins with its code.
+#[derive(Clone, Copy, Debug, Drop, Error)]
+pub enum FilingError {
+    /// The text is no name of a file.
+    #[error("HO1 '{0}' is no name of a file: 1 to 8 characters and, behind a dot, up to 3 are wanted, none of them a blank or of <>.,;:=?*[]_")]
+    NotName(Word),
+    /// The text is no pattern of names.
+    #[error("HO1 '{0}' is no pattern of names: a name is wanted, where '?' stands for any character and a last '*' for all that follow")]
+    NotPattern(Word),
+    /// The text gives no file another name.
+    #[error("HO1 '{0}' gives no file another name: NEW.TYP=OLD.TYP is wanted")]
+    NotPair(Word),
+    /// A file of the host is no image, by its length.
+    #[error("HO6 '{image}' has {length} bytes, and the image of a drive has 256256 or 2105344")]
+    NotImage {
+        image: Word,
+        length: usize,
+    },
+    /// The directory of the image in a file of the host doesn't agree with itself.
+    #[error("HO6 '{image}': {damage}")]
+    Damaged {
+        image: Word,
+        damage: Damage,
+    },
+    /// No file of the user has a name that matches.
+    #[error("HO6 '{image}' has no file '{pattern}' of user {user}")]
+    NoFile {
+        image: Word,
+        pattern: Word,
+        user: u8,
+    },
+    /// What was asked of a file of a disk is not done.
+    #[error("HO6 '{image}', {file}: {reason}")]
+    Refused {
+        image: Word,
+        file: NamedFile,
+        reason: Refusal,
+    },
+    /// A file of a disk has a name that no file of the host gets.
+    #[error("HO6 '{image}', {file}: a file of the host can't get this name; give it another by 'cpmhost disk rename'")]
+    NoHostName {
+        image: Word,
+        file: NamedFile,
+    },
+    /// Standard output can't be written.
+    #[error("HO5 can't write to standard output: {0}")]
+    OutputUnwritable(io::Error),
+    /// Memory was refused.
+    #[error("HO8 out of memory")]
+    OutOfMemory,
+}
+
+impl FilingError {
+    /// The exit status: the number of the code.
+    pub fn status(&self) -> u8
+        ensures { result ≡ status_of self.now }
+    {
+        match self {
+            FilingError::NotName(_) | FilingError::NotPattern(_) | FilingError::NotPair(_) => 1,
+            FilingError::OutputUnwritable(_) => 5,
+            FilingError::NotImage { .. }
+            | FilingError::Damaged { .. }
+            | FilingError::NoFile { .. }
+            | FilingError::Refused { .. }
+            | FilingError::NoHostName { .. } => 6,
+            FilingError::OutOfMemory => 8,
+        }
+    }
+}

@@ -1,0 +1,22 @@
+//! What the commands on disk images do: a file is put on an image, taken from it, given another name or removed, and all are
+//! listed; or it is told in one line why not. Files of the host are read and written by the program.
+#![tactic(auto)]
+
+pub mod damage;
+pub mod error;
+pub mod filing;
+pub mod host_names;
+mod lines;
+pub mod listing;
+pub mod matching;
+pub mod names;
+pub mod words;
+
+pub use damage::{Damage, NamedFile, damage_of};
+pub use error::FilingError;
+pub use filing::{get_file, image_of, new_image, put_file, remove_file, rename_file};
+pub use host_names::{host_name, text_of_name};
+pub use listing::{list_files, write_list};
+pub use matching::matching_files;
+pub use names::{name_of, pattern_of};
+pub use words::{base_name, file_name, split_pair};

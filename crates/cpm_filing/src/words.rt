@@ -1,0 +1,75 @@
+//! What the words of a command line name.
+
+ghost use Rattle.std.specs.Prelude.{◌≡◌, ◌<◌, ◌==◌, ℕ, List, Some, MatchOption, MatchResult, length};
+ghost use Rattle.std.specs.List.{after_first, before_first, position_or_len};
+ghost use Rattle.cpm_files.specs.Files.{has_wildcard};
+ghost use Rattle.cpm_filing.specs.Names.{marked, name_of, with_bit, IsBaseName};
+ghost use Rattle.cpm_filing.specs.Refusals.{IsNotName};
+
+use crate::error::FilingError;
+use crate::names::name_of;
+use cpm_command::shown;
+use cpm_shelf::FileName;
+
+/// What stands before and behind the first `=`; none where there is none.
+pub fn split_pair(text: &str) -> Option<(&str, &str)>
+    ensures { MatchOption result
+        (position_or_len (λ c. c == 0x3D) text.now ≡ length text.now)
+        (λ pair. (position_or_len (λ c. c == 0x3D) text.now < length text.now)
+        × (pair.0.now ≡ before_first (λ c. c == 0x3D) text.now)
+        × (pair.1.now ≡ after_first (λ c. c == 0x3D) text.now)) }
+{
+    text.split_once('=')
+}
+
+/// The last name of a path.
+pub fn base_name(path: &str) -> &str
+    ensures { IsBaseName path.now result.now }
+{
+    match path.rsplit_once('/') {
+        Some((_, name)) => name,
+        None => path,
+    }
+}
+
+/// The file of a user that a text names, with these attributes. `NotName` where it names none.
+pub fn file_name(
+    text: &str,
+    user: u8,
+    is_read_only: bool,
+    is_system: bool,
+) -> Result<FileName, FilingError>
+    requires { user < 16 }
+    ensures { MatchResult result
+        (λ file. (name : List ℕ) × (name_of text.now ≡ Some name) × (file.user ≡ user) × (file.name ≡ marked is_read_only is_system name))
+        (λ e. IsNotName text.now e) }
+{
+    let Some(name) = name_of(text) else {
+        return Err(FilingError::NotName(shown(text)));
+    };
+    let name = marked(name, is_read_only, is_system);
+    Ok(FileName::new(user, name).unwrap())
+}
+
+/// A name with these attributes.
+#[tactic(auto, unfolding(crate::specs::Names::marked))]
+fn marked(name: [u8; 11], is_read_only: bool, is_system: bool) -> [u8; 11]
+    ensures { result ≡ marked is_read_only is_system name }
+{
+    let mut name = name;
+    name[8] = with_bit(name[8], is_read_only);
+    name[9] = with_bit(name[9], is_system);
+    name
+}
+
+/// A character with its attribute bit set or not.
+#[tactic(auto, unfolding(crate::specs::Names::with_bit))]
+fn with_bit(character: u8, is_set: bool) -> u8
+    ensures { result ≡ with_bit is_set character }
+{
+    if is_set {
+        character % 128 + 128
+    } else {
+        character % 128
+    }
+}

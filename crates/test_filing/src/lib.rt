@@ -1,0 +1,11 @@
+//! Worked calls of the commands on disk images.
+#![tactic(auto)]
+
+#[cfg(test)]
+mod files;
+#[cfg(test)]
+mod lists;
+#[cfg(test)]
+mod names;
+#[cfg(test)]
+mod same;

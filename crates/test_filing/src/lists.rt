@@ -1,0 +1,59 @@
+//! The list of an image's files.
+
+use crate::same::same;
+use cpm_filing::{FilingError, file_name, list_files, new_image, put_file, write_list};
+use cpm_geom::{Format, Image};
+use std::process::Abort;
+
+/// The value; the test fails where there is none.
+fn taken<T: Drop>(rt: &(impl Abort + AllocGlobal), answer: Result<T, FilingError>) -> T {
+    match answer {
+        Ok(value) => value,
+        Err(_) => panic!(rt; "refused"),
+    }
+}
+
+/// An image with three files of two users, put out of order.
+fn image(rt: &(impl Abort + AllocGlobal)) -> Image {
+    let alloc = rt.alloc();
+    let records = vec![in alloc; 0u8; 12 * 128].expect(rt, "memory");
+    let image = taken(rt, new_image(alloc, false));
+    let first = taken(rt, file_name("zero.txt", 1, false, false));
+    let image = taken(rt, put_file(alloc, &image, "a.img", &first, false, b"x"));
+    let second = taken(rt, file_name("hello.com", 0, true, true));
+    let image = taken(
+        rt,
+        put_file(alloc, &image, "a.img", &second, false, &records),
+    );
+    let third = taken(rt, file_name("abc", 0, false, true));
+    taken(rt, put_file(alloc, &image, "a.img", &third, false, b""))
+}
+
+/// The lines of its list.
+fn lines(rt: &(impl Abort + AllocGlobal), user: Option<u8>) -> Vec<u8> {
+    let shelf = taken(rt, list_files(rt.alloc(), &image(rt), "a.img"));
+    let mut out = Vec::new(rt.alloc());
+    taken(
+        rt,
+        write_list(rt.alloc(), Format::Ibm3740, &shelf, user, &mut out),
+    );
+    out
+}
+
+#[test]
+fn files_are_listed_in_order(rt: HostRuntime) {
+    same(
+        &rt,
+        lines(&rt, None).as_slice(),
+        b"user  0  ABC              0 records, system\nuser  0  HELLO.COM       12 records, read-only, system\nuser  1  ZERO.TXT         1 record\n238 of 241 blocks are free\n".as_slice(),
+    );
+}
+
+#[test]
+fn files_of_one_user_are_listed(rt: HostRuntime) {
+    same(
+        &rt,
+        lines(&rt, Some(1)).as_slice(),
+        b"user  1  ZERO.TXT         1 record\n238 of 241 blocks are free\n".as_slice(),
+    );
+}
