@@ -1,6 +1,5 @@
 pub mod AsmLemmas
 pub mod AtPcLemmas
-pub mod DamageLemmas
 pub mod FinishLemmas
 pub mod InputLemmas
 pub mod ListLemmas

@@ -5,14 +5,10 @@ use Rattle.cpm_batch.specs.declared.error.ReadError.TheVariants as read
 use Rattle.cpm_command.specs.Shown.{shown_of}
 use Rattle.cpm_directory.specs.Directory.{entries_of}
 use Rattle.cpm_directory.specs.WellFormed.{IsChecked}
-use Rattle.cpm_directory.specs.declared.fault.DriveFault.{DriveFault}
-use Rattle.cpm_directory.specs.declared.fault.DriveFault.TheVariants.{BadBlock, TwiceBlock, TwiceEntry}
-use Rattle.cpm_files.specs.Files.{entry_at}
-use Rattle.cpm_files.specs.declared.extent.Entry.{Entry}
+use Rattle.cpm_filing.specs.Damage.{damage_of}
+use Rattle.cpm_filing.specs.declared.damage.Damage.{Damage}
 use Rattle.cpm_geom.specs.Disk.{Disk}
 use Rattle.cpm_geom.specs.Geometry.{dpb_of, format_of_length}
-use Rattle.cpm_host.specs.declared.damage.Damage.{Damage}
-use Rattle.cpm_host.specs.declared.damage.NamedFile.{NamedFile}
 use Rattle.cpm_host.specs.declared.error.HostError.{HostError}
 use Rattle.cpm_host.specs.declared.error.HostError.TheVariants.{FileRefused, ImageDamaged, OutputUnwritable}
 
@@ -25,32 +21,6 @@ pub record IsInOrder (bytes : List ℕ) : Type 0 where
   pub disk : Disk
   pub image : IsImage bytes disk
   pub checked : IsChecked (dpb_of disk.format) (entries_of disk) (Ok tt)
-
--- ---- what is told of a fault
-
--- the file that an entry is of
-abbrev pub file_of : Entry → NamedFile
-file_of e = record { user = e.user; name = e.extent.name }
-
--- the entry that has the fault, and the one that it is told beside
-abbrev pub entry_of : DriveFault → ℕ
-entry_of (BadBlock entry block) = entry
-entry_of (TwiceBlock entry block owner) = entry
-entry_of (TwiceEntry entry earlier) = entry
-
-abbrev pub other_of : DriveFault → ℕ
-other_of (BadBlock entry block) = entry
-other_of (TwiceBlock entry block owner) = owner
-other_of (TwiceEntry entry earlier) = earlier
-
--- a fault of a disk, with the files that these entries are of and the disk's last block
-abbrev pub damage_of : Disk → DriveFault → Damage
-damage_of disk fault = record {
-  fault = fault;
-  file = file_of (entry_at (entries_of disk) (entry_of fault));
-  other = file_of (entry_at (entries_of disk) (other_of fault));
-  last_block = (dpb_of disk.format).last_block;
-}
 
 -- the bytes are an image, whose directory's first fault is told
 pub record IsDamaged (bytes : List ℕ) (damage : Damage) : Type 0 where

@@ -1,19 +1,21 @@
 -- What running a program shows, and when it is refused.
-use Rattle.std.specs.Prelude.{⊤, ◌≡◌, ◌<◌, ◌≤◌, ℕ, List, [], ◌∷◌, length, Option, Some, None, Result, Ok, Err}
+use Rattle.std.specs.Prelude.{⊤, ◌≡◌, ◌<◌, ◌≤◌, ℕ, List, [], ◌∷◌, length, option_map, Option, Some, None, Result, Ok, Err}
 use Rattle.cpm_batch.specs.declared.error.ReadError.TheVariants as read
 use Rattle.cpm_flags.specs.declared.regs.Cpu.{Cpu}
-use Rattle.cpm_geom.specs.Disk.{blank_disk}
+use Rattle.cpm_geom.specs.Disk.{Disk, blank_disk}
 use Rattle.cpm_geom.specs.declared.format.Format.TheVariants.{Ibm3740}
 use Rattle.cpm_script.specs.Script.{script}
 use Rattle.cpm_script.specs.declared.fault.LineFault.{LineFault}
 use Rattle.cpm_script.specs.declared.script.Key.{Key}
-use Rattle.cpm_slots.specs.MachineState.{MachineState, opened_with}
+use Rattle.cpm_slots.specs.MachineState.{MachineState, opened_with, with_tail}
+use Rattle.cpm_slots.specs.declared.opening.OpenError.TheVariants.{BadDrives}
 use Rattle.cpm_turns.specs.Playing.{HasText, alone_by}
 use Rattle.cpm_host.specs.Illegal.{bytes_at_pc}
 use Rattle.cpm_host.specs.declared.com.Script.{Script}
+use Rattle.cpm_host.specs.declared.com.Start.{Start}
 use Rattle.cpm_host.specs.declared.ending.Ending.{Ending}
 use Rattle.cpm_host.specs.declared.error.HostError.{HostError}
-use Rattle.cpm_host.specs.declared.error.HostError.TheVariants.{FileRefused, OutputUnwritable, OutOfMemory, ProgramTooLong}
+use Rattle.cpm_host.specs.declared.error.HostError.TheVariants.{FileRefused, OpeningRefused, OutputUnwritable, OutOfMemory, ProgramTooLong}
 
 -- the console bytes of a machine from which none was taken
 abbrev pub text_of : MachineState → List ℕ
@@ -41,9 +43,40 @@ abbrev pub IsBadLine : Option Script → ℕ → LineFault → Type 0
 IsBadLine None line fault = ⊥
 IsBadLine (Some s) line fault = script s.text.now ≡ Err (line, fault)
 
--- a program run alone by its keys for so many steps, with a blank drive and a blank system drive
-abbrev pub ran_alone : Cpu → List ℕ → List Key → ℕ → MachineState
-ran_alone cpu program keys steps = alone_by (blank_disk Ibm3740) keys steps (opened_with cpu (blank_disk Ibm3740 ∷ []) program)
+-- ---- what a program begins with
+
+pub record Given : Type 0 where
+  pub cpu : Cpu
+  pub program : List ℕ
+  -- the tail of its command, where one is left in the memory
+  pub tail : Option (List ℕ)
+  pub drives : List Disk
+
+abbrev pub given : Start → Given
+given start = record {
+  cpu = start.cpu;
+  program = start.program.items;
+  tail = option_map (λ t. t.text.items) start.tail;
+  drives = start.drives.items;
+}
+
+-- one blank drive where there is none
+abbrev pub drives_or_blank : List Disk → List Disk
+drives_or_blank [] = blank_disk Ibm3740 ∷ []
+drives_or_blank (d ∷ ds) = d ∷ ds
+
+-- a tail is left as the command processor leaves it; without one the memory is as at an opening
+abbrev pub with_tail_if_any : Option (List ℕ) → MachineState → MachineState
+with_tail_if_any None s = s
+with_tail_if_any (Some tail) s = with_tail tail s
+
+-- the machine that begins the program
+abbrev pub machine_of : Given → MachineState
+machine_of g = with_tail_if_any g.tail (opened_with g.cpu (drives_or_blank g.drives) g.program)
+
+-- a program run alone by its keys for so many steps, with a blank system drive
+abbrev pub ran_alone : Given → List Key → ℕ → MachineState
+ran_alone g keys steps = alone_by (blank_disk Ibm3740) keys steps (machine_of g)
 
 -- how a script is refused
 abbrev pub IsScriptRefusal : Option Script → HostError → Type 0
@@ -51,14 +84,21 @@ IsScriptRefusal script (FileRefused (read.Script name line fault)) = IsBadLine s
 IsScriptRefusal script OutOfMemory = ⊤
 IsScriptRefusal script _ = ⊥
 
--- When a program that runs for so many steps is refused: it is too long, a line of its script is wrong, memory is refused, or the
+-- how the machine of a program is refused: the program is too long, then there are too many drives, then memory is refused
+abbrev pub IsStartRefusal : Given → HostError → Type 0
+IsStartRefusal g (ProgramTooLong count) = (58112 < length g.program) × (count ≡ length g.program)
+IsStartRefusal g (OpeningRefused fault) = (length g.program ≤ 58112) × (4 < length g.drives) × (fault ≡ BadDrives)
+IsStartRefusal g OutOfMemory = length g.program ≤ 58112
+IsStartRefusal g _ = ⊥
+
+-- When a program that runs for so many steps is refused: it is too long, it has too many drives, a line of its script is wrong, memory is refused, or the
 -- writer refuses some of its text. The writer is as it was, but where it failed itself.
-abbrev pub IsComRefusal : {W : Type 0} → Cpu → List ℕ → Option Script → ℕ → HostError → W → W → Type 0
-IsComRefusal {W} cpu program script steps (ProgramTooLong count) old new =
-    (58112 < length program) × (count ≡ length program) × (new ≡ old)
-IsComRefusal {W} cpu program script steps (FileRefused (read.Script name line fault)) old new =
-    (length program ≤ 58112) × IsBadLine script line fault × (new ≡ old)
-IsComRefusal {W} cpu program script steps OutOfMemory old new = (length program ≤ 58112) × (new ≡ old)
-IsComRefusal {W} cpu program script steps (OutputUnwritable reason) old new =
-    (length program ≤ 58112) × HasScript script (keys_given script) × HasText (ran_alone cpu program (keys_given script) steps)
-IsComRefusal {W} cpu program script steps _ old new = ⊥
+abbrev pub IsComRefusal : {W : Type 0} → Given → Option Script → ℕ → HostError → W → W → Type 0
+IsComRefusal {W} g script steps (ProgramTooLong count) old new = IsStartRefusal g (ProgramTooLong count) × (new ≡ old)
+IsComRefusal {W} g script steps (OpeningRefused fault) old new = IsStartRefusal g (OpeningRefused fault) × (new ≡ old)
+IsComRefusal {W} g script steps (FileRefused (read.Script name line fault)) old new =
+    (length g.program ≤ 58112) × (length g.drives ≤ 4) × IsBadLine script line fault × (new ≡ old)
+IsComRefusal {W} g script steps OutOfMemory old new = (length g.program ≤ 58112) × (new ≡ old)
+IsComRefusal {W} g script steps (OutputUnwritable reason) old new =
+    (length g.program ≤ 58112) × (length g.drives ≤ 4) × HasScript script (keys_given script) × HasText (ran_alone g (keys_given script) steps)
+IsComRefusal {W} g script steps _ old new = ⊥

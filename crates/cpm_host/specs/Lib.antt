@@ -3,6 +3,8 @@ pub mod Check
 pub mod Com
 pub mod Illegal
 pub mod Listing
+pub mod Live
 pub mod Playing
 pub mod Refusals
 pub mod Run
+pub mod Tails

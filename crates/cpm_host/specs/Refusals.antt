@@ -3,7 +3,7 @@ use Rattle.std.specs.Prelude.{⊤, ℕ}
 use Rattle.cpm_command.specs.declared.fault.UsageError.{UsageError}
 use Rattle.cpm_command.specs.declared.fault.UsageError.TheVariants as usage
 use Rattle.cpm_host.specs.declared.error.HostError.{HostError}
-use Rattle.cpm_host.specs.declared.error.HostError.TheVariants.{Usage, NotText, ConfigRefused, FileRefused, FileUnreadable, FileUnwritable, FramesExceeded, ImageDamaged, InputUnreadable, OutputUnwritable, SessionRefused, SourceRefused, OutOfMemory, OpeningRefused, ProgramTooLong, WriteFault}
+use Rattle.cpm_host.specs.declared.error.HostError.TheVariants.{Usage, NotText, ConfigRefused, DiskRefused, FileRefused, FileUnreadable, FileUnwritable, FramesExceeded, ImageDamaged, InputUnreadable, NoSession, NotAFolder, NotOpened, OutputUnwritable, SessionRefused, SourceRefused, OutOfMemory, OpeningRefused, ProgramTooLong, RecordUnwritable, TailRefused, WriteFault}
 use Rattle.cpm_batch.specs.Inputs.{status_of_reading}
 use Rattle.cpm_batch.specs.declared.error.ReadError.{ReadError}
 use Rattle.cpm_batch.specs.declared.error.ReadError.TheVariants as read
@@ -11,19 +11,30 @@ use Rattle.cpm_config.specs.declared.fault.ConfigError.{ConfigError}
 use Rattle.cpm_config.specs.declared.fault.ConfigError.TheVariants as config
 use Rattle.cpm_debug.specs.declared.error.DebugError.{DebugError}
 use Rattle.cpm_debug.specs.declared.error.DebugError.TheVariants as debug
+use Rattle.cpm_filing.specs.Refusals.{status_of as status_of_filing}
+use Rattle.cpm_filing.specs.declared.error.FilingError.{FilingError}
+use Rattle.cpm_filing.specs.declared.error.FilingError.TheVariants as filing
 use Rattle.cpm_slots.specs.declared.opening.OpenError.{OpenError}
 use Rattle.cpm_slots.specs.declared.opening.OpenError.TheVariants as opening
+use Rattle.cpm_turns.specs.declared.live.LiveError.{LiveError}
+use Rattle.cpm_turns.specs.declared.live.LiveError.TheVariants as live
 
 -- the number of the code that the text begins with
 abbrev pub status_of : HostError → ℕ
 status_of (Usage fault) = 1
 status_of NotText = 1
+status_of (NoSession name) = 1
+status_of (NotOpened name) = 1
+status_of (TailRefused word) = 1
 status_of (ConfigRefused fault) = 2
+status_of (DiskRefused e) = status_of_filing e
 status_of (FileRefused e) = status_of_reading e
 status_of (FileUnreadable name reason) = 4
 status_of (InputUnreadable reason) = 4
 status_of (OutputUnwritable reason) = 5
 status_of (FileUnwritable name reason) = 5
+status_of (RecordUnwritable reason) = 5
+status_of (NotAFolder name) = 5
 status_of (WriteFault name) = 5
 status_of (ImageDamaged name damage) = 6
 status_of (SourceRefused line kind found) = 7
@@ -63,6 +74,19 @@ host_error_of_config (config.Range place) = ConfigRefused (config.Range place)
 host_error_of_config (config.Twice place) = ConfigRefused (config.Twice place)
 host_error_of_config config.OutOfMemory = OutOfMemory
 
+-- what a refused command on disk images comes to
+abbrev pub host_error_of_filing : FilingError → HostError
+host_error_of_filing (filing.NotName text) = DiskRefused (filing.NotName text)
+host_error_of_filing (filing.NotPattern text) = DiskRefused (filing.NotPattern text)
+host_error_of_filing (filing.NotPair text) = DiskRefused (filing.NotPair text)
+host_error_of_filing (filing.NotImage image count) = DiskRefused (filing.NotImage image count)
+host_error_of_filing (filing.Damaged image damage) = DiskRefused (filing.Damaged image damage)
+host_error_of_filing (filing.NoFile image pattern user) = DiskRefused (filing.NoFile image pattern user)
+host_error_of_filing (filing.Refused image file reason) = DiskRefused (filing.Refused image file reason)
+host_error_of_filing (filing.NoHostName image file) = DiskRefused (filing.NoHostName image file)
+host_error_of_filing (filing.OutputUnwritable reason) = OutputUnwritable reason
+host_error_of_filing filing.OutOfMemory = OutOfMemory
+
 -- what a refused file of a run comes to
 abbrev pub host_error_of_reading : ReadError → HostError
 host_error_of_reading (read.File name) = FileRefused (read.File name)
@@ -76,6 +100,13 @@ host_error_of_debug (debug.ProgramTooLong count) = ProgramTooLong count
 host_error_of_debug (debug.Unreadable reason) = InputUnreadable reason
 host_error_of_debug (debug.Unwritable reason) = OutputUnwritable reason
 host_error_of_debug debug.OutOfMemory = OutOfMemory
+
+-- what a live session that was not played to its end comes to
+abbrev pub host_error_of_live : LiveError → HostError
+host_error_of_live (live.Unreadable reason) = InputUnreadable reason
+host_error_of_live (live.Unwritable reason) = OutputUnwritable reason
+host_error_of_live (live.Unrecorded reason) = RecordUnwritable reason
+host_error_of_live live.OutOfMemory = OutOfMemory
 
 -- what a refused opening comes to
 abbrev pub host_error_of_opening : OpenError → HostError

@@ -1,63 +1,16 @@
 //! The command `check`.
-ghost use Rattle.std.specs.Prelude.{◌≡◌, ◌≤◌, IfErr, IfOk, OnOk, Err};
+ghost use Rattle.std.specs.Prelude.{IfErr, IfOk, OnOk};
 ghost use Rattle.std.specs.Io.KnownBytes.{Appends};
-ghost use Rattle.cpm_directory.specs.Directory.{entries_of};
-ghost use Rattle.cpm_directory.specs.WellFormed.{IsChecked};
-ghost use Rattle.cpm_files.specs.Files.{entry_at};
-ghost use Rattle.cpm_geom.specs.Geometry.{dpb_of};
-ghost use Rattle.cpm_host.specs.Check.{IsCheckRefusal, IsInOrder, damage_of, entry_of, file_of, ok_line, other_of};
+ghost use Rattle.cpm_host.specs.Check.{IsCheckRefusal, IsInOrder, ok_line};
 
-use crate::damage::{Damage, NamedFile};
 use crate::error::HostError;
 use cpm_batch::ReadError;
 use cpm_command::shown;
-use cpm_directory::{DriveFault, entry, well_formed};
+use cpm_directory::well_formed;
+use cpm_filing::damage_of;
 use cpm_geom::Image;
 use std::io;
 use std::io::Write;
-
-/// The entry that has a fault.
-fn entry_of(fault: DriveFault) -> u16
-    ensures { result ≡ entry_of fault }
-{
-    match fault {
-        DriveFault::BadBlock { entry, .. }
-        | DriveFault::TwiceBlock { entry, .. }
-        | DriveFault::TwiceEntry { entry, .. } => entry,
-    }
-}
-
-/// The entry beside which a fault is told.
-fn other_of(fault: DriveFault) -> u16
-    ensures { result ≡ other_of fault }
-{
-    match fault {
-        DriveFault::BadBlock { entry, .. } => entry,
-        DriveFault::TwiceBlock { owner, .. } => owner,
-        DriveFault::TwiceEntry { earlier, .. } => earlier,
-    }
-}
-
-/// The file that the entry at an index is of.
-fn file_at(image: &Image, index: u16) -> NamedFile
-    requires { index ≤ (dpb_of image.now.format).last_entry }
-    ensures { result ≡ file_of (entry_at (entries_of image.now) index) }
-{
-    NamedFile::of(&entry(image, index))
-}
-
-/// What is told of the fault of an image's directory.
-fn damage_of(image: &Image, fault: DriveFault) -> Damage
-    requires { IsChecked (dpb_of image.now.format) (entries_of image.now) (Err fault) }
-    ensures { result ≡ damage_of image.now fault }
-{
-    Damage {
-        fault,
-        file: file_at(image, entry_of(fault)),
-        other: file_at(image, other_of(fault)),
-        last_block: image.format().dpb().last_block,
-    }
-}
 
 /// Writes that an image is in order.
 fn write_ok<W: Write>(out: &mut W) -> io::Result<()>

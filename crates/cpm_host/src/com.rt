@@ -1,8 +1,9 @@
 //! The command `com`.
-ghost use Rattle.std.specs.Prelude.{◌≡◌, ◌↔◌, ◌<◌, [], ◌∷◌, IfErr, IfOk, IsErrOf, OnOk, length};
+ghost use Rattle.std.specs.Prelude.{◌≡◌, ◌↔◌, ◌<◌, IfErr, IfOk, IsErrOf, OnOk, length};
 ghost use Rattle.std.specs.Io.KnownBytes.{Appends};
-ghost use Rattle.cpm_geom.specs.Disk.{blank_disk};
-ghost use Rattle.cpm_host.specs.Com.{HasScript, IsComRefusal, IsScriptRefusal, ending_of, keys_given, ran_alone, text_of};
+ghost use Rattle.cpm_disks.specs.Disks.{images_of};
+ghost use Rattle.cpm_turns.specs.Playing.{IsFresh};
+ghost use Rattle.cpm_host.specs.Com.{HasScript, IsComRefusal, IsScriptRefusal, IsStartRefusal, drives_or_blank, ending_of, given, keys_given, machine_of, ran_alone, text_of};
 
 use crate::ending::Ending;
 use crate::error::HostError;
@@ -11,7 +12,7 @@ use cpm_command::shown;
 use cpm_flags::Cpu;
 use cpm_geom::{Format, Image};
 use cpm_script::{Key, ScriptError, read_keys};
-use cpm_slots::{MOST_PROGRAM, MOST_QUOTA, Machine, Opening};
+use cpm_slots::{Closed, MOST_PROGRAM, MOST_QUOTA, Machine, Opening, Tail};
 use cpm_turns::play_machine;
 use std::alloc::Global;
 use std::io::Write;
@@ -44,56 +45,108 @@ fn keys_of(alloc: Global, script: Option<Script<'_>>) -> Result<Vec<Key>, HostEr
     }
 }
 
-/// One blank drive.
-fn blank_drives(alloc: Global) -> Result<Vec<Image>, HostError>
-    ensures drives { IfOk result (λ drives. drives.items ≡ blank_disk Format.Ibm3740 ∷ []) }
+/// What a program runs with.
+#[derive(Drop)]
+pub struct Start {
+    pub cpu: Cpu,
+    /// Its bytes, which lie from 0100h on.
+    pub program: Vec<u8>,
+    /// The tail of its command, where one is left in the memory.
+    pub tail: Option<Tail>,
+    /// The images of its drives, the first as A; a blank one where there is none.
+    pub drives: Vec<Image>,
+}
+
+/// What a program came to.
+#[derive(Drop)]
+pub struct Ran {
+    pub ending: Ending,
+    /// The drives as it left them.
+    pub drives: Vec<Image>,
+}
+
+/// The drives, or one blank drive where there are none.
+fn drives_or_blank(alloc: Global, drives: Vec<Image>) -> Result<Vec<Image>, HostError>
+    ensures drives { IfOk result (λ d. d.items ≡ drives_or_blank drives.items) }
     ensures refusal { IfErr result (λ e. e ≡ HostError.OutOfMemory) }
 {
+    if !drives.is_empty() {
+        return Ok(drives);
+    }
     let mut drives = Vec::new(alloc);
     drives.push(Image::blank(alloc, Format::Ibm3740)?)?;
     Ok(drives)
 }
 
-/// Runs a program on a machine of its own, with this processor, a blank drive, a blank system drive and the keys of a script, for at most `steps`
-/// steps, and writes what it shows on its console as it comes. What it sends to its list device is dropped.
-///
-/// `ProgramTooLong`, then `FileRefused` for a line of the script, and `OutOfMemory` come before anything is written. `OutputUnwritable` has the
-/// writer's error: it comes only where there was text to write, of which the writer may have got the
-/// beginning.
-pub fn run_com<W: Write>(
-    alloc: Global,
-    cpu: Cpu,
-    program: Vec<u8>,
-    script: Option<Script<'_>>,
-    steps: u64,
-    out: &mut W,
-) -> Result<Ending, HostError>
-    // Text and ending are those of the machine run alone.
-    ensures text { OnOk result (Appends (W.contents out.old) (W.contents out.new)
-        (text_of (ran_alone cpu program.items (keys_given script.entry) steps))) }
-    ensures ending { IfOk result (λ e. e ≡ ending_of (ran_alone cpu program.items (keys_given script.entry) steps)) }
-    ensures script { IfOk result (λ _. HasScript script.entry (keys_given script.entry)) }
-
-    ensures too_long { IsErrOf result (HostError.ProgramTooLong (length program.items))
-        ↔ (58112 < length program.items) }
-    ensures refusal { IfErr result (λ e. IsComRefusal cpu program.items script.entry steps e out.old out.new) }
+/// The machine that begins a program.
+pub(crate) fn machine_of(alloc: Global, start: Start) -> Result<Machine, HostError>
+    ensures made { IfOk result (λ m. m ≡ machine_of (given start)) }
+    ensures fresh { IfOk result IsFresh }
+    ensures refusal { IfErr result (IsStartRefusal (given start)) }
 {
-    if program.len() > MOST_PROGRAM {
-        return Err(HostError::ProgramTooLong(program.len()));
+    if start.program.len() > MOST_PROGRAM {
+        return Err(HostError::ProgramTooLong(start.program.len()));
     }
-    let keys = keys_of(alloc, script)?;
+    let Start {
+        cpu,
+        program,
+        tail,
+        drives,
+    } = start;
     let opening = Opening {
         cpu,
         quota: MOST_QUOTA,
-        drives: blank_drives(alloc)?,
+        drives: drives_or_blank(alloc, drives)?,
     };
-    let mut machine = match Machine::with_program(alloc, opening, program) {
-        Ok(machine) => machine,
-        Err((_, _, fault)) => return Err(HostError::from(fault)),
+    let made = match &tail {
+        Some(tail) => Machine::with_command(alloc, opening, program, tail),
+        None => Machine::with_program(alloc, opening, program),
     };
+    match made {
+        Ok(machine) => Ok(machine),
+        Err((_, _, fault)) => Err(HostError::from(fault)),
+    }
+}
+
+/// Runs a program on a machine of its own, with a blank system drive and the keys of a script, for at most `steps` steps, and writes what it
+/// shows on its console as it comes. What it sends to its list device is dropped.
+///
+/// `ProgramTooLong`, then `OpeningRefused` for more than four drives, then `FileRefused` for a line of the script, and `OutOfMemory` come
+/// before anything is written. `OutputUnwritable` has the writer's error: it comes only where there was text to write, of which the writer
+/// may have got the beginning.
+pub fn run_com<W: Write>(
+    alloc: Global,
+    start: Start,
+    script: Option<Script<'_>>,
+    steps: u64,
+    out: &mut W,
+) -> Result<Ran, HostError>
+    // Text, ending and drives are those of the machine run alone.
+    ensures text { OnOk result (Appends (W.contents out.old) (W.contents out.new)
+        (text_of (ran_alone (given start) (keys_given script.entry) steps))) }
+    ensures ending { IfOk result (λ r. r.ending ≡ ending_of (ran_alone (given start) (keys_given script.entry) steps)) }
+    ensures drives { IfOk result (λ r. r.drives.items ≡ images_of (ran_alone (given start) (keys_given script.entry) steps).cpm.disks) }
+    ensures script { IfOk result (λ _. HasScript script.entry (keys_given script.entry)) }
+
+    ensures too_long { IsErrOf result (HostError.ProgramTooLong (length (given start).program))
+        ↔ (58112 < length (given start).program) }
+    ensures refusal { IfErr result (λ e. IsComRefusal (given start) script.entry steps e out.old out.new) }
+{
+    let mut machine = machine_of(alloc, start)?;
+    let keys = keys_of(alloc, script)?;
     let system = Image::blank(alloc, Format::Ibm3740)?;
     match play_machine(&system, &mut machine, keys.as_slice(), steps, out) {
-        Ok(()) => Ok(Ending::of(&machine)),
+        Ok(()) => Ok(left_of(machine)),
         Err(error) => Err(HostError::OutputUnwritable(error)),
     }
+}
+
+/// What is left of a machine.
+pub(crate) fn left_of(machine: Machine) -> Ran
+    ensures ending { result.ending ≡ ending_of machine }
+    ensures drives { result.drives.items ≡ images_of machine.cpm.disks }
+{
+    let ending = Ending::of(&machine);
+    let Closed { drives, .. } = machine.finish();
+    Ran { ending, drives }
 }

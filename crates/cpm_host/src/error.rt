@@ -1,15 +1,16 @@
 //! Why a command is refused.
 ghost use Rattle.std.specs.Prelude.{◌≡◌};
 ghost use Rattle.cpm_host.specs.declared.error.HostError.TheVariants.{OutOfMemory};
-ghost use Rattle.cpm_host.specs.Refusals.{status_of, host_error_of, host_error_of_config, host_error_of_debug, host_error_of_opening, host_error_of_reading};
+ghost use Rattle.cpm_host.specs.Refusals.{status_of, host_error_of, host_error_of_config, host_error_of_debug, host_error_of_filing, host_error_of_live, host_error_of_opening, host_error_of_reading};
 
-use crate::damage::Damage;
 use cpm_asm::AsmErrorKind;
 use cpm_batch::ReadError;
 use cpm_command::{Fault, UsageError, Word};
 use cpm_config::ConfigError;
 use cpm_debug::DebugError;
+use cpm_filing::{Damage, FilingError};
 use cpm_slots::OpenError;
+use cpm_turns::LiveError;
 use std::alloc::{AllocError, AllocFailed};
 use std::{fmt, io};
 use thiserror::Error;
@@ -23,6 +24,15 @@ pub enum HostError {
     /// A word of the command line is no text.
     #[error("HO1 an argument is not UTF-8 text; try 'cpmhost --help'")]
     NotText,
+    /// The configuration has no session of this name.
+    #[error("HO1 the configuration has no session '{0}'")]
+    NoSession(Word),
+    /// The session of this name is forked, so that its first keys are those of another.
+    #[error("HO1 session '{0}' is forked: its keys can't be typed, but those of the session that it is forked from")]
+    NotOpened(Word),
+    /// A word is no part of a command's tail.
+    #[error("HO1 '{0}' is no part of a command's tail: characters from ' ' to '~' are wanted, and at most 126 in all")]
+    TailRefused(Word),
     /// The configuration is refused.
     #[error("HO2 {0}")]
     ConfigRefused(ConfigError),
@@ -32,6 +42,9 @@ pub enum HostError {
         name: Word,
         damage: Damage,
     },
+    /// A command on disk images is refused: HO1 a name, HO6 an image or what was asked of it.
+    #[error("{0}")]
+    DiskRefused(FilingError),
     /// A file of a run is refused: HO3 a key script, HO4 what can't be read, HO6 an image.
     #[error("{0}")]
     FileRefused(ReadError),
@@ -47,12 +60,18 @@ pub enum HostError {
     /// Standard output can't be written.
     #[error("HO5 can't write to standard output: {0}")]
     OutputUnwritable(io::Error),
+    /// The record of the keys can't be written.
+    #[error("HO5 can't write the record of the keys: {0}")]
+    RecordUnwritable(io::Error),
     /// A file can't be written.
     #[error("HO5 can't write '{name}': {reason}")]
     FileUnwritable {
         name: Word,
         reason: io::Error,
     },
+    /// Several files were to go to this file.
+    #[error("HO5 can't write several files to '{0}': it is no folder")]
+    NotAFolder(Word),
     /// A file of a run can't be written.
     #[error("HO5 can't write '{0}'")]
     WriteFault(Word),
@@ -129,12 +148,19 @@ impl HostError {
         ensures { result ≡ status_of self.now }
     {
         match self {
-            HostError::Usage(_) | HostError::NotText => 1,
+            HostError::Usage(_)
+            | HostError::NotText
+            | HostError::NoSession(_)
+            | HostError::NotOpened(_)
+            | HostError::TailRefused(_) => 1,
             HostError::ConfigRefused(_) => 2,
+            HostError::DiskRefused(error) => error.status(),
             HostError::FileRefused(error) => error.status(),
             HostError::FileUnreadable { .. } | HostError::InputUnreadable(_) => 4,
             HostError::OutputUnwritable(_)
+            | HostError::RecordUnwritable(_)
             | HostError::FileUnwritable { .. }
+            | HostError::NotAFolder(_)
             | HostError::WriteFault(_) => 5,
             HostError::ImageDamaged { .. } => 6,
             HostError::SourceRefused { .. } => 7,
@@ -165,6 +191,31 @@ impl From<ConfigError> for HostError {
         match error {
             ConfigError::OutOfMemory => HostError::OutOfMemory,
             fault => HostError::ConfigRefused(fault),
+        }
+    }
+}
+
+impl From<FilingError> for HostError {
+    ghost from_gives = { λ f e. e ≡ host_error_of_filing f };
+
+    fn from(error: FilingError) -> HostError {
+        match error {
+            FilingError::OutOfMemory => HostError::OutOfMemory,
+            FilingError::OutputUnwritable(reason) => HostError::OutputUnwritable(reason),
+            fault => HostError::DiskRefused(fault),
+        }
+    }
+}
+
+impl From<LiveError> for HostError {
+    ghost from_gives = { λ l e. e ≡ host_error_of_live l };
+
+    fn from(error: LiveError) -> HostError {
+        match error {
+            LiveError::Unreadable(reason) => HostError::InputUnreadable(reason),
+            LiveError::Unwritable(reason) => HostError::OutputUnwritable(reason),
+            LiveError::Unrecorded(reason) => HostError::RecordUnwritable(reason),
+            LiveError::OutOfMemory => HostError::OutOfMemory,
         }
     }
 }

@@ -5,6 +5,7 @@ ghost use Rattle.cpm_store.specs.Files.{CountsFailure};
 
 use crate::output::Outputs;
 use crate::refused::Behind;
+use crate::typing::TYPED;
 use cpm_host::{Config, HostError, Store, StoreError, read_whole, shown};
 use std::alloc::Global;
 use std::io::ErrorKind;
@@ -43,7 +44,7 @@ pub fn write_file(
 }
 
 /// Fails where a file of this name can't be written.
-fn check_file(
+pub fn check_file(
     rt: &(impl Files + AllocGlobal),
     outputs: Outputs,
     name: &str,
@@ -79,7 +80,7 @@ pub fn check_outputs(
 }
 
 /// Why a file was not written.
-fn unwritable(name: &str, reason: io::Error) -> HostError
+pub fn unwritable(name: &str, reason: io::Error) -> HostError
     ensures { IsOutRefusal result ⊎ (result ≡ HostError.OutOfMemory) }
 {
     if reason.kind() == ErrorKind::OutOfMemory {
@@ -111,18 +112,21 @@ fn unreadable(name: &str, reason: io::Error) -> HostError
 pub struct MachineFiles<'a, R: Files + AllocGlobal> {
     rt: &'a R,
     outputs: Outputs,
+    /// The script of a session whose keys were typed.
+    typed: Option<Vec<u8>>,
     failures: u64,
     reason: Option<io::Error>,
 }
 
 impl<'a, R: Files + AllocGlobal> MachineFiles<'a, R> {
-    /// The files, of which no call has failed yet.
-    pub fn new(rt: &'a R, outputs: Outputs) -> MachineFiles<'a, R>
+    /// The files, of which no call has failed yet, and the script of the session whose keys were typed.
+    pub fn new(rt: &'a R, outputs: Outputs, typed: Option<Vec<u8>>) -> MachineFiles<'a, R>
         ensures { result.failures ≡ 0 }
     {
         MachineFiles {
             rt,
             outputs,
+            typed,
             failures: 0,
             reason: None,
         }
@@ -134,6 +138,17 @@ impl<'a, R: Files + AllocGlobal> MachineFiles<'a, R> {
             Some(reason) => Behind::Reason(reason),
             None => Behind::Nothing,
         }
+    }
+
+    /// The script of the session whose keys were typed.
+    fn typed_script(&self, alloc: Global) -> Result<Vec<u8>, StoreError> {
+        let mut text = Vec::new(alloc);
+        if let Some(typed) = &self.typed
+            && text.extend_from_slice(typed).is_err()
+        {
+            return Err(StoreError::OutOfMemory);
+        }
+        Ok(text)
     }
 
     /// What a call answers that failed so, which is counted but for want of memory.
@@ -160,6 +175,9 @@ impl<R: Files + AllocGlobal> Store for MachineFiles<'_, R> {
     ghost does = { λ _ _ _. ⊤ };
 
     fn read(&mut self, alloc: Global, name: &str) -> Result<Vec<u8>, StoreError> {
+        if name == TYPED {
+            return self.typed_script(alloc);
+        }
         match whole_file(self.rt, alloc, name) {
             Ok(bytes) => Ok(bytes),
             Err(reason) => Err(self.fault(reason)),

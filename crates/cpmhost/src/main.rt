@@ -4,22 +4,27 @@
 ghost use Rattle.std.specs.Prelude.{IfErr};
 ghost use Rattle.cpm_host.specs.Refusals.{IsWordRefusal};
 
+mod com;
+mod disk;
 mod files;
 mod output;
 mod place;
 mod refused;
 mod screen;
+mod typing;
 
+use com::{ComWords, com};
 use cpm_flags::Cpu;
 use cpm_host::{
-    Config, HostError, Script, Task, command, help, run_asm, run_check, run_com, run_debug,
-    run_host, run_list,
+    Config, HostError, Task, command, help, run_asm, run_check, run_debug, run_host, run_list,
 };
+use disk::do_disk;
 use files::{MachineFiles, check_outputs, read_file, write_file};
 use output::Outputs;
 use place::{check_apart, check_pair};
 use refused::{Behind, Refused};
 use screen::Screen;
+use typing::type_in;
 use std::env::Env;
 use std::io::{BufReader, BufWriter, ErrorKind, IsTerminal};
 use std::process::{self, ExitCode};
@@ -42,18 +47,41 @@ fn arguments(rt: &(impl Env + AllocGlobal)) -> Result<Vec<String>, HostError>
     }
 }
 
-/// Runs the sessions of the configuration in a file, and prints how each ended, and the bytes at which one ended that are no instruction.
+/// The words behind `run`.
+#[derive(Clone, Copy)]
+struct RunWords<'a> {
+    config: &'a str,
+    keyboard: Option<&'a str>,
+    record: Option<&'a str>,
+}
+
+/// Runs the sessions of the configuration in a file, one of them by the keys of standard input if that is asked.
 fn run_sessions(
+    rt: &(impl Files + Input + Print + Eprint + AllocGlobal),
+    outputs: Outputs,
+    words: RunWords<'_>,
+    is_screen: bool,
+) -> Result<(), Refused> {
+    let text = read_file(rt, words.config)?;
+    let mut config = Config::read(rt.alloc(), text.as_slice()).map_err(HostError::from)?;
+    check_outputs(rt, outputs, &config)?;
+    check_apart(rt, words.config, &config, words.record)?;
+    let typed = match words.keyboard {
+        Some(name) => Some(type_in(rt, &mut config, name, words.record, is_screen)?),
+        None => None,
+    };
+    play_sessions(rt, outputs, &config, typed)
+}
+
+/// Runs the sessions of a configuration, and prints how each ended, and the bytes at which one ended that are no instruction.
+fn play_sessions(
     rt: &(impl Files + Print + Eprint + AllocGlobal),
     outputs: Outputs,
-    file: &str,
+    config: &Config,
+    typed: Option<Vec<u8>>,
 ) -> Result<(), Refused> {
-    let text = read_file(rt, file)?;
-    let config = Config::read(rt.alloc(), text.as_slice()).map_err(HostError::from)?;
-    check_outputs(rt, outputs, &config)?;
-    check_apart(rt, file, &config)?;
-    let mut files = MachineFiles::new(rt, outputs);
-    let report = match run_host(rt.alloc(), &config, &mut files) {
+    let mut files = MachineFiles::new(rt, outputs, typed);
+    let report = match run_host(rt.alloc(), config, &mut files) {
         Ok(report) => report,
         Err(error) => {
             let behind = files.behind();
@@ -70,63 +98,6 @@ fn run_sessions(
     Ok(())
 }
 
-/// Runs a program by the keys of a script, if there is one, prints what it shows, and then how it ended. A screen gets its control bytes
-/// as text.
-fn play(
-    rt: &(impl Print + Eprint + AllocGlobal),
-    cpu: Cpu,
-    program: Vec<u8>,
-    script: Option<Script<'_>>,
-    steps: u64,
-    is_screen: bool,
-) -> Result<(), HostError> {
-    let ending = if is_screen {
-        let mut screen = Screen::new(io::writer(rt));
-        run_com(rt.alloc(), cpu, program, script, steps, &mut screen)?
-    } else {
-        run_com(rt.alloc(), cpu, program, script, steps, &mut io::writer(rt))?
-    };
-    // The program ran and its text is out, even where nobody reads how it ended.
-    if let Some(illegal) = ending.illegal() {
-        let _ = eprintln!(rt; "{illegal}");
-    }
-    let _ = eprintln!(rt; "{ending}");
-    Ok(())
-}
-
-/// Runs a program by the keys of the script in a file.
-fn play_script(
-    rt: &(impl Files + Print + Eprint + AllocGlobal),
-    cpu: Cpu,
-    program: Vec<u8>,
-    name: &str,
-    steps: u64,
-    is_screen: bool,
-) -> Result<(), HostError> {
-    let text = read_file(rt, name)?;
-    let script = Script {
-        name,
-        text: text.as_slice(),
-    };
-    play(rt, cpu, program, Some(script), steps, is_screen)
-}
-
-/// Runs the program in a file.
-fn com(
-    rt: &(impl Files + Print + Eprint + AllocGlobal),
-    file: &str,
-    cpu: Cpu,
-    keys: Option<&str>,
-    steps: u64,
-    is_screen: bool,
-) -> Result<(), HostError> {
-    let program = read_file(rt, file)?;
-    match keys {
-        None => play(rt, cpu, program, None, steps, is_screen),
-        Some(name) => play_script(rt, cpu, program, name, steps, is_screen),
-    }
-}
-
 /// Assembles the source in a file, and writes its image to another.
 fn asm(
     rt: &(impl Files + AllocGlobal),
@@ -141,11 +112,15 @@ fn asm(
     Ok(())
 }
 
-/// Prints the program in a file as instructions of the 8080.
-fn list(rt: &(impl Files + Print + AllocGlobal), file: &str) -> Result<(), HostError> {
+/// Prints the program in a file as instructions of a processor.
+fn list(
+    rt: &(impl Files + Print + AllocGlobal),
+    file: &str,
+    cpu: Cpu,
+) -> Result<(), HostError> {
     let program = read_file(rt, file)?;
     match BufWriter::new(rt.alloc(), io::writer(rt)) {
-        Ok(mut out) => run_list(program.as_slice(), &mut out),
+        Ok(mut out) => run_list(cpu, program.as_slice(), &mut out),
         Err(_) => Err(HostError::OutOfMemory),
     }
 }
@@ -196,15 +171,45 @@ fn do_words(
     match command(rt.alloc(), words).map_err(HostError::from)? {
         Task::Com {
             file,
+            tail,
             cpu,
             steps,
             keys,
-        } => com(rt, file, cpu, keys, steps, is_screen)?,
+            drives,
+            outs,
+            is_live,
+            record,
+        } => {
+            let words = ComWords {
+                file,
+                tail: &tail,
+                cpu,
+                steps,
+                keys,
+                drives: &drives,
+                outs: &outs,
+                is_live,
+                record,
+            };
+            com(rt, outputs, words, is_screen)?;
+        }
         Task::Asm { source, out } => asm(rt, outputs, source, out)?,
-        Task::List { file } => list(rt, file)?,
+        Task::List { file, cpu } => list(rt, file, cpu)?,
         Task::Check { image } => check(rt, image)?,
-        Task::Run { config } => run_sessions(rt, outputs, config)?,
+        Task::Run {
+            config,
+            keyboard,
+            record,
+        } => {
+            let words = RunWords {
+                config,
+                keyboard,
+                record,
+            };
+            run_sessions(rt, outputs, words, is_screen)?;
+        }
         Task::Debug { file, cpu } => debug(rt, file, cpu, is_screen)?,
+        Task::Disk(task) => do_disk(rt, outputs, &task)?,
     }
     Ok(())
 }

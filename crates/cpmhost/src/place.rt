@@ -1,9 +1,11 @@
 //! Which file of the machine a name is of, by whatever spelling or link.
 
+use crate::com::ComWords;
+use crate::disk::Taken;
 use crate::output::target_of;
 use crate::refused::{Behind, Refused};
 use cpm_host::{Config, HostError, Origin, shown};
-use std::alloc::AllocError;
+use std::alloc::{AllocError, Global};
 use std::fs;
 use std::io::ErrorKind;
 use std::os::unix::fs::MetadataExt;
@@ -77,6 +79,13 @@ struct Looked<'a> {
 }
 
 impl<'a> Looked<'a> {
+    fn new(alloc: Global) -> Looked<'a> {
+        Looked {
+            inputs: Vec::new(alloc),
+            outputs: Vec::new(alloc),
+        }
+    }
+
     fn add_input(
         &mut self,
         rt: &(impl Files + AllocGlobal),
@@ -136,10 +145,7 @@ fn inputs_of<'a>(
     file: &'a str,
     config: &'a Config,
 ) -> Result<Looked<'a>, Refused> {
-    let mut looked = Looked {
-        inputs: Vec::new(rt.alloc()),
-        outputs: Vec::new(rt.alloc()),
-    };
+    let mut looked = Looked::new(rt.alloc());
     looked.add_input(rt, file, false)?;
     looked.add_input(rt, config.system.as_str(), true)?;
     for session in &config.sessions {
@@ -155,12 +161,13 @@ fn inputs_of<'a>(
     Ok(looked)
 }
 
-/// Refuses a run of the configuration in a file that would write one file twice, or write over what it reads, under whatever names. An
+/// Refuses a run of the configuration in a file, with this record of typed keys, that would write one file twice, or write over what it reads, under whatever names. An
 /// image may be written where one was read.
 pub fn check_apart(
     rt: &(impl Files + AllocGlobal),
     file: &str,
     config: &Config,
+    record: Option<&str>,
 ) -> Result<(), Refused> {
     let mut looked = inputs_of(rt, file, config)?;
     for session in &config.sessions {
@@ -174,6 +181,9 @@ pub fn check_apart(
             }
         }
     }
+    if let Some(record) = record {
+        looked.add_output(rt, record, false)?;
+    }
     Ok(())
 }
 
@@ -186,6 +196,39 @@ pub fn check_pair(
     let read = place_of(rt, input)?;
     if read.is_some() && read == place_of(rt, output)? {
         return Err(twin(output, Behind::Input(shown(input))));
+    }
+    Ok(())
+}
+
+/// Refuses files taken out of an image that would be written over it, or over each other.
+pub fn check_taken(
+    rt: &(impl Files + AllocGlobal),
+    image: &str,
+    all: &[Taken],
+) -> Result<(), Refused> {
+    let mut looked = Looked::new(rt.alloc());
+    looked.add_input(rt, image, true)?;
+    for taken in all {
+        looked.add_output(rt, taken.path.as_str(), false)?;
+    }
+    Ok(())
+}
+
+/// Refuses a program's run that would write over what it reads, or one file twice. An image may be written where one was read.
+pub fn check_com(rt: &(impl Files + AllocGlobal), words: ComWords<'_>) -> Result<(), Refused> {
+    let mut looked = Looked::new(rt.alloc());
+    looked.add_input(rt, words.file, false)?;
+    if let Some(keys) = words.keys {
+        looked.add_input(rt, keys, false)?;
+    }
+    for drive in words.drives {
+        looked.add_input(rt, drive, true)?;
+    }
+    for out in words.outs {
+        looked.add_output(rt, out, true)?;
+    }
+    if let Some(record) = words.record {
+        looked.add_output(rt, record, false)?;
     }
     Ok(())
 }

@@ -1,6 +1,7 @@
 //! A refusal with what the machine says of it.
 ghost use Rattle.std.specs.Prelude.{◌≡◌};
 
+use cpm_filing::FilingError;
 use cpm_host::{HostError, Word};
 use std::alloc::{AllocError, AllocFailed};
 use std::{fmt, io};
@@ -45,6 +46,12 @@ impl From<HostError> for Refused {
             error,
             behind: Behind::Nothing,
         }
+    }
+}
+
+impl From<FilingError> for Refused {
+    fn from(error: FilingError) -> Refused {
+        Refused::from(HostError::from(error))
     }
 }
 

@@ -1,0 +1,127 @@
+//! A program, or a session, whose keys are typed.
+
+ghost use Rattle.std.specs.Prelude.{◌≡◌, ◌≤◌, IfErr, IfOk, length};
+ghost use Rattle.std.specs.Io.KnownBytes.{Appends};
+ghost use Rattle.cpm_disks.specs.Disks.{images_of};
+ghost use Rattle.cpm_geom.specs.Disk.{blank_disk};
+ghost use Rattle.cpm_script.specs.Recording.{AreTyped, recorded};
+ghost use Rattle.cpm_turns.specs.Playing.{IsFresh, alone_by};
+ghost use Rattle.cpm_host.specs.Com.{ending_of, given, machine_of, text_of};
+ghost use Rattle.cpm_host.specs.Live.{IsLiveRefusal, IsPlayedLive, IsTypedRefusal, IsSessionRefusal, begun};
+
+use crate::com::{Ran, Start, left_of, machine_of};
+use crate::error::HostError;
+use cpm_command::shown;
+use cpm_geom::{Format, Image};
+use cpm_script::Key;
+use cpm_slots::{Machine, OpenError, Opening};
+use cpm_turns::{Live, play_live};
+use std::alloc::Global;
+use std::io::{Read, Write};
+
+/// What was typed, and what came of it: it is the machine run alone by these keys for so many steps.
+#[derive(Drop)]
+pub struct Typed {
+    pub ran: Ran,
+    pub keys: Vec<Key>,
+    pub steps: u64,
+}
+
+/// The most keys that a script has.
+pub const MOST_SCRIPT: usize = 4096;
+
+/// Plays a machine by the keys that are typed, at most so many, and for at most `steps` steps.
+fn play_typed<I: Read, W: Write, S: Write>(
+    alloc: Global,
+    system: &Image,
+    machine: Machine,
+    (steps, most_keys): (u64, usize),
+    input: &mut I,
+    out: &mut W,
+    record: &mut S,
+) -> Result<Typed, HostError>
+    requires { IsFresh machine }
+    ensures played { IfOk result (λ t. IsPlayedLive system.now machine steps most_keys t (W.contents out.old) (W.contents out.new) (S.contents record.old) (S.contents record.new)) }
+    ensures refusal { IfErr result (IsTypedRefusal system.now machine steps) }
+{
+    let mut machine = machine;
+    let Live { keys, steps } = play_live(
+        alloc,
+        system,
+        &mut machine,
+        steps,
+        most_keys,
+        input,
+        out,
+        record,
+    )?;
+    Ok(Typed {
+        ran: left_of(machine),
+        keys,
+        steps,
+    })
+}
+
+/// Runs a program on a machine of its own, with a blank system drive and the keys that are typed on `input`, at most `most_keys`, for at most
+/// `steps` steps. It writes what the program shows as it comes, and each key to `record` as a line of a key script. What it sends to its list
+/// device is dropped.
+///
+/// `ProgramTooLong`, `OpeningRefused` for more than four drives, and `OutOfMemory` for the machine come before anything is read.
+/// `InputUnreadable`, `OutputUnwritable` and `RecordUnwritable` have the errors of the three.
+pub fn run_live<I: Read, W: Write, S: Write>(
+    alloc: Global,
+    start: Start,
+    steps: u64,
+    most_keys: usize,
+    input: &mut I,
+    out: &mut W,
+    record: &mut S,
+) -> Result<Typed, HostError>
+    ensures played { IfOk result (λ t. IsPlayedLive (blank_disk Format.Ibm3740) (machine_of (given start)) steps most_keys t (W.contents out.old) (W.contents out.new) (S.contents record.old) (S.contents record.new)) }
+    ensures refusal { IfErr result (IsLiveRefusal (given start) steps) }
+{
+    let machine = machine_of(alloc, start)?;
+    let system = Image::blank(alloc, Format::Ibm3740)?;
+    play_typed(alloc, &system, machine, (steps, most_keys), input, out, record)
+}
+
+/// A session of a configuration that is played by itself.
+#[derive(Drop)]
+pub struct SessionStart<'a> {
+    pub name: &'a str,
+    pub opening: Opening,
+    pub steps: u64,
+}
+
+/// Plays a session by itself, with this system drive and the keys that are typed on `input`, at most as many as a script has. It writes what
+/// the session shows as it comes, and each key to `record` as a line of a key script.
+///
+/// `SessionRefused` has the fault of the opening. The others are as of `run_live`.
+pub fn type_session<I: Read, W: Write, S: Write>(
+    alloc: Global,
+    system: &Image,
+    start: SessionStart<'_>,
+    input: &mut I,
+    out: &mut W,
+    record: &mut S,
+) -> Result<Typed, HostError>
+    ensures played { IfOk result (λ t. IsPlayedLive system.now (begun start) start.steps 4096 t (W.contents out.old) (W.contents out.new) (S.contents record.old) (S.contents record.new)) }
+    ensures refusal { IfErr result (IsSessionRefusal system.now start) }
+{
+    let SessionStart {
+        name,
+        opening,
+        steps,
+    } = start;
+    let machine = match Machine::new(alloc, opening) {
+        Ok(machine) => machine,
+        Err((_, OpenError::OutOfMemory)) => return Err(HostError::OutOfMemory),
+        Err((_, fault)) => {
+            return Err(HostError::SessionRefused {
+                name: shown(name),
+                fault,
+            });
+        }
+    };
+    play_typed(alloc, system, machine, (steps, MOST_SCRIPT), input, out, record)
+}

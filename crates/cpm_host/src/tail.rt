@@ -1,0 +1,57 @@
+//! The tail of a command, of words.
+
+ghost use Rattle.std.specs.Prelude.{◌≡◌, ◌≤◌, [], MatchResult, Ok, OnOk, length, map};
+ghost use Rattle.std.specs.List.{list_all};
+ghost use Rattle.cpm_host.specs.Tails.{fits, is_typed, tail_from, with_word, IsTailRefusal};
+
+use crate::error::HostError;
+use cpm_command::shown;
+use cpm_slots::Tail;
+use std::alloc::{AllocError, Global};
+
+/// The most bytes that a tail has.
+const MOST_TAIL: usize = 126;
+
+/// The tail that the words behind a program's name make on a command line: each behind a blank, in capitals. `TailRefused` has the first
+/// word with a character that is none from ` ` to `~`, or for which there is no room.
+pub fn tail_of(alloc: Global, words: &[&str]) -> Result<Tail, HostError>
+    ensures { MatchResult result
+        (λ tail. tail_from [] (map (λ w. w.now) words.now) ≡ Ok tail.text.items)
+        (IsTailRefusal (map (λ w. w.now) words.now)) }
+{
+    let mut text = Vec::new(alloc);
+    for word in words {
+        if !fits(&text, word) {
+            return Err(HostError::TailRefused(shown(word)));
+        }
+        add_word(&mut text, word)?;
+    }
+    Ok(Tail::new(&text).unwrap())
+}
+
+/// Whether a word may stand behind this tail.
+#[tactic(auto, unfolding(crate::specs::Tails::fits))]
+fn fits(text: &[u8], word: &str) -> bool
+    requires { length text.now ≤ 126 }
+    ensures { result ≡ fits text.now word.now }
+{
+    is_typed(word.as_bytes()) && word.len() < MOST_TAIL - text.len()
+}
+
+/// Whether each character is one that is typed.
+fn is_typed(word: &[u8]) -> bool
+    ensures { result ≡ list_all is_typed word.now }
+{
+    word.iter().all(|c| b' ' <= *c && *c < 0x7F)
+}
+
+/// Adds a word behind a blank, in capitals.
+fn add_word(text: &mut Vec<u8>, word: &str) -> Result<(), AllocError>
+    ensures { OnOk result (text.new.items ≡ with_word text.old.items word.now) }
+{
+    text.push(b' ')?;
+    for c in word.as_bytes() {
+        text.push(c.to_ascii_uppercase())?;
+    }
+    Ok(())
+}

@@ -1,0 +1,155 @@
+//! The command `com`: a program is run by the keys of a script, or as they are typed.
+
+use crate::disk::read_image;
+use crate::files::{check_file, read_file, write_file};
+use crate::output::Outputs;
+use crate::place::check_com;
+use crate::refused::Refused;
+use crate::screen::Screen;
+use crate::typing::{record_in, tell_quit};
+use cpm_flags::Cpu;
+use cpm_geom::Image;
+use cpm_host::{Ending, HostError, Ran, Script, Start, run_com, run_live, tail_of};
+use std::io;
+use std::io::BufReader;
+use std::rt::Files;
+
+/// How many steps a program has at most where nobody says.
+const STEPS: u64 = 1_000_000;
+
+/// The words behind `com`.
+#[derive(Clone, Copy)]
+pub struct ComWords<'a> {
+    pub file: &'a str,
+    pub tail: &'a [&'a str],
+    pub cpu: Cpu,
+    pub steps: Option<u64>,
+    pub keys: Option<&'a str>,
+    pub drives: &'a [&'a str],
+    pub outs: &'a [&'a str],
+    pub is_live: bool,
+    pub record: Option<&'a str>,
+}
+
+/// Runs the program in a file, prints what it shows, writes its drives where that is asked, and prints how it ended.
+pub fn com(
+    rt: &(impl Files + Input + Print + Eprint + AllocGlobal),
+    outputs: Outputs,
+    words: ComWords<'_>,
+    is_screen: bool,
+) -> Result<(), Refused> {
+    let start = start_of(rt, words)?;
+    check_com(rt, words)?;
+    for out in words.outs {
+        check_file(rt, outputs, out)?;
+    }
+    let ran = if words.is_live {
+        play_keyboard(rt, words, start, is_screen)?
+    } else {
+        play_script(rt, words, start, is_screen)?
+    };
+    write_drives(rt, outputs, words.outs, ran.drives)?;
+    tell(rt, ran.ending);
+    Ok(())
+}
+
+/// What the program runs with.
+fn start_of(rt: &(impl Files + AllocGlobal), words: ComWords<'_>) -> Result<Start, Refused> {
+    let program = read_file(rt, words.file)?;
+    let tail = if words.tail.is_empty() && words.drives.is_empty() {
+        None
+    } else {
+        Some(tail_of(rt.alloc(), words.tail)?)
+    };
+    let mut drives = Vec::new(rt.alloc());
+    for name in words.drives {
+        drives.push(read_image(rt, name)?)?;
+    }
+    Ok(Start {
+        cpu: words.cpu,
+        program,
+        tail,
+        drives,
+    })
+}
+
+/// Runs a program by the keys of the script in a file, if there is one. A screen gets its control bytes as text.
+fn play_script(
+    rt: &(impl Files + Print + AllocGlobal),
+    words: ComWords<'_>,
+    start: Start,
+    is_screen: bool,
+) -> Result<Ran, Refused> {
+    let steps = words.steps.unwrap_or(STEPS);
+    let Some(name) = words.keys else {
+        return play(rt, start, None, steps, is_screen);
+    };
+    let text = read_file(rt, name)?;
+    let script = Script {
+        name,
+        text: text.as_slice(),
+    };
+    play(rt, start, Some(script), steps, is_screen)
+}
+
+/// Runs a program by the keys of a script.
+fn play(
+    rt: &(impl Print + AllocGlobal),
+    start: Start,
+    script: Option<Script<'_>>,
+    steps: u64,
+    is_screen: bool,
+) -> Result<Ran, Refused> {
+    let ran = if is_screen {
+        let mut screen = Screen::new(io::writer(rt));
+        run_com(rt.alloc(), start, script, steps, &mut screen)?
+    } else {
+        run_com(rt.alloc(), start, script, steps, &mut io::writer(rt))?
+    };
+    Ok(ran)
+}
+
+/// Runs a program by the keys of standard input, and records them if that is asked.
+fn play_keyboard(
+    rt: &(impl Files + Input + Print + Eprint + AllocGlobal),
+    words: ComWords<'_>,
+    start: Start,
+    is_screen: bool,
+) -> Result<Ran, Refused> {
+    let mut record = record_in(rt, words.record)?;
+    let most_keys = record.most_keys();
+    let steps = words.steps.unwrap_or(u64::MAX);
+    tell_quit(rt);
+    let Ok(mut input) = BufReader::new(rt.alloc(), rt.reader()) else {
+        return Err(Refused::from(HostError::OutOfMemory));
+    };
+    let typed = if is_screen {
+        let mut screen = Screen::new(io::writer(rt));
+        run_live(rt.alloc(), start, steps, most_keys, &mut input, &mut screen, &mut record)?
+    } else {
+        let mut out = io::writer(rt);
+        run_live(rt.alloc(), start, steps, most_keys, &mut input, &mut out, &mut record)?
+    };
+    Ok(typed.ran)
+}
+
+/// Writes the first drives to files, as many as these are.
+fn write_drives(
+    rt: &(impl Files + AllocGlobal),
+    outputs: Outputs,
+    outs: &[&str],
+    drives: Vec<Image>,
+) -> Result<(), Refused> {
+    for (out, image) in outs.iter().zip(drives) {
+        write_file(rt, outputs, out, &image.into_bytes())?;
+    }
+    Ok(())
+}
+
+/// Prints how a program ended. It ran and its text is out, even where nobody reads that.
+fn tell(rt: &impl Eprint, ending: Ending) {
+    if let Some(illegal) = ending.illegal() {
+        let _ = eprintln!(rt; "{illegal}");
+    }
+    let _ = eprintln!(rt; "{ending}");
+}

@@ -1,0 +1,258 @@
+//! The commands on disk images: files of the machine are put into them and taken out.
+
+ghost use Rattle.std.specs.Prelude.{◌≡◌, ◌<◌};
+ghost use Rattle.cpm_command.specs.DiskLine.{HasUser};
+
+use crate::files::{check_file, read_file, write_file};
+use crate::output::Outputs;
+use crate::place::check_taken;
+use crate::refused::Refused;
+use cpm_filing::{
+    FilingError, base_name, file_name, get_file, host_name, image_of, list_files, matching_files,
+    new_image, put_file, remove_file, rename_file, split_pair, write_list,
+};
+use cpm_geom::Image;
+use cpm_host::{DiskTask, HostError, shown};
+use cpm_shelf::FileName;
+use std::io::ErrorKind;
+use std::path::Path;
+use std::rt::Files;
+use std::{fs, io};
+
+/// Does what a command on disk images asks for.
+pub fn do_disk(
+    rt: &(impl Files + Print + AllocGlobal),
+    outputs: Outputs,
+    task: &DiskTask<'_>,
+) -> Result<(), Refused>
+    requires { HasUser task.now }
+{
+    match task {
+        DiskTask::New { image, is_large } => new(rt, outputs, image, *is_large),
+        DiskTask::List { image, user } => list(rt, image, *user),
+        DiskTask::Put {
+            image,
+            files,
+            user,
+            is_text,
+            is_read_only,
+            is_system,
+        } => {
+            let how = Putting {
+                is_text: *is_text,
+                is_read_only: *is_read_only,
+                is_system: *is_system,
+            };
+            put(rt, outputs, image, files, *user, how)
+        }
+        DiskTask::Get {
+            image,
+            names,
+            user,
+            is_text,
+            to,
+        } => get(rt, outputs, image, names, *user, *is_text, *to),
+        DiskTask::Remove { image, names, user } => remove(rt, outputs, image, names, *user),
+        DiskTask::Rename {
+            image,
+            change,
+            user,
+        } => rename(rt, outputs, image, change, *user),
+    }
+}
+
+/// The image in a file.
+pub fn read_image(rt: &(impl Files + AllocGlobal), name: &str) -> Result<Image, Refused> {
+    let bytes = read_file(rt, name)?;
+    Ok(image_of(name, bytes)?)
+}
+
+/// Makes a file hold an image.
+fn write_image(
+    rt: &(impl Files + AllocGlobal),
+    outputs: Outputs,
+    name: &str,
+    image: Image,
+) -> Result<(), Refused> {
+    write_file(rt, outputs, name, &image.into_bytes())?;
+    Ok(())
+}
+
+/// Writes a blank image to a file that isn't there yet.
+fn new(
+    rt: &(impl Files + AllocGlobal),
+    outputs: Outputs,
+    name: &str,
+    is_large: bool,
+) -> Result<(), Refused> {
+    if fs::symlink_metadata(rt, name).is_ok() {
+        return Err(Refused::from(HostError::FileUnwritable {
+            name: shown(name),
+            reason: io::Error::from(ErrorKind::AlreadyExists),
+        }));
+    }
+    let image = new_image(rt.alloc(), is_large)?;
+    write_image(rt, outputs, name, image)
+}
+
+/// Lists the files in an image.
+fn list(
+    rt: &(impl Files + Print + AllocGlobal),
+    name: &str,
+    user: Option<u8>,
+) -> Result<(), Refused> {
+    let image = read_image(rt, name)?;
+    let shelf = list_files(rt.alloc(), &image, name)?;
+    write_list(
+        rt.alloc(),
+        image.format(),
+        &shelf,
+        user,
+        &mut io::writer(rt),
+    )?;
+    Ok(())
+}
+
+/// How files are put into an image.
+#[derive(Clone, Copy, Drop)]
+struct Putting {
+    is_text: bool,
+    is_read_only: bool,
+    is_system: bool,
+}
+
+/// Puts files into an image, each FILE or FILE=NAME.TYP; all of them or none.
+fn put(
+    rt: &(impl Files + AllocGlobal),
+    outputs: Outputs,
+    name: &str,
+    words: &[&str],
+    user: u8,
+    how: Putting,
+) -> Result<(), Refused>
+    requires { user < 16 }
+{
+    let mut image = read_image(rt, name)?;
+    for word in words {
+        let (path, inside) = split_pair(word).unwrap_or((word, base_name(word)));
+        let file = file_name(inside, user, how.is_read_only, how.is_system)?;
+        let bytes = read_file(rt, path)?;
+        image = put_file(rt.alloc(), &image, name, &file, how.is_text, &bytes)?;
+    }
+    write_image(rt, outputs, name, image)
+}
+
+/// The files of a user whose names match one of these patterns, each once.
+fn files_named(
+    rt: &impl AllocGlobal,
+    image: &Image,
+    name: &str,
+    patterns: &[&str],
+    user: u8,
+) -> Result<Vec<FileName>, Refused>
+    requires { user < 16 }
+{
+    let shelf = list_files(rt.alloc(), image, name)?;
+    let mut files: Vec<FileName> = Vec::new(rt.alloc());
+    for pattern in patterns {
+        for file in &matching_files(rt.alloc(), &shelf.files, name, user, pattern)? {
+            if !files.contains(file) {
+                files.push(*file)?;
+            }
+        }
+    }
+    Ok(files)
+}
+
+/// A file that was taken out of an image, and where it is to go.
+#[derive(Drop)]
+pub struct Taken {
+    pub path: String,
+    pub bytes: Vec<u8>,
+}
+
+/// Takes files out of an image: into a folder, by their names in small letters, or the one file to a file. Nothing is written before all
+/// of them were read.
+fn get(
+    rt: &(impl Files + AllocGlobal),
+    outputs: Outputs,
+    name: &str,
+    patterns: &[&str],
+    user: u8,
+    is_text: bool,
+    to: Option<&str>,
+) -> Result<(), Refused>
+    requires { user < 16 }
+{
+    let image = read_image(rt, name)?;
+    let files = files_named(rt, &image, name, patterns, user)?;
+    let is_to_file = to.is_some_and(|path| !Path::new(path).is_dir(rt));
+    if is_to_file && files.len() > 1 {
+        return Err(Refused::from(HostError::NotAFolder(shown(to.unwrap_or("")))));
+    }
+    let mut all = Vec::new(rt.alloc());
+    for file in &files {
+        let path = match to {
+            Some(path) if is_to_file => String::from_str(rt.alloc(), path)?,
+            folder => path_in(rt, folder, host_name(name, file)?.as_str())?,
+        };
+        let bytes = get_file(rt.alloc(), &image, name, file, is_text)?;
+        all.push(Taken { path, bytes })?;
+    }
+    check_taken(rt, name, &all)?;
+    for taken in &all {
+        check_file(rt, outputs, taken.path.as_str())?;
+    }
+    for taken in &all {
+        write_file(rt, outputs, taken.path.as_str(), &taken.bytes)?;
+    }
+    Ok(())
+}
+
+/// The path of a file in a folder, or in the current one.
+fn path_in(rt: &impl AllocGlobal, folder: Option<&str>, name: &str) -> Result<String, Refused> {
+    match folder {
+        None => Ok(String::from_str(rt.alloc(), name)?),
+        Some(folder) => {
+            let path = Path::new(folder).join(rt.alloc(), name)?;
+            Ok(String::from_str(rt.alloc(), path.as_path().as_str())?)
+        }
+    }
+}
+
+/// Removes files from an image; all of them or none.
+fn remove(
+    rt: &(impl Files + AllocGlobal),
+    outputs: Outputs,
+    name: &str,
+    patterns: &[&str],
+    user: u8,
+) -> Result<(), Refused>
+    requires { user < 16 }
+{
+    let mut image = read_image(rt, name)?;
+    for file in &files_named(rt, &image, name, patterns, user)? {
+        image = remove_file(rt.alloc(), &image, name, file)?;
+    }
+    write_image(rt, outputs, name, image)
+}
+
+/// Gives a file in an image another name, as NEW=OLD says.
+fn rename(
+    rt: &(impl Files + AllocGlobal),
+    outputs: Outputs,
+    name: &str,
+    change: &str,
+    user: u8,
+) -> Result<(), Refused>
+    requires { user < 16 }
+{
+    let Some((new, old)) = split_pair(change) else {
+        return Err(Refused::from(HostError::from(FilingError::NotPair(shown(change)))));
+    };
+    let new = file_name(new, user, false, false)?;
+    let old = file_name(old, user, false, false)?;
+    let image = read_image(rt, name)?;
+    let image = rename_file(rt.alloc(), &image, name, &old, &new)?;
+    write_image(rt, outputs, name, image)
+}
