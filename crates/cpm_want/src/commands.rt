@@ -7,8 +7,8 @@ use crate::texts::{CONFIG, KEYS, SOURCE};
 use cpm_flags::Cpu;
 use cpm_geom::{Format, Image};
 use cpm_host::{
-    Config, DebugError, HostError, MemoryStore, Script, run_asm, run_com, run_debug, run_host,
-    run_list,
+    Config, DebugError, HostError, MemoryStore, Script, Start, Tail, run_asm, run_com, run_debug,
+    run_host, run_list, run_live, tail_of,
 };
 use std::alloc::{AllocError, Global};
 use std::io;
@@ -34,16 +34,49 @@ impl Write for Counter {
     }
 }
 
+/// A program that prints a letter, with a tail.
+fn start(alloc: Global) -> Result<Start, AllocError> {
+    let mut drives = Vec::new(alloc);
+    drives.push(Image::blank(alloc, Format::Ibm3740)?)?;
+    Ok(Start {
+        cpu: Cpu::I8080,
+        program: letter(alloc)?,
+        tail: Tail::new(b" A.TXT"),
+        drives,
+    })
+}
+
+pub fn tail(alloc: Global) -> Outcome {
+    match tail_of(alloc, &["a.txt", "b:b.txt"]) {
+        Ok(_) => Outcome::Made,
+        Err(HostError::OutOfMemory) => Outcome::Refused,
+        Err(_) => Outcome::Wrong,
+    }
+}
+
+pub fn live(alloc: Global) -> Result<Outcome, AllocError> {
+    let start = start(alloc)?;
+    let mut input: &[u8] = b"a";
+    let mut out = Counter { count: 0 };
+    let mut record = Counter { count: 0 };
+    let live = run_live(alloc, start, 100, 10, &mut input, &mut out, &mut record);
+    Ok(match live {
+        Ok(typed) if typed.ran.ending.count == 7 && out.count == 1 => Outcome::Made,
+        Err(HostError::OutOfMemory) => Outcome::Refused,
+        _ => Outcome::Wrong,
+    })
+}
+
 pub fn com(alloc: Global) -> Result<Outcome, AllocError> {
-    let program = letter(alloc)?;
+    let start = start(alloc)?;
     let script = Script {
         name: "one.keys",
         text: KEYS,
     };
     let mut out = Counter { count: 0 };
     Ok(
-        match run_com(alloc, Cpu::I8080, program, Some(script), 100, &mut out) {
-            Ok(ending) if ending.count == 7 && out.count == 1 => Outcome::Made,
+        match run_com(alloc, start, Some(script), 100, &mut out) {
+            Ok(ran) if ran.ending.count == 7 && out.count == 1 => Outcome::Made,
             Err(HostError::OutOfMemory) => Outcome::refused_if(out.count == 0),
             _ => Outcome::Wrong,
         },
@@ -74,7 +107,7 @@ pub fn debug(alloc: Global) -> Result<Outcome, AllocError> {
 /// It takes no memory.
 pub fn list() -> Outcome {
     let mut out = Counter { count: 0 };
-    match run_list(SOURCE, &mut out) {
+    match run_list(Cpu::Z80, SOURCE, &mut out) {
         Ok(()) if out.count > 0 => Outcome::Made,
         _ => Outcome::Wrong,
     }

@@ -5,7 +5,7 @@ use cpm_console::Console;
 use cpm_flags::Cpu;
 use cpm_geom::{Format, Image};
 use cpm_memory::{FlatMemory, FrameStore};
-use cpm_slots::{Machine, OpenError, Opening};
+use cpm_slots::{Machine, OpenError, Opening, Tail};
 use std::alloc::{AllocError, Global};
 
 /// The byte of the mark in the directory of a drive.
@@ -98,6 +98,21 @@ pub fn machine_with_program(alloc: Global) -> Result<Outcome, AllocError> {
         ),
         Err(_) => Outcome::Wrong,
     })
+}
+
+pub fn machine_with_command(alloc: Global) -> Result<Outcome, AllocError> {
+    let opening = opening(alloc, Cpu::I8080, 256)?;
+    let program = letter(alloc)?;
+    let tail = Tail::new(b" A.TXT").ok_or(AllocError)?;
+    Ok(
+        match Machine::with_command(alloc, opening, program, &tail) {
+            Ok(_) => Outcome::Made,
+            Err((back, program, OpenError::OutOfMemory)) => Outcome::refused_if(
+                program.as_slice() == LETTER && is_handed_back(&back, Cpu::I8080, 256),
+            ),
+            Err(_) => Outcome::Wrong,
+        },
+    )
 }
 
 /// A program that prints a letter and returns.

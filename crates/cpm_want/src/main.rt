@@ -5,6 +5,7 @@
 
 mod commands;
 mod copies;
+mod disks;
 mod hosts;
 mod machines;
 mod stores;
@@ -58,7 +59,7 @@ impl Outcome {
 }
 
 /// The calls, as they are named on the command line.
-const NAMES: [&str; 22] = [
+const NAMES: [&str; 39] = [
     "command",
     "FlatMemory::new",
     "FrameStore::new",
@@ -68,6 +69,7 @@ const NAMES: [&str; 22] = [
     "Cpm::copy",
     "Machine::new",
     "Machine::with_program",
+    "Machine::with_command",
     "Host::new",
     "Host::open",
     "Host::fork",
@@ -77,7 +79,23 @@ const NAMES: [&str; 22] = [
     "Store::read",
     "Store::write",
     "run_host",
+    "put",
+    "get",
+    "remove",
+    "rename",
+    "list",
+    "to_text",
+    "from_text",
+    "new_image",
+    "put_file",
+    "get_file",
+    "remove_file",
+    "rename_file",
+    "matching_files",
+    "write_list",
+    "tail_of",
     "run_com",
+    "run_live",
     "run_asm",
     "run_debug",
     "run_list",
@@ -95,6 +113,7 @@ fn make(alloc: Global, name: &str) -> Result<Outcome, AllocError> {
         "Cpm::copy" => copies::session(alloc),
         "Machine::new" => machines::machine(alloc),
         "Machine::with_program" => machines::machine_with_program(alloc),
+        "Machine::with_command" => machines::machine_with_command(alloc),
         "Host::new" => hosts::new(alloc),
         "Host::open" => hosts::open(alloc),
         "Host::fork" => hosts::fork(alloc),
@@ -104,7 +123,14 @@ fn make(alloc: Global, name: &str) -> Result<Outcome, AllocError> {
         "Store::read" => stores::read(alloc),
         "Store::write" => stores::write(alloc),
         "run_host" => commands::run(alloc),
+        "put" | "get" | "remove" | "rename" | "list" | "to_text" | "from_text" => {
+            disks::of_shelf(alloc, name)
+        }
+        "new_image" | "put_file" | "get_file" | "remove_file" | "rename_file"
+        | "matching_files" | "write_list" => disks::of_filing(alloc, name),
+        "tail_of" => Ok(commands::tail(alloc)),
         "run_com" => commands::com(alloc),
+        "run_live" => commands::live(alloc),
         "run_asm" => Ok(commands::asm(alloc)),
         "run_debug" => commands::debug(alloc),
         "run_list" => Ok(commands::list()),

@@ -1,0 +1,96 @@
+//! The calls on the files of a disk.
+
+use crate::Outcome;
+use cpm_filing::{
+    FilingError, file_name, get_file, list_files, matching_files, new_image, put_file,
+    remove_file, rename_file, write_list,
+};
+use cpm_geom::{Format, Image};
+use cpm_shelf::{FileName, ShelfError, from_text, get, list, put, remove, rename, to_text};
+use std::alloc::{AllocError, Global};
+use std::io;
+
+/// What the file has that stands on the disk, a text.
+const TEXT: &[u8] = b"a line\nand another\n";
+
+/// The name of an image's file.
+const IMAGE: &str = "a.img";
+
+fn file() -> Result<FileName, AllocError> {
+    FileName::new(0, *b"LETTER  TXT").ok_or(AllocError)
+}
+
+fn other() -> Result<FileName, AllocError> {
+    FileName::new(0, *b"OTHER   TXT").ok_or(AllocError)
+}
+
+/// A disk with a file.
+fn disk(alloc: Global) -> Result<Image, AllocError> {
+    let blank = Image::blank(alloc, Format::Ibm3740)?;
+    put(alloc, &blank, &file()?, TEXT).map_err(|_| AllocError)
+}
+
+/// What came of a call on a disk, which is left alone.
+fn came<T: Drop>(result: Result<T, ShelfError>) -> Outcome {
+    match result {
+        Ok(_) => Outcome::Made,
+        Err(ShelfError::OutOfMemory) => Outcome::Refused,
+        Err(_) => Outcome::Wrong,
+    }
+}
+
+/// The same of one that is told.
+fn told<T: Drop>(result: Result<T, FilingError>) -> Outcome {
+    match result {
+        Ok(_) => Outcome::Made,
+        Err(FilingError::OutOfMemory) => Outcome::Refused,
+        Err(_) => Outcome::Wrong,
+    }
+}
+
+/// Makes the call of cpm_shelf of this name.
+pub fn of_shelf(alloc: Global, name: &str) -> Result<Outcome, AllocError> {
+    let disk = disk(alloc)?;
+    Ok(match name {
+        "put" => came(put(alloc, &disk, &other()?, TEXT)),
+        "get" => came(get(alloc, &disk, &file()?)),
+        "remove" => came(remove(alloc, &disk, &file()?)),
+        "rename" => came(rename(alloc, &disk, &file()?, &other()?)),
+        "list" => came(list(alloc, &disk)),
+        "to_text" => came(to_text(alloc, TEXT).map_err(|_| ShelfError::OutOfMemory)),
+        "from_text" => came(from_text(alloc, b"a\r\n\x1A").map_err(|_| ShelfError::OutOfMemory)),
+        _ => Outcome::Wrong,
+    })
+}
+
+/// Makes the call of cpm_filing of this name.
+pub fn of_filing(alloc: Global, name: &str) -> Result<Outcome, AllocError> {
+    let disk = disk(alloc)?;
+    let (file, other) = (file()?, other()?);
+    Ok(match name {
+        "new_image" => told(new_image(alloc, true)),
+        "put_file" => told(put_file(alloc, &disk, IMAGE, &other, true, TEXT)),
+        "get_file" => told(get_file(alloc, &disk, IMAGE, &file, true)),
+        "remove_file" => told(remove_file(alloc, &disk, IMAGE, &file)),
+        "rename_file" => told(renamed(alloc, &disk)),
+        "matching_files" => told(matching(alloc, &disk)),
+        "write_list" => told(listed(alloc, &disk)),
+        _ => Outcome::Wrong,
+    })
+}
+
+fn renamed(alloc: Global, disk: &Image) -> Result<Image, FilingError> {
+    let old = file_name("letter.txt", 0, false, false)?;
+    let new = file_name("other.txt", 0, false, false)?;
+    rename_file(alloc, disk, IMAGE, &old, &new)
+}
+
+fn matching(alloc: Global, disk: &Image) -> Result<Vec<FileName>, FilingError> {
+    let shelf = list_files(alloc, disk, IMAGE)?;
+    matching_files(alloc, &shelf.files, IMAGE, 0, "*.txt")
+}
+
+fn listed(alloc: Global, disk: &Image) -> Result<(), FilingError> {
+    let shelf = list_files(alloc, disk, IMAGE)?;
+    write_list(alloc, disk.format(), &shelf, None, &mut io::sink())
+}
