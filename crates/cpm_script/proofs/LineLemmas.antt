@@ -9,7 +9,7 @@ use Rattle.std.proofs.lemmas.List.Splits.{length-slice_split, slice_split_first,
 use Rattle.std.proofs.lemmas.List.Sums.{position_or_len_is}
 use Rattle.memchr.specs.Find.{IsFirstByte, is_byte}
 
-line_before : (line : List ℕ) (parts : List (List ℕ)) → 0 < length parts → lines_of_parts (line ∷ parts) ≡ strip_carriage_return line ∷ lines_of_parts parts
+pub line_before : (line : List ℕ) (parts : List (List ℕ)) → 0 < length parts → lines_of_parts (line ∷ parts) ≡ strip_carriage_return line ∷ lines_of_parts parts
 line_before line [] some = absurd (omega arith)
 line_before line (part ∷ parts) some = refl
 

@@ -1,8 +1,9 @@
--- Laws over the keys of forked sessions. (own)
-use Rattle.std.specs.Prelude.{⊤, ◌≡◌, ℕ, ◌<◌, ◌≤◌, List, [], ◌∷◌, ◌++◌, length, IfOk}
+-- Laws over the keys of forked sessions, and of recorded ones. (own)
+use Rattle.std.specs.Prelude.{⊤, ◌≡◌, ℕ, ◌<◌, ◌≤◌, List, [], ◌∷◌, ◌++◌, length, Ok, IfOk}
 use Rattle.std.specs.List.{All}
 use Rattle.cpm_script.specs.Fork.{forked_script, keys_before}
-use Rattle.cpm_script.specs.Script.{most_keys}
+use Rattle.cpm_script.specs.Recording.{AreTyped, recorded}
+use Rattle.cpm_script.specs.Script.{most_keys, script}
 use Rattle.cpm_script.specs.declared.script.Key.{Key}
 
 -- the counts are at least this one, and do not fall
@@ -33,3 +34,7 @@ pub record IsCut (n at : ℕ) (keys first : List Key) : Type 0 where
 -- the keys before a count are the first of those that are in order
 abbrev pub KeysBeforeAreFirst : Type 0
 KeysBeforeAreFirst = (n at : ℕ) (keys : List Key) → AreFrom n keys → IsCut n at keys (keys_before at keys)
+
+-- the lines of keys that were typed are a script with just these keys
+abbrev pub RecordedKeys : Type 0
+RecordedKeys = (keys : List Key) → AreTyped 0 keys → length keys ≤ most_keys → script (recorded keys) ≡ Ok keys
