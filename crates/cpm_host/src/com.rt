@@ -13,7 +13,7 @@ use cpm_flags::Cpu;
 use cpm_geom::{Format, Image};
 use cpm_script::{Key, ScriptError, read_keys};
 use cpm_slots::{Closed, MOST_PROGRAM, MOST_QUOTA, Machine, Opening, Tail};
-use cpm_turns::play_machine;
+use cpm_turns::{Watcher, play_machine};
 use std::alloc::Global;
 use std::io::Write;
 
@@ -109,17 +109,18 @@ pub(crate) fn machine_of(alloc: Global, start: Start) -> Result<Machine, HostErr
 }
 
 /// Runs a program on a machine of its own, with a blank system drive and the keys of a script, for at most `steps` steps, and writes what it
-/// shows on its console as it comes. What it sends to its list device is dropped.
+/// shows on its console as it comes. What it sends to its list device is dropped. The watcher is told on the way how far it has come.
 ///
 /// `ProgramTooLong`, then `OpeningRefused` for more than four drives, then `FileRefused` for a line of the script, and `OutOfMemory` come
 /// before anything is written. `OutputUnwritable` has the writer's error: it comes only where there was text to write, of which the writer
 /// may have got the beginning.
-pub fn run_com<W: Write>(
+pub fn run_com<W: Write, T: Watcher>(
     alloc: Global,
     start: Start,
     script: Option<Script<'_>>,
     steps: u64,
     out: &mut W,
+    watcher: &mut T,
 ) -> Result<Ran, HostError>
     // Text, ending and drives are those of the machine run alone.
     ensures text { OnOk result (Appends (W.contents out.old) (W.contents out.new)
@@ -135,7 +136,7 @@ pub fn run_com<W: Write>(
     let mut machine = machine_of(alloc, start)?;
     let keys = keys_of(alloc, script)?;
     let system = Image::blank(alloc, Format::Ibm3740)?;
-    match play_machine(&system, &mut machine, keys.as_slice(), steps, out) {
+    match play_machine(&system, &mut machine, keys.as_slice(), steps, out, watcher) {
         Ok(()) => Ok(left_of(machine)),
         Err(error) => Err(HostError::OutputUnwritable(error)),
     }

@@ -28,6 +28,7 @@ pub use cpm_debug::{DebugError, run_debug};
 pub use cpm_script::{Key, LineFault, ScriptError, key_line, read_keys};
 pub use cpm_slots::{Opening, Tail};
 pub use cpm_store::{MemoryStore, Store, StoreError};
+pub use cpm_turns::{Progress, Unwatched, Watcher};
 pub use ending::Ending;
 pub use error::HostError;
 pub use illegal::IllegalBytes;

@@ -25,7 +25,7 @@ use cpm_config::{Config, Session};
 use cpm_script::Key;
 use cpm_sessions::{ForkError, Host};
 use cpm_slots::{Closed, OpenError, Opening};
-use cpm_turns::{Fork, PlayError, Player, ScriptedSlot, play};
+use cpm_turns::{Fork, PlayError, Player, ScriptedSlot, Watcher, play};
 use std::alloc::{AllocError, Global};
 use std::vec::IntoIter;
 
@@ -235,10 +235,11 @@ fn finish_all<'a>(
 }
 
 /// Plays the sessions of a configuration in a host, by turns in their order, forks those that are forked on the way, and gives what is left of them.
-pub(crate) fn play_all<'a>(
+pub(crate) fn play_all<'a, T: Watcher>(
     alloc: Global,
     config: &'a Config,
     inputs: Inputs<'_>,
+    watcher: &mut T,
 ) -> Result<Played<'a>, HostError>
     requires least { 16 ≤ config.now.frames }
     requires most { config.now.frames ≤ 16384 }
@@ -259,7 +260,7 @@ pub(crate) fn play_all<'a>(
         Ok(players) => players,
         Err(error) => return Err(play_refusal(config, error)),
     };
-    match play(alloc, &mut host, players.as_mut_slice(), config.quantum) {
+    match play(alloc, &mut host, players.as_mut_slice(), config.quantum, watcher) {
         Ok(()) => {}
         Err(error) => return Err(fork_refusal(config, error)),
     }

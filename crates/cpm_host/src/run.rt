@@ -13,6 +13,7 @@ use cpm_command::shown;
 use cpm_config::{Config, ConfigError, Field, Place};
 use cpm_sessions::{LEAST_FRAMES, MOST_FRAMES};
 use cpm_store::{Output, Store, StoreError, write_all};
+use cpm_turns::Watcher;
 use std::alloc::Global;
 
 /// A number of the configuration with which nothing can be run.
@@ -60,14 +61,16 @@ fn write_files<S: Store>(outputs: &[Output<'_>], store: &mut S) -> Result<(), Ho
 
 /// Runs the sessions of a configuration over the files of a store: reads the system drive's image, then each session's drives and
 /// keys, each checked before the next is read; opens all that aren't forked; plays them by turns in their order, and forks the others from them on the
-/// way; then writes of each in order its console's text, its list device's and its drives. Each session is reported.
+/// way; then writes of each in order its console's text, its list device's and its drives. Each session is reported. The watcher is told on the way how far
+/// they have come.
 ///
 /// The first refusal met is answered. With `FileRefused`, `SessionRefused` and `ConfigRefused` nothing was written. With `WriteFault` and
 /// `OutOfMemory` the files before one hold what they should, and no name after it was written.
-pub fn run_host<S: Store>(
+pub fn run_host<S: Store, T: Watcher>(
     alloc: Global,
     config: &Config,
     store: &mut S,
+    watcher: &mut T,
 ) -> Result<Report, HostError>
     // Each session stands in its files and its report as its machine alone, whatever the turns.
     ensures run { IfOk result (λ report. HasRun config.now report.items (S.files store.old) (S.files store.new)) }
@@ -83,7 +86,7 @@ pub fn run_host<S: Store>(
         return Err(HostError::ConfigRefused(ConfigError::Range(place)));
     }
     let inputs = read_inputs(alloc, config, store)?;
-    let Played { reports, files } = play_all(alloc, config, inputs)?;
+    let Played { reports, files } = play_all(alloc, config, inputs, watcher)?;
     let outputs = outputs_of(alloc, files)?;
     write_files(outputs.as_slice(), store)?;
     Ok(reports)

@@ -6,6 +6,7 @@ ghost use Rattle.cpm_turns.specs.Pacing.{IsPressed, due_at, without_list, withou
 ghost use Rattle.cpm_turns.specs.Playing.{EndsAs, HasText, IsFresh, IsInOrder, alone_by};
 
 use crate::pace::Pace;
+use crate::progress::{Watcher, progress_of_one};
 use cpm_geom::Image;
 use cpm_script::Key;
 use cpm_slots::Machine;
@@ -70,15 +71,16 @@ fn drop_list(machine: &mut Machine)
     while machine.take_list(&mut chunk) > 0 {}
 }
 
-/// Plays one machine with its keys, and writes its console bytes as they come. List bytes are dropped.
+/// Plays one machine with its keys, and writes its console bytes as they come. List bytes are dropped. The watcher is told after each turn how far it has come.
 ///
 /// An error is the writer's: it comes only where there was text to write.
-pub fn play_machine<W: Write>(
+pub fn play_machine<W: Write, T: Watcher>(
     system: &Image,
     machine: &mut Machine,
     keys: &[Key],
     steps: u64,
     out: &mut W,
+    watcher: &mut T,
 ) -> io::Result<()>
     requires order { IsInOrder 0 keys.now }
     requires few { length keys.now ≤ 4096 }
@@ -95,6 +97,7 @@ pub fn play_machine<W: Write>(
         pace.advance(granted.executed);
         move_text(machine, out)?;
         drop_list(machine);
+        watcher.see(progress_of_one(pace.done, steps));
     }
     Ok(())
 }

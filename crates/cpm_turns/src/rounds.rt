@@ -8,6 +8,7 @@ ghost use Rattle.cpm_turns.specs.Players.{AllDiffer, AllPlayed, AllReady, HasCom
 use crate::error::PlayError;
 use crate::forks::fork_due;
 use crate::player::Player;
+use crate::progress::{Watcher, progress_of};
 use crate::turn::turn;
 use cpm_sessions::Host;
 use cpm_slots::Look;
@@ -74,12 +75,15 @@ fn round(
 /// for a key of as many as it waits) and cut at the count of the next key and at that of the next fork, and all that a session shows is taken after its turn, until each has executed its steps or ended.
 /// A session is forked once the one that it is forked from has executed as many steps, or executes no more, and before that one's keys of this count.
 ///
+/// The watcher is told after each round how far they have come.
+///
 /// `ForkRefused` names the place of a session for which there is no slot or are not enough frames; `OutOfMemory` comes only where memory is refused.
-pub fn play(
+pub fn play<T: Watcher>(
     alloc: Global,
     host: &mut Host,
     players: &mut [Player],
     quantum: u64,
+    watcher: &mut T,
 ) -> Result<(), PlayError>
     requires quantum { 1 ≤ quantum }
     requires ready { AllReady host.old.host.slots players.old }
@@ -93,6 +97,7 @@ pub fn play(
     let mut rounds = 0u64;
     while goes_on(players) {
         round(alloc, host, players, asks_in(rounds), quantum)?;
+        watcher.see(progress_of(players));
         rounds = rounds.wrapping_add(1);
     }
     Ok(())

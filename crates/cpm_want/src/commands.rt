@@ -7,7 +7,7 @@ use crate::texts::{CONFIG, KEYS, SOURCE};
 use cpm_flags::Cpu;
 use cpm_geom::{Format, Image};
 use cpm_host::{
-    Config, DebugError, HostError, MemoryStore, Script, Start, Tail, run_asm, run_com, run_debug,
+    Config, DebugError, HostError, MemoryStore, Script, Start, Tail, Unwatched, run_asm, run_com, run_debug,
     run_host, run_list, run_live, tail_of,
 };
 use std::alloc::{AllocError, Global};
@@ -75,7 +75,7 @@ pub fn com(alloc: Global) -> Result<Outcome, AllocError> {
     };
     let mut out = Counter { count: 0 };
     Ok(
-        match run_com(alloc, start, Some(script), 100, &mut out) {
+        match run_com(alloc, start, Some(script), 100, &mut out, &mut Unwatched) {
             Ok(ran) if ran.ending.count == 7 && out.count == 1 => Outcome::Made,
             Err(HostError::OutOfMemory) => Outcome::refused_if(out.count == 0),
             _ => Outcome::Wrong,
@@ -145,7 +145,7 @@ fn are_written_in_order(store: &MemoryStore, blank: &[u8]) -> bool {
 }
 
 fn run_over(alloc: Global, config: &Config, store: &mut MemoryStore, blank: &[u8]) -> Outcome {
-    let answer = run_host(alloc, config, store);
+    let answer = run_host(alloc, config, store, &mut Unwatched);
     let is_right = are_written_in_order(store, blank);
     match answer {
         Ok(_) if is_right && store.file("two.txt").is_some() => Outcome::Made,

@@ -3,7 +3,7 @@ ghost use Rattle.std.specs.Prelude.{Some};
 
 use crate::same::same;
 use cpm_flags::Cpu;
-use cpm_host::{Ending, HostError, Script, run_asm, run_com, run_list};
+use cpm_host::{Ending, HostError, Script, Start, Unwatched, run_asm, run_com, run_list};
 use std::alloc::Global;
 use std::io;
 use std::io::{ErrorKind, Write};
@@ -60,6 +60,16 @@ impl Write for Recorder {
     }
 }
 
+/// A program by itself, on a blank drive.
+pub fn plain(rt: &(impl Abort + AllocGlobal), cpu: Cpu, program: &[u8]) -> Start {
+    Start {
+        cpu,
+        program: copied(rt, program),
+        tail: None,
+        drives: Vec::new(rt.alloc()),
+    }
+}
+
 /// How a program ends.
 fn ending(
     rt: &(impl Abort + AllocGlobal),
@@ -67,30 +77,18 @@ fn ending(
     steps: u64,
     out: &mut Recorder,
 ) -> Ending {
-    match run_com(
-        rt.alloc(),
-        Cpu::I8080,
-        copied(rt, program),
-        None,
-        steps,
-        out,
-    ) {
-        Ok(ending) => ending,
+    let start = plain(rt, Cpu::I8080, program);
+    match run_com(rt.alloc(), start, None, steps, out, &mut Unwatched) {
+        Ok(ran) => ran.ending,
         Err(error) => panic!(rt; "refused: {error}"),
     }
 }
 
 /// Why a program is refused.
 fn refusal(rt: &(impl Abort + AllocGlobal), program: &[u8], out: &mut Recorder) -> HostError {
-    match run_com(
-        rt.alloc(),
-        Cpu::I8080,
-        copied(rt, program),
-        None,
-        1_000_000,
-        out,
-    ) {
-        Ok(ending) => panic!(rt; "taken: {ending}"),
+    let start = plain(rt, Cpu::I8080, program);
+    match run_com(rt.alloc(), start, None, 1_000_000, out, &mut Unwatched) {
+        Ok(ran) => panic!(rt; "taken: {}", ran.ending),
         Err(error) => error,
     }
 }
@@ -185,15 +183,9 @@ fn with_script(
         name: "a.keys",
         text,
     });
-    let shown = match run_com(
-        rt.alloc(),
-        Cpu::I8080,
-        copied(rt, program),
-        script,
-        1_000_000,
-        out,
-    ) {
-        Ok(ending) => ending.to_string(rt.alloc()),
+    let start = plain(rt, Cpu::I8080, program);
+    let shown = match run_com(rt.alloc(), start, script, 1_000_000, out, &mut Unwatched) {
+        Ok(ran) => ran.ending.to_string(rt.alloc()),
         Err(error) => error.to_string(rt.alloc()),
     };
     shown.expect(rt, "memory")
@@ -292,7 +284,7 @@ fn names_the_line_and_what_stands_there(rt: HostRuntime) {
 /// What is listed of a program.
 fn listed(rt: &(impl Abort + AllocGlobal), program: &[u8]) -> Recorder {
     let mut out = Recorder::new(rt.alloc());
-    if let Err(error) = run_list(program, &mut out) {
+    if let Err(error) = run_list(Cpu::I8080, program, &mut out) {
         panic!(rt; "refused: {error}");
     }
     out
@@ -328,7 +320,7 @@ fn lists_behind_the_end_zeros_and_behind_ffff_0000(rt: HostRuntime) {
 fn a_listing_stops_where_the_writer_fails(rt: HostRuntime) {
     let mut out = Recorder::new(rt.alloc());
     out.fails_at = Some(30);
-    match run_list(LETTER, &mut out) {
+    match run_list(Cpu::I8080, LETTER, &mut out) {
         Ok(()) => panic!(&rt; "listed"),
         Err(error) => same(&rt, error.status(), 5),
     }

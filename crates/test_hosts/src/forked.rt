@@ -3,7 +3,7 @@
 use crate::lab::disk_of;
 use crate::runs::{ONE, filled, holds, joined, refusal, report};
 use crate::same::same;
-use cpm_host::{Config, MemoryStore, Origin, Store, run_host};
+use cpm_host::{Config, MemoryStore, Origin, Store, Unwatched, run_host};
 use std::process::Abort;
 
 /// A session that is forked from the first one.
@@ -141,7 +141,7 @@ fn a_fork_that_no_configuration_has_is_refused(rt: HostRuntime) {
         }
     }
     let mut store = store_with(&rt, b"60 X^M");
-    match run_host(rt.alloc(), &config, &mut store) {
+    match run_host(rt.alloc(), &config, &mut store, &mut Unwatched) {
         Ok(_) => panic!(&rt; "run"),
         Err(error) => {
             same(&rt, error.status(), 2);

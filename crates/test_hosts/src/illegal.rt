@@ -1,11 +1,11 @@
 //! Sessions that end at bytes that are no instruction, and what is told of them.
 
-use crate::commands::Recorder;
+use crate::commands::{Recorder, plain};
 use crate::lab::disk_of;
 use crate::runs::{filled, joined, run};
 use crate::same::same;
 use cpm_flags::Cpu;
-use cpm_host::{Ending, IllegalBytes, MemoryStore, Script, Store, run_com};
+use cpm_host::{Ending, IllegalBytes, MemoryStore, Script, Store, Unwatched, run_com};
 use std::process::Abort;
 
 /// An instruction behind the prefix DDh that has no index register in it.
@@ -73,12 +73,11 @@ fn text_of(rt: &(impl Abort + AllocGlobal), illegal: Option<IllegalBytes>) -> St
 
 /// How a program ends.
 fn ending(rt: &(impl Abort + AllocGlobal), cpu: Cpu, bytes: &[u8]) -> Ending {
-    let mut program = Vec::new(rt.alloc());
-    program.extend_from_slice(bytes).expect(rt, "memory");
     let script: Option<Script> = None;
     let mut out = Recorder::new(rt.alloc());
-    match run_com(rt.alloc(), cpu, program, script, 1_000_000, &mut out) {
-        Ok(ending) => ending,
+    let start = plain(rt, cpu, bytes);
+    match run_com(rt.alloc(), start, script, 1_000_000, &mut out, &mut Unwatched) {
+        Ok(ran) => ran.ending,
         Err(error) => panic!(rt; "refused: {error}"),
     }
 }

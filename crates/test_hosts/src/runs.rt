@@ -2,7 +2,7 @@
 
 use crate::same::{same, same_at};
 use cpm_geom::{Format, Image};
-use cpm_host::{Config, HostError, MemoryStore, Report, Store, run_host};
+use cpm_host::{Config, HostError, MemoryStore, Report, Store, Unwatched, run_host};
 use std::process::Abort;
 
 /// One session on blank drives, which is asked for its files.
@@ -69,7 +69,7 @@ pub fn run(
     store: &mut MemoryStore,
 ) -> Result<Report, HostError> {
     let config = Config::read(rt.alloc(), text.as_bytes()).expect(rt, "a good configuration");
-    run_host(rt.alloc(), &config, store)
+    run_host(rt.alloc(), &config, store, &mut Unwatched)
 }
 
 /// The lines that report a run.
@@ -225,7 +225,7 @@ fn refuses_what_no_host_has(rt: HostRuntime) {
     let mut config = Config::read(rt.alloc(), ONE.as_bytes()).expect(&rt, "a configuration");
     config.frames = 15;
     let mut store = filled(&rt);
-    match run_host(rt.alloc(), &config, &mut store) {
+    match run_host(rt.alloc(), &config, &mut store, &mut Unwatched) {
         Ok(_) => panic!(&rt; "run"),
         Err(error) => same(&rt, error.status(), 2),
     }
