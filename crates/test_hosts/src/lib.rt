@@ -27,3 +27,5 @@ mod runs;
 mod same;
 #[cfg(test)]
 mod scratch;
+#[cfg(test)]
+mod started;
