@@ -4,6 +4,7 @@ use crate::disk::read_image;
 use crate::files::{check_file, read_file, write_file};
 use crate::output::Outputs;
 use crate::place::check_com;
+use crate::progress::{Form, Teller};
 use crate::refused::Refused;
 use crate::screen::Screen;
 use crate::typing::{record_in, tell_quit};
@@ -29,6 +30,7 @@ pub struct ComWords<'a> {
     pub outs: &'a [&'a str],
     pub is_live: bool,
     pub record: Option<&'a str>,
+    pub form: Form,
 }
 
 /// Runs the program in a file, prints what it shows, writes its drives where that is asked, and prints how it ended.
@@ -75,38 +77,41 @@ fn start_of(rt: &(impl Files + AllocGlobal), words: ComWords<'_>) -> Result<Star
 
 /// Runs a program by the keys of the script in a file, if there is one. A screen gets its control bytes as text.
 fn play_script(
-    rt: &(impl Files + Print + AllocGlobal),
+    rt: &(impl Files + Print + Eprint + AllocGlobal),
     words: ComWords<'_>,
     start: Start,
     is_screen: bool,
 ) -> Result<Ran, Refused> {
-    let steps = words.steps.unwrap_or(STEPS);
     let Some(name) = words.keys else {
-        return play(rt, start, None, steps, is_screen);
+        return play(rt, words, start, None, is_screen);
     };
     let text = read_file(rt, name)?;
     let script = Script {
         name,
         text: text.as_slice(),
     };
-    play(rt, start, Some(script), steps, is_screen)
+    play(rt, words, start, Some(script), is_screen)
 }
 
 /// Runs a program by the keys of a script.
 fn play(
-    rt: &(impl Print + AllocGlobal),
+    rt: &(impl Print + Eprint + AllocGlobal),
+    words: ComWords<'_>,
     start: Start,
     script: Option<Script<'_>>,
-    steps: u64,
     is_screen: bool,
 ) -> Result<Ran, Refused> {
+    let steps = words.steps.unwrap_or(STEPS);
+    let mut teller = Teller::new(rt, None, words.form);
     let ran = if is_screen {
         let mut screen = Screen::new(io::writer(rt));
-        run_com(rt.alloc(), start, script, steps, &mut screen)?
+        run_com(rt.alloc(), start, script, steps, &mut screen, &mut teller)
     } else {
-        run_com(rt.alloc(), start, script, steps, &mut io::writer(rt))?
+        let mut out = io::writer(rt);
+        run_com(rt.alloc(), start, script, steps, &mut out, &mut teller)
     };
-    Ok(ran)
+    teller.end();
+    Ok(ran?)
 }
 
 /// Runs a program by the keys of standard input, and records them if that is asked.

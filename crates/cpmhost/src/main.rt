@@ -9,6 +9,7 @@ mod disk;
 mod files;
 mod output;
 mod place;
+mod progress;
 mod refused;
 mod screen;
 mod typing;
@@ -22,6 +23,7 @@ use disk::do_disk;
 use files::{MachineFiles, check_outputs, read_file, write_file};
 use output::Outputs;
 use place::{check_apart, check_pair};
+use progress::{Form, Teller};
 use refused::{Behind, Refused};
 use screen::Screen;
 use typing::type_in;
@@ -53,6 +55,7 @@ struct RunWords<'a> {
     config: &'a str,
     keyboard: Option<&'a str>,
     record: Option<&'a str>,
+    form: Form,
 }
 
 /// Runs the sessions of the configuration in a file, one of them by the keys of standard input if that is asked.
@@ -70,7 +73,7 @@ fn run_sessions(
         Some(name) => Some(type_in(rt, &mut config, name, words.record, is_screen)?),
         None => None,
     };
-    play_sessions(rt, outputs, &config, typed)
+    play_sessions(rt, outputs, &config, typed, words.form)
 }
 
 /// Runs the sessions of a configuration, and prints how each ended, and the bytes at which one ended that are no instruction.
@@ -79,9 +82,13 @@ fn play_sessions(
     outputs: Outputs,
     config: &Config,
     typed: Option<Vec<u8>>,
+    form: Form,
 ) -> Result<(), Refused> {
     let mut files = MachineFiles::new(rt, outputs, typed);
-    let report = match run_host(rt.alloc(), config, &mut files) {
+    let mut teller = Teller::new(rt, Some(config), form);
+    let ran = run_host(rt.alloc(), config, &mut files, &mut teller);
+    teller.end();
+    let report = match ran {
         Ok(report) => report,
         Err(error) => {
             let behind = files.behind();
@@ -179,6 +186,7 @@ fn do_words(
             outs,
             is_live,
             record,
+            has_progress,
         } => {
             let words = ComWords {
                 file,
@@ -190,6 +198,7 @@ fn do_words(
                 outs: &outs,
                 is_live,
                 record,
+                form: Form::of(has_progress, rt.stderr().is_terminal()),
             };
             com(rt, outputs, words, is_screen)?;
         }
@@ -200,11 +209,13 @@ fn do_words(
             config,
             keyboard,
             record,
+            has_progress,
         } => {
             let words = RunWords {
                 config,
                 keyboard,
                 record,
+                form: Form::of(has_progress, rt.stderr().is_terminal()),
             };
             run_sessions(rt, outputs, words, is_screen)?;
         }

@@ -1,0 +1,87 @@
+//! How far sessions have come, told on standard error.
+
+use cpm_host::{Config, Progress, Watcher};
+
+/// How often it is told at most: each time that they are so much of the whole further.
+const PARTS: u128 = 50;
+
+/// How progress is told.
+#[derive(Clone, Copy, Debug, PartialEq, Eq, Drop)]
+pub enum Form {
+    Silent,
+    /// A line each time.
+    Lines,
+    /// One line of a terminal, written over.
+    InPlace,
+}
+
+impl Form {
+    /// How it is told where it is asked for or not, on a terminal or elsewhere.
+    pub fn of(is_asked: bool, is_terminal: bool) -> Form {
+        match (is_asked, is_terminal) {
+            (false, _) => Form::Silent,
+            (true, false) => Form::Lines,
+            (true, true) => Form::InPlace,
+        }
+    }
+}
+
+/// Tells how far the sessions of a configuration, or a program, have come.
+#[derive(Drop)]
+pub struct Teller<'a, R: Eprint> {
+    rt: &'a R,
+    config: Option<&'a Config>,
+    form: Form,
+    /// How many parts were told.
+    told: u128,
+}
+
+impl<'a, R: Eprint> Teller<'a, R> {
+    pub fn new(rt: &'a R, config: Option<&'a Config>, form: Form) -> Teller<'a, R> {
+        Teller {
+            rt,
+            config,
+            form,
+            told: 0,
+        }
+    }
+
+    /// Ends the line of a terminal.
+    pub fn end(&self) {
+        if self.form == Form::InPlace && self.told > 0 {
+            let _ = eprintln!(self.rt);
+        }
+    }
+
+    /// Tells of so many parts.
+    fn tell(&self, progress: Progress) {
+        let percent = self.told * 2;
+        let (before, behind) = match self.form {
+            Form::InPlace => ("\r", "\x1b[K"),
+            _ => ("", "\n"),
+        };
+        let _ = match self.config.and_then(|config| config.sessions.get(progress.slowest)) {
+            Some(slowest) => eprint!(
+                self.rt;
+                "{before}progress {percent}%: {} of {} sessions have ended, {} has the most left{behind}",
+                progress.ended,
+                progress.sessions,
+                slowest.name
+            ),
+            None => eprint!(self.rt; "{before}progress {percent}%{behind}"),
+        };
+    }
+}
+
+impl<R: Eprint> Watcher for Teller<'_, R> {
+    fn see(&mut self, progress: Progress) {
+        if self.form == Form::Silent || progress.all == 0 {
+            return;
+        }
+        let parts = u128::from(progress.done) * PARTS / u128::from(progress.all);
+        if parts > self.told {
+            self.told = parts;
+            self.tell(progress);
+        }
+    }
+}
