@@ -17,6 +17,8 @@ mod key_scripts;
 #[cfg(test)]
 mod lines;
 #[cfg(test)]
+mod recorded_keys;
+#[cfg(test)]
 mod refused_command_lines;
 #[cfg(test)]
 mod same;
