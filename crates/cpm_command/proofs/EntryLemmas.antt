@@ -1,5 +1,5 @@
 -- What the getters of clap read, in the words of `specs/`.
-use Rattle.std.proofs.Common.{◌≡◌, ◌∙◌, ◌<◌, ◌≤◌, ◌∷◌, [], List, length, map, true≢false, arith, ℕ, Bool, true, false, Option, Some, None, Result, Ok, ap, codes, refl, subst, sym, option_map, IsSome}
+use Rattle.std.proofs.Common.{◌≡◌, ◌∙◌, ◌<◌, ◌≤◌, ◌∷◌, [], List, length, map, ⊎_elim, true≢false, arith, ℕ, Bool, true, false, Option, Some, None, Result, Ok, ap, codes, refl, subst, sym, option_map, IsSome}
 use Rattle.std.specs.Str.Parse.{digits_value, without_leading_plus, ParsesUnsigned, ExplainsUnsignedError, HasUnsignedDigitsIfOk}
 use Rattle.std.specs.declared.num.ParseIntError.{ParseIntError}
 use Rattle.std.specs.Prelude.{find, option_and_then, slice_get}
@@ -9,8 +9,8 @@ use Rattle.clap.specs.Words.{ReadsOne, Row, Text, all_of, first_of}
 use Rattle.clap.specs.Values.{bool_text}
 use Rattle.cpm_flags.specs.declared.regs.Cpu.{Cpu}
 use Rattle.cpm_flags.specs.declared.regs.Cpu.TheVariants.{I8080, Z80}
-use Rattle.cpm_command.specs.CommandLine.{IsCount, IsPick, ReadsCount, flag_text}
-use Rattle.cpm_command.specs.DiskLine.{IsFlag, IsUser, ReadsUser}
+use Rattle.cpm_command.specs.CommandLine.{IsCount, IsCountIfAny, IsFlag, IsPick, ReadsCount, ReadsCountIfAny, flag_text}
+use Rattle.cpm_command.specs.DiskLine.{IsUser, ReadsUser}
 
 -- an option is there where its image is
 pub some_before : {A B : Type 0} (f : A → B) (o : Option A) (p : Option B) → option_map f o ≡ p → IsSome p → IsSome o
@@ -44,6 +44,12 @@ count_given text (Some n) value count = refl
 count_given text None value count =
     let read = value count.digits count.given in
     absurd (read.1.0 (count.numeral, count.fits))
+
+-- the number that a getter gave, or none
+pub count_if_any : (text : Option Text) (r : Option ℕ) → (text ≡ None → r ≡ None) → ((t : Text) → text ≡ Some t → ReadsOne GivesCount t r)
+    → IsCountIfAny text → ReadsCountIfAny text r
+count_if_any text (Some n) none value any = count_read text (Some n) n none value refl
+count_if_any text None none value any = ⊎_elim (λ (h : text ≡ None). h) (λ count. absurd (true≢false (sym (count_given text None value count)))) any
 
 -- what a flag's getter says is what stands there
 pub pick_read : (text : Option Text) (b : Bool) → (text ≡ Some (codes "true") → b ≡ true) → (text ≡ Some (codes "false") → b ≡ false) → IsPick text

@@ -1,5 +1,5 @@
 -- Rows of a parse whose values all passed the parser of an argument of the command.
-use Rattle.std.proofs.Common.{◌≡◌, ◌∙◌, ◌&&◌, ◌||◌, ◌++◌, ◌⊎◌, inl, inr, ⊎_elim, ap, sym, subst, refl, ℕ, Bool, true, false, cond, not, true≢false, List, [], ◌∷◌, Some, length, nat_lt, arith}
+use Rattle.std.proofs.Common.{◌≡◌, ◌∙◌, ◌&&◌, ◌||◌, ◌++◌, ◌⊎◌, inl, inr, ⊎_elim, ap, sym, subst, refl, ℕ, Bool, true, false, cond, not, true≢false, List, [], ◌∷◌, Some, None, length, nat_lt, arith}
 use Rattle.std.specs.Prelude.{⊤, find, fold, option_and_then, option_map, slice_get}
 use Rattle.std.specs.List.{list_all, list_any}
 use Rattle.std.specs.Option.{option_map_or}
@@ -335,3 +335,16 @@ given_has id (r ∷ rs) e = go (given_has id rs) (bytes_eq r.id id) e
         → option_map_or (λ (x : Row). explicit_source x.source) (cond b (Some r) (find (λ x. bytes_eq x.id id) rs)) false ≡ true → (b || has_row id rs) ≡ true
     go rest true h = refl
     go rest false h = rest h
+
+-- an argument without a row has no text
+pub no_row : (id : Text) (rows : List Row) → has_row id rows ≡ false → one_of id rows ≡ None
+no_row id rows e = ap (option_and_then row_text) (none_found rows e)
+  where
+    none_found : (rest : List Row) → has_row id rest ≡ false → find (λ x. bytes_eq x.id id) rest ≡ None
+    none_found [] h = refl
+    none_found (r ∷ rs) h = go (none_found rs) (bytes_eq r.id id) h
+      where
+        go : (has_row id rs ≡ false → find (λ x. bytes_eq x.id id) rs ≡ None) → (b : Bool) → (b || has_row id rs) ≡ false
+            → cond b (Some r) (find (λ x. bytes_eq x.id id) rs) ≡ None
+        go rest_none true is = absurd (true≢false is)
+        go rest_none false is = rest_none is

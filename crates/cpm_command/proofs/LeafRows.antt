@@ -1,11 +1,13 @@
 -- The rows that words with no fault give a command without subcommands.
-use Rattle.std.proofs.Common.{◌≡◌, ◌&&◌, ◌||◌, sym, subst, refl, Bool, true, false, not, List, [], IsSome}
-use Rattle.clap.specs.Walk.{Row, Rule, Text, first_of, nothing_held, rows_after, settled, walk}
-use Rattle.clap.specs.Simple.{Shape}
+use Rattle.std.proofs.Common.{◌≡◌, ◌⊎◌, inl, inr, ◌&&◌, ◌||◌, sym, subst, ap, refl, ◌∙◌, Bool, true, false, not, List, [], Some, None, IsSome, codes}
+use Rattle.std.specs.Str.{bytes_eq}
+use Rattle.clap.specs.Walk.{Row, Rule, Text, first_of, has_row, nothing_held, one_of, rows_after, settled, walk}
+use Rattle.clap.specs.Simple.{Shape, filled}
 use Rattle.clap.specs.Takes.{is_given}
 use Rattle.clap.specs.Kinds.{check_kinds}
 use Rattle.clap.specs.Faults.{check_fault, level_fault}
-use Rattle.cpm_command.proofs.FilledRows.{AllFilled, HasFirst, HasText, IsIn, IsPlain, defaults_have, given_has, text_filled}
+use Rattle.cpm_command.specs.CommandLine.{IsFlag, flag}
+use Rattle.cpm_command.proofs.FilledRows.{AllFilled, HasFirst, HasText, IsIn, IsPlain, IsSetting, defaults_have, given_has, no_row, same_bytes, text_filled}
 use Rattle.cpm_command.proofs.WalkRows.{HasNoShorts, level_checked, level_filled}
 
 module _ (s : Shape) (plain : IsPlain s.rules) (none : HasNoShorts s.rules) (words : List Text) (e : level_fault s [] nothing_held words false [] ≡ []) where
@@ -30,6 +32,31 @@ module _ (s : Shape) (plain : IsPlain s.rules) (none : HasNoShorts s.rules) (wor
   pub default_text : (a : Rule) → IsIn s.rules a → HasFirst a.defaults → HasText a (rows_after s.rules [] words)
   default_text a among first = text_filled s.rules plain a among (rows_after s.rules [] words) all
       (defaults_have s.rules a among first (settled s.rules (walk s.rules [] nothing_held words).held).rows)
+
+  -- an argument without a default has a text, or none
+  pub text_or_none : (a : Rule) → IsIn s.rules a → (one_of a.id (rows_after s.rules [] words) ≡ None) ⊎ HasText a (rows_after s.rules [] words)
+  text_or_none a among = go (has_row a.id (rows_after s.rules [] words)) refl
+    where
+      go : (b : Bool) → has_row a.id (rows_after s.rules [] words) ≡ b
+          → (one_of a.id (rows_after s.rules [] words) ≡ None) ⊎ HasText a (rows_after s.rules [] words)
+      go true e = inr (text_filled s.rules plain a among (rows_after s.rules [] words) all e)
+      go false e = inl (no_row a.id (rows_after s.rules [] words) e)
+
+-- ---- flags
+
+abbrev pub flag_rule : Text → Rule
+flag_rule name = filled (flag name)
+
+-- the entry of a flag is one of two texts
+pub flag_in : (name : Text) (rows : List Row) → HasText (flag_rule name) rows → IsFlag (one_of name rows)
+flag_in name rows has = go (bytes_eq has.text (codes "true")) refl has.passes
+  where
+    go : (b : Bool) → bytes_eq has.text (codes "true") ≡ b → (b || bytes_eq has.text (codes "false")) ≡ true → IsFlag (one_of name rows)
+    go true e pass = record { value = true; given = has.one ∙ ap (λ (v : Text). Some v) (same_bytes _ _ e) }
+    go false e pass = record { value = false; given = has.one ∙ ap (λ (v : Text). Some v) (same_bytes _ _ pass) }
+
+pub flag_word : (name : Text) → IsSetting (flag_rule name)
+flag_word name = record { action = inr (inl refl); values = inr tt }
 
 -- ---- the last check, where one word is required, and where two are
 

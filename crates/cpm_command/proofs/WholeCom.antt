@@ -1,5 +1,5 @@
 -- Words with no fault give the whole entries of a subcommand.
-use Rattle.std.proofs.Common.{◌≡◌, ◌∙◌, ◌||◌, ap, sym, refl, inl, inr, Bool, true, false, cond, true≢false, List, [], Option, Some, None, option_map, is_some, codes}
+use Rattle.std.proofs.Common.{◌≡◌, ◌⊎◌, ◌∙◌, ◌||◌, ℕ, ap, sym, refl, inl, inr, Bool, true, false, cond, true≢false, List, [], Option, Some, None, option_map, is_some, codes}
 use Rattle.std.specs.Option.{option_map_or}
 use Rattle.std.specs.Str.{bytes_eq}
 use Rattle.clap.specs.Walk.{Row, Rule, Text, finished, nothing_held, one_of, rows_after, walk}
@@ -9,10 +9,10 @@ use Rattle.clap.specs.Walk.{answers_to}
 use Rattle.clap.specs.Faults.{check_fault, entered_fault, fault_of, level_fault}
 use Rattle.clap.specs.declared.builder.value_parser.ValueParser.TheVariants as parser
 use Rattle.clap.proofs.ValueTestLemmas.{accepts-Accepts}
-use Rattle.cpm_command.specs.CommandLine.{IsCount, IsPick, IsWhole, IsWholeAsm, IsWholeCheck, IsWholeCom, IsWholeDebug, IsWholeList, IsWholeRun, asm_app, check_app, com_app, debug_app, host_app, list_app, operand, run_app, steps_option, z80_flag}
+use Rattle.cpm_command.specs.CommandLine.{IsCountIfAny, IsPick, IsWhole, IsWholeAsm, IsWholeCheck, IsWholeCom, IsWholeDebug, IsWholeList, IsWholeRun, asm_app, check_app, com_app, debug_app, host_app, list_app, operand, repeated_option, run_app, steps_option, value_option, words_left_out}
 use Rattle.cpm_flags.specs.declared.regs.Cpu.TheVariants.{I8080, Z80}
-use Rattle.cpm_command.proofs.FilledRows.{HasText, IsPlain, plain_by_ids, same_bytes}
-use Rattle.cpm_command.proofs.LeafRows.{both_given, default_text, given_first, leaf_checked, one_given}
+use Rattle.cpm_command.proofs.FilledRows.{HasText, IsPlain, IsSetting, plain_by_ids, same_bytes}
+use Rattle.cpm_command.proofs.LeafRows.{both_given, default_text, flag_in, flag_rule, flag_word, given_first, leaf_checked, one_given, text_or_none}
 use Rattle.cpm_command.proofs.WalkRows.{HasNoShorts, level_checked}
 
 -- ---- the subcommand `com` as clap builds it
@@ -41,14 +41,24 @@ run_built = leaf run_app.top
 abbrev debug_built : Shape
 debug_built = leaf debug_app.top
 
+operand_word : (index : ℕ) (id : Text) → IsSetting (with_index index (filled (operand id)))
+operand_word index id = record { action = inl refl; values = inl refl }
+
+tail_words : IsSetting (with_index 2 (filled (words_left_out (codes "tail"))))
+tail_words = record { action = inr (inr refl); values = inl refl }
+
+value_word : (name : Text) → IsSetting (filled (value_option name))
+value_word name = record { action = inl refl; values = inl refl }
+
+steps_word : IsSetting (filled steps_option)
+steps_word = record { action = inl refl; values = inl refl }
+
+repeated_words : (name : Text) → IsSetting (filled (repeated_option name))
+repeated_words name = record { action = inr (inr refl); values = inl refl }
+
 com_plain : IsPlain com_built.rules
-com_plain = plain_by_ids com_built.rules refl (
-  record { action = inl refl; values = inl refl },
-  (
-    record { action = inr (inl refl); values = inr tt },
-    (record { action = inl refl; values = inl refl }, (record { action = inl refl; values = inl refl }, tt)),
-  ),
-)
+com_plain = plain_by_ids com_built.rules refl
+    (operand_word _ _, (tail_words, (flag_word _, (steps_word, (value_word _, (repeated_words _, (repeated_words _, (flag_word _, (value_word _, tt)))))))))
 
 com_no_shorts : HasNoShorts com_built.rules
 com_no_shorts x = refl
@@ -59,7 +69,7 @@ abbrev file_rule : Rule
 file_rule = with_index 1 (filled (operand (codes "file")))
 
 abbrev z80_rule : Rule
-z80_rule = filled z80_flag
+z80_rule = flag_rule (codes "z80")
 
 abbrev steps_rule : Rule
 steps_rule = filled steps_option
@@ -71,10 +81,11 @@ pick_of rows has = go (bytes_eq has.text (codes "true")) refl has.passes
     go true e pass = record { cpu = Z80; given = has.one ∙ ap (λ (v : Text). Some v) (same_bytes _ _ e) }
     go false e pass = record { cpu = I8080; given = has.one ∙ ap (λ (v : Text). Some v) (same_bytes _ _ pass) }
 
-count_of : (rows : List Row) → HasText steps_rule rows → IsCount (one_of (codes "steps") rows)
-count_of rows has =
+count_of : (rows : List Row) → (one_of (codes "steps") rows ≡ None) ⊎ HasText steps_rule rows → IsCountIfAny (one_of (codes "steps") rows)
+count_of rows (inl none) = inl none
+count_of rows (inr has) =
     let taken = accepts-Accepts false (parser.Unsigned 0 18446744073709551615) has.text has.passes in
-    record { digits = has.text; given = has.one; numeral = taken.0; fits = taken.1 }
+    inr (record { digits = has.text; given = has.one; numeral = taken.0; fits = taken.1 })
 
 com_whole : (words : List Text) → level_fault com_built [] nothing_held words false [] ≡ [] → IsWholeCom (rows_after com_built.rules [] words)
 com_whole words e =
@@ -82,26 +93,32 @@ com_whole words e =
     let file = one_given (is_given (codes "file") rows) (leaf_checked com_built com_plain com_no_shorts words e) in
     record {
       file = given_first com_built com_plain com_no_shorts words e file_rule (inl refl) file;
-      z80 = pick_of rows (default_text com_built com_plain com_no_shorts words e z80_rule (inr (inl refl)) tt);
-      steps = count_of rows (default_text com_built com_plain com_no_shorts words e steps_rule (inr (inr (inl refl))) tt);
+      z80 = pick_of rows (default_text com_built com_plain com_no_shorts words e z80_rule (inr (inr (inl refl))) tt);
+      steps = count_of rows (text_or_none com_built com_plain com_no_shorts words e steps_rule (inr (inr (inr (inl refl)))));
+      keyboard = flag_in (codes "keyboard") rows
+          (default_text com_built com_plain com_no_shorts words e (flag_rule (codes "keyboard")) (inr (inr (inr (inr (inr (inr (inr (inl refl)))))))) tt);
     }
 
--- ---- subcommands with one word, and with two
+-- ---- the other subcommands
 
 list_plain : IsPlain list_built.rules
-list_plain = plain_by_ids list_built.rules refl (record { action = inl refl; values = inl refl }, tt)
+list_plain = plain_by_ids list_built.rules refl (operand_word _ _, (flag_word _, tt))
 
 list_no_shorts : HasNoShorts list_built.rules
 list_no_shorts x = refl
 
 list_whole : (words : List Text) → level_fault list_built [] nothing_held words false [] ≡ [] → IsWholeList (rows_after list_built.rules [] words)
 list_whole words e =
-    let file = one_given (is_given (codes "file") (rows_after list_built.rules [] words)) (leaf_checked list_built list_plain list_no_shorts words e) in
-    record { file = given_first list_built list_plain list_no_shorts words e file_rule (inl refl) file }
+    let rows = rows_after list_built.rules [] words in
+    let file = one_given (is_given (codes "file") rows) (leaf_checked list_built list_plain list_no_shorts words e) in
+    record {
+      file = given_first list_built list_plain list_no_shorts words e file_rule (inl refl) file;
+      z80 = pick_of rows (default_text list_built list_plain list_no_shorts words e z80_rule (inr (inl refl)) tt);
+    }
 
 asm_plain : IsPlain asm_built.rules
 asm_plain = plain_by_ids asm_built.rules refl
-    (record { action = inl refl; values = inl refl }, (record { action = inl refl; values = inl refl }, tt))
+    (operand_word _ _, (operand_word _ _, tt))
 
 asm_no_shorts : HasNoShorts asm_built.rules
 asm_no_shorts x = refl
@@ -122,7 +139,7 @@ asm_whole words e =
     }
 
 check_plain : IsPlain check_built.rules
-check_plain = plain_by_ids check_built.rules refl (record { action = inl refl; values = inl refl }, tt)
+check_plain = plain_by_ids check_built.rules refl (operand_word _ _, tt)
 
 check_no_shorts : HasNoShorts check_built.rules
 check_no_shorts x = refl
@@ -136,7 +153,7 @@ check_whole words e =
     record { image = given_first check_built check_plain check_no_shorts words e image_rule (inl refl) image }
 
 run_plain : IsPlain run_built.rules
-run_plain = plain_by_ids run_built.rules refl (record { action = inl refl; values = inl refl }, tt)
+run_plain = plain_by_ids run_built.rules refl (operand_word _ _, (value_word _, (value_word _, tt)))
 
 run_no_shorts : HasNoShorts run_built.rules
 run_no_shorts x = refl
@@ -150,8 +167,7 @@ run_whole words e =
     record { config = given_first run_built run_plain run_no_shorts words e config_rule (inl refl) config }
 
 debug_plain : IsPlain debug_built.rules
-debug_plain = plain_by_ids debug_built.rules refl
-    (record { action = inl refl; values = inl refl }, (record { action = inr (inl refl); values = inr tt }, tt))
+debug_plain = plain_by_ids debug_built.rules refl (operand_word _ _, (flag_word _, tt))
 
 debug_no_shorts : HasNoShorts debug_built.rules
 debug_no_shorts x = refl

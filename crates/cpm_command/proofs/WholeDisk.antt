@@ -1,17 +1,16 @@
 -- Words behind `disk` with no fault give the whole entries of one of its commands.
-use Rattle.std.proofs.Common.{◌≡◌, ◌∙◌, ◌||◌, ap, sym, refl, inl, inr, Bool, true, false, cond, true≢false, List, [], Option, Some, None, option_map, is_some, codes}
+use Rattle.std.proofs.Common.{◌≡◌, sym, refl, inl, inr, Bool, true, false, cond, true≢false, List, [], Option, Some, None, option_map, is_some, codes}
 use Rattle.std.specs.Option.{option_map_or}
-use Rattle.std.specs.Str.{bytes_eq}
 use Rattle.clap.specs.Walk.{Row, Rule, Text, answers_to, finished, nothing_held, one_of, rows_after, walk}
 use Rattle.clap.specs.Simple.{App, Shape, argument_words, built, built_leaf, entered, filled, inherited, label_of, marked_built, names_of, rows_at, subcommand_of, with_index, with_leaf_noted}
 use Rattle.clap.specs.Takes.{is_given}
 use Rattle.clap.specs.Faults.{check_fault, entered_fault, fault_of, level_fault}
 use Rattle.clap.specs.declared.builder.value_parser.ValueParser.TheVariants as parser
 use Rattle.clap.proofs.ValueTestLemmas.{accepts-Accepts}
-use Rattle.cpm_command.specs.CommandLine.{operand}
-use Rattle.cpm_command.specs.DiskLine.{IsFlag, IsUser, IsWholeDisk, IsWholeGet, IsWholeListing, IsWholeNew, IsWholePut, IsWholeRemove, IsWholeRename, disk_app, flag, get_app, list_disk_app, new_disk_app, operands, put_app, remove_app, rename_app, to_option, user_option}
-use Rattle.cpm_command.proofs.FilledRows.{HasText, IsPlain, IsSetting, plain_by_ids, same_bytes}
-use Rattle.cpm_command.proofs.LeafRows.{both_given, default_text, given_first, leaf_checked, one_given}
+use Rattle.cpm_command.specs.CommandLine.{operand, value_option}
+use Rattle.cpm_command.specs.DiskLine.{IsUser, IsWholeDisk, IsWholeGet, IsWholeListing, IsWholeNew, IsWholePut, IsWholeRemove, IsWholeRename, disk_app, get_app, list_disk_app, new_disk_app, operands, put_app, remove_app, rename_app, user_option}
+use Rattle.cpm_command.proofs.FilledRows.{HasText, IsPlain, IsSetting, plain_by_ids}
+use Rattle.cpm_command.proofs.LeafRows.{both_given, default_text, given_first, flag_in, flag_rule, flag_word, leaf_checked, one_given}
 use Rattle.cpm_command.proofs.WalkRows.{HasNoShorts, level_checked}
 
 -- ---- the commands as clap builds them
@@ -57,16 +56,6 @@ change_rule = with_index 2 (filled (operand (codes "change")))
 abbrev user_rule : Rule
 user_rule = filled user_option
 
-abbrev flag_rule : Text → Rule
-flag_rule name = filled (flag name)
-
-flag_in : (name : Text) (rows : List Row) → HasText (flag_rule name) rows → IsFlag (one_of name rows)
-flag_in name rows has = go (bytes_eq has.text (codes "true")) refl has.passes
-  where
-    go : (b : Bool) → bytes_eq has.text (codes "true") ≡ b → (b || bytes_eq has.text (codes "false")) ≡ true → IsFlag (one_of name rows)
-    go true e pass = record { value = true; given = has.one ∙ ap (λ (v : Text). Some v) (same_bytes _ _ e) }
-    go false e pass = record { value = false; given = has.one ∙ ap (λ (v : Text). Some v) (same_bytes _ _ pass) }
-
 user_in : (rows : List Row) → HasText user_rule rows → IsUser (one_of (codes "user") rows)
 user_in rows has =
     let taken = accepts-Accepts false (parser.Unsigned 0 15) has.text has.passes in
@@ -83,7 +72,7 @@ change_word = record { action = inl refl; values = inl refl }
 user_word : IsSetting user_rule
 user_word = record { action = inl refl; values = inl refl }
 
-to_word : IsSetting (filled to_option)
+to_word : IsSetting (filled (value_option (codes "to")))
 to_word = record { action = inl refl; values = inl refl }
 
 files_words : IsSetting files_rule
@@ -91,9 +80,6 @@ files_words = record { action = inr (inr refl); values = inl refl }
 
 names_words : IsSetting names_rule
 names_words = record { action = inr (inr refl); values = inl refl }
-
-flag_word : (name : Text) → IsSetting (flag_rule name)
-flag_word name = record { action = inr (inl refl); values = inr tt }
 
 new_plain : IsPlain new_built.rules
 new_plain = plain_by_ids new_built.rules refl (one_word, (flag_word _, tt))

@@ -1,8 +1,11 @@
 -- The program's subcommands, and the task that a subcommand's entries give.
-use Rattle.std.specs.Prelude.{◌≡◌, ◌⊎◌, ◌∷◌, [], ◌^◌, ◌<◌, IsSome, IsSomeAnd, ℕ, List, Option, Some, option_map, true, false, codes}
+use Rattle.std.specs.Prelude.{◌≡◌, ◌⊎◌, [], ◌^◌, ◌<◌, Bool, IsSome, IsSomeAnd, ℕ, List, Option, Some, None, map, option_map, unwrap_or, true, false, codes}
+use Rattle.std.specs.Borrow.{Bor}
 use Rattle.std.specs.Str.Parse.{IsNumeral, digits_value, without_leading_plus}
-use Rattle.clap.specs.Words.{App, Row, Rule, Text, app_of, first_of, new_app, new_rule, one_of, rule_of, with_rule, with_subcommand}
-use Rattle.clap.specs.declared.builder.action.ArgAction.TheVariants.{SetTrue}
+use Rattle.clap.specs.Lexer.{usize_max}
+use Rattle.clap.specs.Values.{bool_text}
+use Rattle.clap.specs.Words.{App, Row, Rule, Text, all_of, app_of, first_of, new_app, new_rule, one_of, rule_of, with_rule, with_subcommand}
+use Rattle.clap.specs.declared.builder.action.ArgAction.TheVariants.{Append, SetTrue}
 use Rattle.clap.specs.declared.builder.arg.Arg.{Arg}
 use Rattle.clap.specs.declared.builder.command.Command.{Command}
 use Rattle.clap.specs.declared.builder.command.Command.TheViews.{out-Command}
@@ -16,49 +19,59 @@ use Rattle.cpm_command.specs.declared.task.Task.TheVariants.{Asm, Check, Com, De
 abbrev pub operand : List ℕ → Rule
 operand id = record (new_rule id) { required = true; value_names = 1 }
 
--- `--z80`
-abbrev pub z80_flag : Rule
-z80_flag = record (new_rule (codes "z80")) { long = Some (codes "z80"); action = Some SetTrue }
+-- own: any number of words, which may be left out, with a name in usage
+abbrev pub words_left_out : List ℕ → Rule
+words_left_out id =
+    record (new_rule id) { range = Some (record { start_inclusive = 1; end_inclusive = usize_max }); value_names = 1 }
 
--- `--steps N`, of `u64`, 1,000,000 where it is left out
+-- own: a flag `--name`
+abbrev pub flag : List ℕ → Rule
+flag name = record (new_rule name) { long = Some name; action = Some SetTrue }
+
+-- own: an option `--name VALUE`, which may be left out
+abbrev pub value_option : List ℕ → Rule
+value_option name = record (new_rule name) { long = Some name; value_names = 1 }
+
+-- own: an option `--name VALUE`, which may be left out, and given several times
+abbrev pub repeated_option : List ℕ → Rule
+repeated_option name = record (value_option name) { action = Some Append }
+
+-- `--steps N`, of `u64`, which may be left out
 abbrev pub steps_option : Rule
-steps_option = record (new_rule (codes "steps")) {
-  long = Some (codes "steps");
-  value_names = 1;
-  parser = Some (parser.Unsigned 0 18446744073709551615);
-  defaults = codes "1000000" ∷ [];
-}
-
--- `--keys SCRIPT`, which may be left out
-abbrev pub keys_option : Rule
-keys_option = record (new_rule (codes "keys")) { long = Some (codes "keys"); value_names = 1 }
+steps_option = record (value_option (codes "steps")) { parser = Some (parser.Unsigned 0 18446744073709551615) }
 
 -- ---- the subcommands
 
--- `com FILE [--z80] [--steps N] [--keys SCRIPT]`
+-- own: `com FILE [TAIL..] [--z80] [--steps N] [--keys SCRIPT]`: the program and what it runs with
+abbrev pub program_app : App
+program_app = with_rule (with_rule (with_rule (with_rule (with_rule (new_app (codes "com"))
+    (operand (codes "file"))) (words_left_out (codes "tail"))) (flag (codes "z80"))) steps_option) (value_option (codes "keys"))
+
+-- own: `com`, with `[--disk IMAGE].. [--out-disk IMAGE].. [--keyboard] [--record SCRIPT]` behind these
 abbrev pub com_app : App
-com_app = with_rule (with_rule
-    (with_rule (with_rule (new_app (codes "com")) (operand (codes "file"))) z80_flag) steps_option) keys_option
+com_app = with_rule (with_rule (with_rule (with_rule program_app
+    (repeated_option (codes "disk"))) (repeated_option (codes "out-disk"))) (flag (codes "keyboard"))) (value_option (codes "record"))
 
 -- `asm SOURCE OUT`
 abbrev pub asm_app : App
 asm_app = with_rule (with_rule (new_app (codes "asm")) (operand (codes "source"))) (operand (codes "out"))
 
--- `list FILE`
+-- `list FILE [--z80]`
 abbrev pub list_app : App
-list_app = with_rule (new_app (codes "list")) (operand (codes "file"))
+list_app = with_rule (with_rule (new_app (codes "list")) (operand (codes "file"))) (flag (codes "z80"))
 
 -- `check IMAGE`
 abbrev pub check_app : App
 check_app = with_rule (new_app (codes "check")) (operand (codes "image"))
 
--- `run CONFIG`
+-- own: `run CONFIG [--keyboard NAME] [--record SCRIPT]`
 abbrev pub run_app : App
-run_app = with_rule (new_app (codes "run")) (operand (codes "config"))
+run_app = with_rule (with_rule (with_rule (new_app (codes "run"))
+    (operand (codes "config"))) (value_option (codes "keyboard"))) (value_option (codes "record"))
 
 -- `debug FILE [--z80]`
 abbrev pub debug_app : App
-debug_app = with_rule (with_rule (new_app (codes "debug")) (operand (codes "file"))) z80_flag
+debug_app = with_rule (with_rule (new_app (codes "debug")) (operand (codes "file"))) (flag (codes "z80"))
 
 -- a command without its subcommands: it wants one, and adds no help of its own
 abbrev pub top_app : List ℕ → App
@@ -94,6 +107,15 @@ pub record ReadsCount (text : Option Text) (n : ℕ) : Type 0 where
   pub numeral : IsNumeral 10 (without_leading_plus digits)
   pub value : n ≡ digits_value 10 (without_leading_plus digits)
 
+-- own: the text is such a number, or both are left out
+abbrev pub ReadsCountIfAny : Option Text → Option ℕ → Type 0
+ReadsCountIfAny text None = text ≡ None
+ReadsCountIfAny text (Some n) = ReadsCount text n
+
+-- own: the texts are the words, of which there is none where they are left out
+abbrev pub ReadsWordsIfAny : Option (List Text) → List (Bor Text) → Type 0
+ReadsWordsIfAny texts words = unwrap_or texts [] ≡ map (λ w. w.now) words
+
 -- what the entry of `--z80` has for each processor: the flag was given, or was not
 abbrev pub flag_text : Cpu → Text
 flag_text I8080 = codes "false"
@@ -101,20 +123,28 @@ flag_text Z80 = codes "true"
 
 -- the task has what the entries of the subcommand of this name give
 abbrev pub HasEntriesOf : Text × List Row → Task → Type 0
-HasEntriesOf given (Com file cpu steps keys) =
+HasEntriesOf given (Com file tail cpu steps keys drives outs is_live script) =
     (given.0 ≡ codes "com") × (first_of (codes "file") given.1 ≡ Some file.now)
+    × ReadsWordsIfAny (all_of (codes "tail") given.1) tail.items
     × (one_of (codes "z80") given.1 ≡ Some (flag_text cpu))
-    × ReadsCount (one_of (codes "steps") given.1) steps
+    × ReadsCountIfAny (one_of (codes "steps") given.1) steps
     × (first_of (codes "keys") given.1 ≡ option_map (λ t. t.now) keys)
+    × ReadsWordsIfAny (all_of (codes "disk") given.1) drives.items
+    × ReadsWordsIfAny (all_of (codes "out-disk") given.1) outs.items
+    × (one_of (codes "keyboard") given.1 ≡ Some (bool_text is_live))
+    × (first_of (codes "record") given.1 ≡ option_map (λ t. t.now) script)
 HasEntriesOf given (Asm source out) =
     (given.0 ≡ codes "asm") × (first_of (codes "source") given.1 ≡ Some source.now)
     × (first_of (codes "out") given.1 ≡ Some out.now)
-HasEntriesOf given (Listing file) =
+HasEntriesOf given (Listing file cpu) =
     (given.0 ≡ codes "list") × (first_of (codes "file") given.1 ≡ Some file.now)
+    × (one_of (codes "z80") given.1 ≡ Some (flag_text cpu))
 HasEntriesOf given (Check image) =
     (given.0 ≡ codes "check") × (first_of (codes "image") given.1 ≡ Some image.now)
-HasEntriesOf given (Run config) =
+HasEntriesOf given (Run config keyboard script) =
     (given.0 ≡ codes "run") × (first_of (codes "config") given.1 ≡ Some config.now)
+    × (first_of (codes "keyboard") given.1 ≡ option_map (λ t. t.now) keyboard)
+    × (first_of (codes "record") given.1 ≡ option_map (λ t. t.now) script)
 HasEntriesOf given (Debug file cpu) =
     (given.0 ≡ codes "debug") × (first_of (codes "file") given.1 ≡ Some file.now)
     × (one_of (codes "z80") given.1 ≡ Some (flag_text cpu))
@@ -127,6 +157,11 @@ pub record IsPick (text : Option Text) : Type 0 where
   pub cpu : Cpu
   pub given : text ≡ Some (flag_text cpu)
 
+-- own: the entry of a flag stands there
+pub record IsFlag (text : Option Text) : Type 0 where
+  pub value : Bool
+  pub given : text ≡ Some (bool_text value)
+
 -- a number of `u64` stands there
 pub record IsCount (text : Option Text) : Type 0 where
   pub digits : Text
@@ -134,11 +169,16 @@ pub record IsCount (text : Option Text) : Type 0 where
   pub numeral : IsNumeral 10 (without_leading_plus digits)
   pub fits : digits_value 10 (without_leading_plus digits) < 2 ^ 64
 
+-- own: a number of `u64` stands there, or nothing
+abbrev pub IsCountIfAny : Option Text → Type 0
+IsCountIfAny text = (text ≡ None) ⊎ IsCount text
+
 -- the entries of `com` are whole
 pub record IsWholeCom (rows : List Row) : Type 0 where
   pub file : IsSome (first_of (codes "file") rows)
   pub z80 : IsPick (one_of (codes "z80") rows)
-  pub steps : IsCount (one_of (codes "steps") rows)
+  pub steps : IsCountIfAny (one_of (codes "steps") rows)
+  pub keyboard : IsFlag (one_of (codes "keyboard") rows)
 
 -- the entries of `asm` are whole
 pub record IsWholeAsm (rows : List Row) : Type 0 where
@@ -148,6 +188,7 @@ pub record IsWholeAsm (rows : List Row) : Type 0 where
 -- the entries of `list` are whole
 pub record IsWholeList (rows : List Row) : Type 0 where
   pub file : IsSome (first_of (codes "file") rows)
+  pub z80 : IsPick (one_of (codes "z80") rows)
 
 -- the entries of `check` are whole
 pub record IsWholeCheck (rows : List Row) : Type 0 where

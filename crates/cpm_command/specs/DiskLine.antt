@@ -1,19 +1,14 @@
 -- The commands of `disk`, and the task that the entries of one give.
-use Rattle.std.specs.Prelude.{◌≡◌, ◌⊎◌, ◌∷◌, [], ◌<◌, ◌≤◌, Bool, IsSome, IsSomeAnd, ℕ, List, Option, Some, codes, length, map, option_map}
+use Rattle.std.specs.Prelude.{◌≡◌, ◌⊎◌, ◌∷◌, [], ◌<◌, ◌≤◌, IsSome, IsSomeAnd, ℕ, List, Option, Some, codes, length, map, option_map}
 use Rattle.std.specs.Borrow.{Bor}
 use Rattle.std.specs.Str.Parse.{IsNumeral, digits_value, without_leading_plus}
 use Rattle.clap.specs.Lexer.{usize_max}
 use Rattle.clap.specs.Values.{bool_text}
 use Rattle.clap.specs.Words.{App, Row, Rule, Text, all_of, first_of, new_app, new_rule, one_of, with_rule, with_subcommand}
-use Rattle.clap.specs.declared.builder.action.ArgAction.TheVariants.{SetTrue}
 use Rattle.clap.specs.declared.builder.value_parser.ValueParser.TheVariants as parser
-use Rattle.cpm_command.specs.CommandLine.{ReadsCount, operand, top_app}
+use Rattle.cpm_command.specs.CommandLine.{IsFlag, ReadsCount, flag, operand, top_app, value_option}
 use Rattle.cpm_command.specs.declared.task.DiskTask.{DiskTask}
 use Rattle.cpm_command.specs.declared.task.DiskTask.TheVariants.{Get, List as Listing, New, Put, Remove, Rename}
-
--- own: a flag `--name`
-abbrev pub flag : List ℕ → Rule
-flag name = record (new_rule name) { long = Some name; action = Some SetTrue }
 
 -- own: `--user N`, a number from 0 to 15, and 0 where it is left out
 abbrev pub user_option : Rule
@@ -23,10 +18,6 @@ user_option = record (new_rule (codes "user")) {
   parser = Some (parser.Unsigned 0 15);
   defaults = codes "0" ∷ [];
 }
-
--- own: `--to PATH`, which may be left out
-abbrev pub to_option : Rule
-to_option = record (new_rule (codes "to")) { long = Some (codes "to"); value_names = 1 }
 
 -- own: one word that has to be there, and any number of further ones
 abbrev pub operands : List ℕ → Rule
@@ -54,7 +45,7 @@ put_app = with_rule (with_rule (with_rule (with_rule (with_rule (image_app (code
 -- own: `get IMAGE NAME.TYP.. [--user N] [--text] [--to PATH]`
 abbrev pub get_app : App
 get_app = with_rule (with_rule (with_rule (with_rule (image_app (codes "get"))
-    (operands (codes "name"))) user_option) (flag (codes "text"))) to_option
+    (operands (codes "name"))) user_option) (flag (codes "text"))) (value_option (codes "to"))
 
 -- own: `remove IMAGE NAME.TYP.. [--user N]`
 abbrev pub remove_app : App
@@ -110,11 +101,6 @@ HasDiskEntriesOf given (Rename image change user) =
     × ReadsUser (one_of (codes "user") given.1) user
 
 -- ---- entries that make a task
-
--- own: the entry of a flag stands there
-pub record IsFlag (text : Option Text) : Type 0 where
-  pub value : Bool
-  pub given : text ≡ Some (bool_text value)
 
 -- own: the number of a user stands there
 pub record IsUser (text : Option Text) : Type 0 where

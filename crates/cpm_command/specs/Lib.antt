@@ -2,5 +2,6 @@ pub mod CommandLine
 pub mod DiskLine
 pub mod HelpWords
 pub mod Line
+pub mod Options
 pub mod Refusals
 pub mod Shown

@@ -1,7 +1,7 @@
 //! The command of `clap` that reads the words.
 ghost use Rattle.std.specs.Prelude.{◌≡◌, IfOk};
 ghost use Rattle.clap.specs.Words.{App, Rule, new_app, with_rule, with_subcommand};
-ghost use Rattle.cpm_command.specs.CommandLine.{IsArgumentOf, IsCommandOf, asm_app, check_app, com_app, debug_app, host_app, keys_option, list_app, operand, run_app, steps_option, top_app, z80_flag};
+ghost use Rattle.cpm_command.specs.CommandLine.{IsArgumentOf, IsCommandOf, asm_app, check_app, com_app, debug_app, flag, host_app, list_app, operand, program_app, repeated_option, run_app, steps_option, top_app, value_option, words_left_out};
 
 use clap::{Arg, ArgAction, Command};
 use std::alloc::{AllocError, Global};
@@ -13,13 +13,18 @@ pub(crate) fn required_word<'a>(alloc: Global, id: &'a str, shown: &'a str) -> A
     Arg::new(alloc, id).value_name(shown).required(true)
 }
 
-/// `--z80`
-fn z80_argument<'a>(alloc: Global) -> Arg<'a>
-    ensures { IsArgumentOf z80_flag result }
+/// Any number of words, which may be left out.
+fn optional_words<'a>(alloc: Global, id: &'a str, shown: &'a str) -> Arg<'a>
+    ensures { IsArgumentOf (words_left_out id.now) result }
 {
-    Arg::new(alloc, "z80")
-        .long("z80")
-        .action(ArgAction::SetTrue)
+    Arg::new(alloc, id).value_name(shown).num_args(1..)
+}
+
+/// A flag of this name.
+pub(crate) fn flag_argument<'a>(alloc: Global, name: &'a str) -> Arg<'a>
+    ensures { IsArgumentOf (flag name.now) result }
+{
+    Arg::new(alloc, name).long(name).action(ArgAction::SetTrue)
 }
 
 /// `--steps N`
@@ -30,14 +35,23 @@ fn steps_argument<'a>(alloc: Global) -> Arg<'a>
         .long("steps")
         .value_name("N")
         .value_parser(clap::value_parser!(u64))
-        .default_value("1000000")
 }
 
-/// `--keys SCRIPT`
-fn keys_argument<'a>(alloc: Global) -> Arg<'a>
-    ensures { IsArgumentOf keys_option result }
+/// An option of this name with a value, which may be left out.
+pub(crate) fn value_argument<'a>(alloc: Global, name: &'a str, shown: &'a str) -> Arg<'a>
+    ensures { IsArgumentOf (value_option name.now) result }
 {
-    Arg::new(alloc, "keys").long("keys").value_name("SCRIPT")
+    Arg::new(alloc, name).long(name).value_name(shown)
+}
+
+/// An option of this name with a value, which may be left out, and given several times.
+fn repeated_argument<'a>(alloc: Global, name: &'a str, shown: &'a str) -> Arg<'a>
+    ensures { IsArgumentOf (repeated_option name.now) result }
+{
+    Arg::new(alloc, name)
+        .long(name)
+        .value_name(shown)
+        .action(ArgAction::Append)
 }
 
 /// A subcommand with no argument yet.
@@ -82,14 +96,27 @@ pub(crate) fn with_command<'a>(
     command?.subcommand(inner)
 }
 
-/// `com FILE [--z80] [--steps N] [--keys SCRIPT]`
+/// `com FILE [TAIL..] [--z80] [--steps N] [--keys SCRIPT]`: the program and what it runs with.
+fn program_command<'a>(alloc: Global) -> Result<Command<'a>, AllocError>
+    ensures { IfOk result (IsCommandOf program_app) }
+{
+    let with_file = with_argument(named(alloc, "com"), required_word(alloc, "file", "FILE"))?;
+    let with_tail = with_argument(with_file, optional_words(alloc, "tail", "TAIL"))?;
+    let with_flag = with_argument(with_tail, flag_argument(alloc, "z80"))?;
+    let with_steps = with_argument(with_flag, steps_argument(alloc))?;
+    with_argument(with_steps, value_argument(alloc, "keys", "SCRIPT"))
+}
+
+/// `com FILE [TAIL..] [--z80] [--steps N] [--keys SCRIPT] [--disk IMAGE].. [--out-disk IMAGE]..
+/// [--keyboard] [--record SCRIPT]`
 fn com_command<'a>(alloc: Global) -> Result<Command<'a>, AllocError>
     ensures { IfOk result (IsCommandOf com_app) }
 {
-    let with_file = with_argument(named(alloc, "com"), required_word(alloc, "file", "FILE"))?;
-    let with_flag = with_argument(with_file, z80_argument(alloc))?;
-    let with_steps = with_argument(with_flag, steps_argument(alloc))?;
-    with_argument(with_steps, keys_argument(alloc))
+    let with_program = program_command(alloc)?;
+    let with_disks = with_argument(with_program, repeated_argument(alloc, "disk", "IMAGE"))?;
+    let with_outs = with_argument(with_disks, repeated_argument(alloc, "out-disk", "IMAGE"))?;
+    let with_keyboard = with_argument(with_outs, flag_argument(alloc, "keyboard"))?;
+    with_argument(with_keyboard, value_argument(alloc, "record", "SCRIPT"))
 }
 
 /// `asm SOURCE OUT`
@@ -103,11 +130,12 @@ fn asm_command<'a>(alloc: Global) -> Result<Command<'a>, AllocError>
     with_argument(with_source, required_word(alloc, "out", "OUT"))
 }
 
-/// `list FILE`
+/// `list FILE [--z80]`
 fn list_command<'a>(alloc: Global) -> Result<Command<'a>, AllocError>
     ensures { IfOk result (IsCommandOf list_app) }
 {
-    with_argument(named(alloc, "list"), required_word(alloc, "file", "FILE"))
+    let with_file = with_argument(named(alloc, "list"), required_word(alloc, "file", "FILE"))?;
+    with_argument(with_file, flag_argument(alloc, "z80"))
 }
 
 /// `check IMAGE`
@@ -120,14 +148,16 @@ fn check_command<'a>(alloc: Global) -> Result<Command<'a>, AllocError>
     )
 }
 
-/// `run CONFIG`
+/// `run CONFIG [--keyboard NAME] [--record SCRIPT]`
 fn run_command<'a>(alloc: Global) -> Result<Command<'a>, AllocError>
     ensures { IfOk result (IsCommandOf run_app) }
 {
-    with_argument(
+    let with_config = with_argument(
         named(alloc, "run"),
         required_word(alloc, "config", "CONFIG"),
-    )
+    )?;
+    let with_keyboard = with_argument(with_config, value_argument(alloc, "keyboard", "NAME"))?;
+    with_argument(with_keyboard, value_argument(alloc, "record", "SCRIPT"))
 }
 
 /// `debug FILE [--z80]`
@@ -135,7 +165,7 @@ fn debug_command<'a>(alloc: Global) -> Result<Command<'a>, AllocError>
     ensures { IfOk result (IsCommandOf debug_app) }
 {
     let with_file = with_argument(named(alloc, "debug"), required_word(alloc, "file", "FILE"))?;
-    with_argument(with_file, z80_argument(alloc))
+    with_argument(with_file, flag_argument(alloc, "z80"))
 }
 
 /// The program's command, with its subcommands but for `disk`.

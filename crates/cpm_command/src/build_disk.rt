@@ -1,10 +1,12 @@
 //! The command of `clap` that reads the words from `disk` on.
 ghost use Rattle.std.specs.Prelude.{IfOk};
 ghost use Rattle.cpm_command.specs.CommandLine.{IsArgumentOf, IsCommandOf};
-ghost use Rattle.cpm_command.specs.DiskLine.{disk_app, flag, get_app, image_app, list_disk_app, new_disk_app, operands, put_app, remove_app, rename_app, to_option, user_option};
+ghost use Rattle.cpm_command.specs.DiskLine.{disk_app, get_app, image_app, list_disk_app, new_disk_app, operands, put_app, remove_app, rename_app, user_option};
 
-use crate::build::{named, required_word, top_command, with_argument, with_command};
-use clap::{Arg, ArgAction, Command};
+use crate::build::{
+    flag_argument, named, required_word, top_command, value_argument, with_argument, with_command,
+};
+use clap::{Arg, Command};
 use std::alloc::{AllocError, Global};
 
 /// A word that has to be there, and further ones.
@@ -12,13 +14,6 @@ fn required_words<'a>(alloc: Global, id: &'a str, shown: &'a str) -> Arg<'a>
     ensures { IsArgumentOf (operands id.now) result }
 {
     required_word(alloc, id, shown).num_args(1..)
-}
-
-/// A flag of this name.
-fn flag_argument<'a>(alloc: Global, name: &'a str) -> Arg<'a>
-    ensures { IsArgumentOf (flag name.now) result }
-{
-    Arg::new(alloc, name).long(name).action(ArgAction::SetTrue)
 }
 
 /// `--user N`
@@ -30,13 +25,6 @@ fn user_argument<'a>(alloc: Global) -> Arg<'a>
         .value_name("N")
         .value_parser(clap::value_parser!(u64).range(0..=15))
         .default_value("0")
-}
-
-/// `--to PATH`
-fn to_argument<'a>(alloc: Global) -> Arg<'a>
-    ensures { IsArgumentOf to_option result }
-{
-    Arg::new(alloc, "to").long("to").value_name("PATH")
 }
 
 /// The command of this name with its image.
@@ -82,7 +70,7 @@ fn get_command<'a>(alloc: Global) -> Result<Command<'a>, AllocError>
     let with_names = with_argument(with_image, required_words(alloc, "name", "NAME.TYP"))?;
     let with_user = with_argument(with_names, user_argument(alloc))?;
     let with_text = with_argument(with_user, flag_argument(alloc, "text"))?;
-    with_argument(with_text, to_argument(alloc))
+    with_argument(with_text, value_argument(alloc, "to", "PATH"))
 }
 
 /// `remove IMAGE NAME.TYP.. [--user N]`

@@ -2,8 +2,8 @@
 ghost use Rattle.std.specs.Prelude.{◌≡◌, IfOk, IsSome, Some, codes, option_map};
 ghost use Rattle.clap.specs.Values.{bool_text};
 ghost use Rattle.clap.specs.Words.{all_of, first_of, found_of, one_of, rows_of};
-ghost use Rattle.cpm_command.specs.CommandLine.{IsCount, IsPick, ReadsCount, flag_text};
-ghost use Rattle.cpm_command.specs.DiskLine.{IsFlag, IsUser, ReadsUser, ReadsWords};
+ghost use Rattle.cpm_command.specs.CommandLine.{IsCountIfAny, IsFlag, IsPick, ReadsCountIfAny, ReadsWordsIfAny, flag_text};
+ghost use Rattle.cpm_command.specs.DiskLine.{IsUser, ReadsUser, ReadsWords};
 
 use clap::ArgMatches;
 use cpm_flags::Cpu;
@@ -37,6 +37,21 @@ pub(crate) fn texts_of<'a>(
     Vec::from_slice(alloc, matches.get_strs(id).unwrap())
 }
 
+/// The texts of an argument that may be left out, in their order: none where it is.
+pub(crate) fn texts_if_any<'a>(
+    alloc: Global,
+    matches: &ArgMatches<'a>,
+    id: &str,
+) -> Result<Vec<&'a str>, AllocError>
+    ensures { IfOk result (λ texts.
+        ReadsWordsIfAny (all_of id.now (rows_of (found_of matches.now))) texts.items) }
+{
+    match matches.get_strs(id) {
+        Some(texts) => Vec::from_slice(alloc, texts),
+        None => Ok(Vec::new(alloc)),
+    }
+}
+
 /// Whether a flag was given.
 pub(crate) fn flag_of(matches: &ArgMatches<'_>, id: &str) -> bool
     requires { IsFlag (one_of id.now (rows_of (found_of matches.now))) }
@@ -57,12 +72,12 @@ pub(crate) fn cpu_of(matches: &ArgMatches<'_>) -> Cpu
     }
 }
 
-/// The number of steps.
-pub(crate) fn steps_of(matches: &ArgMatches<'_>) -> u64
-    requires { IsCount (one_of (codes "steps") (rows_of (found_of matches.now))) }
-    ensures { ReadsCount (one_of (codes "steps") (rows_of (found_of matches.now))) result }
+/// The number of steps, where it was given.
+pub(crate) fn steps_of(matches: &ArgMatches<'_>) -> Option<u64>
+    requires { IsCountIfAny (one_of (codes "steps") (rows_of (found_of matches.now))) }
+    ensures { ReadsCountIfAny (one_of (codes "steps") (rows_of (found_of matches.now))) result }
 {
-    matches.get_one::<u64>("steps").unwrap()
+    matches.get_one::<u64>("steps")
 }
 
 /// The number of the user.

@@ -44,6 +44,18 @@ pub enum Fault {
     /// An option was given twice.
     #[error("the argument '{0}' was given twice; try 'cpmhost --help'")]
     GivenTwice(Word),
+    /// Keys are to be recorded, and none are typed.
+    #[error("'--record' takes the keys of '--keyboard'; give both, or neither; try 'cpmhost --help'")]
+    RecordAlone,
+    /// The keys are to come from a script, and to be typed.
+    #[error("'--keys' and '--keyboard' both give the keys; give one of them; try 'cpmhost --help'")]
+    TwoScripts,
+    /// There are more images than drives.
+    #[error("'--disk' was given more than 4 times; give it for the drives A to D; try 'cpmhost --help'")]
+    TooManyDisks,
+    /// A drive is to be written, and has no image.
+    #[error("'--out-disk' was given more often than '--disk'; give a '--disk' for each; try 'cpmhost --help'")]
+    OutWithoutDisk,
     /// Anything else, in the words of the reader of command lines.
     #[error("{0}; try 'cpmhost --help'")]
     Other(Word),

@@ -6,6 +6,7 @@ mod build_disk;
 mod disk;
 mod entries;
 mod fault;
+mod options;
 mod read;
 mod task;
 mod usage;

@@ -1,29 +1,39 @@
 //! Reading the entries that a command line gave.
-ghost use Rattle.std.specs.Prelude.{◌≡◌, [], IfOk, IfErr, IsSomeAnd, codes, map, true, false};
+ghost use Rattle.std.specs.Prelude.{◌≡◌, [], IfOk, IfErr, IsSomeAnd, None, codes, map, true, false};
 ghost use Rattle.clap.specs.Words.{fault_of, found_of, rows_of, subcommand_of, subcommand_rows_of, takes};
 ghost use Rattle.cpm_command.specs.CommandLine.{HasEntriesOf, IsWhole, IsWholeAsm, IsWholeCheck, IsWholeCom, IsWholeDebug, IsWholeList, IsWholeOf, IsWholeRun, host_app};
 ghost use Rattle.cpm_command.specs.Line.{IsTaskOf, app_of_line, names_disk, words_of_line};
-ghost use Rattle.cpm_command.specs.Refusals.{IsRefusalBy, IsRefusalOf};
+ghost use Rattle.cpm_command.specs.Options.{task_fault};
+ghost use Rattle.cpm_command.specs.Refusals.{IsRefusalBy, IsRefusalOf, IsTaskRefusal};
 
 use crate::build::host_command;
 use crate::disk::disk_task;
-use crate::entries::{cpu_of, steps_of, text_if_any, text_of};
+use crate::entries::{cpu_of, flag_of, steps_of, text_if_any, text_of, texts_if_any};
 use crate::fault::{UsageError, refusal};
+use crate::options::options_fault;
 use crate::task::Task;
 use clap::ArgMatches;
-use std::alloc::Global;
+use std::alloc::{AllocError, Global};
 
 /// The task of `com`.
-fn com_task<'a>(matches: &ArgMatches<'a>) -> Task<'a>
+fn com_task<'a>(alloc: Global, matches: &ArgMatches<'a>) -> Result<Task<'a>, AllocError>
     requires { IsWholeCom (rows_of (found_of matches.now)) }
-    ensures { HasEntriesOf (codes "com", rows_of (found_of matches.now)) result }
+    ensures { IfOk result (HasEntriesOf (codes "com", rows_of (found_of matches.now))) }
 {
-    Task::Com {
+    let tail = texts_if_any(alloc, matches, "tail")?;
+    let drives = texts_if_any(alloc, matches, "disk")?;
+    let outs = texts_if_any(alloc, matches, "out-disk")?;
+    Ok(Task::Com {
         file: text_of(matches, "file"),
+        tail,
         cpu: cpu_of(matches),
         steps: steps_of(matches),
         keys: text_if_any(matches, "keys"),
-    }
+        drives,
+        outs,
+        is_live: flag_of(matches, "keyboard"),
+        record: text_if_any(matches, "record"),
+    })
 }
 
 /// The task of `asm`.
@@ -42,8 +52,10 @@ fn list_task<'a>(matches: &ArgMatches<'a>) -> Task<'a>
     requires { IsWholeList (rows_of (found_of matches.now)) }
     ensures { HasEntriesOf (codes "list", rows_of (found_of matches.now)) result }
 {
+    let cpu = cpu_of(matches);
     Task::List {
         file: text_of(matches, "file"),
+        cpu,
     }
 }
 
@@ -64,6 +76,8 @@ fn run_task<'a>(matches: &ArgMatches<'a>) -> Task<'a>
 {
     Task::Run {
         config: text_of(matches, "config"),
+        keyboard: text_if_any(matches, "keyboard"),
+        record: text_if_any(matches, "record"),
     }
 }
 
@@ -80,27 +94,31 @@ fn debug_task<'a>(matches: &ArgMatches<'a>) -> Task<'a>
 }
 
 /// The task of a subcommand's entries.
-fn task_named<'a>(name: &str, matches: &ArgMatches<'a>) -> Task<'a>
+fn task_named<'a>(
+    alloc: Global,
+    name: &str,
+    matches: &ArgMatches<'a>,
+) -> Result<Task<'a>, AllocError>
     requires { IsWholeOf (name.now, rows_of (found_of matches.now)) }
-    ensures { HasEntriesOf (name.now, rows_of (found_of matches.now)) result }
+    ensures { IfOk result (HasEntriesOf (name.now, rows_of (found_of matches.now))) }
 {
     match name {
-        "com" => com_task(matches),
-        "asm" => asm_task(matches),
-        "list" => list_task(matches),
-        "check" => check_task(matches),
-        "run" => run_task(matches),
-        _ => debug_task(matches),
+        "com" => com_task(alloc, matches),
+        "asm" => Ok(asm_task(matches)),
+        "list" => Ok(list_task(matches)),
+        "check" => Ok(check_task(matches)),
+        "run" => Ok(run_task(matches)),
+        _ => Ok(debug_task(matches)),
     }
 }
 
 /// The task of a parse.
-fn task_of<'a>(matches: &ArgMatches<'a>) -> Task<'a>
+fn task_of<'a>(alloc: Global, matches: &ArgMatches<'a>) -> Result<Task<'a>, AllocError>
     requires { IsWhole (subcommand_rows_of matches.now) }
-    ensures { IsSomeAnd (subcommand_rows_of matches.now) (λ given. HasEntriesOf given result) }
+    ensures { IfOk result (λ t. IsSomeAnd (subcommand_rows_of matches.now) (λ given. HasEntriesOf given t)) }
 {
     match matches.subcommand() {
-        Some((name, inner)) => task_named(name, inner),
+        Some((name, inner)) => task_named(alloc, name, inner),
         None => unreachable!(),
     }
 }
@@ -118,9 +136,13 @@ fn host_task<'a>(alloc: Global, words: &'a [&'a str]) -> Result<Task<'a>, UsageE
         Ok(command) => command,
         Err(_) => return Err(UsageError::OutOfMemory),
     };
-    match command.try_get_matches_from(words) {
-        Ok(matches) => Ok(task_of(&matches)),
-        Err(error) => Err(refusal(alloc, &error, false)),
+    let matches = match command.try_get_matches_from(words) {
+        Ok(matches) => matches,
+        Err(error) => return Err(refusal(alloc, &error, false)),
+    };
+    match task_of(alloc, &matches) {
+        Ok(task) => Ok(task),
+        Err(_) => Err(UsageError::OutOfMemory),
     }
 }
 
@@ -134,23 +156,17 @@ fn is_disk_line(words: &[&str]) -> bool
     }
 }
 
-/// The task that the words name, of which the first is the program's own name.
-///
-/// `Usage` says what is wrong first with words that name none. `OutOfMemory` comes only where memory
-/// is refused, whatever is wrong with the words behind that place.
-pub fn command<'a>(alloc: Global, words: &'a [&'a str]) -> Result<Task<'a>, UsageError>
-    // The task has the subcommand and all entries that clap's rules give the words.
+/// The task that the words name by clap's rules.
+fn task_by_rules<'a>(alloc: Global, words: &'a [&'a str]) -> Result<Task<'a>, UsageError>
     ensures task { IfOk result (IsTaskOf (map (λ w. w.now) words.entry.now)) }
-
-    // Words with a fault are refused, and words that the rules take are not.
     ensures faultless { IfOk result (λ _. fault_of (app_of_line (map (λ w. w.now) words.entry.now))
         (words_of_line (map (λ w. w.now) words.entry.now)) ≡ []) }
     ensures taken { takes (app_of_line (map (λ w. w.now) words.entry.now))
         (words_of_line (map (λ w. w.now) words.entry.now)) ≡ true
         → IfErr result (λ e. e ≡ UsageError.OutOfMemory) }
-
-    // A refusal says what is wrong first.
-    ensures refusal { IfErr result (IsRefusalOf (map (λ w. w.now) words.entry.now)) }
+    ensures refusal { IfErr result (IsRefusalBy (names_disk (map (λ w. w.now) words.entry.now))
+        (app_of_line (map (λ w. w.now) words.entry.now))
+        (words_of_line (map (λ w. w.now) words.entry.now))) }
 {
     if is_disk_line(words) {
         match disk_task(alloc, &words[1..]) {
@@ -159,5 +175,35 @@ pub fn command<'a>(alloc: Global, words: &'a [&'a str]) -> Result<Task<'a>, Usag
         }
     } else {
         host_task(alloc, words)
+    }
+}
+
+/// The task that the words name, of which the first is the program's own name.
+///
+/// `Usage` says what is wrong first with words that name none. `OutOfMemory` comes only where memory
+/// is refused, whatever is wrong with the words behind that place.
+pub fn command<'a>(alloc: Global, words: &'a [&'a str]) -> Result<Task<'a>, UsageError>
+    // The task has the subcommand and all entries that clap's rules give the words, and its options
+    // go together.
+    ensures task { IfOk result (λ t. IsTaskOf (map (λ w. w.now) words.entry.now) t × (task_fault t ≡ None)) }
+
+    // Words with a fault are refused. Words that the rules take are refused for what is wrong first with
+    // the options of the task that they name.
+    ensures faultless { IfOk result (λ _. fault_of (app_of_line (map (λ w. w.now) words.entry.now))
+        (words_of_line (map (λ w. w.now) words.entry.now)) ≡ []) }
+    ensures taken { takes (app_of_line (map (λ w. w.now) words.entry.now))
+        (words_of_line (map (λ w. w.now) words.entry.now)) ≡ true
+        → IfErr result (IsTaskRefusal (map (λ w. w.now) words.entry.now)) }
+
+    // A refusal says what is wrong first.
+    ensures refusal { IfErr result (IsRefusalOf (map (λ w. w.now) words.entry.now)) }
+{
+    let task = match task_by_rules(alloc, words) {
+        Ok(task) => task,
+        Err(error) => return Err(error),
+    };
+    match options_fault(&task) {
+        Some(fault) => Err(UsageError::Usage(fault)),
+        None => Ok(task),
     }
 }

@@ -5,30 +5,43 @@ use cpm_flags::Cpu;
 /// A subcommand with its words.
 #[derive(Debug, PartialEq, Eq, Drop)]
 pub enum Task<'a> {
-    /// `com FILE [--z80] [--steps N] [--keys SCRIPT]`: run the program in FILE on that processor for at
-    /// most `steps` steps, with the keys of SCRIPT.
+    /// `com FILE [TAIL..] [--z80] [--steps N] [--keys SCRIPT] [--disk IMAGE].. [--out-disk IMAGE]..
+    /// [--keyboard] [--record SCRIPT]`: run the program in FILE on that processor for at most `steps`
+    /// steps, with the words of `tail` behind its name, and with the keys of SCRIPT or, where it is
+    /// live, of standard input. `drives` are the images of the drives from A on, and `outs` the files
+    /// that these are written to; `record` is the script that live keys are written to.
     Com {
         file: &'a str,
+        tail: Vec<&'a str>,
         cpu: Cpu,
-        steps: u64,
+        steps: Option<u64>,
         keys: Option<&'a str>,
+        drives: Vec<&'a str>,
+        outs: Vec<&'a str>,
+        is_live: bool,
+        record: Option<&'a str>,
     },
     /// `asm SOURCE OUT`: assemble SOURCE, and write its image to OUT.
     Asm {
         source: &'a str,
         out: &'a str,
     },
-    /// `list FILE`: list the program in FILE as instructions of the 8080.
+    /// `list FILE [--z80]`: list the program in FILE as instructions of that processor.
     List {
         file: &'a str,
+        cpu: Cpu,
     },
     /// `check IMAGE`: tell whether the directory of the drive in IMAGE agrees with itself.
     Check {
         image: &'a str,
     },
-    /// `run CONFIG`: run the sessions of the configuration in CONFIG.
+    /// `run CONFIG [--keyboard NAME] [--record SCRIPT]`: run the sessions of the configuration in
+    /// CONFIG. `keyboard` is the session that gets the keys of standard input, and `record` the script
+    /// that these are written to.
     Run {
         config: &'a str,
+        keyboard: Option<&'a str>,
+        record: Option<&'a str>,
     },
     /// `debug FILE [--z80]`: run the program in FILE on that processor, as lines of standard input say.
     Debug {

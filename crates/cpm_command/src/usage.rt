@@ -9,17 +9,19 @@ pub const HELP_TEXT: &str = "\
 cpmhost runs CP/M 2.2 programs for the 8080 and the Z80 processor.
 
 Usage:
-  cpmhost run CONFIG
+  cpmhost run CONFIG [--keyboard NAME] [--record SCRIPT]
                    run the sessions of the configuration in CONFIG by turns,
                    write their files, and print how each session ended
-  cpmhost com FILE [--z80] [--steps N] [--keys SCRIPT]
-                   run the CP/M program in FILE, such as a .COM file, and print
-                   what it writes to its console
+  cpmhost com FILE [TAIL..] [--z80] [--steps N] [--keys SCRIPT]
+          [--disk IMAGE].. [--out-disk IMAGE].. [--keyboard] [--record SCRIPT]
+                   run the CP/M program in FILE, such as a .COM file, with the
+                   words TAIL.. behind its name, and print what it writes to
+                   its console
   cpmhost asm SOURCE OUT
                    assemble the 8080 source in SOURCE and write the program,
                    which begins at 0100h, to the file OUT
-  cpmhost list FILE
-                   list the program in FILE as instructions of the 8080
+  cpmhost list FILE [--z80]
+                   list the program in FILE as instructions
   cpmhost check IMAGE
                    print 'ok' if no two files in the image IMAGE of a drive
                    share a block and each block can be a file's
@@ -40,26 +42,49 @@ Usage:
                    give the file OLD in the image the name NEW
   cpmhost --help   print this help
 
-Options of com, and --z80 of debug:
-  --z80       run it on the Z80; it runs on the 8080 unless this is given
+Words and options of com, and --z80 of debug and list:
+  TAIL..      the words behind the program's name on a CP/M command line, as in
+              'cpmhost com pip.com --disk work.img b.txt=a.txt'; behind '--'
+              also words that begin with '-'
+  --z80       run it on the Z80, or list it as instructions of the Z80; it is
+              the 8080 unless this is given
   --steps N   stop after N steps: N is a number from 0 to 18446744073709551615,
-              and 1000000 where it is left out; a step is an instruction, or a
-              part of a system call
+              and 1000000 where it is left out, but with --keyboard there is no
+              limit then; a step is an instruction, or a part of a system call
   --keys SCRIPT
               press the keys of SCRIPT, each line of which is empty, a comment
               that begins with '#', or a count of steps, a space and the keys
               that come after so many steps: a character from ' ' to '~' is
               itself, '^M' is Return, '^C' is Control and C, '^?' is Rubout,
               and '^~' is a caret
+  --disk IMAGE
+              the image of the disk in drive A; given again, of those in B, C
+              and D; a blank disk is in A where none is given
+  --out-disk IMAGE
+              write the disk in drive A, as the program left it, to this file;
+              given again, those in B, C and D
+  --keyboard  take the keys from standard input as they are typed; '^]', which
+              is Control and ], ends it
+  --record SCRIPT
+              write the keys that --keyboard takes to the file SCRIPT, which
+              --keys takes
+
+Options of run:
+  --keyboard NAME
+              take the keys of the session NAME from standard input, as for com
+  --record SCRIPT
+              write these keys to the file SCRIPT, as for com
 
 Options of disk:
   --large     make a large disk, of 2105344 bytes in place of 256256
-  --user N    the files of user N: N is a number from 0 to 15, and 0 where it is
-              left out
+  --user N    the files of user N: N is a number from 0 to 15, and 0 where it
+              is left out
   --text      change the ends of lines to those of CP/M, or back
   --read-only, --system
               mark the files as read-only, or as files of the system
-  --to PATH   write to PATH
+  --to PATH   write into the folder PATH, or the one file to the file PATH;
+              files get their names in small letters where PATH is a folder or
+              left out
 
 Lines that debug reads, where HHHH is an address of four hexadecimal digits:
   S N         make N steps
@@ -76,6 +101,8 @@ Examples:
   cpmhost com hello.com
   cpmhost com life.com --steps 50000000 > life.txt
   cpmhost com turbo.com --z80 --keys turbo.keys
+  cpmhost com pip.com --disk work.img --out-disk work.img b.txt=a.txt
+  cpmhost com turbo.com --z80 --disk turbo.img --keyboard --record turbo.keys
   cpmhost asm hello.asm hello.com
   cpmhost list hello.com
   cpmhost check work.img

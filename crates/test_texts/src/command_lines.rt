@@ -4,118 +4,52 @@ use crate::same::same_at;
 use cpm_command::{HELP_TEXT, Task, command, help};
 use cpm_flags::Cpu;
 
-/// Lines with a program, and how many steps it may do.
-const FILES_AND_STEPS: [(&[&str], u64); 7] = [
-    (&["cpmhost", "com", "a.com"], 1_000_000),
-    (&["cpmhost", "com", "a.com", "--steps", "5"], 5),
-    (&["cpmhost", "com", "--steps", "5", "a.com"], 5),
-    (&["cpmhost", "com", "a.com", "--steps=5"], 5),
-    (&["cpmhost", "com", "a.com", "--steps", "+5"], 5),
-    (&["cpmhost", "com", "--", "a.com"], 1_000_000),
+/// Lines with a configuration, the session that gets the keys of standard input, and the script that
+/// these are written to.
+const CONFIGURATIONS: [(&[&str], Option<&str>, Option<&str>); 4] = [
+    (&["cpmhost", "run", "a.toml"], None, None),
     (
-        &["cpmhost", "com", "a.com", "--steps", "18446744073709551615"],
-        u64::MAX,
+        &["cpmhost", "run", "a.toml", "--keyboard", "ann"],
+        Some("ann"),
+        None,
+    ),
+    (
+        &[
+            "cpmhost",
+            "run",
+            "--keyboard=ann",
+            "--record=a.keys",
+            "a.toml",
+        ],
+        Some("ann"),
+        Some("a.keys"),
+    ),
+    (
+        &[
+            "cpmhost",
+            "run",
+            "--record",
+            "a.keys",
+            "--keyboard",
+            "ann",
+            "--",
+            "a.toml",
+        ],
+        Some("ann"),
+        Some("a.keys"),
     ),
 ];
-
-#[test]
-fn takes_a_file_and_steps(rt: HostRuntime) {
-    for (words, steps) in FILES_AND_STEPS {
-        let wanted = Ok(Task::Com {
-            file: "a.com",
-            cpu: Cpu::I8080,
-            steps,
-            keys: None,
-        });
-        assert_eq!(rt; command(rt.alloc(), words), wanted, "at {words:?}");
-    }
-}
-
-/// Lines with a program, and the processor and steps that it gets.
-const PROCESSORS: [(&[&str], &str, Cpu, u64); 7] = [
-    (&["cpmhost", "com", "a.com"], "a.com", Cpu::I8080, 1_000_000),
-    (
-        &["cpmhost", "com", "a.com", "--z80"],
-        "a.com",
-        Cpu::Z80,
-        1_000_000,
-    ),
-    (
-        &["cpmhost", "com", "--z80", "a.com"],
-        "a.com",
-        Cpu::Z80,
-        1_000_000,
-    ),
-    (
-        &["cpmhost", "com", "--z80", "a.com", "--steps", "5"],
-        "a.com",
-        Cpu::Z80,
-        5,
-    ),
-    (
-        &["cpmhost", "com", "--steps=5", "--z80", "a.com"],
-        "a.com",
-        Cpu::Z80,
-        5,
-    ),
-    (
-        &["cpmhost", "com", "--z80", "--", "--z80"],
-        "--z80",
-        Cpu::Z80,
-        1_000_000,
-    ),
-    (
-        &["cpmhost", "com", "--", "--z80"],
-        "--z80",
-        Cpu::I8080,
-        1_000_000,
-    ),
-];
-
-#[test]
-fn takes_a_processor(rt: HostRuntime) {
-    for (words, file, cpu, steps) in PROCESSORS {
-        let wanted = Ok(Task::Com {
-            file,
-            cpu,
-            steps,
-            keys: None,
-        });
-        assert_eq!(rt; command(rt.alloc(), words), wanted, "at {words:?}");
-    }
-}
-
-/// Lines with a program and its keys.
-const KEY_SCRIPTS: [&[&str]; 4] = [
-    &["cpmhost", "com", "a.com", "--keys", "a.keys"],
-    &["cpmhost", "com", "--keys", "a.keys", "a.com"],
-    &["cpmhost", "com", "--keys=a.keys", "--", "a.com"],
-    &[
-        "cpmhost",
-        "com",
-        "--steps=1000000",
-        "--keys=a.keys",
-        "a.com",
-    ],
-];
-
-#[test]
-fn takes_a_key_script(rt: HostRuntime) {
-    for words in KEY_SCRIPTS {
-        let wanted = Ok(Task::Com {
-            file: "a.com",
-            cpu: Cpu::I8080,
-            steps: 1_000_000,
-            keys: Some("a.keys"),
-        });
-        assert_eq!(rt; command(rt.alloc(), words), wanted, "at {words:?}");
-    }
-}
 
 #[test]
 fn takes_a_configuration(rt: HostRuntime) {
-    let wanted = Ok(Task::Run { config: "a.toml" });
-    assert_eq!(rt; command(rt.alloc(), &["cpmhost", "run", "a.toml"]), wanted);
+    for (words, keyboard, record) in CONFIGURATIONS {
+        let wanted = Ok(Task::Run {
+            config: "a.toml",
+            keyboard,
+            record,
+        });
+        assert_eq!(rt; command(rt.alloc(), words), wanted, "at {words:?}");
+    }
 }
 
 /// Lines with a program to debug, and its processor.
@@ -134,7 +68,7 @@ fn takes_a_program_to_debug(rt: HostRuntime) {
 }
 
 #[test]
-fn takes_a_source_and_a_file_to_list(rt: HostRuntime) {
+fn takes_a_source(rt: HostRuntime) {
     let asm = Ok(Task::Asm {
         source: "a.asm",
         out: "a.com",
@@ -143,8 +77,22 @@ fn takes_a_source_and_a_file_to_list(rt: HostRuntime) {
         command(rt.alloc(), &["cpmhost", "asm", "a.asm", "a.com"]),
         asm
     );
-    let list = Ok(Task::List { file: "a.com" });
-    assert_eq!(rt; command(rt.alloc(), &["cpmhost", "list", "a.com"]), list);
+}
+
+/// Lines with a program to list, and its processor.
+const LISTED: [(&[&str], Cpu); 4] = [
+    (&["cpmhost", "list", "a.com"], Cpu::I8080),
+    (&["cpmhost", "list", "a.com", "--z80"], Cpu::Z80),
+    (&["cpmhost", "list", "--z80", "a.com"], Cpu::Z80),
+    (&["cpmhost", "list", "--z80", "--", "a.com"], Cpu::Z80),
+];
+
+#[test]
+fn takes_a_program_to_list(rt: HostRuntime) {
+    for (words, cpu) in LISTED {
+        let wanted = Ok(Task::List { file: "a.com", cpu });
+        assert_eq!(rt; command(rt.alloc(), words), wanted, "at {words:?}");
+    }
 }
 
 #[test]
@@ -155,7 +103,11 @@ fn takes_an_image_to_check(rt: HostRuntime) {
 
 #[test]
 fn knows_who_asks_for_help(rt: HostRuntime) {
-    let lines: [(&[&str], bool); 36] = [
+    let lines: [(&[&str], bool); 40] = [
+        (&["cpmhost", "com", "a.com", "x", "--help"], true),
+        (&["cpmhost", "com", "a.com", "x", "--", "--help"], false),
+        (&["cpmhost", "list", "a.com", "--z80", "-h"], true),
+        (&["cpmhost", "run", "a.toml", "--keyboard", "-h"], true),
         (&["cpmhost", "disk", "help"], true),
         (&["cpmhost", "disk", "-h"], true),
         (&["cpmhost", "disk", "put", "--help"], true),

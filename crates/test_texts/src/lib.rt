@@ -17,9 +17,13 @@ mod key_scripts;
 #[cfg(test)]
 mod lines;
 #[cfg(test)]
+mod program_lines;
+#[cfg(test)]
 mod recorded_keys;
 #[cfg(test)]
 mod refused_command_lines;
+#[cfg(test)]
+mod refused_options;
 #[cfg(test)]
 mod same;
 #[cfg(test)]

@@ -12,12 +12,19 @@ fn refusal(rt: &(impl Abort + AllocGlobal), words: &[&str]) -> String {
     }
 }
 
+/// Fails unless the words are refused with this, and the word on help.
+pub fn names(rt: &(impl Abort + AllocGlobal), words: &[&str], said: &str) {
+    let shown = refusal(rt, words);
+    let wanted = format!(in rt.alloc(); "{said}; try 'cpmhost --help'").expect(rt, "memory");
+    same_at(rt, words, shown.as_str(), wanted.as_str());
+}
+
 /// What is said of a number of steps.
 const NUMBER: &str =
     "for '--steps': a number from 0 to 18446744073709551615 is wanted; try 'cpmhost --help'";
 
 /// Lines that are no task, and what is said of them, in two parts.
-const WRONG: [(&[&str], &str, &str); 38] = [
+const WRONG: [(&[&str], &str, &str); 37] = [
     (
         &[],
         "no command was given; try 'cpmhost com FILE' or 'cpmhost --help'",
@@ -54,17 +61,12 @@ const WRONG: [(&[&str], &str, &str); 38] = [
         "",
     ),
     (
-        &["cpmhost", "com", "a", "b"],
-        "unexpected argument 'b'; try 'cpmhost --help'",
-        "",
-    ),
-    (
         &["cpmhost", "com", "a", "-x\n"],
         "unexpected argument '-x'; try 'cpmhost --help'",
         "",
     ),
     (
-        &["cpmhost", "com", "a", "b\n\x1bc"],
+        &["cpmhost", "list", "a", "b\n\x1bc"],
         "unexpected argument 'b??c'; try 'cpmhost --help'",
         "",
     ),
@@ -316,9 +318,7 @@ const WRONG_DISKS: [(&[&str], &str); 24] = [
 #[test]
 fn names_what_is_wrong_with_disk(rt: HostRuntime) {
     for (words, said) in WRONG_DISKS {
-        let shown = refusal(&rt, words);
-        let wanted = format!(in rt.alloc(); "{said}; try 'cpmhost --help'").expect(&rt, "memory");
-        same_at(&rt, words, shown.as_str(), wanted.as_str());
+        names(&rt, words, said);
     }
 }
 

@@ -3,7 +3,7 @@ use Rattle.cpm_command.proofs.build.com_command.Goals as goal
 
 pub returns : goal.returns
 returns c =
-    let file = c.in_ok-with_file.ensures _ _ c.named.ensures c.required_word.ensures in
-    let flag = c.in_ok-with_flag.ensures _ _ file c.z80_argument.ensures in
-    let steps = c.in_ok-with_steps.ensures _ _ flag c.steps_argument.ensures in
-    IfOk-weaker c.with_argument-4.result _ _ (λ m h. h _ _ steps c.keys_argument.ensures) c.with_argument-4.ensures
+    let disks = c.in_ok-with_disks.ensures _ _ c.in_ok-with_program.ensures c.repeated_argument.ensures in
+    let outs = c.in_ok-with_outs.ensures _ _ disks c.repeated_argument-2.ensures in
+    let keyboard = c.in_ok-with_keyboard.ensures _ _ outs c.flag_argument.ensures in
+    IfOk-weaker c.with_argument-4.result _ _ (λ m h. h _ _ keyboard c.value_argument.ensures) c.with_argument-4.ensures

@@ -1,7 +1,7 @@
 use Rattle.std.proofs.Common.{◌∙◌, subst, sym}
 use Rattle.clap.specs.Words.{found_of}
 use Rattle.clap.proofs.WalkLemmas.{one_text-rows}
-use Rattle.cpm_command.specs.DiskLine.{IsFlag}
+use Rattle.cpm_command.specs.CommandLine.{IsFlag}
 use Rattle.cpm_command.proofs.EntryLemmas.{flag_read}
 use Rattle.cpm_command.proofs.entries.flag_of.Goals as goal
 
