@@ -22,7 +22,9 @@ pub use asm::run_asm;
 pub use check::run_check;
 pub use com::{Ran, Script, Start, run_com};
 pub use cpm_batch::ReadError;
-pub use cpm_command::{DiskTask, Fault, HELP_TEXT, Task, UsageError, Word, command, help, shown};
+pub use cpm_command::{
+    ComTask, DiskTask, Fault, HELP_TEXT, RunTask, Task, UsageError, Word, command, help, shown,
+};
 pub use cpm_config::{Config, ConfigError, Origin, Session};
 pub use cpm_debug::{DebugError, run_debug};
 pub use cpm_script::{Key, LineFault, ScriptError, key_line, read_keys};

@@ -7,10 +7,11 @@ use crate::place::check_com;
 use crate::progress::{Form, Teller};
 use crate::refused::Refused;
 use crate::screen::Screen;
-use crate::typing::{record_in, tell_quit};
-use cpm_flags::Cpu;
+use crate::typing::{Terminals, record_in, tell_quit};
 use cpm_geom::Image;
-use cpm_host::{Ending, HostError, Ran, Script, Start, run_com, run_live, tail_of};
+use cpm_host::{
+    ComTask, Ending, HostError, Ran, Script, Start, run_com, run_live, tail_of,
+};
 use std::io;
 use std::io::BufReader;
 use std::rt::Files;
@@ -18,57 +19,42 @@ use std::rt::Files;
 /// How many steps a program has at most where nobody says.
 const STEPS: u64 = 1_000_000;
 
-/// The words behind `com`.
-#[derive(Clone, Copy)]
-pub struct ComWords<'a> {
-    pub file: &'a str,
-    pub tail: &'a [&'a str],
-    pub cpu: Cpu,
-    pub steps: Option<u64>,
-    pub keys: Option<&'a str>,
-    pub drives: &'a [&'a str],
-    pub outs: &'a [&'a str],
-    pub is_live: bool,
-    pub record: Option<&'a str>,
-    pub form: Form,
-}
-
 /// Runs the program in a file, prints what it shows, writes its drives where that is asked, and prints how it ended.
 pub fn com(
     rt: &(impl Files + Input + Print + Eprint + AllocGlobal),
     outputs: Outputs,
-    words: ComWords<'_>,
-    is_screen: bool,
+    task: &ComTask<'_>,
+    terminals: Terminals,
 ) -> Result<(), Refused> {
-    let start = start_of(rt, words)?;
-    check_com(rt, words)?;
-    for out in words.outs {
+    let start = start_of(rt, task)?;
+    check_com(rt, task)?;
+    for out in &task.outs {
         check_file(rt, outputs, out)?;
     }
-    let ran = if words.is_live {
-        play_keyboard(rt, words, start, is_screen)?
+    let ran = if task.is_live {
+        play_keyboard(rt, task, start, terminals)?
     } else {
-        play_script(rt, words, start, is_screen)?
+        play_script(rt, task, start, terminals)?
     };
-    write_drives(rt, outputs, words.outs, ran.drives)?;
+    write_drives(rt, outputs, &task.outs, ran.drives)?;
     tell(rt, ran.ending);
     Ok(())
 }
 
 /// What the program runs with.
-fn start_of(rt: &(impl Files + AllocGlobal), words: ComWords<'_>) -> Result<Start, Refused> {
-    let program = read_file(rt, words.file)?;
-    let tail = if words.tail.is_empty() && words.drives.is_empty() {
+fn start_of(rt: &(impl Files + AllocGlobal), task: &ComTask<'_>) -> Result<Start, Refused> {
+    let program = read_file(rt, task.file)?;
+    let tail = if task.tail.is_empty() && task.drives.is_empty() {
         None
     } else {
-        Some(tail_of(rt.alloc(), words.tail)?)
+        Some(tail_of(rt.alloc(), &task.tail)?)
     };
     let mut drives = Vec::new(rt.alloc());
-    for name in words.drives {
+    for name in &task.drives {
         drives.push(read_image(rt, name)?)?;
     }
     Ok(Start {
-        cpu: words.cpu,
+        cpu: task.cpu,
         program,
         tail,
         drives,
@@ -78,32 +64,33 @@ fn start_of(rt: &(impl Files + AllocGlobal), words: ComWords<'_>) -> Result<Star
 /// Runs a program by the keys of the script in a file, if there is one. A screen gets its control bytes as text.
 fn play_script(
     rt: &(impl Files + Print + Eprint + AllocGlobal),
-    words: ComWords<'_>,
+    task: &ComTask<'_>,
     start: Start,
-    is_screen: bool,
+    terminals: Terminals,
 ) -> Result<Ran, Refused> {
-    let Some(name) = words.keys else {
-        return play(rt, words, start, None, is_screen);
+    let Some(name) = task.keys else {
+        return play(rt, task, start, None, terminals);
     };
     let text = read_file(rt, name)?;
     let script = Script {
         name,
         text: text.as_slice(),
     };
-    play(rt, words, start, Some(script), is_screen)
+    play(rt, task, start, Some(script), terminals)
 }
 
 /// Runs a program by the keys of a script.
 fn play(
     rt: &(impl Print + Eprint + AllocGlobal),
-    words: ComWords<'_>,
+    task: &ComTask<'_>,
     start: Start,
     script: Option<Script<'_>>,
-    is_screen: bool,
+    terminals: Terminals,
 ) -> Result<Ran, Refused> {
-    let steps = words.steps.unwrap_or(STEPS);
-    let mut teller = Teller::new(rt, None, words.form);
-    let ran = if is_screen {
+    let steps = task.steps.unwrap_or(STEPS);
+    let form = Form::of(task.has_progress, terminals.is_error_terminal);
+    let mut teller = Teller::new(rt, None, form);
+    let ran = if terminals.is_screen {
         let mut screen = Screen::new(io::writer(rt));
         run_com(rt.alloc(), start, script, steps, &mut screen, &mut teller)
     } else {
@@ -117,18 +104,18 @@ fn play(
 /// Runs a program by the keys of standard input, and records them if that is asked.
 fn play_keyboard(
     rt: &(impl Files + Input + Print + Eprint + AllocGlobal),
-    words: ComWords<'_>,
+    task: &ComTask<'_>,
     start: Start,
-    is_screen: bool,
+    terminals: Terminals,
 ) -> Result<Ran, Refused> {
-    let mut record = record_in(rt, words.record)?;
+    let mut record = record_in(rt, task.record)?;
     let most_keys = record.most_keys();
-    let steps = words.steps.unwrap_or(u64::MAX);
+    let steps = task.steps.unwrap_or(u64::MAX);
     tell_quit(rt);
     let Ok(mut input) = BufReader::new(rt.alloc(), rt.reader()) else {
         return Err(Refused::from(HostError::OutOfMemory));
     };
-    let typed = if is_screen {
+    let typed = if terminals.is_screen {
         let mut screen = Screen::new(io::writer(rt));
         run_live(rt.alloc(), start, steps, most_keys, &mut input, &mut screen, &mut record)?
     } else {

@@ -14,10 +14,10 @@ mod refused;
 mod screen;
 mod typing;
 
-use com::{ComWords, com};
+use com::com;
 use cpm_flags::Cpu;
 use cpm_host::{
-    Config, HostError, Task, command, help, run_asm, run_check, run_debug, run_host, run_list,
+    Config, HostError, RunTask, Task, command, help, run_asm, run_check, run_debug, run_host, run_list,
 };
 use disk::do_disk;
 use files::{MachineFiles, check_outputs, read_file, write_file};
@@ -26,7 +26,7 @@ use place::{check_apart, check_pair};
 use progress::{Form, Teller};
 use refused::{Behind, Refused};
 use screen::Screen;
-use typing::type_in;
+use typing::{Terminals, type_in};
 use std::env::Env;
 use std::io::{BufReader, BufWriter, ErrorKind, IsTerminal};
 use std::process::{self, ExitCode};
@@ -35,7 +35,7 @@ use std::{env, io};
 
 /// What stands behind the help.
 const HELP_ON_RAW: &str = "
-At a terminal, com and debug show control bytes of the program as ^[ and the like; with --raw behind com they go out as they are.
+At a terminal, com, debug and run --keyboard show control bytes of the program as ^[ and the like; with --raw behind com or run they go out as they are.
 ";
 
 /// The words of the command line, of which the first is the program's own name.
@@ -49,31 +49,23 @@ fn arguments(rt: &(impl Env + AllocGlobal)) -> Result<Vec<String>, HostError>
     }
 }
 
-/// The words behind `run`.
-#[derive(Clone, Copy)]
-struct RunWords<'a> {
-    config: &'a str,
-    keyboard: Option<&'a str>,
-    record: Option<&'a str>,
-    form: Form,
-}
-
 /// Runs the sessions of the configuration in a file, one of them by the keys of standard input if that is asked.
 fn run_sessions(
     rt: &(impl Files + Input + Print + Eprint + AllocGlobal),
     outputs: Outputs,
-    words: RunWords<'_>,
-    is_screen: bool,
+    task: &RunTask<'_>,
+    terminals: Terminals,
 ) -> Result<(), Refused> {
-    let text = read_file(rt, words.config)?;
+    let text = read_file(rt, task.config)?;
     let mut config = Config::read(rt.alloc(), text.as_slice()).map_err(HostError::from)?;
     check_outputs(rt, outputs, &config)?;
-    check_apart(rt, words.config, &config, words.record)?;
-    let typed = match words.keyboard {
-        Some(name) => Some(type_in(rt, &mut config, name, words.record, is_screen)?),
+    check_apart(rt, task.config, &config, task.record)?;
+    let typed = match task.keyboard {
+        Some(name) => Some(type_in(rt, &mut config, name, task.record, terminals.is_screen)?),
         None => None,
     };
-    play_sessions(rt, outputs, &config, typed, words.form)
+    let form = Form::of(task.has_progress, terminals.is_error_terminal);
+    play_sessions(rt, outputs, &config, typed, form)
 }
 
 /// Runs the sessions of a configuration, and prints how each ended, and the bytes at which one ended that are no instruction.
@@ -158,9 +150,13 @@ fn debug(
     Ok(())
 }
 
-/// Whether a word is `--raw` behind the command `com`, given the words before it.
+/// Whether a word is `--raw` behind `com` or `run`, given the words before it, and none of the words of a tail behind `--`.
 fn is_raw(before: &[&str], word: &str) -> bool {
-    word == "--raw" && before.get(1).is_some_and(|command| *command == "com")
+    word == "--raw"
+        && before
+            .get(1)
+            .is_some_and(|command| *command == "com" || *command == "run")
+        && !before.iter().any(|other| *other == "--")
 }
 
 /// Does what words ask for, which begin with the program's own name.
@@ -168,7 +164,7 @@ fn do_words(
     rt: &(impl Files + Input + Print + Eprint + AllocGlobal),
     outputs: Outputs,
     words: &[&str],
-    is_screen: bool,
+    terminals: Terminals,
 ) -> Result<(), Refused> {
     if let Some(text) = help(words) {
         rt.print(text).map_err(HostError::OutputUnwritable)?;
@@ -176,50 +172,12 @@ fn do_words(
         return Ok(());
     }
     match command(rt.alloc(), words).map_err(HostError::from)? {
-        Task::Com {
-            file,
-            tail,
-            cpu,
-            steps,
-            keys,
-            drives,
-            outs,
-            is_live,
-            record,
-            has_progress,
-        } => {
-            let words = ComWords {
-                file,
-                tail: &tail,
-                cpu,
-                steps,
-                keys,
-                drives: &drives,
-                outs: &outs,
-                is_live,
-                record,
-                form: Form::of(has_progress, rt.stderr().is_terminal()),
-            };
-            com(rt, outputs, words, is_screen)?;
-        }
+        Task::Com(task) => com(rt, outputs, &task, terminals)?,
         Task::Asm { source, out } => asm(rt, outputs, source, out)?,
         Task::List { file, cpu } => list(rt, file, cpu)?,
         Task::Check { image } => check(rt, image)?,
-        Task::Run {
-            config,
-            keyboard,
-            record,
-            has_progress,
-        } => {
-            let words = RunWords {
-                config,
-                keyboard,
-                record,
-                form: Form::of(has_progress, rt.stderr().is_terminal()),
-            };
-            run_sessions(rt, outputs, words, is_screen)?;
-        }
-        Task::Debug { file, cpu } => debug(rt, file, cpu, is_screen)?,
+        Task::Run(task) => run_sessions(rt, outputs, &task, terminals)?,
+        Task::Debug { file, cpu } => debug(rt, file, cpu, terminals.is_screen)?,
         Task::Disk(task) => do_disk(rt, outputs, &task)?,
     }
     Ok(())
@@ -229,24 +187,27 @@ fn do_words(
 fn run(
     rt: &(impl Env + Files + Input + Print + Eprint + AllocGlobal),
     outputs: Outputs,
-    is_terminal: bool,
+    terminals: Terminals,
 ) -> Result<(), Refused> {
     let words = arguments(rt)?;
     let mut texts = Vec::new(rt.alloc());
-    let mut is_screen = is_terminal;
+    let mut terminals = terminals;
     for word in &words {
         if is_raw(texts.as_slice(), word.as_str()) {
-            is_screen = false;
+            terminals.is_screen = false;
         } else {
             texts.push(word.as_str())?;
         }
     }
-    do_words(rt, outputs, texts.as_slice(), is_screen)
+    do_words(rt, outputs, texts.as_slice(), terminals)
 }
 
 fn main(rt: HostRuntime) -> ExitCode {
-    let is_terminal = rt.stdout().is_terminal();
-    match run(&rt, Outputs::new(process::id(rt.process())), is_terminal) {
+    let terminals = Terminals {
+        is_screen: rt.stdout().is_terminal(),
+        is_error_terminal: rt.stderr().is_terminal(),
+    };
+    match run(&rt, Outputs::new(process::id(rt.process())), terminals) {
         Ok(()) => ExitCode::SUCCESS,
         Err(refused) => {
             let _ = eprintln!(rt; "cpmhost: {refused}");

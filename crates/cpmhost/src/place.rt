@@ -1,10 +1,9 @@
 //! Which file of the machine a name is of, by whatever spelling or link.
 
-use crate::com::ComWords;
 use crate::disk::Taken;
 use crate::output::target_of;
 use crate::refused::{Behind, Refused};
-use cpm_host::{Config, HostError, Origin, shown};
+use cpm_host::{ComTask, Config, HostError, Origin, shown};
 use std::alloc::{AllocError, Global};
 use std::fs;
 use std::io::ErrorKind;
@@ -215,19 +214,19 @@ pub fn check_taken(
 }
 
 /// Refuses a program's run that would write over what it reads, or one file twice. An image may be written where one was read.
-pub fn check_com(rt: &(impl Files + AllocGlobal), words: ComWords<'_>) -> Result<(), Refused> {
+pub fn check_com(rt: &(impl Files + AllocGlobal), task: &ComTask<'_>) -> Result<(), Refused> {
     let mut looked = Looked::new(rt.alloc());
-    looked.add_input(rt, words.file, false)?;
-    if let Some(keys) = words.keys {
+    looked.add_input(rt, task.file, false)?;
+    if let Some(keys) = task.keys {
         looked.add_input(rt, keys, false)?;
     }
-    for drive in words.drives {
+    for drive in &task.drives {
         looked.add_input(rt, drive, true)?;
     }
-    for out in words.outs {
+    for out in &task.outs {
         looked.add_output(rt, out, true)?;
     }
-    if let Some(record) = words.record {
+    if let Some(record) = task.record {
         looked.add_output(rt, record, false)?;
     }
     Ok(())

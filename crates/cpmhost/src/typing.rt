@@ -15,6 +15,14 @@ use std::io;
 use std::io::{BufReader, Write};
 use std::rt::Files;
 
+/// What of the program's own streams is a terminal.
+#[derive(Clone, Copy, Debug, Drop)]
+pub struct Terminals {
+    /// Standard output, which then gets control bytes as text.
+    pub is_screen: bool,
+    pub is_error_terminal: bool,
+}
+
 /// Where typed keys are recorded: in a file, or nowhere.
 #[derive(Drop)]
 pub struct Record<F: Write + Drop> {
