@@ -3,7 +3,7 @@ use Rattle.std.specs.Prelude.{◌≡◌, ◌≢◌, ℕ, ◌+◌, ◌%◌, Bool,
 use Rattle.cpm_flags.specs.declared.regs.Cpu.{Cpu}
 use Rattle.cpm_geom.specs.Disk.{Disk}
 use Rattle.cpm_lines.specs.Dump.{dump_line}
-use Rattle.cpm_lines.specs.Listing.{list_line}
+use Rattle.cpm_lines.specs.Instruction.{instruction_line}
 use Rattle.cpm_lines.specs.Registers.{regs_line}
 use Rattle.cpm_memory.specs.Contents.{Contents, byte_at}
 use Rattle.cpm_memory.specs.Tabulated.{tabulated}
@@ -86,7 +86,7 @@ unfoldable pub answer : Disk → Cpu → Request → MachineState → Reply
 answer system cpu (Grant steps) s = reply (line_of (grant_line (granted system steps s))) (after system (executed system steps s) s)
 answer system cpu (GrantUntil pc steps) s = reply (line_of (grant_line (granted_until system pc steps s))) (after system (executed_until system pc steps s) s)
 answer system cpu (Dump address) s = reply (line_of (dump_line address (bytes_from s.memory address 16))) s
-answer system cpu (ListAt address) s = reply (line_of (list_line address (bytes_from s.memory address 3))) s
+answer system cpu (ListAt address) s = reply (line_of (instruction_line cpu address (bytes_from s.memory address 4))) s
 answer system cpu Registers s = reply (line_of (regs_line cpu s.cpm.regs s.count)) s
 answer system cpu (Press keys) s = reply (if (press keys s).accepted then [] else unknown_line) (press keys s).state
 answer system cpu Output s = reply (line_of s.cpm.console.screen) (without_text s)

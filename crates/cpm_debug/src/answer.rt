@@ -7,19 +7,19 @@ ghost use Rattle.cpm_slots.specs.Serve.{executed};
 ghost use Rattle.cpm_slots.specs.Step.{after};
 ghost use Rattle.cpm_slots.specs.Until.{executed_until, granted_until};
 ghost use Rattle.cpm_lines.specs.Dump.{dump_line};
-ghost use Rattle.cpm_lines.specs.Listing.{list_line};
+ghost use Rattle.cpm_lines.specs.Instruction.{instruction_line};
 ghost use Rattle.cpm_lines.specs.Registers.{regs_line};
 ghost use Rattle.cpm_debug.specs.Dialog.{answer, bytes_from, grant_line, line_of, pressed, unknown_line};
 ghost use Rattle.cpm_debug.specs.Orders.{asked, press_of};
 
 use crate::grant_line::grant_line;
-use crate::memory::{sixteen, three};
+use crate::memory::{four, sixteen};
 use crate::order::Order;
 use crate::press::press_text;
 use crate::write::{write_line, write_text};
 use cpm_flags::Cpu;
 use cpm_geom::Image;
-use cpm_lines::{dump_line, list_line, regs_line};
+use cpm_lines::{dump_line, instruction_line, regs_line};
 use cpm_slots::Machine;
 use std::io;
 use std::io::Write;
@@ -59,12 +59,12 @@ fn dump<W: Write>(address: u16, machine: &Machine, out: &mut W) -> io::Result<()
     write_line(out, line.as_str())
 }
 
-/// Shows the instruction of three bytes.
-fn list_at<W: Write>(address: u16, machine: &Machine, out: &mut W) -> io::Result<()>
+/// Shows the instruction of a processor that four bytes begin with.
+fn list_at<W: Write>(cpu: Cpu, address: u16, machine: &Machine, out: &mut W) -> io::Result<()>
     ensures { OnOk result (Appends (W.contents out.old) (W.contents out.new)
-        (line_of (list_line address (bytes_from machine.now.memory address 3)))) }
+        (line_of (instruction_line cpu address (bytes_from machine.now.memory address 4)))) }
 {
-    let line = list_line(address, three(machine, address));
+    let line = instruction_line(cpu, address, four(machine, address));
     write_line(out, line.as_str())
 }
 
@@ -113,7 +113,7 @@ pub(crate) fn obey<W: Write>(
         Order::Grant(steps) => grant(system, steps, machine, out),
         Order::GrantUntil(pc, steps) => grant_until(system, pc, steps, machine, out),
         Order::Dump(address) => dump(address, machine, out),
-        Order::ListAt(address) => list_at(address, machine, out),
+        Order::ListAt(address) => list_at(cpu, address, machine, out),
         Order::Registers => registers(cpu, machine, out),
         Order::Press(text) => press_keys(text, machine, out),
         Order::Output => write_text(machine, out),

@@ -15,12 +15,12 @@ pub(crate) fn sixteen(machine: &Machine, address: u16) -> [u8; 16]
     bytes
 }
 
-/// Three bytes from an address on.
-pub(crate) fn three(machine: &Machine, address: u16) -> [u8; 3]
-    ensures { result ≡ bytes_from machine.now.memory address 3 }
+/// Four bytes from an address on.
+pub(crate) fn four(machine: &Machine, address: u16) -> [u8; 4]
+    ensures { result ≡ bytes_from machine.now.memory address 4 }
 {
-    let mut bytes = [0; 3];
-    for offset in 0..3u16 {
+    let mut bytes = [0; 4];
+    for offset in 0..4u16 {
         bytes[offset as usize] = machine.peek(address.wrapping_add(offset));
     }
     bytes

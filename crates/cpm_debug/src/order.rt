@@ -15,7 +15,7 @@ pub enum Order<'a> {
     GrantUntil(u16, u64),
     /// Show sixteen bytes.
     Dump(u16),
-    /// Show the instruction of three bytes.
+    /// Show the instruction at an address.
     ListAt(u16),
     /// Show the registers.
     Registers,

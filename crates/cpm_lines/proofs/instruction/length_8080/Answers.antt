@@ -1,6 +1,6 @@
 use Rattle.std.proofs.Common.{◌∙◌, sym, arith}
-use Rattle.cpm_host.proofs.ListLemmas.{row_length}
-use Rattle.cpm_host.proofs.list.length_at.Goals as goal
+use Rattle.cpm_lines.proofs.RowLengths8080.{row_length}
+use Rattle.cpm_lines.proofs.instruction.length_8080.Goals as goal
 
 pub returns-in-Some-clause-some : goal.returns-in-Some-clause-some
 returns-in-Some-clause-some c =
