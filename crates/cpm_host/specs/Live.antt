@@ -26,7 +26,7 @@ pub record IsPlayedLive (system : Disk) (start : MachineState) (steps most_keys 
   pub within : t.steps ≤ steps
   pub text : Appends shown shown_after (text_of (alone_by system t.keys.items t.steps start))
   pub ending : t.ran.ending ≡ ending_of (alone_by system t.keys.items t.steps start)
-  pub drives : t.ran.drives.items ≡ images_of (alone_by system t.keys.items t.steps start).cpm.disks
+  pub drives : t.ran.drives ≡ images_of (alone_by system t.keys.items t.steps start).cpm.disks
   pub lines : Appends record_before record_after (recorded t.keys.items)
 
 -- some text was there to be shown, after some keys and steps

@@ -2,8 +2,10 @@
 ghost use Rattle.std.specs.Prelude.{◌≡◌, ◌↔◌, ◌<◌, IfErr, IfOk, IsErrOf, OnOk, length};
 ghost use Rattle.std.specs.Io.KnownBytes.{Appends};
 ghost use Rattle.cpm_disks.specs.Disks.{images_of};
+ghost use Rattle.cpm_slots.specs.MachineState.{opened_with};
+ghost use Rattle.cpm_slots.specs.Opening.{program_fault, IsRefusal};
 ghost use Rattle.cpm_turns.specs.Playing.{IsFresh};
-ghost use Rattle.cpm_host.specs.Com.{HasScript, IsComRefusal, IsScriptRefusal, IsStartRefusal, drives_or_blank, ending_of, given, keys_given, machine_of, ran_alone, text_of};
+ghost use Rattle.cpm_host.specs.Com.{HasScript, IsComRefusal, IsScriptRefusal, IsStartRefusal, drives_or_blank, ending_of, given, keys_given, machine_of, ran_alone, text_of, text_of_tail, with_tail_if_any};
 
 use crate::ending::Ending;
 use crate::error::HostError;
@@ -12,7 +14,7 @@ use cpm_command::shown;
 use cpm_flags::Cpu;
 use cpm_geom::{Format, Image};
 use cpm_script::{Key, ScriptError, read_keys};
-use cpm_slots::{Closed, MOST_PROGRAM, MOST_QUOTA, Machine, Opening, Tail};
+use cpm_slots::{Closed, MOST_PROGRAM, MOST_QUOTA, Machine, OpenError, Opening, Tail};
 use cpm_turns::{Watcher, play_machine};
 use std::alloc::Global;
 use std::io::Write;
@@ -61,8 +63,8 @@ pub struct Start {
 #[derive(Drop)]
 pub struct Ran {
     pub ending: Ending,
-    /// The drives as it left them.
-    pub drives: Vec<Image>,
+    /// The drives A to D as it left them.
+    pub drives: [Option<Image>; 4],
 }
 
 /// The drives, or one blank drive where there are none.
@@ -98,13 +100,25 @@ pub(crate) fn machine_of(alloc: Global, start: Start) -> Result<Machine, HostErr
         quota: MOST_QUOTA,
         drives: drives_or_blank(alloc, drives)?,
     };
-    let made = match &tail {
-        Some(tail) => Machine::with_command(alloc, opening, program, tail),
-        None => Machine::with_program(alloc, opening, program),
-    };
-    match made {
+    match begun(alloc, opening, program, &tail) {
         Ok(machine) => Ok(machine),
         Err((_, _, fault)) => Err(HostError::from(fault)),
+    }
+}
+
+/// A machine that begins this program, with a tail if there is one.
+fn begun(
+    alloc: Global,
+    opening: Opening,
+    program: Vec<u8>,
+    tail: &Option<Tail>,
+) -> Result<Machine, (Opening, Vec<u8>, OpenError)>
+    ensures made { IfOk result (λ m. m ≡ with_tail_if_any (text_of_tail tail.now) (opened_with opening.cpu opening.drives.items program.items)) }
+    ensures refused { IfErr result (λ r. IsRefusal (program_fault opening program.items) r.2) }
+{
+    match tail {
+        Some(tail) => Machine::with_command(alloc, opening, program, tail),
+        None => Machine::with_program(alloc, opening, program),
     }
 }
 
@@ -126,7 +140,7 @@ pub fn run_com<W: Write, T: Watcher>(
     ensures text { OnOk result (Appends (W.contents out.old) (W.contents out.new)
         (text_of (ran_alone (given start) (keys_given script.entry) steps))) }
     ensures ending { IfOk result (λ r. r.ending ≡ ending_of (ran_alone (given start) (keys_given script.entry) steps)) }
-    ensures drives { IfOk result (λ r. r.drives.items ≡ images_of (ran_alone (given start) (keys_given script.entry) steps).cpm.disks) }
+    ensures drives { IfOk result (λ r. r.drives ≡ images_of (ran_alone (given start) (keys_given script.entry) steps).cpm.disks) }
     ensures script { IfOk result (λ _. HasScript script.entry (keys_given script.entry)) }
 
     ensures too_long { IsErrOf result (HostError.ProgramTooLong (length (given start).program))
@@ -145,7 +159,7 @@ pub fn run_com<W: Write, T: Watcher>(
 /// What is left of a machine.
 pub(crate) fn left_of(machine: Machine) -> Ran
     ensures ending { result.ending ≡ ending_of machine }
-    ensures drives { result.drives.items ≡ images_of machine.cpm.disks }
+    ensures drives { result.drives ≡ images_of machine.cpm.disks }
 {
     let ending = Ending::of(&machine);
     let Closed { drives, .. } = machine.finish();

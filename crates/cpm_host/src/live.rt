@@ -35,7 +35,8 @@ fn play_typed<I: Read, W: Write, S: Write>(
     alloc: Global,
     system: &Image,
     machine: Machine,
-    (steps, most_keys): (u64, usize),
+    steps: u64,
+    most_keys: usize,
     input: &mut I,
     out: &mut W,
     record: &mut S,
@@ -82,7 +83,7 @@ pub fn run_live<I: Read, W: Write, S: Write>(
 {
     let machine = machine_of(alloc, start)?;
     let system = Image::blank(alloc, Format::Ibm3740)?;
-    play_typed(alloc, &system, machine, (steps, most_keys), input, out, record)
+    play_typed(alloc, &system, machine, steps, most_keys, input, out, record)
 }
 
 /// A session of a configuration that is played by itself.
@@ -123,5 +124,5 @@ pub fn type_session<I: Read, W: Write, S: Write>(
             });
         }
     };
-    play_typed(alloc, system, machine, (steps, MOST_SCRIPT), input, out, record)
+    play_typed(alloc, system, machine, steps, MOST_SCRIPT, input, out, record)
 }

@@ -130,10 +130,12 @@ fn write_drives(
     rt: &(impl Files + AllocGlobal),
     outputs: Outputs,
     outs: &[&str],
-    drives: Vec<Image>,
+    drives: [Option<Image>; 4],
 ) -> Result<(), Refused> {
     for (out, image) in outs.iter().zip(drives) {
-        write_file(rt, outputs, out, &image.into_bytes())?;
+        if let Some(image) = image {
+            write_file(rt, outputs, out, &image.into_bytes())?;
+        }
     }
     Ok(())
 }
