@@ -55,14 +55,14 @@ unfoldable pub statement : List ℕ → List ℕ → List ℕ
 statement name [] = name
 statement name (c ∷ cs) = padded 4 name ++ codes " " ++ c ∷ cs
 
--- an address, its bytes in eight places, and a statement
-unfoldable pub listing_line : ℕ → List ℕ → List ℕ → List ℕ
-listing_line address bytes text = four_digits address ++ codes "  " ++ padded 8 (spaced bytes) ++ codes "  " ++ text
+-- an address, its bytes in so many places, and a statement
+unfoldable pub listing_line : ℕ → ℕ → List ℕ → List ℕ → List ℕ
+listing_line places address bytes text = four_digits address ++ codes "  " ++ padded places (spaced bytes) ++ codes "  " ++ text
 
 -- the bytes that have this row, from a list that begins with them; where none fits, DB of the first byte
 abbrev pub listed_row : ℕ → List ℕ → Option Decoded → List ℕ
-listed_row address bytes (Some d) = listing_line address (take d.length bytes) (statement (mnemonic_of d.op) (operands_of d.op))
-listed_row address bytes None = listing_line address (take 1 bytes) (statement (codes "DB") (byte_number (slice_index bytes 0)))
+listed_row address bytes (Some d) = listing_line 8 address (take d.length bytes) (statement (mnemonic_of d.op) (operands_of d.op))
+listed_row address bytes None = listing_line 8 address (take 1 bytes) (statement (codes "DB") (byte_number (slice_index bytes 0)))
 
 -- the instruction that begins three bytes at an address
 unfoldable pub list_line : ℕ → List ℕ → List ℕ

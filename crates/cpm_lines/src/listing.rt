@@ -1,5 +1,5 @@
 //! An instruction of the 8080 on a line.
-ghost use Rattle.std.specs.Prelude.{◌≡◌, ◌≤◌, ◌+◌, ◌++◌, length};
+ghost use Rattle.std.specs.Prelude.{◌≡◌, ◌≤◌, ◌+◌, ◌*◌, ◌++◌, length};
 ghost use Rattle.cpm_lines.specs.Listing.{listing_line, statement, list_line};
 
 use crate::digits::{Line, add_padded, add_spaced, add_text, add_word};
@@ -24,20 +24,27 @@ fn add_statement(line: &mut Line, name: &str, operands: &str)
     }
 }
 
-/// An address, its bytes in eight places, and a name with its operands.
+/// An address, its bytes in so many places, and a name with its operands.
 #[tactic(auto, unfolding(crate::specs::Listing::listing_line))]
-fn listing_line(address: u16, bytes: &[u8], name: &str, operands: &str) -> Line
-    requires few { length bytes.now ≤ 3 }
+pub(crate) fn listing_line(
+    places: usize,
+    address: u16,
+    bytes: &[u8],
+    name: &str,
+    operands: &str,
+) -> Line
+    requires few { 3 * length bytes.now ≤ places + 1 }
+    requires places { places ≤ 11 }
     requires short { length name.now ≤ 4 }
-    requires room { length operands.now ≤ 9 }
-    ensures { result.bytes ≡ listing_line address bytes.now (statement name.now operands.now) }
+    requires room { length operands.now ≤ 13 }
+    ensures { result.bytes ≡ listing_line places address bytes.now (statement name.now operands.now) }
 {
     let mut shown: Line = ArrayString::new();
     add_spaced(&mut shown, bytes);
     let mut line: Line = ArrayString::new();
     add_word(&mut line, address);
     add_text(&mut line, "  ");
-    add_padded(&mut line, shown.as_str(), 8);
+    add_padded(&mut line, shown.as_str(), places);
     add_text(&mut line, "  ");
     add_statement(&mut line, name, operands);
     line
@@ -54,11 +61,11 @@ pub fn list_line(address: u16, bytes: [u8; 3]) -> ArrayString<96>
         Some(Decoded { op, length }) => {
             add_operands(&mut operands, op);
             let shown = &bytes[..usize::from(length)];
-            listing_line(address, shown, mnemonic_of(op), operands.as_str())
+            listing_line(8, address, shown, mnemonic_of(op), operands.as_str())
         }
         None => {
             add_byte_number(&mut operands, bytes[0]);
-            listing_line(address, &bytes[..1], "DB", operands.as_str())
+            listing_line(8, address, &bytes[..1], "DB", operands.as_str())
         }
     }
 }

@@ -1,5 +1,5 @@
 //! The operands of an instruction.
-ghost use Rattle.std.specs.Prelude.{◌≡◌, ◌≤◌, ◌+◌, ◌++◌, length};
+ghost use Rattle.std.specs.Prelude.{◌≡◌, ◌<◌, ◌≤◌, ◌+◌, ◌++◌, length};
 ghost use Rattle.cpm_lines.specs.Listing.{byte_number, word_number, restart_of, operands_of};
 
 use crate::digits::{Line, add_byte, add_text, add_word};
@@ -20,7 +20,7 @@ pub(crate) fn add_byte_number(line: &mut Line, value: u8)
 
 /// Adds a word as a source has it.
 #[tactic(auto, unfolding(crate::specs::Listing::word_number))]
-fn add_word_number(line: &mut Line, value: u16)
+pub(crate) fn add_word_number(line: &mut Line, value: u16)
     requires { length line.old.bytes + 6 ≤ 96 }
     ensures text { line.new.bytes ≡ line.old.bytes ++ word_number value }
     ensures length { length line.new.bytes ≡ length line.old.bytes + 6 }
@@ -31,8 +31,9 @@ fn add_word_number(line: &mut Line, value: u16)
 }
 
 /// The number of the restart that calls an address.
-fn restart_of(address: u16) -> u8
-    ensures { result ≡ restart_of address }
+pub(crate) fn restart_of(address: u16) -> u8
+    ensures value { result ≡ restart_of address }
+    ensures small { result < 8 }
 {
     (address / 8 % 8) as u8
 }

@@ -2,4 +2,5 @@
 
 mod dump;
 mod listing;
+mod listing_z80;
 mod registers;
