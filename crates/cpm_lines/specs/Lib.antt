@@ -6,3 +6,4 @@ pub mod Mnemonics
 pub mod MnemonicsZ80
 pub mod OperandsZ80
 pub mod Registers
+pub mod Instruction

@@ -3,6 +3,7 @@
 
 mod digits;
 mod dump;
+mod instruction;
 mod listing;
 mod listing_z80;
 mod mnemonics;
@@ -12,6 +13,7 @@ mod operands_z80;
 mod registers;
 
 pub use dump::dump_line;
+pub use instruction::{instruction_length, instruction_line};
 pub use listing::list_line;
 pub use listing_z80::{length_z80, list_line_z80};
 pub use registers::regs_line;
