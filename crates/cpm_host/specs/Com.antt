@@ -1,7 +1,6 @@
 -- What running a program shows, and when it is refused.
-use Rattle.std.specs.Prelude.{⊤, ◌≡◌, ◌<◌, ◌≤◌, ℕ, List, [], ◌∷◌, length, option_map, Option, Some, None, Result, Ok, Err}
+use Rattle.std.specs.Prelude.{⊤, ◌≡◌, ◌<◌, ◌≤◌, ℕ, List, [], ◌∷◌, length, Option, Some, None, Result, Ok, Err}
 use Rattle.cpm_batch.specs.declared.error.ReadError.TheVariants as read
-use Rattle.cpm_ccp.specs.declared.loading.Tail.{Tail}
 use Rattle.cpm_flags.specs.declared.regs.Cpu.{Cpu}
 use Rattle.cpm_geom.specs.Disk.{Disk, blank_disk}
 use Rattle.cpm_geom.specs.declared.format.Format.TheVariants.{Ibm3740}
@@ -53,15 +52,11 @@ pub record Given : Type 0 where
   pub tail : Option (List ℕ)
   pub drives : List Disk
 
--- the bytes of a tail, where there is one
-abbrev pub text_of_tail : Option Tail → Option (List ℕ)
-text_of_tail tail = option_map (λ t. t.text.items) tail
-
 abbrev pub given : Start → Given
 given start = record {
   cpu = start.cpu;
   program = start.program.items;
-  tail = text_of_tail start.tail;
+  tail = start.tail;
   drives = start.drives.items;
 }
 

@@ -5,7 +5,7 @@ ghost use Rattle.cpm_disks.specs.Disks.{images_of};
 ghost use Rattle.cpm_slots.specs.MachineState.{opened_with};
 ghost use Rattle.cpm_slots.specs.Opening.{program_fault, IsRefusal};
 ghost use Rattle.cpm_turns.specs.Playing.{IsFresh};
-ghost use Rattle.cpm_host.specs.Com.{HasScript, IsComRefusal, IsScriptRefusal, IsStartRefusal, drives_or_blank, ending_of, given, keys_given, machine_of, ran_alone, text_of, text_of_tail, with_tail_if_any};
+ghost use Rattle.cpm_host.specs.Com.{HasScript, IsComRefusal, IsScriptRefusal, IsStartRefusal, drives_or_blank, ending_of, given, keys_given, machine_of, ran_alone, text_of, with_tail_if_any};
 
 use crate::ending::Ending;
 use crate::error::HostError;
@@ -113,7 +113,7 @@ fn begun(
     program: Vec<u8>,
     tail: &Option<Tail>,
 ) -> Result<Machine, (Opening, Vec<u8>, OpenError)>
-    ensures made { IfOk result (λ m. m ≡ with_tail_if_any (text_of_tail tail.now) (opened_with opening.cpu opening.drives.items program.items)) }
+    ensures made { IfOk result (λ m. m ≡ with_tail_if_any tail.now (opened_with opening.cpu opening.drives.items program.items)) }
     ensures refused { IfErr result (λ r. IsRefusal (program_fault opening program.items) r.2) }
 {
     match tail {

@@ -1,13 +1,10 @@
 //! A program, or a session, whose keys are typed.
 
-ghost use Rattle.std.specs.Prelude.{◌≡◌, ◌≤◌, IfErr, IfOk, length};
-ghost use Rattle.std.specs.Io.KnownBytes.{Appends};
-ghost use Rattle.cpm_disks.specs.Disks.{images_of};
+ghost use Rattle.std.specs.Prelude.{IfErr, IfOk};
 ghost use Rattle.cpm_geom.specs.Disk.{blank_disk};
-ghost use Rattle.cpm_script.specs.Recording.{AreTyped, recorded};
-ghost use Rattle.cpm_turns.specs.Playing.{IsFresh, alone_by};
-ghost use Rattle.cpm_host.specs.Com.{ending_of, given, machine_of, text_of};
-ghost use Rattle.cpm_host.specs.Live.{IsLiveRefusal, IsPlayedLive, IsTypedRefusal, IsSessionRefusal, begun};
+ghost use Rattle.cpm_turns.specs.Playing.{IsFresh};
+ghost use Rattle.cpm_host.specs.Com.{given, machine_of};
+ghost use Rattle.cpm_host.specs.Live.{IsCut, IsLiveRefusal, IsPlayedLive, IsSessionRefusal, begun, streams};
 
 use crate::com::{Ran, Start, left_of, machine_of};
 use crate::error::HostError;
@@ -42,8 +39,8 @@ fn play_typed<I: Read, W: Write, S: Write>(
     record: &mut S,
 ) -> Result<Typed, HostError>
     requires { IsFresh machine }
-    ensures played { IfOk result (λ t. IsPlayedLive system.now machine steps most_keys t (W.contents out.old) (W.contents out.new) (S.contents record.old) (S.contents record.new)) }
-    ensures refusal { IfErr result (IsTypedRefusal system.now machine steps) }
+    ensures played { IfOk result (λ t. IsPlayedLive system.now machine steps most_keys t (streams (I.remaining input.old) (I.remaining input.new) (W.contents out.old) (W.contents out.new) (S.contents «record».old) (S.contents «record».new))) }
+    ensures refusal { IfErr result (IsCut system.now machine steps most_keys (streams (I.remaining input.old) (I.remaining input.new) (W.contents out.old) (W.contents out.new) (S.contents «record».old) (S.contents «record».new))) }
 {
     let mut machine = machine;
     let Live { keys, steps } = play_live(
@@ -78,8 +75,8 @@ pub fn run_live<I: Read, W: Write, S: Write>(
     out: &mut W,
     record: &mut S,
 ) -> Result<Typed, HostError>
-    ensures played { IfOk result (λ t. IsPlayedLive (blank_disk Format.Ibm3740) (machine_of (given start)) steps most_keys t (W.contents out.old) (W.contents out.new) (S.contents record.old) (S.contents record.new)) }
-    ensures refusal { IfErr result (IsLiveRefusal (given start) steps) }
+    ensures played { IfOk result (λ t. IsPlayedLive (blank_disk Format.Ibm3740) (machine_of (given start)) steps most_keys t (streams (I.remaining input.old) (I.remaining input.new) (W.contents out.old) (W.contents out.new) (S.contents «record».old) (S.contents «record».new))) }
+    ensures refusal { IfErr result (IsLiveRefusal (given start) steps most_keys (streams (I.remaining input.old) (I.remaining input.new) (W.contents out.old) (W.contents out.new) (S.contents «record».old) (S.contents «record».new))) }
 {
     let machine = machine_of(alloc, start)?;
     let system = Image::blank(alloc, Format::Ibm3740)?;
@@ -106,8 +103,8 @@ pub fn type_session<I: Read, W: Write, S: Write>(
     out: &mut W,
     record: &mut S,
 ) -> Result<Typed, HostError>
-    ensures played { IfOk result (λ t. IsPlayedLive system.now (begun start) start.steps 4096 t (W.contents out.old) (W.contents out.new) (S.contents record.old) (S.contents record.new)) }
-    ensures refusal { IfErr result (IsSessionRefusal system.now start) }
+    ensures played { IfOk result (λ t. IsPlayedLive system.now (begun start) start.steps 4096 t (streams (I.remaining input.old) (I.remaining input.new) (W.contents out.old) (W.contents out.new) (S.contents «record».old) (S.contents «record».new))) }
+    ensures refusal { IfErr result (IsSessionRefusal system.now start 4096 (streams (I.remaining input.old) (I.remaining input.new) (W.contents out.old) (W.contents out.new) (S.contents «record».old) (S.contents «record».new))) }
 {
     let SessionStart {
         name,

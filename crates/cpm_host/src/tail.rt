@@ -16,7 +16,7 @@ const MOST_TAIL: usize = 126;
 /// word with a character that is none from ` ` to `~`, or for which there is no room.
 pub fn tail_of(alloc: Global, words: &[&str]) -> Result<Tail, HostError>
     ensures { MatchResult result
-        (λ tail. tail_from [] (map (λ w. w.now) words.now) ≡ Ok tail.text.items)
+        (λ tail. tail_from [] (map (λ w. w.now) words.now) ≡ Ok tail)
         (IsTailRefusal (map (λ w. w.now) words.now)) }
 {
     let mut text = Vec::new(alloc);
