@@ -86,7 +86,7 @@ fn fill_buffer<M: Memory>(memory: &mut M, tail: &[u8])
 
 /// Puts the tail of a line, and what a program finds of it, into memory.
 #[tactic(auto, unfolding(crate::specs::Loading::memory_started))]
-fn put_tail<M: Memory>(memory: &mut M, tail: &[u8])
+pub(crate) fn put_tail<M: Memory>(memory: &mut M, tail: &[u8])
     requires short { length tail.now ≤ 255 }
     requires room { HasRoom (M.contents memory.old) }
     ensures contents { M.contents memory.new ≡ memory_started tail.now (M.contents memory.old) }

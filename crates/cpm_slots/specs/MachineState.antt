@@ -8,6 +8,7 @@ use Rattle.cpm_memory.specs.Opening.{opening}
 use Rattle.cpm_console.specs.Terminal.{blank}
 use Rattle.cpm_bdos.specs.Step.{opened}
 use Rattle.cpm_bdos.specs.declared.cpm.Cpm.{Cpm}
+use Rattle.cpm_ccp.specs.Loading.{memory_started}
 use Rattle.cpm_slots.specs.declared.reply.End.{End}
 use Rattle.cpm_slots.specs.declared.reply.End.TheVariants.{Running}
 
@@ -53,3 +54,7 @@ loaded program s =
 -- own: a machine made with a program, which may write all pages
 abbrev pub opened_with : Cpu → List Disk → List ℕ → MachineState
 opened_with cpu drives program = loaded program (opened_machine cpu 256 drives)
+
+-- own: a machine with a program and the tail of its command, which lies where the command processor would leave it
+abbrev pub with_tail : List ℕ → MachineState → MachineState
+with_tail tail s = record s { memory = memory_started tail s.memory }

@@ -10,6 +10,7 @@ pub mod steps;
 mod trap;
 pub mod until;
 
+pub use cpm_ccp::{MOST_TAIL, Tail};
 pub use machine::Machine;
 pub use opening::{LEAST_QUOTA, MOST_DRIVES, MOST_PROGRAM, MOST_QUOTA, OpenError, Opening};
 pub use reply::{Closed, End, Granted, KeysFull, Look, Why};

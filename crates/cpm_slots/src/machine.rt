@@ -3,7 +3,7 @@
 ghost use Rattle.std.specs.Prelude.{◌≡◌, true, false, ◌++◌, ◌≤◌, length, take, drop, min, IfOk, IfErr, None, if◌then◌else◌};
 ghost use Rattle.cpm_memory.specs.Contents.{byte_at};
 ghost use Rattle.cpm_disks.specs.Disks.{images_of};
-ghost use Rattle.cpm_slots.specs.MachineState.{loaded, opened_machine, opened_with};
+ghost use Rattle.cpm_slots.specs.MachineState.{loaded, opened_machine, opened_with, with_tail};
 ghost use Rattle.cpm_slots.specs.Step.{can_step, step, after};
 ghost use Rattle.cpm_slots.specs.Laws.{IsBounded};
 ghost use Rattle.cpm_slots.specs.Serve.{executed, why, look_of, taken, taken_list, takes_key, keyed};
@@ -16,6 +16,7 @@ use crate::reply::{Closed, End, Granted, KeysFull, Look};
 use crate::steps::{self, Runner};
 use crate::until;
 use cpm_bdos::Cpm;
+use cpm_ccp::{Tail, leave_tail};
 use cpm_console::Console;
 use cpm_decode::DecodeCache;
 use cpm_geom::Image;
@@ -95,6 +96,24 @@ impl Machine {
         }
     }
 
+    /// A machine with a program at 0100h and the tail of a command, which begins as the command processor would start it. It is else as
+    /// `with_program` makes it, and refused as there.
+    pub fn with_command(
+        alloc: Global,
+        opening: Opening,
+        program: Vec<u8>,
+        tail: &Tail,
+    ) -> Result<Machine, (Opening, Vec<u8>, OpenError)>
+        ensures made { IfOk result (λ m. m ≡ with_tail tail.now (opened_with opening.cpu opening.drives.items program.items)) }
+        ensures fits { IfOk result (λ m. program_fault opening program.items ≡ None) }
+        ensures refused { IfErr result (λ r. IsRefusal (program_fault opening program.items) r.2) }
+        ensures handed_back { IfErr result (λ r. (r.0 ≡ opening) × (r.1 ≡ program)) }
+    {
+        let mut machine = Self::with_program(alloc, opening, program)?;
+        machine.leave_tail(tail);
+        Ok(machine)
+    }
+
     /// A machine at its opening, made of these parts.
     fn opened(opening: Opening, parts: Parts) -> Machine
         requires least { 16 ≤ opening.quota }
@@ -128,6 +147,14 @@ impl Machine {
         self.runner.with_program = true;
         set_run(&mut self.memory, PROGRAM, program);
         set_word(&mut self.memory, STACK, COMMAND_PROCESSOR);
+    }
+
+    /// Leaves the tail of a command where the program finds it.
+    fn leave_tail(&mut self, tail: &Tail)
+        requires { self.old.quota ≡ 256 }
+        ensures { self.new ≡ with_tail tail.now self.old }
+    {
+        leave_tail(&mut self.memory, tail);
     }
 
     /// Executes one step with this system drive, if one can be made: the session runs, and console and list device have room for 4,096

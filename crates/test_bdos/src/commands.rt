@@ -8,5 +8,6 @@ mod parsing;
 mod programs;
 mod renaming;
 mod saving;
+mod tails;
 mod typing;
 mod words;

@@ -24,4 +24,6 @@ mod same;
 #[cfg(test)]
 mod stops;
 #[cfg(test)]
+mod tails;
+#[cfg(test)]
 mod waits;

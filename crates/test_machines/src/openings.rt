@@ -3,7 +3,7 @@
 use crate::run::{blank, opening_of};
 use crate::same::same;
 use cpm_flags::Cpu;
-use cpm_slots::{End, Machine, OpenError, Opening, Why};
+use cpm_slots::{End, Machine, OpenError, Opening, Tail, Why};
 use std::alloc::Global;
 use std::process::Abort;
 use std::test::Fail;
@@ -23,26 +23,22 @@ fn refused(rt: &impl Abort, alloc: Global, opening: Opening, wanted: OpenError) 
     }
 }
 
-/// The same with a program of so many bytes.
+/// A machine with a program is refused for this reason, and what was given comes back: so many pages, drives and bytes.
 fn refused_with(
     rt: &impl Abort,
-    alloc: Global,
-    opening: Opening,
-    program: Vec<u8>,
-    wanted: OpenError,
-) {
-    let Opening { cpu, quota, .. } = opening;
-    let count = opening.drives.len();
-    let length = program.len();
-    match Machine::with_program(alloc, opening, program) {
+    made: Result<Machine, (Opening, Vec<u8>, OpenError)>,
+    (quota, count, length, wanted): (u16, usize, usize, OpenError),
+) -> (Opening, Vec<u8>) {
+    match made {
         Ok(_) => panic!(rt; "{quota} pages, {count} drives and {length} bytes are taken"),
         Err((back, bytes, error)) => {
             same(rt, error, wanted);
-            same(rt, back.cpu, cpu);
+            same(rt, back.cpu, Cpu::I8080);
             same(rt, back.quota, quota);
             same(rt, back.drives.len(), count);
             same(rt, bytes.len(), length);
             assert!(rt; bytes.iter().all(|byte| *byte == 7));
+            (back, bytes)
         }
     }
 }
@@ -67,7 +63,8 @@ fn refuses_quotas_and_drives(rt: HostRuntime) -> Result<(), Fail> {
 
 #[test]
 fn refuses_programs(rt: HostRuntime) -> Result<(), Fail> {
-    for (quota, count, length, wanted) in [
+    let tail = Tail::new(b" X").expect(&rt, "a tail");
+    for row in [
         (16, 1, 1, OpenError::BadQuota),
         (255, 1, 1, OpenError::BadQuota),
         (257, 1, 1, OpenError::BadQuota),
@@ -80,9 +77,12 @@ fn refuses_programs(rt: HostRuntime) -> Result<(), Fail> {
         (256, 5, 58_113, OpenError::BadDrives),
         (257, 5, 58_113, OpenError::BadQuota),
     ] {
-        let opening = opening_of(rt.alloc(), Cpu::I8080, quota, count)?;
-        let program = vec![in rt.alloc(); 7u8; length]?;
-        refused_with(&rt, rt.alloc(), opening, program, wanted);
+        let opening = opening_of(rt.alloc(), Cpu::I8080, row.0, row.1)?;
+        let program = vec![in rt.alloc(); 7u8; row.2]?;
+        let made = Machine::with_program(rt.alloc(), opening, program);
+        let (opening, program) = refused_with(&rt, made, row);
+        let made = Machine::with_command(rt.alloc(), opening, program, &tail);
+        let _given = refused_with(&rt, made, row);
     }
     Ok(())
 }
