@@ -10,7 +10,7 @@ use Rattle.clap.specs.Values.{bool_text}
 use Rattle.cpm_flags.specs.declared.regs.Cpu.{Cpu}
 use Rattle.cpm_flags.specs.declared.regs.Cpu.TheVariants.{I8080, Z80}
 use Rattle.cpm_command.specs.CommandLine.{IsCount, IsCountIfAny, IsFlag, IsPick, ReadsCount, ReadsCountIfAny, flag_text}
-use Rattle.cpm_command.specs.DiskLine.{IsUser, ReadsUser}
+use Rattle.cpm_command.specs.DiskLine.{IsUser, IsUserIfAny, ReadsUser, ReadsUserIfAny}
 
 -- an option is there where its image is
 pub some_before : {A B : Type 0} (f : A → B) (o : Option A) (p : Option B) → option_map f o ≡ p → IsSome p → IsSome o
@@ -82,6 +82,14 @@ user_read text r n none value is user =
     let same : user.digits ≡ read.digits = cc in
     let low : digits_value 10 (without_leading_plus read.digits) ≤ 15 = subst (λ (d : Text). digits_value 10 (without_leading_plus d) ≤ 15) same user.fits in
     (read, subst (λ (m : ℕ). m ≤ 15) (sym read.value) low)
+
+-- the number of a user that a getter gave, or none
+pub user_if_any : (text : Option Text) (r : Option ℕ) → (text ≡ None → r ≡ None) → ((t : Text) → text ≡ Some t → ReadsOne GivesCount t r)
+    → IsUserIfAny text → ReadsUserIfAny text r
+user_if_any text (Some n) none value any =
+    ⊎_elim (λ (h : text ≡ None). let bad = none h in cc) (λ user. user_read text (Some n) n none value refl user) any
+user_if_any text None none value any =
+    ⊎_elim (λ (h : text ≡ None). h) (λ user. absurd (true≢false (sym (count_given text None value (user_count text user))))) any
 
 -- an argument with a first text has texts
 pub all_there : (id : Text) (rows : List Row) → IsSome (first_of id rows) → IsSome (all_of id rows)

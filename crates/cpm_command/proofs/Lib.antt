@@ -7,3 +7,4 @@ pub mod WholeDisk
 pub mod HelpLemmas
 pub mod RefusalLemmas
 pub mod ShownLemmas
+pub mod UserLemmas

@@ -58,7 +58,7 @@ repeated_words name = record { action = inr (inr refl); values = inl refl }
 
 com_plain : IsPlain com_built.rules
 com_plain = plain_by_ids com_built.rules refl
-    (operand_word _ _, (tail_words, (flag_word _, (steps_word, (value_word _, (repeated_words _, (repeated_words _, (flag_word _, (value_word _, tt)))))))))
+    (operand_word _ _, (tail_words, (flag_word _, (steps_word, (value_word _, (repeated_words _, (repeated_words _, (flag_word _, (value_word _, (flag_word _, tt))))))))))
 
 com_no_shorts : HasNoShorts com_built.rules
 com_no_shorts x = refl
@@ -97,6 +97,8 @@ com_whole words e =
       steps = count_of rows (text_or_none com_built com_plain com_no_shorts words e steps_rule (inr (inr (inr (inl refl)))));
       keyboard = flag_in (codes "keyboard") rows
           (default_text com_built com_plain com_no_shorts words e (flag_rule (codes "keyboard")) (inr (inr (inr (inr (inr (inr (inr (inl refl)))))))) tt);
+      progress = flag_in (codes "progress") rows
+          (default_text com_built com_plain com_no_shorts words e (flag_rule (codes "progress")) (inr (inr (inr (inr (inr (inr (inr (inr (inr (inl refl)))))))))) tt);
     }
 
 -- ---- the other subcommands
@@ -153,7 +155,7 @@ check_whole words e =
     record { image = given_first check_built check_plain check_no_shorts words e image_rule (inl refl) image }
 
 run_plain : IsPlain run_built.rules
-run_plain = plain_by_ids run_built.rules refl (operand_word _ _, (value_word _, (value_word _, tt)))
+run_plain = plain_by_ids run_built.rules refl (operand_word _ _, (value_word _, (value_word _, (flag_word _, tt))))
 
 run_no_shorts : HasNoShorts run_built.rules
 run_no_shorts x = refl
@@ -163,8 +165,13 @@ config_rule = with_index 1 (filled (operand (codes "config")))
 
 run_whole : (words : List Text) → level_fault run_built [] nothing_held words false [] ≡ [] → IsWholeRun (rows_after run_built.rules [] words)
 run_whole words e =
-    let config = one_given (is_given (codes "config") (rows_after run_built.rules [] words)) (leaf_checked run_built run_plain run_no_shorts words e) in
-    record { config = given_first run_built run_plain run_no_shorts words e config_rule (inl refl) config }
+    let rows = rows_after run_built.rules [] words in
+    let config = one_given (is_given (codes "config") rows) (leaf_checked run_built run_plain run_no_shorts words e) in
+    record {
+      config = given_first run_built run_plain run_no_shorts words e config_rule (inl refl) config;
+      progress = flag_in (codes "progress") rows
+          (default_text run_built run_plain run_no_shorts words e (flag_rule (codes "progress")) (inr (inr (inr (inl refl)))) tt);
+    }
 
 debug_plain : IsPlain debug_built.rules
 debug_plain = plain_by_ids debug_built.rules refl (operand_word _ _, (flag_word _, tt))

@@ -1,5 +1,5 @@
 -- Words behind `disk` with no fault give the whole entries of one of its commands.
-use Rattle.std.proofs.Common.{◌≡◌, sym, refl, inl, inr, Bool, true, false, cond, true≢false, List, [], Option, Some, None, option_map, is_some, codes}
+use Rattle.std.proofs.Common.{◌≡◌, ◌⊎◌, sym, refl, inl, inr, Bool, true, false, cond, true≢false, List, [], Option, Some, None, option_map, is_some, codes}
 use Rattle.std.specs.Option.{option_map_or}
 use Rattle.clap.specs.Walk.{Row, Rule, Text, answers_to, finished, nothing_held, one_of, rows_after, walk}
 use Rattle.clap.specs.Simple.{App, Shape, argument_words, built, built_leaf, entered, filled, inherited, label_of, marked_built, names_of, rows_at, subcommand_of, with_index, with_leaf_noted}
@@ -8,9 +8,9 @@ use Rattle.clap.specs.Faults.{check_fault, entered_fault, fault_of, level_fault}
 use Rattle.clap.specs.declared.builder.value_parser.ValueParser.TheVariants as parser
 use Rattle.clap.proofs.ValueTestLemmas.{accepts-Accepts}
 use Rattle.cpm_command.specs.CommandLine.{operand, value_option}
-use Rattle.cpm_command.specs.DiskLine.{IsUser, IsWholeDisk, IsWholeGet, IsWholeListing, IsWholeNew, IsWholePut, IsWholeRemove, IsWholeRename, disk_app, get_app, list_disk_app, new_disk_app, operands, put_app, remove_app, rename_app, user_option}
+use Rattle.cpm_command.specs.DiskLine.{IsUser, IsUserIfAny, IsWholeDisk, IsWholeGet, IsWholeListing, IsWholeNew, IsWholePut, IsWholeRemove, IsWholeRename, disk_app, get_app, list_disk_app, new_disk_app, operands, put_app, remove_app, rename_app, user_if_any_option, user_option}
 use Rattle.cpm_command.proofs.FilledRows.{HasText, IsPlain, IsSetting, plain_by_ids}
-use Rattle.cpm_command.proofs.LeafRows.{both_given, default_text, given_first, flag_in, flag_rule, flag_word, leaf_checked, one_given}
+use Rattle.cpm_command.proofs.LeafRows.{both_given, default_text, given_first, flag_in, flag_rule, flag_word, leaf_checked, one_given, text_or_none}
 use Rattle.cpm_command.proofs.WalkRows.{HasNoShorts, level_checked}
 
 -- ---- the commands as clap builds them
@@ -61,6 +61,15 @@ user_in rows has =
     let taken = accepts-Accepts false (parser.Unsigned 0 15) has.text has.passes in
     record { digits = has.text; given = has.one; numeral = taken.0; fits = taken.3 }
 
+abbrev user_if_any_rule : Rule
+user_if_any_rule = filled user_if_any_option
+
+user_if_any_in : (rows : List Row) → (one_of (codes "user") rows ≡ None) ⊎ HasText user_if_any_rule rows → IsUserIfAny (one_of (codes "user") rows)
+user_if_any_in rows (inl none) = inl none
+user_if_any_in rows (inr has) =
+    let taken = accepts-Accepts false (parser.Unsigned 0 15) has.text has.passes in
+    inr (record { digits = has.text; given = has.one; numeral = taken.0; fits = taken.3 })
+
 -- ---- how each command's arguments are set
 
 one_word : IsSetting image_rule
@@ -71,6 +80,9 @@ change_word = record { action = inl refl; values = inl refl }
 
 user_word : IsSetting user_rule
 user_word = record { action = inl refl; values = inl refl }
+
+user_if_any_word : IsSetting user_if_any_rule
+user_if_any_word = record { action = inl refl; values = inl refl }
 
 to_word : IsSetting (filled (value_option (codes "to")))
 to_word = record { action = inl refl; values = inl refl }
@@ -85,7 +97,7 @@ new_plain : IsPlain new_built.rules
 new_plain = plain_by_ids new_built.rules refl (one_word, (flag_word _, tt))
 
 list_plain : IsPlain list_built.rules
-list_plain = plain_by_ids list_built.rules refl (one_word, (user_word, tt))
+list_plain = plain_by_ids list_built.rules refl (one_word, (user_if_any_word, tt))
 
 put_plain : IsPlain put_built.rules
 put_plain = plain_by_ids put_built.rules refl (one_word, (files_words, (user_word, (flag_word _, (flag_word _, (flag_word _, tt))))))
@@ -134,7 +146,7 @@ list_whole words e =
     let image = one_given (is_given (codes "image") rows) (leaf_checked list_built list_plain list_no_shorts words e) in
     record {
       image = given_first list_built list_plain list_no_shorts words e image_rule (inl refl) image;
-      user = user_in rows (default_text list_built list_plain list_no_shorts words e user_rule (inr (inl refl)) tt);
+      user = user_if_any_in rows (text_or_none list_built list_plain list_no_shorts words e user_if_any_rule (inr (inl refl)));
     }
 
 put_whole : (words : List Text) → level_fault put_built [] nothing_held words false [] ≡ [] → IsWholePut (rows_after put_built.rules [] words)

@@ -47,10 +47,11 @@ abbrev pub program_app : App
 program_app = with_rule (with_rule (with_rule (with_rule (with_rule (new_app (codes "com"))
     (operand (codes "file"))) (words_left_out (codes "tail"))) (flag (codes "z80"))) steps_option) (value_option (codes "keys"))
 
--- own: `com`, with `[--disk IMAGE].. [--out-disk IMAGE].. [--keyboard] [--record SCRIPT]` behind these
+-- own: `com`, with `[--disk IMAGE].. [--out-disk IMAGE].. [--keyboard] [--record SCRIPT] [--progress]` behind these
 abbrev pub com_app : App
-com_app = with_rule (with_rule (with_rule (with_rule program_app
-    (repeated_option (codes "disk"))) (repeated_option (codes "out-disk"))) (flag (codes "keyboard"))) (value_option (codes "record"))
+com_app = with_rule (with_rule (with_rule (with_rule (with_rule program_app
+    (repeated_option (codes "disk"))) (repeated_option (codes "out-disk"))) (flag (codes "keyboard"))) (value_option (codes "record")))
+    (flag (codes "progress"))
 
 -- `asm SOURCE OUT`
 abbrev pub asm_app : App
@@ -64,10 +65,10 @@ list_app = with_rule (with_rule (new_app (codes "list")) (operand (codes "file")
 abbrev pub check_app : App
 check_app = with_rule (new_app (codes "check")) (operand (codes "image"))
 
--- own: `run CONFIG [--keyboard NAME] [--record SCRIPT]`
+-- own: `run CONFIG [--keyboard NAME] [--record SCRIPT] [--progress]`
 abbrev pub run_app : App
-run_app = with_rule (with_rule (with_rule (new_app (codes "run"))
-    (operand (codes "config"))) (value_option (codes "keyboard"))) (value_option (codes "record"))
+run_app = with_rule (with_rule (with_rule (with_rule (new_app (codes "run"))
+    (operand (codes "config"))) (value_option (codes "keyboard"))) (value_option (codes "record"))) (flag (codes "progress"))
 
 -- `debug FILE [--z80]`
 abbrev pub debug_app : App
@@ -123,16 +124,17 @@ flag_text Z80 = codes "true"
 
 -- the task has what the entries of the subcommand of this name give
 abbrev pub HasEntriesOf : Text × List Row → Task → Type 0
-HasEntriesOf given (Com file tail cpu steps keys drives outs is_live script) =
-    (given.0 ≡ codes "com") × (first_of (codes "file") given.1 ≡ Some file.now)
-    × ReadsWordsIfAny (all_of (codes "tail") given.1) tail.items
-    × (one_of (codes "z80") given.1 ≡ Some (flag_text cpu))
-    × ReadsCountIfAny (one_of (codes "steps") given.1) steps
-    × (first_of (codes "keys") given.1 ≡ option_map (λ t. t.now) keys)
-    × ReadsWordsIfAny (all_of (codes "disk") given.1) drives.items
-    × ReadsWordsIfAny (all_of (codes "out-disk") given.1) outs.items
-    × (one_of (codes "keyboard") given.1 ≡ Some (bool_text is_live))
-    × (first_of (codes "record") given.1 ≡ option_map (λ t. t.now) script)
+HasEntriesOf given (Com task) =
+    (given.0 ≡ codes "com") × (first_of (codes "file") given.1 ≡ Some task.file.now)
+    × ReadsWordsIfAny (all_of (codes "tail") given.1) task.tail.items
+    × (one_of (codes "z80") given.1 ≡ Some (flag_text task.cpu))
+    × ReadsCountIfAny (one_of (codes "steps") given.1) task.steps
+    × (first_of (codes "keys") given.1 ≡ option_map (λ t. t.now) task.keys)
+    × ReadsWordsIfAny (all_of (codes "disk") given.1) task.drives.items
+    × ReadsWordsIfAny (all_of (codes "out-disk") given.1) task.outs.items
+    × (one_of (codes "keyboard") given.1 ≡ Some (bool_text task.is_live))
+    × (first_of (codes "record") given.1 ≡ option_map (λ t. t.now) task.«record»)
+    × (one_of (codes "progress") given.1 ≡ Some (bool_text task.has_progress))
 HasEntriesOf given (Asm source out) =
     (given.0 ≡ codes "asm") × (first_of (codes "source") given.1 ≡ Some source.now)
     × (first_of (codes "out") given.1 ≡ Some out.now)
@@ -141,10 +143,11 @@ HasEntriesOf given (Listing file cpu) =
     × (one_of (codes "z80") given.1 ≡ Some (flag_text cpu))
 HasEntriesOf given (Check image) =
     (given.0 ≡ codes "check") × (first_of (codes "image") given.1 ≡ Some image.now)
-HasEntriesOf given (Run config keyboard script) =
-    (given.0 ≡ codes "run") × (first_of (codes "config") given.1 ≡ Some config.now)
-    × (first_of (codes "keyboard") given.1 ≡ option_map (λ t. t.now) keyboard)
-    × (first_of (codes "record") given.1 ≡ option_map (λ t. t.now) script)
+HasEntriesOf given (Run task) =
+    (given.0 ≡ codes "run") × (first_of (codes "config") given.1 ≡ Some task.config.now)
+    × (first_of (codes "keyboard") given.1 ≡ option_map (λ t. t.now) task.keyboard)
+    × (first_of (codes "record") given.1 ≡ option_map (λ t. t.now) task.«record»)
+    × (one_of (codes "progress") given.1 ≡ Some (bool_text task.has_progress))
 HasEntriesOf given (Debug file cpu) =
     (given.0 ≡ codes "debug") × (first_of (codes "file") given.1 ≡ Some file.now)
     × (one_of (codes "z80") given.1 ≡ Some (flag_text cpu))
@@ -179,6 +182,7 @@ pub record IsWholeCom (rows : List Row) : Type 0 where
   pub z80 : IsPick (one_of (codes "z80") rows)
   pub steps : IsCountIfAny (one_of (codes "steps") rows)
   pub keyboard : IsFlag (one_of (codes "keyboard") rows)
+  pub progress : IsFlag (one_of (codes "progress") rows)
 
 -- the entries of `asm` are whole
 pub record IsWholeAsm (rows : List Row) : Type 0 where
@@ -197,6 +201,7 @@ pub record IsWholeCheck (rows : List Row) : Type 0 where
 -- the entries of `run` are whole
 pub record IsWholeRun (rows : List Row) : Type 0 where
   pub config : IsSome (first_of (codes "config") rows)
+  pub progress : IsFlag (one_of (codes "progress") rows)
 
 -- the entries of `debug` are whole
 pub record IsWholeDebug (rows : List Row) : Type 0 where

@@ -1,23 +1,22 @@
 -- The commands of `disk`, and the task that the entries of one give.
-use Rattle.std.specs.Prelude.{◌≡◌, ◌⊎◌, ◌∷◌, [], ◌<◌, ◌≤◌, IsSome, IsSomeAnd, ℕ, List, Option, Some, codes, length, map, option_map}
+use Rattle.std.specs.Prelude.{⊤, ◌≡◌, ◌⊎◌, ◌∷◌, [], ◌<◌, ◌≤◌, IfSome, IsSome, IsSomeAnd, ℕ, List, None, Option, Some, codes, length, map, option_map}
 use Rattle.std.specs.Borrow.{Bor}
 use Rattle.std.specs.Str.Parse.{IsNumeral, digits_value, without_leading_plus}
 use Rattle.clap.specs.Lexer.{usize_max}
 use Rattle.clap.specs.Values.{bool_text}
-use Rattle.clap.specs.Words.{App, Row, Rule, Text, all_of, first_of, new_app, new_rule, one_of, with_rule, with_subcommand}
+use Rattle.clap.specs.Words.{App, Row, Rule, Text, all_of, first_of, new_app, one_of, with_rule, with_subcommand}
 use Rattle.clap.specs.declared.builder.value_parser.ValueParser.TheVariants as parser
 use Rattle.cpm_command.specs.CommandLine.{IsFlag, ReadsCount, flag, operand, top_app, value_option}
 use Rattle.cpm_command.specs.declared.task.DiskTask.{DiskTask}
 use Rattle.cpm_command.specs.declared.task.DiskTask.TheVariants.{Get, List as Listing, New, Put, Remove, Rename}
 
--- own: `--user N`, a number from 0 to 15, and 0 where it is left out
+-- own: `--user N`, a number from 0 to 15, which may be left out
+abbrev pub user_if_any_option : Rule
+user_if_any_option = record (value_option (codes "user")) { parser = Some (parser.Unsigned 0 15) }
+
+-- own: `--user N`, which is 0 where it is left out
 abbrev pub user_option : Rule
-user_option = record (new_rule (codes "user")) {
-  long = Some (codes "user");
-  value_names = 1;
-  parser = Some (parser.Unsigned 0 15);
-  defaults = codes "0" ∷ [];
-}
+user_option = record user_if_any_option { defaults = codes "0" ∷ [] }
 
 -- own: one word that has to be there, and any number of further ones
 abbrev pub operands : List ℕ → Rule
@@ -35,7 +34,7 @@ new_disk_app = with_rule (image_app (codes "new")) (flag (codes "large"))
 
 -- own: `list IMAGE [--user N]`
 abbrev pub list_disk_app : App
-list_disk_app = with_rule (image_app (codes "list")) user_option
+list_disk_app = with_rule (image_app (codes "list")) user_if_any_option
 
 -- own: `put IMAGE FILE.. [--user N] [--text] [--read-only] [--system]`
 abbrev pub put_app : App
@@ -66,6 +65,11 @@ disk_app = with_subcommand (with_subcommand (with_subcommand (with_subcommand (w
 abbrev pub ReadsUser : Option Text → ℕ → Type 0
 ReadsUser text n = ReadsCount text n × (n ≤ 15)
 
+-- own: the text is such a number, or both are left out
+abbrev pub ReadsUserIfAny : Option Text → Option ℕ → Type 0
+ReadsUserIfAny text None = text ≡ None
+ReadsUserIfAny text (Some n) = ReadsUser text n
+
 -- own: the texts are the words, of which there is one at least
 abbrev pub ReadsWords : Option (List Text) → List (Bor Text) → Type 0
 ReadsWords texts words = (texts ≡ Some (map (λ w. w.now) words)) × (0 < length words)
@@ -77,7 +81,7 @@ HasDiskEntriesOf given (New image is_large) =
     × (one_of (codes "large") given.1 ≡ Some (bool_text is_large))
 HasDiskEntriesOf given (Listing image user) =
     (given.0 ≡ codes "list") × (first_of (codes "image") given.1 ≡ Some image.now)
-    × ReadsUser (one_of (codes "user") given.1) user
+    × ReadsUserIfAny (one_of (codes "user") given.1) user
 HasDiskEntriesOf given (Put image files user is_text is_read_only is_system) =
     (given.0 ≡ codes "put") × (first_of (codes "image") given.1 ≡ Some image.now)
     × ReadsWords (all_of (codes "file") given.1) files.items
@@ -100,6 +104,15 @@ HasDiskEntriesOf given (Rename image change user) =
     × (first_of (codes "change") given.1 ≡ Some change.now)
     × ReadsUser (one_of (codes "user") given.1) user
 
+-- own: the number of the user, where the task has one, is from 0 to 15
+abbrev pub HasUser : DiskTask → Type 0
+HasUser (New image is_large) = ⊤
+HasUser (Listing image user) = IfSome user (λ u. u < 16)
+HasUser (Put image files user is_text is_read_only is_system) = user < 16
+HasUser (Get image names user is_text to) = user < 16
+HasUser (Remove image names user) = user < 16
+HasUser (Rename image change user) = user < 16
+
 -- ---- entries that make a task
 
 -- own: the number of a user stands there
@@ -109,6 +122,10 @@ pub record IsUser (text : Option Text) : Type 0 where
   pub numeral : IsNumeral 10 (without_leading_plus digits)
   pub fits : digits_value 10 (without_leading_plus digits) ≤ 15
 
+-- own: such a number stands there, or nothing
+abbrev pub IsUserIfAny : Option Text → Type 0
+IsUserIfAny text = (text ≡ None) ⊎ IsUser text
+
 -- own: the entries of `new` are whole
 pub record IsWholeNew (rows : List Row) : Type 0 where
   pub image : IsSome (first_of (codes "image") rows)
@@ -117,7 +134,7 @@ pub record IsWholeNew (rows : List Row) : Type 0 where
 -- own: the entries of `list` are whole
 pub record IsWholeListing (rows : List Row) : Type 0 where
   pub image : IsSome (first_of (codes "image") rows)
-  pub user : IsUser (one_of (codes "user") rows)
+  pub user : IsUserIfAny (one_of (codes "user") rows)
 
 -- own: the entries of `put` are whole
 pub record IsWholePut (rows : List Row) : Type 0 where

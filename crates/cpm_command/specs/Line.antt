@@ -1,11 +1,11 @@
 -- A whole command line: which command reads it, and the task that it names. The program's command has no
 -- argument of its own, so a subcommand can only stand right behind its name. `disk` has commands itself, and
 -- clap's rules are written for one level of them: so what stands from `disk` on is a line of its own.
-use Rattle.std.specs.Prelude.{◌≡◌, Bool, true, false, if◌then◌else◌, IsSomeAnd, List, ◌∷◌, codes, drop}
+use Rattle.std.specs.Prelude.{⊤, ◌≡◌, Bool, true, false, if◌then◌else◌, IsSomeAnd, List, ◌∷◌, codes, drop}
 use Rattle.std.specs.Str.{bytes_eq}
 use Rattle.clap.specs.Words.{App, Text, subcommand_of}
 use Rattle.cpm_command.specs.CommandLine.{HasEntriesOf, host_app}
-use Rattle.cpm_command.specs.DiskLine.{HasDiskEntriesOf, disk_app}
+use Rattle.cpm_command.specs.DiskLine.{HasDiskEntriesOf, HasUser, disk_app}
 use Rattle.cpm_command.specs.declared.task.Task.{Task}
 use Rattle.cpm_command.specs.declared.task.Task.TheVariants.{Disk}
 
@@ -28,3 +28,8 @@ IsTaskOf words (Disk task) =
     (names_disk words ≡ true) × IsSomeAnd (subcommand_of disk_app (drop 1 words)) (λ given. HasDiskEntriesOf given task)
 IsTaskOf words task =
     (names_disk words ≡ false) × IsSomeAnd (subcommand_of host_app words) (λ given. HasEntriesOf given task)
+
+-- own: the number of a user, where the task has one, is from 0 to 15
+abbrev pub HasUsers : Task → Type 0
+HasUsers (Disk task) = HasUser task
+HasUsers task = ⊤

@@ -28,6 +28,7 @@ kinds_of fault.RecordAlone = []
 kinds_of fault.TwoScripts = []
 kinds_of fault.TooManyDisks = []
 kinds_of fault.OutWithoutDisk = []
+kinds_of fault.ProgressAtKeyboard = []
 kinds_of (fault.Other word) =
     kind.NoEquals ∷ kind.TooManyValues ∷ kind.TooFewValues ∷ kind.WrongNumberOfValues
     ∷ kind.DisplayHelp ∷ kind.DisplayVersion ∷ kind.Io ∷ kind.Format ∷ []

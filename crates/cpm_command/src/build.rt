@@ -108,7 +108,7 @@ fn program_command<'a>(alloc: Global) -> Result<Command<'a>, AllocError>
 }
 
 /// `com FILE [TAIL..] [--z80] [--steps N] [--keys SCRIPT] [--disk IMAGE].. [--out-disk IMAGE]..
-/// [--keyboard] [--record SCRIPT]`
+/// [--keyboard] [--record SCRIPT] [--progress]`
 fn com_command<'a>(alloc: Global) -> Result<Command<'a>, AllocError>
     ensures { IfOk result (IsCommandOf com_app) }
 {
@@ -116,7 +116,8 @@ fn com_command<'a>(alloc: Global) -> Result<Command<'a>, AllocError>
     let with_disks = with_argument(with_program, repeated_argument(alloc, "disk", "IMAGE"))?;
     let with_outs = with_argument(with_disks, repeated_argument(alloc, "out-disk", "IMAGE"))?;
     let with_keyboard = with_argument(with_outs, flag_argument(alloc, "keyboard"))?;
-    with_argument(with_keyboard, value_argument(alloc, "record", "SCRIPT"))
+    let with_record = with_argument(with_keyboard, value_argument(alloc, "record", "SCRIPT"))?;
+    with_argument(with_record, flag_argument(alloc, "progress"))
 }
 
 /// `asm SOURCE OUT`
@@ -148,7 +149,7 @@ fn check_command<'a>(alloc: Global) -> Result<Command<'a>, AllocError>
     )
 }
 
-/// `run CONFIG [--keyboard NAME] [--record SCRIPT]`
+/// `run CONFIG [--keyboard NAME] [--record SCRIPT] [--progress]`
 fn run_command<'a>(alloc: Global) -> Result<Command<'a>, AllocError>
     ensures { IfOk result (IsCommandOf run_app) }
 {
@@ -157,7 +158,8 @@ fn run_command<'a>(alloc: Global) -> Result<Command<'a>, AllocError>
         required_word(alloc, "config", "CONFIG"),
     )?;
     let with_keyboard = with_argument(with_config, value_argument(alloc, "keyboard", "NAME"))?;
-    with_argument(with_keyboard, value_argument(alloc, "record", "SCRIPT"))
+    let with_record = with_argument(with_keyboard, value_argument(alloc, "record", "SCRIPT"))?;
+    with_argument(with_record, flag_argument(alloc, "progress"))
 }
 
 /// `debug FILE [--z80]`

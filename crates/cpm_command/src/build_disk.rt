@@ -1,7 +1,7 @@
 //! The command of `clap` that reads the words from `disk` on.
 ghost use Rattle.std.specs.Prelude.{IfOk};
 ghost use Rattle.cpm_command.specs.CommandLine.{IsArgumentOf, IsCommandOf};
-ghost use Rattle.cpm_command.specs.DiskLine.{disk_app, get_app, image_app, list_disk_app, new_disk_app, operands, put_app, remove_app, rename_app, user_option};
+ghost use Rattle.cpm_command.specs.DiskLine.{disk_app, get_app, image_app, list_disk_app, new_disk_app, operands, put_app, remove_app, rename_app, user_if_any_option, user_option};
 
 use crate::build::{
     flag_argument, named, required_word, top_command, value_argument, with_argument, with_command,
@@ -16,15 +16,21 @@ fn required_words<'a>(alloc: Global, id: &'a str, shown: &'a str) -> Arg<'a>
     required_word(alloc, id, shown).num_args(1..)
 }
 
-/// `--user N`
-fn user_argument<'a>(alloc: Global) -> Arg<'a>
-    ensures { IsArgumentOf user_option result }
+/// `--user N`, which may be left out.
+fn user_if_any_argument<'a>(alloc: Global) -> Arg<'a>
+    ensures { IsArgumentOf user_if_any_option result }
 {
     Arg::new(alloc, "user")
         .long("user")
         .value_name("N")
         .value_parser(clap::value_parser!(u64).range(0..=15))
-        .default_value("0")
+}
+
+/// `--user N`, which is 0 where it is left out.
+fn user_argument<'a>(alloc: Global) -> Arg<'a>
+    ensures { IsArgumentOf user_option result }
+{
+    user_if_any_argument(alloc).default_value("0")
 }
 
 /// The command of this name with its image.
@@ -47,7 +53,7 @@ fn list_command<'a>(alloc: Global) -> Result<Command<'a>, AllocError>
     ensures { IfOk result (IsCommandOf list_disk_app) }
 {
     let with_image = image_command(alloc, "list")?;
-    with_argument(with_image, user_argument(alloc))
+    with_argument(with_image, user_if_any_argument(alloc))
 }
 
 /// `put IMAGE FILE.. [--user N] [--text] [--read-only] [--system]`

@@ -6,7 +6,7 @@ ghost use Rattle.cpm_command.specs.DiskLine.{HasDiskEntriesOf, IsWholeDisk, IsWh
 ghost use Rattle.cpm_command.specs.Refusals.{IsRefusalBy};
 
 use crate::build_disk::disk_command;
-use crate::entries::{flag_of, text_if_any, text_of, texts_of, user_of};
+use crate::entries::{flag_of, text_if_any, text_of, texts_of, user_if_any, user_of};
 use crate::fault::{UsageError, refusal};
 use crate::task::DiskTask;
 use clap::ArgMatches;
@@ -30,7 +30,7 @@ fn list_task<'a>(matches: &ArgMatches<'a>) -> DiskTask<'a>
 {
     DiskTask::List {
         image: text_of(matches, "image"),
-        user: user_of(matches),
+        user: user_if_any(matches),
     }
 }
 

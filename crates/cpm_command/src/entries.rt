@@ -3,7 +3,7 @@ ghost use Rattle.std.specs.Prelude.{◌≡◌, IfOk, IsSome, Some, codes, option
 ghost use Rattle.clap.specs.Values.{bool_text};
 ghost use Rattle.clap.specs.Words.{all_of, first_of, found_of, one_of, rows_of};
 ghost use Rattle.cpm_command.specs.CommandLine.{IsCountIfAny, IsFlag, IsPick, ReadsCountIfAny, ReadsWordsIfAny, flag_text};
-ghost use Rattle.cpm_command.specs.DiskLine.{IsUser, ReadsUser, ReadsWords};
+ghost use Rattle.cpm_command.specs.DiskLine.{IsUser, IsUserIfAny, ReadsUser, ReadsUserIfAny, ReadsWords};
 
 use clap::ArgMatches;
 use cpm_flags::Cpu;
@@ -86,4 +86,15 @@ pub(crate) fn user_of(matches: &ArgMatches<'_>) -> u8
     ensures { ReadsUser (one_of (codes "user") (rows_of (found_of matches.now))) result }
 {
     matches.get_one::<u64>("user").unwrap() as u8
+}
+
+/// The number of the user, where it was given.
+pub(crate) fn user_if_any(matches: &ArgMatches<'_>) -> Option<u8>
+    requires { IsUserIfAny (one_of (codes "user") (rows_of (found_of matches.now))) }
+    ensures { ReadsUserIfAny (one_of (codes "user") (rows_of (found_of matches.now))) result }
+{
+    match matches.get_one::<u64>("user") {
+        Some(number) => Some(number as u8),
+        None => None,
+    }
 }

@@ -56,6 +56,9 @@ pub enum Fault {
     /// A drive is to be written, and has no image.
     #[error("'--out-disk' was given more often than '--disk'; give a '--disk' for each; try 'cpmhost --help'")]
     OutWithoutDisk,
+    /// The terminal is to show what is typed at, and how much is done.
+    #[error("'--progress' and '--keyboard' both write to the terminal; give one of them; try 'cpmhost --help'")]
+    ProgressAtKeyboard,
     /// Anything else, in the words of the reader of command lines.
     #[error("{0}; try 'cpmhost --help'")]
     Other(Word),

@@ -13,5 +13,5 @@ mod usage;
 
 pub use fault::{Fault, UsageError, Word, shown, shown_line};
 pub use read::command;
-pub use task::{DiskTask, Task};
+pub use task::{ComTask, DiskTask, RunTask, Task};
 pub use usage::{HELP_TEXT, help};

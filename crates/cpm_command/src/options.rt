@@ -1,42 +1,40 @@
 //! Options that don't go together, in a task that the reader of command lines takes.
-ghost use Rattle.std.specs.Prelude.{◌≡◌, is_some};
+ghost use Rattle.std.specs.Prelude.{◌≡◌};
 ghost use Rattle.cpm_command.specs.Options.{fault_of_com, fault_of_run, task_fault};
 
 use crate::fault::Fault;
-use crate::task::Task;
+use crate::task::{ComTask, RunTask, Task};
 
 /// How many drives can have an image: A to D.
 const DRIVES: usize = 4;
 
-/// What is wrong with the options of `com`.
-fn com_fault(
-    has_keys: bool,
-    drives: usize,
-    outs: usize,
-    is_live: bool,
-    has_record: bool,
-) -> Option<Fault>
-    ensures { result ≡ fault_of_com has_keys drives outs is_live has_record }
+/// What is wrong first with the options of `com`.
+fn com_fault(task: &ComTask<'_>) -> Option<Fault>
+    ensures { result ≡ fault_of_com task.now }
 {
-    if has_record && !is_live {
+    if task.record.is_some() && !task.is_live {
         Some(Fault::RecordAlone)
-    } else if has_keys && is_live {
+    } else if task.keys.is_some() && task.is_live {
         Some(Fault::TwoScripts)
-    } else if drives > DRIVES {
+    } else if task.drives.len() > DRIVES {
         Some(Fault::TooManyDisks)
-    } else if outs > drives {
+    } else if task.outs.len() > task.drives.len() {
         Some(Fault::OutWithoutDisk)
+    } else if task.has_progress && task.is_live {
+        Some(Fault::ProgressAtKeyboard)
     } else {
         None
     }
 }
 
-/// What is wrong with the options of `run`.
-fn run_fault(has_keyboard: bool, has_record: bool) -> Option<Fault>
-    ensures { result ≡ fault_of_run has_keyboard has_record }
+/// What is wrong first with the options of `run`.
+fn run_fault(task: &RunTask<'_>) -> Option<Fault>
+    ensures { result ≡ fault_of_run task.now }
 {
-    if has_record && !has_keyboard {
+    if task.record.is_some() && task.keyboard.is_none() {
         Some(Fault::RecordAlone)
+    } else if task.has_progress && task.keyboard.is_some() {
+        Some(Fault::ProgressAtKeyboard)
     } else {
         None
     }
@@ -47,25 +45,8 @@ pub(crate) fn options_fault(task: &Task<'_>) -> Option<Fault>
     ensures { result ≡ task_fault task.now }
 {
     match task {
-        Task::Com {
-            keys,
-            drives,
-            outs,
-            is_live,
-            record,
-            ..
-        } => com_fault(
-            keys.is_some(),
-            drives.len(),
-            outs.len(),
-            *is_live,
-            record.is_some(),
-        ),
-        Task::Run {
-            keyboard,
-            record,
-            ..
-        } => run_fault(keyboard.is_some(), record.is_some()),
+        Task::Com(com) => com_fault(com),
+        Task::Run(run) => run_fault(run),
         _ => None,
     }
 }

@@ -2,7 +2,7 @@
 ghost use Rattle.std.specs.Prelude.{◌≡◌, [], IfOk, IfErr, IsSomeAnd, None, codes, map, true, false};
 ghost use Rattle.clap.specs.Words.{fault_of, found_of, rows_of, subcommand_of, subcommand_rows_of, takes};
 ghost use Rattle.cpm_command.specs.CommandLine.{HasEntriesOf, IsWhole, IsWholeAsm, IsWholeCheck, IsWholeCom, IsWholeDebug, IsWholeList, IsWholeOf, IsWholeRun, host_app};
-ghost use Rattle.cpm_command.specs.Line.{IsTaskOf, app_of_line, names_disk, words_of_line};
+ghost use Rattle.cpm_command.specs.Line.{HasUsers, IsTaskOf, app_of_line, names_disk, words_of_line};
 ghost use Rattle.cpm_command.specs.Options.{task_fault};
 ghost use Rattle.cpm_command.specs.Refusals.{IsRefusalBy, IsRefusalOf, IsTaskRefusal};
 
@@ -11,7 +11,7 @@ use crate::disk::disk_task;
 use crate::entries::{cpu_of, flag_of, steps_of, text_if_any, text_of, texts_if_any};
 use crate::fault::{UsageError, refusal};
 use crate::options::options_fault;
-use crate::task::Task;
+use crate::task::{ComTask, RunTask, Task};
 use clap::ArgMatches;
 use std::alloc::{AllocError, Global};
 
@@ -23,7 +23,7 @@ fn com_task<'a>(alloc: Global, matches: &ArgMatches<'a>) -> Result<Task<'a>, All
     let tail = texts_if_any(alloc, matches, "tail")?;
     let drives = texts_if_any(alloc, matches, "disk")?;
     let outs = texts_if_any(alloc, matches, "out-disk")?;
-    Ok(Task::Com {
+    Ok(Task::Com(ComTask {
         file: text_of(matches, "file"),
         tail,
         cpu: cpu_of(matches),
@@ -33,7 +33,8 @@ fn com_task<'a>(alloc: Global, matches: &ArgMatches<'a>) -> Result<Task<'a>, All
         outs,
         is_live: flag_of(matches, "keyboard"),
         record: text_if_any(matches, "record"),
-    })
+        has_progress: flag_of(matches, "progress"),
+    }))
 }
 
 /// The task of `asm`.
@@ -74,11 +75,12 @@ fn run_task<'a>(matches: &ArgMatches<'a>) -> Task<'a>
     requires { IsWholeRun (rows_of (found_of matches.now)) }
     ensures { HasEntriesOf (codes "run", rows_of (found_of matches.now)) result }
 {
-    Task::Run {
+    Task::Run(RunTask {
         config: text_of(matches, "config"),
         keyboard: text_if_any(matches, "keyboard"),
         record: text_if_any(matches, "record"),
-    }
+        has_progress: flag_of(matches, "progress"),
+    })
 }
 
 /// The task of `debug`.
@@ -186,6 +188,9 @@ pub fn command<'a>(alloc: Global, words: &'a [&'a str]) -> Result<Task<'a>, Usag
     // The task has the subcommand and all entries that clap's rules give the words, and its options
     // go together.
     ensures task { IfOk result (λ t. IsTaskOf (map (λ w. w.now) words.entry.now) t × (task_fault t ≡ None)) }
+
+    // The number of a user is from 0 to 15.
+    ensures users { IfOk result HasUsers }
 
     // Words with a fault are refused. Words that the rules take are refused for what is wrong first with
     // the options of the task that they name.

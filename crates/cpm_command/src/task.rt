@@ -5,51 +5,51 @@ use cpm_flags::Cpu;
 /// A subcommand with its words.
 #[derive(Debug, PartialEq, Eq, Drop)]
 pub enum Task<'a> {
-    /// `com FILE [TAIL..] [--z80] [--steps N] [--keys SCRIPT] [--disk IMAGE].. [--out-disk IMAGE]..
-    /// [--keyboard] [--record SCRIPT]`: run the program in FILE on that processor for at most `steps`
-    /// steps, with the words of `tail` behind its name, and with the keys of SCRIPT or, where it is
-    /// live, of standard input. `drives` are the images of the drives from A on, and `outs` the files
-    /// that these are written to; `record` is the script that live keys are written to.
-    Com {
-        file: &'a str,
-        tail: Vec<&'a str>,
-        cpu: Cpu,
-        steps: Option<u64>,
-        keys: Option<&'a str>,
-        drives: Vec<&'a str>,
-        outs: Vec<&'a str>,
-        is_live: bool,
-        record: Option<&'a str>,
-    },
+    /// `com ..`: run a program.
+    Com(ComTask<'a>),
     /// `asm SOURCE OUT`: assemble SOURCE, and write its image to OUT.
-    Asm {
-        source: &'a str,
-        out: &'a str,
-    },
+    Asm { source: &'a str, out: &'a str },
     /// `list FILE [--z80]`: list the program in FILE as instructions of that processor.
-    List {
-        file: &'a str,
-        cpu: Cpu,
-    },
+    List { file: &'a str, cpu: Cpu },
     /// `check IMAGE`: tell whether the directory of the drive in IMAGE agrees with itself.
-    Check {
-        image: &'a str,
-    },
-    /// `run CONFIG [--keyboard NAME] [--record SCRIPT]`: run the sessions of the configuration in
-    /// CONFIG. `keyboard` is the session that gets the keys of standard input, and `record` the script
-    /// that these are written to.
-    Run {
-        config: &'a str,
-        keyboard: Option<&'a str>,
-        record: Option<&'a str>,
-    },
+    Check { image: &'a str },
+    /// `run ..`: run the sessions of a configuration.
+    Run(RunTask<'a>),
     /// `debug FILE [--z80]`: run the program in FILE on that processor, as lines of standard input say.
-    Debug {
-        file: &'a str,
-        cpu: Cpu,
-    },
+    Debug { file: &'a str, cpu: Cpu },
     /// `disk ..`: make an image of a disk, or do something with the files in one.
     Disk(DiskTask<'a>),
+}
+
+/// `com FILE [TAIL..] [--z80] [--steps N] [--keys SCRIPT] [--disk IMAGE].. [--out-disk IMAGE]..
+/// [--keyboard] [--record SCRIPT] [--progress]`: run the program in FILE on that processor for at most
+/// `steps` steps, with the words of `tail` behind its name, and with the keys of SCRIPT or, where it is
+/// live, of standard input. `drives` are the images of the drives from A on, and `outs` the files that
+/// these are written to; `record` is the script that live keys are written to. With `has_progress` it is
+/// told how much of the steps is done.
+#[derive(Debug, PartialEq, Eq, Drop)]
+pub struct ComTask<'a> {
+    pub file: &'a str,
+    pub tail: Vec<&'a str>,
+    pub cpu: Cpu,
+    pub steps: Option<u64>,
+    pub keys: Option<&'a str>,
+    pub drives: Vec<&'a str>,
+    pub outs: Vec<&'a str>,
+    pub is_live: bool,
+    pub record: Option<&'a str>,
+    pub has_progress: bool,
+}
+
+/// `run CONFIG [--keyboard NAME] [--record SCRIPT] [--progress]`: run the sessions of the configuration
+/// in CONFIG. `keyboard` is the session that gets the keys of standard input, and `record` the script
+/// that these are written to. With `has_progress` it is told how much of the steps is done.
+#[derive(Debug, PartialEq, Eq, Drop)]
+pub struct RunTask<'a> {
+    pub config: &'a str,
+    pub keyboard: Option<&'a str>,
+    pub record: Option<&'a str>,
+    pub has_progress: bool,
 }
 
 /// A command of `disk` with its words. The files are those of `user`, from 0 to 15.
@@ -60,10 +60,10 @@ pub enum DiskTask<'a> {
         image: &'a str,
         is_large: bool,
     },
-    /// `disk list IMAGE [--user N]`: list the files.
+    /// `disk list IMAGE [--user N]`: list the files, of all users where none is given.
     List {
         image: &'a str,
-        user: u8,
+        user: Option<u8>,
     },
     /// `disk put IMAGE FILE.. [--user N] [--text] [--read-only] [--system]`: copy the files of the
     /// host, of which there is one at least, into the image. Each word of `files` is FILE or

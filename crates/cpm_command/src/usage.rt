@@ -9,11 +9,12 @@ pub const HELP_TEXT: &str = "\
 cpmhost runs CP/M 2.2 programs for the 8080 and the Z80 processor.
 
 Usage:
-  cpmhost run CONFIG [--keyboard NAME] [--record SCRIPT]
+  cpmhost run CONFIG [--keyboard NAME] [--record SCRIPT] [--progress]
                    run the sessions of the configuration in CONFIG by turns,
                    write their files, and print how each session ended
   cpmhost com FILE [TAIL..] [--z80] [--steps N] [--keys SCRIPT]
           [--disk IMAGE].. [--out-disk IMAGE].. [--keyboard] [--record SCRIPT]
+          [--progress]
                    run the CP/M program in FILE, such as a .COM file, with the
                    words TAIL.. behind its name, and print what it writes to
                    its console
@@ -68,17 +69,19 @@ Words and options of com, and --z80 of debug and list:
   --record SCRIPT
               write the keys that --keyboard takes to the file SCRIPT, which
               --keys takes
+  --progress  tell on standard error how much of the steps is done
 
 Options of run:
   --keyboard NAME
               take the keys of the session NAME from standard input, as for com
   --record SCRIPT
               write these keys to the file SCRIPT, as for com
+  --progress  tell on standard error how much of the steps is done
 
 Options of disk:
   --large     make a large disk, of 2105344 bytes in place of 256256
-  --user N    the files of user N: N is a number from 0 to 15, and 0 where it
-              is left out
+  --user N    the files of user N: N is a number from 0 to 15; where it is left
+              out it is 0, and for list all users
   --text      change the ends of lines to those of CP/M, or back
   --read-only, --system
               mark the files as read-only, or as files of the system

@@ -1,17 +1,36 @@
 //! Command lines: the tasks that they name, and the words that ask for help.
 
 use crate::same::same_at;
-use cpm_command::{HELP_TEXT, Task, command, help};
+use cpm_command::{HELP_TEXT, RunTask, Task, command, help};
 use cpm_flags::Cpu;
 
-/// Lines with a configuration, the session that gets the keys of standard input, and the script that
-/// these are written to.
-const CONFIGURATIONS: [(&[&str], Option<&str>, Option<&str>); 4] = [
-    (&["cpmhost", "run", "a.toml"], None, None),
+/// Lines with a configuration, the session that gets the keys of standard input, the script that these
+/// are written to, and whether progress is told.
+const CONFIGURATIONS: [(&[&str], Option<&str>, Option<&str>, bool); 7] = [
+    (&["cpmhost", "run", "a.toml"], None, None, false),
+    (
+        &["cpmhost", "run", "a.toml", "--progress"],
+        None,
+        None,
+        true,
+    ),
+    (
+        &["cpmhost", "run", "--progress", "a.toml"],
+        None,
+        None,
+        true,
+    ),
+    (
+        &["cpmhost", "run", "--progress", "--", "a.toml"],
+        None,
+        None,
+        true,
+    ),
     (
         &["cpmhost", "run", "a.toml", "--keyboard", "ann"],
         Some("ann"),
         None,
+        false,
     ),
     (
         &[
@@ -23,6 +42,7 @@ const CONFIGURATIONS: [(&[&str], Option<&str>, Option<&str>); 4] = [
         ],
         Some("ann"),
         Some("a.keys"),
+        false,
     ),
     (
         &[
@@ -37,17 +57,19 @@ const CONFIGURATIONS: [(&[&str], Option<&str>, Option<&str>); 4] = [
         ],
         Some("ann"),
         Some("a.keys"),
+        false,
     ),
 ];
 
 #[test]
 fn takes_a_configuration(rt: HostRuntime) {
-    for (words, keyboard, record) in CONFIGURATIONS {
-        let wanted = Ok(Task::Run {
+    for (words, keyboard, record, has_progress) in CONFIGURATIONS {
+        let wanted = Ok(Task::Run(RunTask {
             config: "a.toml",
             keyboard,
             record,
-        });
+            has_progress,
+        }));
         assert_eq!(rt; command(rt.alloc(), words), wanted, "at {words:?}");
     }
 }

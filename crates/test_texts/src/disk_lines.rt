@@ -27,13 +27,20 @@ fn takes_a_new_image(rt: HostRuntime) {
     }
 }
 
-/// Lines that list an image, and the user.
-const LISTED: [(&[&str], u8); 5] = [
-    (&["cpmhost", "disk", "list", "a.img"], 0),
-    (&["cpmhost", "disk", "list", "a.img", "--user", "0"], 0),
-    (&["cpmhost", "disk", "list", "--user", "15", "a.img"], 15),
-    (&["cpmhost", "disk", "list", "a.img", "--user=+3"], 3),
-    (&["cpmhost", "disk", "list", "a.img", "--user=007"], 7),
+/// Lines that list an image, and the user, where there is one.
+const LISTED: [(&[&str], Option<u8>); 6] = [
+    (&["cpmhost", "disk", "list", "a.img"], None),
+    (&["cpmhost", "disk", "list", "--", "a.img"], None),
+    (
+        &["cpmhost", "disk", "list", "a.img", "--user", "0"],
+        Some(0),
+    ),
+    (
+        &["cpmhost", "disk", "list", "--user", "15", "a.img"],
+        Some(15),
+    ),
+    (&["cpmhost", "disk", "list", "a.img", "--user=+3"], Some(3)),
+    (&["cpmhost", "disk", "list", "a.img", "--user=007"], Some(7)),
 ];
 
 #[test]

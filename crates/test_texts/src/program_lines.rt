@@ -1,6 +1,6 @@
 //! Command lines of `com`: the tasks that they name.
 
-use cpm_command::{Task, command};
+use cpm_command::{ComTask, Task, command};
 use cpm_flags::Cpu;
 use std::process::Abort;
 
@@ -16,6 +16,7 @@ struct Program {
     outs: &'static [&'static str],
     is_live: bool,
     record: Option<&'static str>,
+    has_progress: bool,
 }
 
 /// A program with nothing but its file.
@@ -29,6 +30,7 @@ const PLAIN: Program = Program {
     outs: &[],
     is_live: false,
     record: None,
+    has_progress: false,
 };
 
 /// Owned words.
@@ -38,7 +40,7 @@ fn owned<'a>(rt: &(impl Abort + AllocGlobal), words: &[&'a str]) -> Vec<&'a str>
 
 /// Fails unless the words name this program.
 fn names_program(rt: &(impl Abort + AllocGlobal), words: &[&str], program: &Program) {
-    let wanted = Ok(Task::Com {
+    let wanted = Ok(Task::Com(ComTask {
         file: program.file,
         tail: owned(rt, program.tail),
         cpu: program.cpu,
@@ -48,7 +50,8 @@ fn names_program(rt: &(impl Abort + AllocGlobal), words: &[&str], program: &Prog
         outs: owned(rt, program.outs),
         is_live: program.is_live,
         record: program.record,
-    });
+        has_progress: program.has_progress,
+    }));
     assert_eq!(rt; command(rt.alloc(), words), wanted, "at {words:?}");
 }
 
@@ -286,6 +289,39 @@ fn takes_a_keyboard(rt: HostRuntime) {
     }
 }
 
+/// Lines with a program whose progress is told, the words behind its name, and its keys.
+const PROGRESS: [(&[&str], &[&str], Option<&str>); 4] = [
+    (&["cpmhost", "com", "a.com", "--progress"], &[], None),
+    (
+        &["cpmhost", "com", "--progress", "a.com", "x"],
+        &["x"],
+        None,
+    ),
+    (
+        &["cpmhost", "com", "a.com", "--progress", "--", "--progress"],
+        &["--progress"],
+        None,
+    ),
+    (
+        &["cpmhost", "com", "--keys=k", "a.com", "--progress"],
+        &[],
+        Some("k"),
+    ),
+];
+
+#[test]
+fn takes_progress(rt: HostRuntime) {
+    for (words, tail, keys) in PROGRESS {
+        let program = Program {
+            tail,
+            keys,
+            has_progress: true,
+            ..PLAIN
+        };
+        names_program(&rt, words, &program);
+    }
+}
+
 #[test]
 fn takes_all_of_com(rt: HostRuntime) {
     let words = [
@@ -318,6 +354,7 @@ fn takes_all_of_com(rt: HostRuntime) {
         outs: &["o"],
         is_live: true,
         record: Some("r"),
+        has_progress: false,
     };
     names_program(&rt, &words, &program);
 }

@@ -15,9 +15,13 @@ const TOO_MANY_DISKS: &str = "'--disk' was given more than 4 times; give it for 
 const OUT_WITHOUT_DISK: &str =
     "'--out-disk' was given more often than '--disk'; give a '--disk' for each";
 
+/// What is said of progress beside keys that are typed.
+const PROGRESS_AT_KEYBOARD: &str =
+    "'--progress' and '--keyboard' both write to the terminal; give one of them";
+
 /// Lines with options that don't go together, or with one of these that is wrong by itself, and what is
 /// said of them before the word on help.
-const WRONG_OPTIONS: [(&[&str], &str); 27] = [
+const WRONG_OPTIONS: [(&[&str], &str); 38] = [
     (&["cpmhost", "com", "a", "--record", "k"], RECORD_ALONE),
     (
         &["cpmhost", "com", "a", "--record=k", "--keys=s"],
@@ -104,6 +108,82 @@ const WRONG_OPTIONS: [(&[&str], &str); 27] = [
             "--out-disk=p",
         ],
         OUT_WITHOUT_DISK,
+    ),
+    (
+        &["cpmhost", "com", "a", "--progress", "--keyboard"],
+        PROGRESS_AT_KEYBOARD,
+    ),
+    (
+        &[
+            "cpmhost",
+            "com",
+            "--keyboard",
+            "--record=k",
+            "a",
+            "--progress",
+        ],
+        PROGRESS_AT_KEYBOARD,
+    ),
+    (
+        &["cpmhost", "run", "a", "--progress", "--keyboard=ann"],
+        PROGRESS_AT_KEYBOARD,
+    ),
+    (
+        &["cpmhost", "run", "a", "--progress", "--record=k"],
+        RECORD_ALONE,
+    ),
+    (
+        &["cpmhost", "com", "a", "--progress", "--record=k"],
+        RECORD_ALONE,
+    ),
+    (
+        &[
+            "cpmhost",
+            "com",
+            "a",
+            "--progress",
+            "--keyboard",
+            "--keys=k",
+        ],
+        TWO_SCRIPTS,
+    ),
+    (
+        &[
+            "cpmhost",
+            "com",
+            "a",
+            "--progress",
+            "--keyboard",
+            "--disk=1",
+            "--disk=2",
+            "--disk=3",
+            "--disk=4",
+            "--disk=5",
+        ],
+        TOO_MANY_DISKS,
+    ),
+    (
+        &[
+            "cpmhost",
+            "com",
+            "a",
+            "--progress",
+            "--keyboard",
+            "--out-disk=o",
+        ],
+        OUT_WITHOUT_DISK,
+    ),
+    (
+        &["cpmhost", "com", "a", "--progress", "--progress"],
+        "the argument '--progress' was given twice",
+    ),
+    (
+        &["cpmhost", "run", "a", "--progress=x"],
+        "unexpected value 'x' for '--progress' found; no more were expected",
+    ),
+    (
+        &["cpmhost", "debug", "a", "--progress"],
+        "unexpected argument '--progress'",
     ),
     (
         &["cpmhost", "com", "--record", "k"],

@@ -6,4 +6,5 @@ returns c =
     let disks = c.in_ok-with_disks.ensures _ _ c.in_ok-with_program.ensures c.repeated_argument.ensures in
     let outs = c.in_ok-with_outs.ensures _ _ disks c.repeated_argument-2.ensures in
     let keyboard = c.in_ok-with_keyboard.ensures _ _ outs c.flag_argument.ensures in
-    IfOk-weaker c.with_argument-4.result _ _ (λ m h. h _ _ keyboard c.value_argument.ensures) c.with_argument-4.ensures
+    let recorded = c.in_ok-with_record.ensures _ _ keyboard c.value_argument.ensures in
+    IfOk-weaker c.with_argument-5.result _ _ (λ m h. h _ _ recorded c.flag_argument-2.ensures) c.with_argument-5.ensures
