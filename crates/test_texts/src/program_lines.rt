@@ -39,7 +39,11 @@ fn owned<'a>(rt: &(impl Abort + AllocGlobal), words: &[&'a str]) -> Vec<&'a str>
 }
 
 /// Fails unless the words name this program.
-fn names_program(rt: &(impl Abort + AllocGlobal), words: &[&str], program: &Program) {
+fn names_program(
+    rt: &(impl Abort + AllocGlobal),
+    words: &'static [&'static str],
+    program: &Program,
+) {
     let wanted = Ok(Task::Com(ComTask {
         file: program.file,
         tail: owned(rt, program.tail),
@@ -322,28 +326,30 @@ fn takes_progress(rt: HostRuntime) {
     }
 }
 
+/// A line with all that doesn't go against something else.
+const ALL: &[&str] = &[
+    "cpmhost",
+    "com",
+    "--record",
+    "r",
+    "p.com",
+    "--disk",
+    "a",
+    "x",
+    "--z80",
+    "--out-disk",
+    "o",
+    "--steps",
+    "7",
+    "--keyboard",
+    "--disk",
+    "b",
+    "--",
+    "-y",
+];
+
 #[test]
 fn takes_all_of_com(rt: HostRuntime) {
-    let words = [
-        "cpmhost",
-        "com",
-        "--record",
-        "r",
-        "p.com",
-        "--disk",
-        "a",
-        "x",
-        "--z80",
-        "--out-disk",
-        "o",
-        "--steps",
-        "7",
-        "--keyboard",
-        "--disk",
-        "b",
-        "--",
-        "-y",
-    ];
     let program = Program {
         file: "p.com",
         tail: &["x", "-y"],
@@ -356,5 +362,5 @@ fn takes_all_of_com(rt: HostRuntime) {
         record: Some("r"),
         has_progress: false,
     };
-    names_program(&rt, &words, &program);
+    names_program(&rt, ALL, &program);
 }
