@@ -1,8 +1,14 @@
--- How the operations of the Z80 are called.
+-- How the operations of the Z80 and their operands are called.
 -- Zilog Z80 CPU User Manual, "Z80 Instruction Description"
 use Rattle.std.specs.Prelude.{ℕ, List, codes}
 use Rattle.cpm_decode.specs.declared.operation.Op.{Op}
 use Rattle.cpm_decode.specs.declared.operation.Op.TheVariants as op
+use Rattle.cpm_decode.specs.declared.operation.Place.{Place}
+use Rattle.cpm_decode.specs.declared.operation.Place.TheVariants as place
+use Rattle.cpm_decode.specs.declared.operation.Pair.{Pair}
+use Rattle.cpm_decode.specs.declared.operation.Pair.TheVariants as pair
+use Rattle.cpm_decode.specs.declared.operation.StackPair.{StackPair}
+use Rattle.cpm_decode.specs.declared.operation.StackPair.TheVariants as stack_pair
 use Rattle.cpm_decode.specs.declared.operation.Arithmetic.{Arithmetic}
 use Rattle.cpm_decode.specs.declared.operation.Arithmetic.TheVariants as arithmetic
 use Rattle.cpm_decode.specs.declared.operation.Rotation.{Rotation}
@@ -17,10 +23,46 @@ use Rattle.cpm_decode.specs.declared.operation_z80.Repeat.{Repeat}
 use Rattle.cpm_decode.specs.declared.operation_z80.Repeat.TheVariants as repeat
 use Rattle.cpm_decode.specs.declared.operation_z80.ExtendedOp.{ExtendedOp}
 use Rattle.cpm_decode.specs.declared.operation_z80.ExtendedOp.TheVariants as extended
+use Rattle.cpm_decode.specs.declared.operation_z80.IndexRegister.{IndexRegister}
+use Rattle.cpm_decode.specs.declared.operation_z80.IndexRegister.TheVariants as index
 use Rattle.cpm_decode.specs.declared.operation_z80.IndexedOp.{IndexedOp}
 use Rattle.cpm_decode.specs.declared.operation_z80.IndexedOp.TheVariants as indexed
 use Rattle.cpm_decode.specs.declared.operation_z80.OpZ80.{OpZ80}
 use Rattle.cpm_decode.specs.declared.operation_z80.OpZ80.TheVariants as op_z80
+
+-- a register, or the byte at HL
+-- Zilog Z80 CPU User Manual, "LD r, r'" and "LD r, (HL)"
+unfoldable pub place_name_z80 : Place → List ℕ
+place_name_z80 place.B = codes "B"
+place_name_z80 place.C = codes "C"
+place_name_z80 place.D = codes "D"
+place_name_z80 place.E = codes "E"
+place_name_z80 place.H = codes "H"
+place_name_z80 place.L = codes "L"
+place_name_z80 place.AtHl = codes "(HL)"
+place_name_z80 place.A = codes "A"
+
+-- an index register
+-- Zilog Z80 CPU User Manual, "LD IX, nn" and "LD IY, nn"
+unfoldable pub index_name : IndexRegister → List ℕ
+index_name index.Ix = codes "IX"
+index_name index.Iy = codes "IY"
+
+-- a pair, with this one for HL
+-- Zilog Z80 CPU User Manual, "LD dd, nn", "ADD IX, pp" and "ADD IY, rr"
+unfoldable pub pair_name_z80 : List ℕ → Pair → List ℕ
+pair_name_z80 hl pair.Bc = codes "BC"
+pair_name_z80 hl pair.De = codes "DE"
+pair_name_z80 hl pair.Hl = hl
+pair_name_z80 hl pair.Sp = codes "SP"
+
+-- a pair of PUSH and POP, with this one for HL
+-- Zilog Z80 CPU User Manual, "PUSH qq", "PUSH IX" and "PUSH IY"
+unfoldable pub stack_pair_name_z80 : List ℕ → StackPair → List ℕ
+stack_pair_name_z80 hl stack_pair.Bc = codes "BC"
+stack_pair_name_z80 hl stack_pair.De = codes "DE"
+stack_pair_name_z80 hl stack_pair.Hl = hl
+stack_pair_name_z80 hl stack_pair.Psw = codes "AF"
 
 -- an operation of A and a byte
 -- Zilog Z80 CPU User Manual, "8-Bit Arithmetic Group"
@@ -180,5 +222,5 @@ mnemonic_z80 (op_z80.JumpRelativeIf c displacement) = codes "JR"
 mnemonic_z80 (op_z80.DecrementJump displacement) = codes "DJNZ"
 mnemonic_z80 (op_z80.Bits operation target) = bit_name operation
 mnemonic_z80 (op_z80.Extended operation) = extended_name operation
-mnemonic_z80 (op_z80.WithIndex index operation) = shared_name operation
-mnemonic_z80 (op_z80.Indexed index displacement operation) = indexed_name operation
+mnemonic_z80 (op_z80.WithIndex i operation) = shared_name operation
+mnemonic_z80 (op_z80.Indexed i displacement operation) = indexed_name operation

@@ -3,12 +3,6 @@
 use Rattle.std.specs.Prelude.{ℕ, ◌+◌, ◌-◌, ◌*◌, ◌%◌, nat_lt, if◌then◌else◌, List, [], ◌∷◌, ◌++◌, codes}
 use Rattle.cpm_decode.specs.declared.operation.Op.{Op}
 use Rattle.cpm_decode.specs.declared.operation.Op.TheVariants as op
-use Rattle.cpm_decode.specs.declared.operation.Place.{Place}
-use Rattle.cpm_decode.specs.declared.operation.Place.TheVariants as place
-use Rattle.cpm_decode.specs.declared.operation.Pair.{Pair}
-use Rattle.cpm_decode.specs.declared.operation.Pair.TheVariants as pair
-use Rattle.cpm_decode.specs.declared.operation.StackPair.{StackPair}
-use Rattle.cpm_decode.specs.declared.operation.StackPair.TheVariants as stack_pair
 use Rattle.cpm_decode.specs.declared.operation.Arithmetic.{Arithmetic}
 use Rattle.cpm_decode.specs.declared.operation.Arithmetic.TheVariants as arithmetic
 use Rattle.cpm_decode.specs.declared.operation_z80.BitOp.{BitOp}
@@ -16,7 +10,6 @@ use Rattle.cpm_decode.specs.declared.operation_z80.BitOp.TheVariants as bits
 use Rattle.cpm_decode.specs.declared.operation_z80.ExtendedOp.{ExtendedOp}
 use Rattle.cpm_decode.specs.declared.operation_z80.ExtendedOp.TheVariants as extended
 use Rattle.cpm_decode.specs.declared.operation_z80.IndexRegister.{IndexRegister}
-use Rattle.cpm_decode.specs.declared.operation_z80.IndexRegister.TheVariants as index
 use Rattle.cpm_decode.specs.declared.operation_z80.IndexedOp.{IndexedOp}
 use Rattle.cpm_decode.specs.declared.operation_z80.IndexedOp.TheVariants as indexed
 use Rattle.cpm_decode.specs.declared.operation_z80.OpZ80.{OpZ80}
@@ -24,40 +17,7 @@ use Rattle.cpm_decode.specs.declared.operation_z80.OpZ80.TheVariants as op_z80
 use Rattle.cpm_lines.specs.Digits.{two_digits}
 use Rattle.cpm_lines.specs.Listing.{byte_number, word_number, restart_of}
 use Rattle.cpm_lines.specs.Mnemonics.{condition_name}
-
--- a register, or the byte at HL
--- Zilog Z80 CPU User Manual, "LD r, r'" and "LD r, (HL)"
-unfoldable pub place_name_z80 : Place → List ℕ
-place_name_z80 place.B = codes "B"
-place_name_z80 place.C = codes "C"
-place_name_z80 place.D = codes "D"
-place_name_z80 place.E = codes "E"
-place_name_z80 place.H = codes "H"
-place_name_z80 place.L = codes "L"
-place_name_z80 place.AtHl = codes "(HL)"
-place_name_z80 place.A = codes "A"
-
--- an index register
--- Zilog Z80 CPU User Manual, "LD IX, nn" and "LD IY, nn"
-unfoldable pub index_name : IndexRegister → List ℕ
-index_name index.Ix = codes "IX"
-index_name index.Iy = codes "IY"
-
--- a pair, with this one for HL
--- Zilog Z80 CPU User Manual, "LD dd, nn", "ADD IX, pp" and "ADD IY, rr"
-unfoldable pub pair_name_z80 : List ℕ → Pair → List ℕ
-pair_name_z80 hl pair.Bc = codes "BC"
-pair_name_z80 hl pair.De = codes "DE"
-pair_name_z80 hl pair.Hl = hl
-pair_name_z80 hl pair.Sp = codes "SP"
-
--- a pair of PUSH and POP, with this one for HL
--- Zilog Z80 CPU User Manual, "PUSH qq", "PUSH IX" and "PUSH IY"
-unfoldable pub stack_pair_name_z80 : List ℕ → StackPair → List ℕ
-stack_pair_name_z80 hl stack_pair.Bc = codes "BC"
-stack_pair_name_z80 hl stack_pair.De = codes "DE"
-stack_pair_name_z80 hl stack_pair.Hl = hl
-stack_pair_name_z80 hl stack_pair.Psw = codes "AF"
+use Rattle.cpm_lines.specs.MnemonicsZ80.{place_name_z80, index_name, pair_name_z80, stack_pair_name_z80}
 
 -- what stands at an address, or at a port
 -- Zilog Z80 CPU User Manual, "LD A, (BC)", "LD A, (nn)" and "IN A, (n)"

@@ -1,10 +1,89 @@
-//! How the operations of the Z80 are called.
+//! How the operations of the Z80 and their operands are called.
 ghost use Rattle.std.specs.Prelude.{◌≡◌, ◌≤◌, length};
-ghost use Rattle.cpm_lines.specs.MnemonicsZ80.{arithmetic_name_z80, rotation_name_z80, shift_name, bit_name, copy_name, search_name, input_name, output_name, shared_name, extended_name, indexed_name, mnemonic_z80};
+ghost use Rattle.cpm_lines.specs.Mnemonics.{condition_name};
+ghost use Rattle.cpm_lines.specs.MnemonicsZ80.{place_name_z80, index_name, pair_name_z80, stack_pair_name_z80, arithmetic_name_z80, rotation_name_z80, shift_name, bit_name, copy_name, search_name, input_name, output_name, shared_name, extended_name, indexed_name, mnemonic_z80};
 
 use cpm_decode::{
-    Arithmetic, BitOp, Direction, ExtendedOp, IndexedOp, Op, OpZ80, Repeat, Rotation, Shift,
+    Arithmetic, BitOp, Condition, Direction, ExtendedOp, IndexRegister, IndexedOp, Op, OpZ80, Pair,
+    Place, Repeat, Rotation, Shift, StackPair,
 };
+
+/// The name of a register, or of the byte at HL.
+#[tactic(auto, unfolding(crate::specs::MnemonicsZ80::place_name_z80))]
+pub(crate) fn place_name_z80(place: Place) -> &'static str
+    ensures text { result.now ≡ place_name_z80 place }
+    ensures short { length result.now ≤ 4 }
+{
+    match place {
+        Place::B => "B",
+        Place::C => "C",
+        Place::D => "D",
+        Place::E => "E",
+        Place::H => "H",
+        Place::L => "L",
+        Place::AtHl => "(HL)",
+        Place::A => "A",
+    }
+}
+
+/// The name of an index register.
+#[tactic(auto, unfolding(crate::specs::MnemonicsZ80::index_name))]
+pub(crate) fn index_name(index: IndexRegister) -> &'static str
+    ensures text { result.now ≡ index_name index }
+    ensures short { length result.now ≡ 2 }
+{
+    match index {
+        IndexRegister::Ix => "IX",
+        IndexRegister::Iy => "IY",
+    }
+}
+
+/// The name of a condition.
+pub(crate) fn condition_name(condition: Condition) -> &'static str
+    ensures text { result.now ≡ condition_name condition }
+    ensures short { length result.now ≤ 2 }
+{
+    match condition {
+        Condition::NotZero => "NZ",
+        Condition::Zero => "Z",
+        Condition::NoCarry => "NC",
+        Condition::Carry => "C",
+        Condition::ParityOdd => "PO",
+        Condition::ParityEven => "PE",
+        Condition::Plus => "P",
+        Condition::Minus => "M",
+    }
+}
+
+/// The name of a pair, with this one for HL.
+#[tactic(auto, unfolding(crate::specs::MnemonicsZ80::pair_name_z80))]
+pub(crate) fn pair_name_z80(hl: &'static str, pair: Pair) -> &'static str
+    requires { length hl.now ≡ 2 }
+    ensures text { result.now ≡ pair_name_z80 hl.now pair }
+    ensures short { length result.now ≤ 2 }
+{
+    match pair {
+        Pair::Bc => "BC",
+        Pair::De => "DE",
+        Pair::Hl => hl,
+        Pair::Sp => "SP",
+    }
+}
+
+/// The name of a pair of PUSH and POP, with this one for HL.
+#[tactic(auto, unfolding(crate::specs::MnemonicsZ80::stack_pair_name_z80))]
+pub(crate) fn stack_pair_name_z80(hl: &'static str, pair: StackPair) -> &'static str
+    requires { length hl.now ≡ 2 }
+    ensures text { result.now ≡ stack_pair_name_z80 hl.now pair }
+    ensures short { length result.now ≤ 2 }
+{
+    match pair {
+        StackPair::Bc => "BC",
+        StackPair::De => "DE",
+        StackPair::Hl => hl,
+        StackPair::Psw => "AF",
+    }
+}
 
 /// The mnemonic of an operation of A and a byte.
 #[tactic(auto, unfolding(crate::specs::MnemonicsZ80::arithmetic_name_z80))]

@@ -1,92 +1,26 @@
 //! The operands of an instruction of the Z80.
-ghost use Rattle.std.specs.Prelude.{◌≡◌, ◌≤◌, ◌+◌, ◌++◌, length};
+ghost use Rattle.std.specs.Prelude.{◌≡◌, ◌≤◌, ◌+◌, ◌++◌, length, codes};
 ghost use Rattle.cpm_lines.specs.Listing.{byte_number, word_number};
 ghost use Rattle.cpm_lines.specs.Mnemonics.{condition_name};
-ghost use Rattle.cpm_lines.specs.OperandsZ80.{place_name_z80, index_name, pair_name_z80, stack_pair_name_z80, in_parentheses, displacement_number, at_index, relative_target, small_number, accumulator_before, bit_before, shared_operands, extended_operands, indexed_operands, operands_z80};
+ghost use Rattle.cpm_lines.specs.OperandsZ80.{in_parentheses, displacement_number, at_index, relative_target, small_number, accumulator_before, bit_before, shared_operands, extended_operands, indexed_operands, operands_z80};
 
 use crate::digits::{Line, add_byte, add_character, add_text};
+use crate::mnemonics_z80::{
+    condition_name, index_name, pair_name_z80, place_name_z80, stack_pair_name_z80,
+};
 use crate::operands::{add_byte_number, add_word_number, restart_of};
 use arrayvec::ArrayString;
-use cpm_decode::{
-    Arithmetic, BitOp, Condition, ExtendedOp, IndexRegister, IndexedOp, Op, OpZ80, Pair, Place,
-    StackPair,
-};
+use cpm_decode::{Arithmetic, BitOp, ExtendedOp, IndexRegister, IndexedOp, Op, OpZ80};
 
-/// The name of a register, or of the byte at HL.
-#[tactic(auto, unfolding(crate::specs::OperandsZ80::place_name_z80))]
-fn place_name_z80(place: Place) -> &'static str
-    ensures text { result.now ≡ place_name_z80 place }
-    ensures short { length result.now ≤ 4 }
+/// Adds two operands.
+fn add_two(line: &mut Line, first: &str, second: &str)
+    requires { length line.old.bytes + length first.now + 1 + length second.now ≤ 96 }
+    ensures text { line.new.bytes ≡ line.old.bytes ++ first.now ++ codes "," ++ second.now }
+    ensures length { length line.new.bytes ≡ length line.old.bytes + length first.now + 1 + length second.now }
 {
-    match place {
-        Place::B => "B",
-        Place::C => "C",
-        Place::D => "D",
-        Place::E => "E",
-        Place::H => "H",
-        Place::L => "L",
-        Place::AtHl => "(HL)",
-        Place::A => "A",
-    }
-}
-
-/// The name of an index register.
-#[tactic(auto, unfolding(crate::specs::OperandsZ80::index_name))]
-fn index_name(index: IndexRegister) -> &'static str
-    ensures text { result.now ≡ index_name index }
-    ensures short { length result.now ≡ 2 }
-{
-    match index {
-        IndexRegister::Ix => "IX",
-        IndexRegister::Iy => "IY",
-    }
-}
-
-/// The name of a condition.
-fn condition_name(condition: Condition) -> &'static str
-    ensures text { result.now ≡ condition_name condition }
-    ensures short { length result.now ≤ 2 }
-{
-    match condition {
-        Condition::NotZero => "NZ",
-        Condition::Zero => "Z",
-        Condition::NoCarry => "NC",
-        Condition::Carry => "C",
-        Condition::ParityOdd => "PO",
-        Condition::ParityEven => "PE",
-        Condition::Plus => "P",
-        Condition::Minus => "M",
-    }
-}
-
-/// The name of a pair, with this one for HL.
-#[tactic(auto, unfolding(crate::specs::OperandsZ80::pair_name_z80))]
-fn pair_name_z80(hl: &'static str, pair: Pair) -> &'static str
-    requires { length hl.now ≡ 2 }
-    ensures text { result.now ≡ pair_name_z80 hl.now pair }
-    ensures short { length result.now ≤ 2 }
-{
-    match pair {
-        Pair::Bc => "BC",
-        Pair::De => "DE",
-        Pair::Hl => hl,
-        Pair::Sp => "SP",
-    }
-}
-
-/// The name of a pair of PUSH and POP, with this one for HL.
-#[tactic(auto, unfolding(crate::specs::OperandsZ80::stack_pair_name_z80))]
-fn stack_pair_name_z80(hl: &'static str, pair: StackPair) -> &'static str
-    requires { length hl.now ≡ 2 }
-    ensures text { result.now ≡ stack_pair_name_z80 hl.now pair }
-    ensures short { length result.now ≤ 2 }
-{
-    match pair {
-        StackPair::Bc => "BC",
-        StackPair::De => "DE",
-        StackPair::Hl => hl,
-        StackPair::Psw => "AF",
-    }
+    add_text(line, first);
+    add_text(line, ",");
+    add_text(line, second);
 }
 
 /// Adds a name in parentheses.
@@ -224,11 +158,7 @@ fn add_shared_operands(line: &mut Line, hl: &'static str, op: Op)
     ensures length { length line.new.bytes ≤ length line.old.bytes + 13 }
 {
     match op {
-        Op::Move(target, source) => {
-            add_text(line, place_name_z80(target));
-            add_text(line, ",");
-            add_text(line, place_name_z80(source));
-        }
+        Op::Move(target, source) => add_two(line, place_name_z80(target), place_name_z80(source)),
         Op::MoveImmediate(target, value) => {
             add_text(line, place_name_z80(target));
             add_text(line, ",");
@@ -239,11 +169,7 @@ fn add_shared_operands(line: &mut Line, hl: &'static str, op: Op)
             add_text(line, ",");
             add_word_number(line, value);
         }
-        Op::AddPair(source) => {
-            add_text(line, hl);
-            add_text(line, ",");
-            add_text(line, pair_name_z80(hl, source));
-        }
+        Op::AddPair(source) => add_two(line, hl, pair_name_z80(hl, source)),
         Op::StoreAAtPair(target) => {
             add_at_name(line, pair_name_z80(hl, target));
             add_text(line, ",A");
@@ -299,19 +225,10 @@ fn add_shared_operands(line: &mut Line, hl: &'static str, op: Op)
         Op::ReturnIf(condition) => add_text(line, condition_name(condition)),
         Op::Restart(address) => add_byte_number(line, 8 * restart_of(address)),
         Op::Push(pair) | Op::Pop(pair) => add_text(line, stack_pair_name_z80(hl, pair)),
-        Op::ExchangeStack => {
-            add_text(line, "(SP),");
-            add_text(line, hl);
-        }
+        Op::ExchangeStack => add_two(line, "(SP)", hl),
         Op::JumpHl => add_at_name(line, hl),
-        Op::StackFromHl => {
-            add_text(line, "SP,");
-            add_text(line, hl);
-        }
-        Op::Exchange => {
-            add_text(line, "DE,");
-            add_text(line, hl);
-        }
+        Op::StackFromHl => add_two(line, "SP", hl),
+        Op::Exchange => add_two(line, "DE", hl),
         _ => {}
     }
 }
@@ -324,17 +241,10 @@ fn add_extended_operands(line: &mut Line, op: ExtendedOp)
     ensures length { length line.new.bytes ≤ length line.old.bytes + 13 }
 {
     match op {
-        ExtendedOp::Input(target) => {
-            add_text(line, place_name_z80(target));
-            add_text(line, ",(C)");
-        }
-        ExtendedOp::Output(source) => {
-            add_text(line, "(C),");
-            add_text(line, place_name_z80(source));
-        }
+        ExtendedOp::Input(target) => add_two(line, place_name_z80(target), "(C)"),
+        ExtendedOp::Output(source) => add_two(line, "(C)", place_name_z80(source)),
         ExtendedOp::SubtractBorrowPair(source) | ExtendedOp::AddCarryPair(source) => {
-            add_text(line, "HL,");
-            add_text(line, pair_name_z80("HL", source));
+            add_two(line, "HL", pair_name_z80("HL", source));
         }
         ExtendedOp::StorePair(source, address) => {
             add_at_word(line, address);
@@ -370,16 +280,8 @@ fn add_indexed_operands(line: &mut Line, at: &str, op: IndexedOp)
             add_text(line, ",");
             add_byte_number(line, value);
         }
-        IndexedOp::Load(target) => {
-            add_text(line, place_name_z80(target));
-            add_text(line, ",");
-            add_text(line, at);
-        }
-        IndexedOp::Store(source) => {
-            add_text(line, at);
-            add_text(line, ",");
-            add_text(line, place_name_z80(source));
-        }
+        IndexedOp::Load(target) => add_two(line, place_name_z80(target), at),
+        IndexedOp::Store(source) => add_two(line, at, place_name_z80(source)),
         IndexedOp::Arithmetic(operation) => {
             add_text(line, accumulator_before(operation));
             add_text(line, at);
