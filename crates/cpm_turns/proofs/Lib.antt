@@ -11,3 +11,5 @@ pub mod ForkedLemmas
 pub mod RoundLemmas
 pub mod PlayLemmas
 pub mod ScriptLemmas
+pub mod TypingLemmas
+pub mod LiveLemmas

@@ -3,3 +3,5 @@ pub mod Pacing
 pub mod ScriptedSlots
 pub mod Laws
 pub mod Players
+pub mod Typing
+pub mod Live

@@ -4,6 +4,7 @@
 mod error;
 mod forks;
 pub mod laws;
+mod live;
 mod machine;
 mod pace;
 mod player;
@@ -11,8 +12,11 @@ mod progress;
 mod rounds;
 mod scripted_slot;
 mod turn;
+mod typing;
+mod watch;
 
 pub use error::PlayError;
+pub use live::{Live, LiveError, play_live};
 pub use machine::play_machine;
 pub use player::{Fork, Player};
 pub use progress::{Progress, Unwatched, Watcher};

@@ -46,7 +46,7 @@ fn press_due(machine: &mut Machine, keys: &[Key], pace: &mut Pace)
 }
 
 /// Moves all console bytes to the writer.
-fn move_text<W: Write>(machine: &mut Machine, out: &mut W) -> io::Result<()>
+pub(crate) fn move_text<W: Write>(machine: &mut Machine, out: &mut W) -> io::Result<()>
     ensures state { OnOk result (machine.new ≡ without_text machine.old) }
     ensures text { OnOk result (Appends (W.contents out.old) (W.contents out.new)
         machine.old.cpm.console.screen) }
@@ -64,7 +64,7 @@ fn move_text<W: Write>(machine: &mut Machine, out: &mut W) -> io::Result<()>
 }
 
 /// Takes all list bytes and drops them.
-fn drop_list(machine: &mut Machine)
+pub(crate) fn drop_list(machine: &mut Machine)
     ensures { machine.new ≡ without_list machine.old }
 {
     let mut chunk = [0u8; CHUNK];

@@ -10,6 +10,8 @@ mod console;
 #[cfg(test)]
 mod disks;
 #[cfg(test)]
+mod live;
+#[cfg(test)]
 mod memory;
 #[cfg(test)]
 mod openings;

@@ -1,5 +1,8 @@
 //! A program run by one grant, and what it showed.
 
+ghost use Rattle.std.specs.Prelude.{IfOk};
+ghost use Rattle.cpm_turns.specs.Playing.{IsFresh};
+
 use crate::same::same;
 use cpm_flags::Cpu;
 use cpm_geom::{Format, Image};
@@ -31,7 +34,9 @@ pub fn opening_of(alloc: Global, cpu: Cpu, quota: u16, count: usize) -> Result<O
 }
 
 /// A machine with a program and a blank drive.
-pub fn machine_of(alloc: Global, cpu: Cpu, program: &[u8]) -> Result<Machine, Fail> {
+pub fn machine_of(alloc: Global, cpu: Cpu, program: &[u8]) -> Result<Machine, Fail>
+    ensures { IfOk result IsFresh }
+{
     let bytes = Vec::from_slice(alloc, program)?;
     match Machine::with_program(alloc, opening_of(alloc, cpu, 256, 1)?, bytes) {
         Ok(machine) => Ok(machine),

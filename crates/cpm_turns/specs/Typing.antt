@@ -1,0 +1,33 @@
+-- Keys that are typed: which of the bytes of an input are the keys of a live session. All of it is own.
+use Rattle.std.specs.Prelude.{◌≡◌, ℕ, ◌<◌, ◌==◌, nat_lt, List, [], ◌∷◌, ◌++◌, Option, Some, None, ◌⊎◌, if◌then◌else◌}
+use Rattle.std.specs.Io.KnownBytes.{Consumes, IsAtEnd}
+
+-- ^], which ends a live session and is no key of it
+abbrev pub end_key : ℕ
+end_key = 0x1D
+
+-- the keys among these bytes: those below 80h, up to the first ^]
+abbrev pub keys_in : List ℕ → List ℕ
+keys_in [] = []
+keys_in (b ∷ bytes) = if b == end_key then [] else (if nat_lt b 0x80 then b ∷ keys_in bytes else keys_in bytes)
+
+-- bytes were read, which have these keys and no ^]
+pub record HasRead (before after : Option (List ℕ)) (keys : List ℕ) : Type 0 where
+  pub bytes : List ℕ
+  pub consumed : Consumes before after bytes
+  pub goes_on : (rest : List ℕ) → keys_in (bytes ++ rest) ≡ keys ++ keys_in rest
+
+-- and then ^]
+pub record HasQuit (before after : Option (List ℕ)) (keys : List ℕ) : Type 0 where
+  pub bytes : List ℕ
+  pub consumed : Consumes before after (bytes ++ end_key ∷ [])
+  pub goes_on : (rest : List ℕ) → keys_in (bytes ++ rest) ≡ keys ++ keys_in rest
+
+-- no key comes any more
+abbrev pub IsOver : Option (List ℕ) → Option (List ℕ) → Type 0
+IsOver before after = HasQuit before after [] ⊎ (HasRead before after [] × IsAtEnd after)
+
+-- the next key, or none
+abbrev pub IsTyped : Option (List ℕ) → Option (List ℕ) → Option ℕ → Type 0
+IsTyped before after (Some key) = (key < 128) × HasRead before after (key ∷ [])
+IsTyped before after None = IsOver before after

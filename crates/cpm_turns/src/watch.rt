@@ -1,0 +1,109 @@
+//! When a machine that is played live wants a key.
+
+ghost use Rattle.std.specs.Prelude.{◌≡◌, ◌<◌, true};
+
+use cpm_flags::Regs;
+use cpm_memory::layout::{BDOS, FIRST_BIOS};
+use cpm_slots::{Look, Why};
+
+/// Where CONST is entered, the BIOS's call 2.
+const CONSOLE_STATUS: u16 = FIRST_BIOS + 2;
+
+/// The BDOS's direct console.
+const DIRECT_CONSOLE: u8 = 6;
+
+/// Its least parameter that asks for a key, or whether there is one. The others show a byte.
+const ASKS: u8 = 0xFE;
+
+/// The BDOS's console status.
+const STATUS: u8 = 11;
+
+/// How many polls in a row want a key.
+const POLLS: u32 = 64;
+
+/// How many steps a turn has at most, so that output appears as it comes.
+const QUANTUM: u64 = 100_000;
+
+/// The same after a poll of CONST: so long the calls of the BDOS are watched, of which one may come between two polls.
+const PAUSE: u64 = 10_000;
+
+/// Whether a call of the BDOS with these registers asks whether a key is there.
+fn is_poll(regs: &Regs) -> bool {
+    regs.c == STATUS || (regs.c == DIRECT_CONSOLE && regs.e >= ASKS)
+}
+
+/// What a machine did of late, as far as it says whether it polls: again and again asks whether a key is there, and does nothing else.
+///
+/// The calls of the BDOS and of CONST are watched by turns, since a turn stops at one address alone.
+#[derive(Clone, Copy, Drop)]
+pub(crate) struct Watch {
+    /// How many polls came in a row.
+    polls: u32,
+    /// Before which address the next turn stops.
+    address: u16,
+    /// Whether the next turn is short.
+    is_pause: bool,
+}
+
+impl Watch {
+    /// Before the first turn.
+    pub(crate) fn new() -> Watch {
+        Watch {
+            polls: 0,
+            address: BDOS,
+            is_pause: false,
+        }
+    }
+
+    /// Before which address the next turn stops.
+    pub(crate) fn address(&self) -> u16 {
+        self.address
+    }
+
+    /// How many steps the next turn has at most.
+    pub(crate) fn most(&self) -> u64
+        ensures { 0 < result }
+    {
+        if self.is_pause { PAUSE } else { QUANTUM }
+    }
+
+    /// Whether the machine, of which this is seen, wants a key: it waits for one, or it polls, and none is pending.
+    pub(crate) fn wants_key(&self, look: &Look) -> bool
+        ensures { result ≡ true → look.now.keys ≡ 0 }
+    {
+        look.keys == 0 && (look.waiting || self.polls >= POLLS)
+    }
+
+    /// Sees what a turn left, before its text is taken, and why it ended.
+    pub(crate) fn see(&mut self, look: &Look, why: Why) {
+        if look.console > 0 {
+            self.polls = 0;
+        }
+        if why == Why::Break {
+            self.see_call(look);
+        } else {
+            self.is_pause = false;
+            self.address = if self.address == BDOS {
+                CONSOLE_STATUS
+            } else {
+                BDOS
+            };
+        }
+    }
+
+    /// Sees the call before which a turn stopped.
+    fn see_call(&mut self, look: &Look) {
+        self.is_pause = self.address != BDOS;
+        if self.is_pause || is_poll(&look.regs) {
+            self.polls = self.polls.saturating_add(1);
+        } else {
+            self.polls = 0;
+        }
+        self.address = BDOS;
+    }
+
+    /// A key was given.
+    pub(crate) fn give(&mut self) {
+        self.polls = 0;
+    }
+}
