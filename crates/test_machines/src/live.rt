@@ -6,7 +6,7 @@ use cpm_flags::Cpu;
 use cpm_script::read_keys;
 use cpm_slots::{End, Machine};
 use cpm_turns::laws::scripts_in_order;
-use cpm_turns::{LiveError, play_live, play_machine};
+use cpm_turns::{LiveError, Unwatched, play_live, play_machine};
 use std::alloc::Global;
 use std::io;
 use std::io::{ErrorKind, Read, Write};
@@ -91,7 +91,14 @@ fn replays(
     let keys = read_keys(alloc, record)?;
     scripts_in_order();
     let mut out = Vec::new(alloc);
-    play_machine(&system, &mut machine, keys.as_slice(), steps, &mut out)?;
+    play_machine(
+        &system,
+        &mut machine,
+        keys.as_slice(),
+        steps,
+        &mut out,
+        &mut Unwatched,
+    )?;
     same(rt, out.as_slice(), shown);
     same(rt, machine.look(), live.look());
     for address in 0..=0xFFFFu16 {
