@@ -4,27 +4,27 @@ use Rattle.cpm_turns.proofs.PlayLemmas.{come-start, played-all, room-all, some-l
 use Rattle.cpm_turns.proofs.rounds.play.Goals as goal
 
 pub loop-alloc-init : goal.loop-alloc-init
-loop-alloc-init c = record { come = come-start c.args.host.now.host c.args.players.now c.requires.ready c.requires.differ c.slots_are_orderly.ensures }
+loop-alloc-init g c = record { come = come-start c.args.host.now.host c.args.players.now c.requires.ready c.requires.differ c.slots_are_orderly.ensures }
 
 pub loop-alloc-smaller : goal.loop-alloc-smaller
-loop-alloc-smaller c =
+loop-alloc-smaller g c =
     c.in_ok-round.ensures.left c.args.host.now.host c.args.players.now c.requires.ready c.loop-alloc.invariant.come (some-left c.loop-alloc.players (sym c.goes_on.ensures ∙ c.loop-alloc-test.true))
 
 pub loop-alloc-preserved : goal.loop-alloc-preserved
-loop-alloc-preserved c = record { come = c.in_ok-round.ensures.come c.args.host.now.host c.args.players.now c.requires.ready c.loop-alloc.invariant.come }
+loop-alloc-preserved g c = record { come = c.in_ok-round.ensures.come c.args.host.now.host c.args.players.now c.requires.ready c.loop-alloc.invariant.come }
 
 pub returns-in_err-round-clause-refused : goal.returns-in_err-round-clause-refused
-returns-in_err-round-clause-refused c =
+returns-in_err-round-clause-refused g c =
     let p = err_from_is_err_and c.from_residual.result c.from_residual.ensures.1 in
     rw (p.1, p.2) (c.in_err-round.ensures.refused c.args.host.now.host c.args.players.now c.requires.ready c.loop-alloc.invariant.come)
 
 pub returns-clause-played : goal.returns-clause-played
-returns-clause-played c =
+returns-clause-played g c =
     played-all c.args.host.now.host c.loop-alloc.host.host c.args.players.now c.loop-alloc.players c.loop-alloc.invariant.come (sym c.goes_on.ensures ∙ c.loop-alloc-test.false)
 
 pub returns-clause-others : goal.returns-clause-others
-returns-clause-others c = c.loop-alloc.invariant.come.rest
+returns-clause-others g c = c.loop-alloc.invariant.come.rest
 
 pub returns-clause-room : goal.returns-clause-room
-returns-clause-room c =
+returns-clause-room g c =
     room-all c.args.host.now.host c.loop-alloc.host.host c.args.players.now c.loop-alloc.players c.loop-alloc.invariant.come (sym c.goes_on.ensures ∙ c.loop-alloc-test.false)

@@ -2,9 +2,9 @@ use Rattle.cpm_turns.specs.Players.{HasCome, left_of}
 use Rattle.cpm_turns.proofs.rounds.play.Given as goal
 
 abbrev pub invariant-loop-alloc : goal.invariant-loop-alloc
-invariant-loop-alloc l = record {
+invariant-loop-alloc g l = record {
   come : HasCome l.fn.host.host l.host.host l.fn.players l.players;
 }
 
 abbrev pub decreases-loop-alloc : goal.decreases-loop-alloc
-decreases-loop-alloc l = left_of l.players
+decreases-loop-alloc g l = left_of l.players
