@@ -8,3 +8,5 @@ pub mod PrepareLemmas
 pub mod RunLemmas
 pub mod ScriptLemmas
 pub mod SlotLemmas
+pub mod StartLemmas
+pub mod TailLemmas
