@@ -56,7 +56,7 @@ struct Row {
 }
 
 /// A row of a program that gets all keys that are typed.
-const fn row(
+const fn plain(
     program: &'static [u8],
     typed: &'static [u8],
     shown: &'static [u8],
@@ -147,12 +147,12 @@ fn gives_keys_where_they_are_wanted(rt: HostRuntime) -> Result<(), Fail> {
     plays(
         &rt,
         rt.alloc(),
-        &row(READS, b"ab", b"ab", b"3 a\n7 b\n", 10),
+        &plain(READS, b"ab", b"ab", b"3 a\n7 b\n", 10),
     )?;
     // at the 64th call, of which the first is behind 3 steps and each other 6 later
-    plays(&rt, rt.alloc(), &row(ASKS, b"x", b"x", b"381 x\n", 390))?;
+    plays(&rt, rt.alloc(), &plain(ASKS, b"x", b"x", b"381 x\n", 390))?;
     // the same behind 4 steps and 7 later
-    plays(&rt, rt.alloc(), &row(TAKES, b"y", b"y", b"445 y\n", 455))
+    plays(&rt, rt.alloc(), &plain(TAKES, b"y", b"y", b"445 y\n", 455))
 }
 
 #[test]
@@ -161,7 +161,7 @@ fn sees_calls_of_the_bios(rt: HostRuntime) -> Result<(), Fail> {
     plays(
         &rt,
         rt.alloc(),
-        &row(CALLS_BIOS, b"z", b"z", b"730317 z\n", 730_330),
+        &plain(CALLS_BIOS, b"z", b"z", b"730317 z\n", 730_330),
     )
 }
 
@@ -170,7 +170,7 @@ fn passes_over_what_is_no_key(rt: HostRuntime) -> Result<(), Fail> {
     plays(
         &rt,
         rt.alloc(),
-        &row(READS, &[0x80, b'a', 0xFF, b'^'], b"a^", b"3 a\n7 ^~\n", 10),
+        &plain(READS, &[0x80, b'a', 0xFF, b'^'], b"a^", b"3 a\n7 ^~\n", 10),
     )
 }
 
@@ -180,13 +180,13 @@ fn ends_where_a_key_is_wanted(rt: HostRuntime) -> Result<(), Fail> {
     let quits = Row {
         left: b"b",
         ended: End::Running,
-        ..row(READS, b"a\x1Db", b"a", b"3 a\n", 7)
+        ..plain(READS, b"a\x1Db", b"a", b"3 a\n", 7)
     };
     plays(&rt, rt.alloc(), &quits)?;
     // at the end of what is typed
     let ends = Row {
         ended: End::Running,
-        ..row(READS, b"a", b"a", b"3 a\n", 7)
+        ..plain(READS, b"a", b"a", b"3 a\n", 7)
     };
     plays(&rt, rt.alloc(), &ends)?;
     // after the most keys
@@ -194,7 +194,7 @@ fn ends_where_a_key_is_wanted(rt: HostRuntime) -> Result<(), Fail> {
         most_keys: 1,
         left: b"b",
         ended: End::Running,
-        ..row(READS, b"ab", b"a", b"3 a\n", 7)
+        ..plain(READS, b"ab", b"a", b"3 a\n", 7)
     };
     plays(&rt, rt.alloc(), &few)
 }
@@ -205,14 +205,14 @@ fn ends_after_its_steps(rt: HostRuntime) -> Result<(), Fail> {
         steps: 5,
         left: b"b",
         ended: End::Running,
-        ..row(READS, b"ab", b"a", b"3 a\n", 5)
+        ..plain(READS, b"ab", b"a", b"3 a\n", 5)
     };
     plays(&rt, rt.alloc(), &short)?;
     let none = Row {
         steps: 0,
         left: b"ab",
         ended: End::Running,
-        ..row(READS, b"ab", b"", b"", 0)
+        ..plain(READS, b"ab", b"", b"", 0)
     };
     plays(&rt, rt.alloc(), &none)?;
     // A program that shows a letter before each call wants no key. Its circle has 10 steps.
@@ -220,7 +220,7 @@ fn ends_after_its_steps(rt: HostRuntime) -> Result<(), Fail> {
         steps: 1000,
         left: b"k",
         ended: End::Running,
-        ..row(BUSY, b"k", &[b'A'; 100], b"", 1000)
+        ..plain(BUSY, b"k", &[b'A'; 100], b"", 1000)
     };
     plays(&rt, rt.alloc(), &busy)
 }
