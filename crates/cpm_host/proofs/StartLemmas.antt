@@ -1,6 +1,7 @@
 -- How a program's machine begins, and is refused.
-use Rattle.std.proofs.Common.{◌≡◌, ◌∙◌, ap, sym, subst, refl, ℕ, ◌<◌, ◌≤◌, Bool, true, false, cond, ltb, List, [], ◌∷◌, Option, Some, None, length, arith}
-use Rattle.std.proofs.lemmas.Bool.{ltb-true, le-ltb}
+use Rattle.std.proofs.Common.{◌≡◌, ◌∙◌, ap, sym, subst, refl, ℕ, ◌<◌, ◌≤◌, Bool, true, false, ◌||◌, cond, ltb, eqb, not, List, [], ◌∷◌, Option, Some, None, length, arith}
+use Rattle.std.proofs.lemmas.Bool.{ltb-true, ltb-false, le-ltb, ne_eqb}
+use Rattle.std.proofs.lemmas.Option.{none-some}
 use Rattle.cpm_geom.specs.Disk.{Disk}
 use Rattle.cpm_slots.specs.MachineState.{MachineState, opened_with}
 use Rattle.cpm_slots.specs.Opening.{IsRefusal, drives_fault, first_fault, program_fault}
@@ -29,7 +30,8 @@ some_drives (d ∷ ds) h = h
 -- the fault of drives of which there is one at least
 fault_of_some : (ds : List Disk) → drives_fault (length (drives_or_blank ds)) ≡ cond (ltb 4 (length (drives_or_blank ds))) (Some opening.BadDrives) None
 fault_of_some [] = refl
-fault_of_some (d ∷ ds) = refl
+fault_of_some (d ∷ ds) =
+    ap (λ b. cond (b || ltb 4 (length (d ∷ ds))) (Some opening.BadDrives) None) (ne_eqb (length (d ∷ ds)) 0 (λ e. let bad : ⊥ = omega (arith, e) in bad))
 
 pub few_drives : (ds : List Disk) → None ≡ drives_fault (length (drives_or_blank ds)) → length ds ≤ 4
 few_drives [] h = omega arith
@@ -37,4 +39,46 @@ few_drives (d ∷ ds) h = go (ltb 4 (length (d ∷ ds))) refl (h ∙ fault_of_so
   where
     go : (b : Bool) → ltb 4 (length (d ∷ ds)) ≡ b → None ≡ cond b (Some opening.BadDrives) None → length (d ∷ ds) ≤ 4
     go true is e = absurd (let bad : ⊥ = cc in bad)
-    go false is e = omega (arith, is)
+    go false is e = ltb-false 4 _ is
+
+-- how a machine is refused that may write all pages and has these drives
+pub start_refused : (g : Given) (o : Opening) (program : List ℕ) (fault : OpenError) → o.quota ≡ 256 → o.drives.items ≡ drives_or_blank g.drives → program ≡ g.program
+    → length g.program ≤ 58112 → IsRefusal (program_fault o program) fault → IsStartRefusal g (host_error_of_opening fault)
+start_refused g o program fault quota drives same short h =
+    go (ltb 4 (length (drives_or_blank g.drives))) refl (subst (λ f. IsRefusal f fault) found h)
+  where
+    few : Option OpenError
+    few = cond (ltb 4 (length (drives_or_blank g.drives))) (Some opening.BadDrives) None
+
+    long : ltb 58112 (length g.program) ≡ false
+    long = le-ltb _ _ short
+
+    found : program_fault o program ≡ first_fault few None
+    found = ap (λ q. cond (not (eqb q 256)) (Some opening.BadQuota) (first_fault (drives_fault (length o.drives.items)) (cond (ltb 58112 (length program)) (Some opening.ProgramTooLong) None))) quota
+        ∙ ap (λ ds. first_fault (drives_fault (length ds)) (cond (ltb 58112 (length program)) (Some opening.ProgramTooLong) None)) drives
+        ∙ ap (λ f. first_fault f (cond (ltb 58112 (length program)) (Some opening.ProgramTooLong) None)) (fault_of_some g.drives)
+        ∙ ap (λ xs. first_fault few (cond (ltb 58112 (length xs)) (Some opening.ProgramTooLong) None)) same
+        ∙ ap (λ b. first_fault few (cond b (Some opening.ProgramTooLong) None)) long
+
+    go : (b : Bool) → ltb 4 (length (drives_or_blank g.drives)) ≡ b → IsRefusal (first_fault few None) fault → IsStartRefusal g (host_error_of_opening fault)
+    go true many r =
+        let is : fault ≡ opening.BadDrives = subst (λ b. IsRefusal (first_fault (cond b (Some opening.BadDrives) None) None) fault) many r in
+        subst (λ f. IsStartRefusal g (host_error_of_opening f)) (sym is) (short, some_drives g.drives (ltb-true 4 _ many), refl)
+    go false many r =
+        let is : fault ≡ opening.OutOfMemory = subst (λ b. IsRefusal (first_fault (cond b (Some opening.BadDrives) None) None) fault) many r in
+        subst (λ f. IsStartRefusal g (host_error_of_opening f)) (sym is) short
+
+-- one that is made has no more drives than four, and no longer program
+pub start_fits : (g : Given) (o : Opening) (program : List ℕ) → o.quota ≡ 256 → o.drives.items ≡ drives_or_blank g.drives → program_fault o program ≡ None → length g.drives ≤ 4
+start_fits g o program quota drives h = few_drives g.drives (go (drives_fault (length (drives_or_blank g.drives))) refl)
+  where
+    rest : Option OpenError
+    rest = cond (ltb 58112 (length program)) (Some opening.ProgramTooLong) None
+
+    none : first_fault (drives_fault (length (drives_or_blank g.drives))) rest ≡ None
+    none = sym (ap (λ q. cond (not (eqb q 256)) (Some opening.BadQuota) (first_fault (drives_fault (length o.drives.items)) rest)) quota
+        ∙ ap (λ ds. first_fault (drives_fault (length ds)) rest) drives) ∙ h
+
+    go : (f : Option OpenError) → drives_fault (length (drives_or_blank g.drives)) ≡ f → None ≡ drives_fault (length (drives_or_blank g.drives))
+    go None is = sym is
+    go (Some fault) is = absurd (none-some fault (sym (sym (ap (λ f. first_fault f rest) is) ∙ none)))

@@ -8,6 +8,7 @@ use Rattle.cpm_geom.specs.declared.format.Format.TheVariants.{Ibm3740}
 use Rattle.cpm_script.specs.Recording.{recorded}
 use Rattle.cpm_slots.specs.MachineState.{MachineState, opened_machine}
 use Rattle.cpm_slots.specs.Opening.{opening_fault}
+use Rattle.cpm_slots.specs.declared.opening.OpenError.{OpenError}
 use Rattle.cpm_turns.specs.Live.{AreGiven, AreRead, IsCutShort}
 use Rattle.cpm_turns.specs.Playing.{alone_by}
 use Rattle.cpm_turns.specs.declared.live.LiveError.{LiveError}
@@ -63,12 +64,12 @@ IsLiveRefusal g steps most io e = IsStartRefusal g e ⊎ IsCut (blank_disk Ibm37
 abbrev pub begun : SessionStart → MachineState
 begun s = opened_machine s.opening.cpu s.opening.quota s.opening.drives.items
 
--- its opening is refused
-abbrev pub IsOpeningRefused : SessionStart → HostError → Type 0
-IsOpeningRefused s (SessionRefused name fault) = (name.bytes ≡ shown_of (chars s.name.now)) × (opening_fault s.opening ≡ Some fault)
-IsOpeningRefused s OutOfMemory = ⊤
-IsOpeningRefused s _ = ⊥
+-- the opening of a session of this name has such a fault, or memory was refused
+abbrev pub IsOpeningRefused : (name : List ℕ) → Option OpenError → HostError → Type 0
+IsOpeningRefused name fault (SessionRefused shown told) = (shown.bytes ≡ shown_of (chars name)) × (fault ≡ Some told)
+IsOpeningRefused name fault OutOfMemory = ⊤
+IsOpeningRefused name fault _ = ⊥
 
 -- how a live session is refused
 abbrev pub IsSessionRefusal : Disk → SessionStart → ℕ → Streams → HostError → Type 0
-IsSessionRefusal system s most io e = IsOpeningRefused s e ⊎ IsCut system (begun s) s.steps most io e
+IsSessionRefusal system s most io e = IsOpeningRefused s.name.now (opening_fault s.opening) e ⊎ IsCut system (begun s) s.steps most io e

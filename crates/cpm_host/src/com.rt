@@ -1,5 +1,5 @@
 //! The command `com`.
-ghost use Rattle.std.specs.Prelude.{◌≡◌, ◌↔◌, ◌<◌, IfErr, IfOk, IsErrOf, OnOk, length};
+ghost use Rattle.std.specs.Prelude.{◌≡◌, ◌↔◌, ◌<◌, ◌≤◌, None, IfErr, IfOk, IsErrOf, OnOk, length};
 ghost use Rattle.std.specs.Io.KnownBytes.{Appends};
 ghost use Rattle.cpm_disks.specs.Disks.{images_of};
 ghost use Rattle.cpm_slots.specs.MachineState.{opened_with};
@@ -84,6 +84,7 @@ fn drives_or_blank(alloc: Global, drives: Vec<Image>) -> Result<Vec<Image>, Host
 pub(crate) fn machine_of(alloc: Global, start: Start) -> Result<Machine, HostError>
     ensures made { IfOk result (λ m. m ≡ machine_of (given start)) }
     ensures fresh { IfOk result IsFresh }
+    ensures fits { OnOk result ((length (given start).program ≤ 58112) × (length (given start).drives ≤ 4)) }
     ensures refusal { IfErr result (IsStartRefusal (given start)) }
 {
     if start.program.len() > MOST_PROGRAM {
@@ -114,6 +115,7 @@ fn begun(
     tail: &Option<Tail>,
 ) -> Result<Machine, (Opening, Vec<u8>, OpenError)>
     ensures made { IfOk result (λ m. m ≡ with_tail_if_any tail.now (opened_with opening.cpu opening.drives.items program.items)) }
+    ensures fits { OnOk result (program_fault opening program.items ≡ None) }
     ensures refused { IfErr result (λ r. IsRefusal (program_fault opening program.items) r.2) }
 {
     match tail {

@@ -1,10 +1,12 @@
 //! A program, or a session, whose keys are typed.
 
-ghost use Rattle.std.specs.Prelude.{IfErr, IfOk};
+ghost use Rattle.std.specs.Prelude.{IfErr, IfOk, Option};
 ghost use Rattle.cpm_geom.specs.Disk.{blank_disk};
+ghost use Rattle.cpm_slots.specs.Opening.{IsRefusal};
+ghost use Rattle.cpm_slots.specs.declared.opening.OpenError.{OpenError as OpenErrorValue};
 ghost use Rattle.cpm_turns.specs.Playing.{IsFresh};
 ghost use Rattle.cpm_host.specs.Com.{given, machine_of};
-ghost use Rattle.cpm_host.specs.Live.{IsCut, IsLiveRefusal, IsPlayedLive, IsSessionRefusal, begun, streams};
+ghost use Rattle.cpm_host.specs.Live.{IsCut, IsLiveRefusal, IsOpeningRefused, IsPlayedLive, IsSessionRefusal, begun, streams};
 
 use crate::com::{Ran, Start, left_of, machine_of};
 use crate::error::HostError;
@@ -91,6 +93,19 @@ pub struct SessionStart<'a> {
     pub steps: u64,
 }
 
+/// Why a session has no machine, if its opening is refused so.
+fn opening_refused(name: &str, fault: OpenError) -> HostError
+    ensures { (o : Option OpenErrorValue) → IsRefusal o fault → IsOpeningRefused name.now o result }
+{
+    match fault {
+        OpenError::OutOfMemory => HostError::OutOfMemory,
+        fault => HostError::SessionRefused {
+            name: shown(name),
+            fault,
+        },
+    }
+}
+
 /// Plays a session by itself, with this system drive and the keys that are typed on `input`, at most as many as a script has. It writes what
 /// the session shows as it comes, and each key to `record` as a line of a key script.
 ///
@@ -103,8 +118,8 @@ pub fn type_session<I: Read, W: Write, S: Write>(
     out: &mut W,
     record: &mut S,
 ) -> Result<Typed, HostError>
-    ensures played { IfOk result (λ t. IsPlayedLive system.now (begun start) start.steps 4096 t (streams (I.remaining input.old) (I.remaining input.new) (W.contents out.old) (W.contents out.new) (S.contents «record».old) (S.contents «record».new))) }
-    ensures refusal { IfErr result (IsSessionRefusal system.now start 4096 (streams (I.remaining input.old) (I.remaining input.new) (W.contents out.old) (W.contents out.new) (S.contents «record».old) (S.contents «record».new))) }
+    ensures played { IfOk result (λ t. IsPlayedLive system.now (begun start.entry) start.entry.steps 4096 t (streams (I.remaining input.old) (I.remaining input.new) (W.contents out.old) (W.contents out.new) (S.contents «record».old) (S.contents «record».new))) }
+    ensures refusal { IfErr result (IsSessionRefusal system.now start.entry 4096 (streams (I.remaining input.old) (I.remaining input.new) (W.contents out.old) (W.contents out.new) (S.contents «record».old) (S.contents «record».new))) }
 {
     let SessionStart {
         name,
@@ -113,13 +128,7 @@ pub fn type_session<I: Read, W: Write, S: Write>(
     } = start;
     let machine = match Machine::new(alloc, opening) {
         Ok(machine) => machine,
-        Err((_, OpenError::OutOfMemory)) => return Err(HostError::OutOfMemory),
-        Err((_, fault)) => {
-            return Err(HostError::SessionRefused {
-                name: shown(name),
-                fault,
-            });
-        }
+        Err((_, fault)) => return Err(opening_refused(name, fault)),
     };
     play_typed(alloc, system, machine, steps, MOST_SCRIPT, input, out, record)
 }
