@@ -82,7 +82,9 @@ pub fn run_live<I: Read, W: Write, S: Write>(
 {
     let machine = machine_of(alloc, start)?;
     let system = Image::blank(alloc, Format::Ibm3740)?;
-    play_typed(alloc, &system, machine, steps, most_keys, input, out, record)
+    play_typed(
+        alloc, &system, machine, steps, most_keys, input, out, record,
+    )
 }
 
 /// A session of a configuration that is played by itself.
@@ -130,5 +132,14 @@ pub fn type_session<I: Read, W: Write, S: Write>(
         Ok(machine) => machine,
         Err((_, fault)) => return Err(opening_refused(name, fault)),
     };
-    play_typed(alloc, system, machine, steps, MOST_SCRIPT, input, out, record)
+    play_typed(
+        alloc,
+        system,
+        machine,
+        steps,
+        MOST_SCRIPT,
+        input,
+        out,
+        record,
+    )
 }

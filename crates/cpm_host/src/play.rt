@@ -260,7 +260,13 @@ pub(crate) fn play_all<'a, T: Watcher>(
         Ok(players) => players,
         Err(error) => return Err(play_refusal(config, error)),
     };
-    match play(alloc, &mut host, players.as_mut_slice(), config.quantum, watcher) {
+    match play(
+        alloc,
+        &mut host,
+        players.as_mut_slice(),
+        config.quantum,
+        watcher,
+    ) {
         Ok(()) => {}
         Err(error) => return Err(fork_refusal(config, error)),
     }

@@ -7,8 +7,8 @@ use crate::texts::{CONFIG, KEYS, SOURCE};
 use cpm_flags::Cpu;
 use cpm_geom::{Format, Image};
 use cpm_host::{
-    Config, DebugError, HostError, MemoryStore, Script, Start, Tail, Unwatched, run_asm, run_com, run_debug,
-    run_host, run_list, run_live, tail_of,
+    Config, DebugError, HostError, MemoryStore, Script, Start, Tail, Unwatched, run_asm, run_com,
+    run_debug, run_host, run_list, run_live, tail_of,
 };
 use std::alloc::{AllocError, Global};
 use std::io;

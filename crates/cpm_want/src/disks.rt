@@ -2,8 +2,8 @@
 
 use crate::Outcome;
 use cpm_filing::{
-    FilingError, file_name, get_file, list_files, matching_files, new_image, put_file,
-    remove_file, rename_file, write_list,
+    FilingError, file_name, get_file, list_files, matching_files, new_image, put_file, remove_file,
+    rename_file, write_list,
 };
 use cpm_geom::{Format, Image};
 use cpm_shelf::{FileName, ShelfError, from_text, get, list, put, remove, rename, to_text};

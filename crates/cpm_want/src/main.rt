@@ -126,8 +126,13 @@ fn make(alloc: Global, name: &str) -> Result<Outcome, AllocError> {
         "put" | "get" | "remove" | "rename" | "list" | "to_text" | "from_text" => {
             disks::of_shelf(alloc, name)
         }
-        "new_image" | "put_file" | "get_file" | "remove_file" | "rename_file"
-        | "matching_files" | "write_list" => disks::of_filing(alloc, name),
+        "new_image"
+        | "put_file"
+        | "get_file"
+        | "remove_file"
+        | "rename_file"
+        | "matching_files"
+        | "write_list" => disks::of_filing(alloc, name),
         "tail_of" => Ok(commands::tail(alloc)),
         "run_com" => commands::com(alloc),
         "run_live" => commands::live(alloc),

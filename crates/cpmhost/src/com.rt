@@ -9,9 +9,7 @@ use crate::refused::Refused;
 use crate::screen::Screen;
 use crate::typing::{Terminals, record_in, tell_quit};
 use cpm_geom::Image;
-use cpm_host::{
-    ComTask, Ending, HostError, Ran, Script, Start, run_com, run_live, tail_of,
-};
+use cpm_host::{ComTask, Ending, HostError, Ran, Script, Start, run_com, run_live, tail_of};
 use std::io;
 use std::io::BufReader;
 use std::rt::Files;
@@ -117,10 +115,26 @@ fn play_keyboard(
     };
     let typed = if terminals.is_screen {
         let mut screen = Screen::new(io::writer(rt));
-        run_live(rt.alloc(), start, steps, most_keys, &mut input, &mut screen, &mut record)?
+        run_live(
+            rt.alloc(),
+            start,
+            steps,
+            most_keys,
+            &mut input,
+            &mut screen,
+            &mut record,
+        )?
     } else {
         let mut out = io::writer(rt);
-        run_live(rt.alloc(), start, steps, most_keys, &mut input, &mut out, &mut record)?
+        run_live(
+            rt.alloc(),
+            start,
+            steps,
+            most_keys,
+            &mut input,
+            &mut out,
+            &mut record,
+        )?
     };
     Ok(typed.ran)
 }

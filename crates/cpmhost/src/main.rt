@@ -17,7 +17,8 @@ mod typing;
 use com::com;
 use cpm_flags::Cpu;
 use cpm_host::{
-    Config, HostError, RunTask, Task, command, help, run_asm, run_check, run_debug, run_host, run_list,
+    Config, HostError, RunTask, Task, command, help, run_asm, run_check, run_debug, run_host,
+    run_list,
 };
 use disk::do_disk;
 use files::{MachineFiles, check_outputs, read_file, write_file};
@@ -26,12 +27,12 @@ use place::{check_apart, check_pair};
 use progress::{Form, Teller};
 use refused::{Behind, Refused};
 use screen::Screen;
-use typing::{Terminals, type_in};
 use std::env::Env;
 use std::io::{BufReader, BufWriter, ErrorKind, IsTerminal};
 use std::process::{self, ExitCode};
 use std::rt::Files;
 use std::{env, io};
+use typing::{Terminals, type_in};
 
 /// What stands behind the help.
 const HELP_ON_RAW: &str = "
@@ -112,11 +113,7 @@ fn asm(
 }
 
 /// Prints the program in a file as instructions of a processor.
-fn list(
-    rt: &(impl Files + Print + AllocGlobal),
-    file: &str,
-    cpu: Cpu,
-) -> Result<(), HostError> {
+fn list(rt: &(impl Files + Print + AllocGlobal), file: &str, cpu: Cpu) -> Result<(), HostError> {
     let program = read_file(rt, file)?;
     match BufWriter::new(rt.alloc(), io::writer(rt)) {
         Ok(mut out) => run_list(cpu, program.as_slice(), &mut out),

@@ -60,13 +60,13 @@ impl<'a, R: Eprint> Teller<'a, R> {
             Form::InPlace => ("\r", "\x1b[K"),
             _ => ("", "\n"),
         };
-        let _ = match self.config.and_then(|config| config.sessions.get(progress.slowest)) {
-            Some(slowest) => eprint!(
-                self.rt;
+        let _ = match self
+            .config
+            .and_then(|config| config.sessions.get(progress.slowest))
+        {
+            Some(slowest) => eprint!(self.rt;
                 "{before}progress {percent}%: {} of {} sessions have ended, {} has the most left{behind}",
-                progress.ended,
-                progress.sessions,
-                slowest.name
+                progress.ended, progress.sessions, slowest.name
             ),
             None => eprint!(self.rt; "{before}progress {percent}%{behind}"),
         };

@@ -10,10 +10,9 @@ use cpm_host::{
     type_session,
 };
 use std::alloc::AllocError;
-use std::fs;
-use std::io;
 use std::io::{BufReader, Write};
 use std::rt::Files;
+use std::{fs, io};
 
 /// What of the program's own streams is a terminal.
 #[derive(Clone, Copy, Debug, Drop)]
@@ -157,7 +156,14 @@ fn typed_by(
     };
     let typed = if is_screen {
         let mut screen = Screen::new(io::writer(rt));
-        type_session(rt.alloc(), system, start, &mut input, &mut screen, &mut record)?
+        type_session(
+            rt.alloc(),
+            system,
+            start,
+            &mut input,
+            &mut screen,
+            &mut record,
+        )?
     } else {
         let mut out = io::writer(rt);
         type_session(rt.alloc(), system, start, &mut input, &mut out, &mut record)?

@@ -76,7 +76,14 @@ fn ending(rt: &(impl Abort + AllocGlobal), cpu: Cpu, bytes: &[u8]) -> Ending {
     let script: Option<Script> = None;
     let mut out = Recorder::new(rt.alloc());
     let start = plain(rt, cpu, bytes);
-    match run_com(rt.alloc(), start, script, 1_000_000, &mut out, &mut Unwatched) {
+    match run_com(
+        rt.alloc(),
+        start,
+        script,
+        1_000_000,
+        &mut out,
+        &mut Unwatched,
+    ) {
         Ok(ran) => ran.ending,
         Err(error) => panic!(rt; "refused: {error}"),
     }

@@ -7,8 +7,8 @@ use cpm_asm::assemble;
 use cpm_flags::Cpu;
 use cpm_geom::{Format, Image};
 use cpm_host::{
-    HostError, Opening, Ran, Script, SessionStart, Start, Tail, Typed, Unwatched, run_com, run_live,
-    tail_of, type_session,
+    HostError, Opening, Ran, Script, SessionStart, Start, Tail, Typed, Unwatched, run_com,
+    run_live, tail_of, type_session,
 };
 use cpm_shelf::{FileName, get, put};
 use std::process::Abort;
@@ -247,7 +247,14 @@ fn types_at_a_session(rt: HostRuntime) {
     let mut input: &[u8] = b"DIR\r";
     let mut out = Recorder::new(rt.alloc());
     let mut record = Recorder::new(rt.alloc());
-    let typed = type_session(rt.alloc(), &system, start, &mut input, &mut out, &mut record);
+    let typed = type_session(
+        rt.alloc(),
+        &system,
+        start,
+        &mut input,
+        &mut out,
+        &mut record,
+    );
     match typed {
         Ok(typed) => same(&rt, typed.keys.len(), 4),
         Err(error) => panic!(&rt; "refused: {error}"),
