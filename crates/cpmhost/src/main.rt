@@ -168,7 +168,11 @@ fn do_words(
         rt.print(HELP_ON_RAW).map_err(HostError::OutputUnwritable)?;
         return Ok(());
     }
-    match command(rt.alloc(), words).map_err(HostError::from)? {
+    let task = match command(rt.alloc(), words) {
+        Ok(task) => task,
+        Err(error) => return Err(Refused::from(HostError::from(error))),
+    };
+    match task {
         Task::Com(task) => com(rt, outputs, &task, terminals)?,
         Task::Asm { source, out } => asm(rt, outputs, source, out)?,
         Task::List { file, cpu } => list(rt, file, cpu)?,
