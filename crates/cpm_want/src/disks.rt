@@ -31,8 +31,8 @@ fn disk(alloc: Global) -> Result<Image, AllocError> {
 }
 
 /// What came of a call on a disk, which is left alone.
-fn came<T: Drop>(result: Result<T, ShelfError>) -> Outcome {
-    match result {
+fn came<T: Drop>(answer: Result<T, ShelfError>) -> Outcome {
+    match answer {
         Ok(_) => Outcome::Made,
         Err(ShelfError::OutOfMemory) => Outcome::Refused,
         Err(_) => Outcome::Wrong,
@@ -40,8 +40,8 @@ fn came<T: Drop>(result: Result<T, ShelfError>) -> Outcome {
 }
 
 /// The same of one that is told.
-fn told<T: Drop>(result: Result<T, FilingError>) -> Outcome {
-    match result {
+fn told<T: Drop>(answer: Result<T, FilingError>) -> Outcome {
+    match answer {
         Ok(_) => Outcome::Made,
         Err(FilingError::OutOfMemory) => Outcome::Refused,
         Err(_) => Outcome::Wrong,
