@@ -141,7 +141,9 @@ impl<'a, R: Files + AllocGlobal> MachineFiles<'a, R> {
     }
 
     /// The script of the session whose keys were typed.
-    fn typed_script(&self, alloc: Global) -> Result<Vec<u8>, StoreError> {
+    fn typed_script(&self, alloc: Global) -> Result<Vec<u8>, StoreError>
+        ensures { IfErr result (λ e. e ≡ StoreError.OutOfMemory) }
+    {
         let mut text = Vec::new(alloc);
         if let Some(typed) = &self.typed
             && text.extend_from_slice(typed).is_err()

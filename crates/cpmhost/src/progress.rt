@@ -55,7 +55,7 @@ impl<'a, R: Eprint> Teller<'a, R> {
 
     /// Tells of so many parts.
     fn tell(&self, progress: Progress) {
-        let percent = self.told * 2;
+        let percent = self.told.saturating_mul(2);
         let (before, behind) = match self.form {
             Form::InPlace => ("\r", "\x1b[K"),
             _ => ("", "\n"),

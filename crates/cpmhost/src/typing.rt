@@ -1,5 +1,7 @@
 //! Keys that are typed on standard input, and where they are recorded.
 
+ghost use Rattle.std.specs.Prelude.{◌<◌, IfSome, length};
+
 use crate::disk::read_image;
 use crate::files::{read_file, unwritable};
 use crate::refused::Refused;
@@ -105,7 +107,9 @@ pub fn type_in(
 }
 
 /// Where the session of a name stands.
-fn place_of(config: &Config, name: &str) -> Option<usize> {
+fn place_of(config: &Config, name: &str) -> Option<usize>
+    ensures { IfSome result (λ place. place < length config.now.sessions.items) }
+{
     config
         .sessions
         .iter()
