@@ -1,5 +1,7 @@
 //! The calls on the files of a disk.
 
+ghost use Rattle.std.specs.Prelude.{◌≡◌, IfOk};
+
 use crate::Outcome;
 use cpm_filing::{
     FilingError, file_name, get_file, list_files, matching_files, new_image, put_file, remove_file,
@@ -16,12 +18,26 @@ const TEXT: &[u8] = b"a line\nand another\n";
 /// The name of an image's file.
 const IMAGE: &str = "a.img";
 
-fn file() -> Result<FileName, AllocError> {
-    FileName::new(0, *b"LETTER  TXT").ok_or(AllocError)
+/// The file of user 0 of a name.
+fn named(name: [u8; 11]) -> Result<FileName, AllocError>
+    ensures { IfOk result (λ file. file.user ≡ 0) }
+{
+    match FileName::new(0, name) {
+        Some(file) => Ok(file),
+        None => Err(AllocError),
+    }
 }
 
-fn other() -> Result<FileName, AllocError> {
-    FileName::new(0, *b"OTHER   TXT").ok_or(AllocError)
+fn file() -> Result<FileName, AllocError>
+    ensures { IfOk result (λ file. file.user ≡ 0) }
+{
+    named(*b"LETTER  TXT")
+}
+
+fn other() -> Result<FileName, AllocError>
+    ensures { IfOk result (λ file. file.user ≡ 0) }
+{
+    named(*b"OTHER   TXT")
 }
 
 /// A disk with a file.
