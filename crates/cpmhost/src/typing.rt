@@ -80,7 +80,7 @@ pub fn tell_quit(rt: &impl Eprint) {
 pub const TYPED: &str = "\0keys";
 
 /// Plays a session of a configuration by itself, by the keys of standard input. The configuration's session then has these keys as its script,
-/// of which the text is given, and as many steps as were played where typing ended them.
+/// of which the text is given, and the steps that were played: a person's session has no limit of steps before.
 pub fn type_in(
     rt: &(impl Files + Input + Print + Eprint + AllocGlobal),
     config: &mut Config,
@@ -96,7 +96,7 @@ pub fn type_in(
     let start = SessionStart {
         name,
         opening,
-        steps: config.sessions[place].steps,
+        steps: u64::MAX,
     };
     let typed = typed_by(rt, &system, start, record, is_screen)?;
     let steps = typed.steps.max(last_fork(config, name));
