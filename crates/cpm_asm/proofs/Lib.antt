@@ -8,3 +8,4 @@ pub mod Stable
 pub mod OneTable
 pub mod Fitting
 pub mod Laying
+pub mod Relaying

@@ -174,18 +174,18 @@ unfolding image_or
 image_last true image final rest r h later = sym (ap image_or h)
 image_last false image final rest r h later = later h
 
-laid_image : (names : Table) (xs : List Numbered) (image final : List ℕ) (p : Place) → second_pass names image p xs ≡ Ok final → final ≡ image_from names image p xs
+pub laid_image : (names : Table) (xs : List Numbered) (image final : List ℕ) (p : Place) → second_pass names image p xs ≡ Ok final → final ≡ image_from names image p xs
 unfolding image_or
 laid_image names [] image final p h = sym (ap image_or h)
 laid_image names (x ∷ xs) image final p h =
     image_last (is_last (said p x).deed) (with_bytes names image p x) final (image_from names (with_bytes names image p x) (behind names p x) xs) _
     (unless_image x.line _ _ final h) (λ e. laid_image names xs (with_bytes names image p x) final (behind names p x) e)
 
-no_name : (names : Table) (n : Name) (v : ℕ) (xs : List Numbered) → (empty_table n ≡ Some v) ⊎ IsNamed names n start xs → IsNamed names n start xs
+pub no_name : (names : Table) (n : Name) (v : ℕ) (xs : List Numbered) → (empty_table n ≡ Some v) ⊎ IsNamed names n start xs → IsNamed names n start xs
 no_name names n v xs (inl h) = absurd (true≢false (sym (ap is_some h)))
 no_name names n v xs (inr h) = h
 
-from_passes : (source image : List ℕ) (first : Result Table AsmError) → first_pass empty_table start (pieces source) ≡ first → second_behind (pieces source) first ≡ Ok image → Assembled source image
+unfoldable pub from_passes : (source image : List ℕ) (first : Result Table AsmError) → first_pass empty_table start (pieces source) ≡ first → second_behind (pieces source) first ≡ Ok image → Assembled source image
 from_passes source image (Ok names) p h =
     let b = one_table empty_table names start (pieces source) p in
     let bytes = laid_image names (pieces source) [] image start h in

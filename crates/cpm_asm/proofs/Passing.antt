@@ -1,13 +1,15 @@
 -- One statement of a pass.
-use Rattle.std.proofs.Common.{◌≡◌, ℕ, true, false, List, ◌∷◌, ap, sym, ◌∙◌}
+use Rattle.std.proofs.Common.{◌≡◌, ℕ, true, false, List, [], ◌∷◌, ◌++◌, ap, sym, ◌∙◌, append_assoc, append-nil}
 use Rattle.std.specs.Prelude.{None, Some, Result, Ok, Err}
 use Rattle.cpm_expression.specs.Names.{Table}
 use Rattle.cpm_asm.specs.Pieces.{Numbered}
 use Rattle.cpm_asm.specs.Statements.{Said}
 use Rattle.cpm_asm.specs.Measures.{measured}
 use Rattle.cpm_asm.specs.Emitting.{emitted, second_fault}
-use Rattle.cpm_asm.specs.Places.{blamed, first_fault, moved}
+use Rattle.cpm_asm.specs.Places.{first_fault, moved}
 use Rattle.cpm_asm.specs.Passes.{at_end, first_pass, is_last, laid, last_or, said, second_pass, table_after, unless_first, unless_second}
+use Rattle.cpm_asm.specs.Placing.{place_of, placed, places_from}
+use Rattle.cpm_asm.specs.declared.placed.Placed.{Placed}
 use Rattle.cpm_asm.specs.declared.measure.Measure.{Measure}
 use Rattle.cpm_asm.specs.declared.place.Place.{Place}
 use Rattle.cpm_asm.specs.declared.emit.Doubt.{Doubt}
@@ -90,3 +92,37 @@ pub second-ends : (names : Table) (image : List ℕ) (p : Place) (x : Numbered) 
     → second_pass names image p (x ∷ xs) ≡ Err (record { line = x.line; kind = kind })
 second-ends names image p x xs s m d kind is taken doubt found =
     sym (second_at names image p x xs s m is taken) ∙ ap (λ o. unless_second x.line o (second_more names image p x xs s m)) (ap second_fault (sym doubt) ∙ found)
+
+-- ---- places
+
+abbrev place_at : Table → Place → Numbered → Said → Measure → List Placed
+place_at names p x s m = place_of (placed x.line p.address (emitted names p.address m.next s.deed).bytes) s
+
+abbrev place_step : Table → Place → Numbered → List Numbered → Said → Measure → List Placed
+place_step names p x xs s m = place_at names p x s m ++ last_or (is_last s.deed) [] (places_from names (moved p x.line s.deed m) xs)
+
+place_is : (names : Table) (p : Place) (x : Numbered) (xs : List Numbered) (s : Said) (m : Measure) → s ≡ said p x → m ≡ measured names p.address s.deed
+    → place_step names p x xs s m ≡ places_from names p (x ∷ xs)
+place_is names p x xs s m is taken = ap (place_step names p x xs s) taken ∙ ap (λ (t : Said). place_step names p x xs t (measured names p.address t.deed)) is
+
+pub place-on : (names : Table) (front after : List Placed) (p : Place) (x : Numbered) (xs : List Numbered) (s : Said) (m : Measure) (q : Place)
+    → s ≡ said p x → m ≡ measured names p.address s.deed → is_last s.deed ≡ false
+    → after ≡ front ++ place_of (placed x.line p.address (emitted names p.address m.next s.deed).bytes) s → q ≡ moved p x.line s.deed m
+    → after ++ places_from names q xs ≡ front ++ places_from names p (x ∷ xs)
+place-on names front after p x xs s m q is taken on added there =
+    let own = place_at names p x s m in
+    ap (λ (ps : List Placed). ps ++ places_from names q xs) added
+    ∙ append_assoc front own (places_from names q xs)
+    ∙ ap (λ r. front ++ (own ++ places_from names r xs)) there
+    ∙ sym (ap (λ b. front ++ (own ++ last_or b [] (places_from names (moved p x.line s.deed m) xs))) on)
+    ∙ ap (λ (ps : List Placed). front ++ ps) (place_is names p x xs s m is taken)
+
+pub place-last : (names : Table) (front after : List Placed) (p : Place) (x : Numbered) (xs : List Numbered) (s : Said) (m : Measure)
+    → s ≡ said p x → m ≡ measured names p.address s.deed → is_last s.deed ≡ true
+    → after ≡ front ++ place_of (placed x.line p.address (emitted names p.address m.next s.deed).bytes) s
+    → after ≡ front ++ places_from names p (x ∷ xs)
+place-last names front after p x xs s m is taken last added =
+    let own = place_at names p x s m in
+    added ∙ ap (λ (ps : List Placed). front ++ ps) (sym (append-nil own))
+    ∙ sym (ap (λ b. front ++ (own ++ last_or b [] (places_from names (moved p x.line s.deed m) xs))) last)
+    ∙ ap (λ (ps : List Placed). front ++ ps) (place_is names p x xs s m is taken)

@@ -1,5 +1,5 @@
 -- Sizes that are counted up to 65,537.
-use Rattle.std.proofs.Common.{◌≡◌, ◌≤◌, ℕ, ◌+◌, Bool, List, ◌∷◌, Option, None, Some, min, arith, refl, ap, ◌∙◌, sym, option_map}
+use Rattle.std.proofs.Common.{◌≡◌, ◌≤◌, ℕ, ◌+◌, Bool, List, ◌∷◌, Option, None, Some, min, arith, refl, ap, option_map}
 use Rattle.cpm_asm.specs.Data.{operand_size, plus, sizes}
 
 -- a size behind another

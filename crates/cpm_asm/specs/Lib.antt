@@ -10,3 +10,4 @@ pub mod Emitting
 pub mod Places
 pub mod Passes
 pub mod Assembled
+pub mod Placing

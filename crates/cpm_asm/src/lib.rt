@@ -13,10 +13,13 @@ mod operands;
 mod pass;
 mod pieces;
 mod place;
+mod placed;
 mod statement;
 mod values;
 mod word;
 
 pub use encode::{Encoding, encoded};
 pub use error::{AsmError, AsmErrorKind};
-pub use pass::assemble;
+pub use lines::{first_line, source_text};
+pub use pass::{assemble, assemble_placed};
+pub use placed::{Assembly, Placed};

@@ -9,7 +9,7 @@ use memchr::memchr;
 const END_OF_SOURCE: u8 = 0x1A;
 
 /// A source up to the byte that ends it.
-pub(crate) fn source_text(source: &[u8]) -> &[u8]
+pub fn source_text(source: &[u8]) -> &[u8]
     ensures { result.now ≡ source_text source.now }
 {
     match memchr(END_OF_SOURCE, source) {
@@ -29,7 +29,7 @@ fn without_return(line: &[u8]) -> &[u8]
 }
 
 /// The first line of a text, and the text after it.
-pub(crate) fn first_line(text: &[u8]) -> (&[u8], &[u8])
+pub fn first_line(text: &[u8]) -> (&[u8], &[u8])
     requires { 0 < length text.now }
     ensures lines { lines text.now ≡ result.0.now ∷ lines result.1.now }
     ensures shorter { length result.0.now + length result.1.now ≤ length text.now }

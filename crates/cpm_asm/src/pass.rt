@@ -1,11 +1,12 @@
 //! The two passes.
-ghost use Rattle.std.specs.Prelude.{◌≡◌, ◌+◌, ◌<◌, ◌≤◌, ◌^◌, [], IfOk, OnOk, length, vec_items};
+ghost use Rattle.std.specs.Prelude.{◌≡◌, ◌+◌, ◌++◌, ◌<◌, ◌≤◌, ◌^◌, [], IfOk, OnOk, length};
 ghost use Rattle.cpm_expression.specs.Names.{empty_table, in_table};
 ghost use Rattle.cpm_asm.specs.Assembled.{Assembled};
 ghost use Rattle.cpm_asm.specs.Emitting.{emitted};
 ghost use Rattle.cpm_asm.specs.Measures.{measured};
 ghost use Rattle.cpm_asm.specs.Pieces.{bytes_left, left, pieces};
 ghost use Rattle.cpm_asm.specs.Places.{IsPlace, first_fault, start};
+ghost use Rattle.cpm_asm.specs.Placing.{ArePlaces, Assembles, image_of, place_of, placed, places, places_from};
 ghost use Rattle.cpm_asm.specs.Statements.{seen_statement, seen_work};
 ghost use Rattle.cpm_asm.specs.Passes.{Answers, Gives, at_end, both_passes, first_pass, is_last, laid, second_pass, table_after};
 
@@ -15,6 +16,7 @@ use crate::measure::{Measure, measured};
 use crate::nesting::blamed;
 use crate::pieces::{next_piece, pieces_of};
 use crate::place::{Place, first_fault, moved, start};
+use crate::placed::{Assembly, Placed, add_place};
 use crate::statement::{Statement, Work, statement_at};
 use cpm_expression::{Name, Names};
 use std::alloc::{AllocError, Global};
@@ -118,7 +120,7 @@ fn lay(image: &mut Vec<u8>, address: usize, bytes: &[u8]) -> Result<(), AllocErr
     Ok(())
 }
 
-/// Adds a statement's bytes at its address.
+/// Adds a statement's bytes at its address; how many there are, and what is wrong with them.
 fn lay_work(
     image: &mut Vec<u8>,
     alloc: Global,
@@ -126,46 +128,72 @@ fn lay_work(
     here: usize,
     next: usize,
     work: &Work,
-) -> Result<Doubt, AllocError>
+) -> Result<(usize, Doubt), AllocError>
     ensures bytes { OnOk result (image.new.items ≡ laid image.old.items here (emitted (in_table names.now) here next (seen_work work.now)).bytes) }
-    ensures doubt { IfOk result (λ doubt. doubt ≡ (emitted (in_table names.now) here next (seen_work work.now)).doubt) }
+    ensures count { IfOk result (λ p. p.0 ≡ length (emitted (in_table names.now) here next (seen_work work.now)).bytes) }
+    ensures doubt { IfOk result (λ p. p.1 ≡ (emitted (in_table names.now) here next (seen_work work.now)).doubt) }
 {
     let mut bytes: Vec<u8> = Vec::new(alloc);
     let doubt = add_work(&mut bytes, alloc, names, here, next, work)?;
     lay(image, here, &bytes)?;
-    Ok(doubt)
+    Ok((bytes.len(), doubt))
 }
 
-/// Adds a statement's bytes at its place; what it takes, and what is wrong with them.
+/// Adds a statement at its place; what it takes, and what is wrong with its bytes.
 fn lay_statement(
-    image: &mut Vec<u8>,
+    assembly: &mut Assembly,
     alloc: Global,
     names: &Names,
     place: Place,
-    work: &Work,
+    line: u64,
+    statement: &Statement,
 ) -> Result<(Measure, Doubt), AllocError>
     requires { IsPlace place }
-    ensures measure { IfOk result (λ p. p.0 ≡ measured (in_table names.now) place.address (seen_work work.now)) }
+    ensures measure { IfOk result (λ p. p.0 ≡ measured (in_table names.now) place.address (seen_work statement.now.work)) }
     ensures within { IfOk result (λ p. p.0.next ≤ 65536) }
-    ensures bytes { IfOk result (λ p. image.new.items ≡ laid image.old.items place.address (emitted (in_table names.now) place.address p.0.next (seen_work work.now)).bytes) }
-    ensures doubt { IfOk result (λ p. p.1 ≡ (emitted (in_table names.now) place.address p.0.next (seen_work work.now)).doubt) }
+    ensures bytes { IfOk result (λ p. assembly.new.image.items ≡ laid assembly.old.image.items place.address (emitted (in_table names.now) place.address p.0.next (seen_work statement.now.work)).bytes) }
+    ensures placed { IfOk result (λ p. assembly.new.places.items ≡ assembly.old.places.items ++ place_of (placed line place.address (emitted (in_table names.now) place.address p.0.next (seen_work statement.now.work)).bytes) (seen_statement statement.now)) }
+    ensures doubt { IfOk result (λ p. p.1 ≡ (emitted (in_table names.now) place.address p.0.next (seen_work statement.now.work)).doubt) }
 {
-    let measure = measured(alloc, names, place.address, work)?;
-    let doubt = lay_work(image, alloc, names, place.address, measure.next, work)?;
+    let measure = measured(alloc, names, place.address, &statement.work)?;
+    let (length, doubt) = lay_work(
+        &mut assembly.image,
+        alloc,
+        names,
+        place.address,
+        measure.next,
+        &statement.work,
+    )?;
+    let placed = Placed {
+        line,
+        address: place.address,
+        length,
+    };
+    add_place(&mut assembly.places, placed, statement)?;
     Ok((measure, doubt))
 }
 
-/// The image.
-fn second_pass(alloc: Global, names: &Names, source: &[u8]) -> Result<Vec<u8>, Stop>
-    ensures { Gives vec_items result (second_pass (in_table names.now) [] start (pieces source.now)) }
+/// The image and the places.
+fn second_pass(alloc: Global, names: &Names, source: &[u8]) -> Result<Assembly, Stop>
+    ensures image { Gives image_of result (second_pass (in_table names.now) [] start (pieces source.now)) }
+    ensures places { IfOk result (λ a. a.places.items ≡ places_from (in_table names.now) start (pieces source.now)) }
 {
-    let mut image: Vec<u8> = Vec::new(alloc);
+    let mut assembly = Assembly {
+        image: Vec::new(alloc),
+        places: Vec::new(alloc),
+    };
     let mut place = start();
     let mut pieces = pieces_of(source);
     while let Some((piece, behind)) = next_piece(&pieces) {
         let statement = statement_at(place.skipped > 0, piece.text);
-        let Ok((measure, doubt)) = lay_statement(&mut image, alloc, names, place, &statement.work)
-        else {
+        let Ok((measure, doubt)) = lay_statement(
+            &mut assembly,
+            alloc,
+            names,
+            place,
+            piece.line,
+            &statement,
+        ) else {
             return Err(Stop::OutOfMemory(piece.line));
         };
         if let Some(kind) = second_fault(doubt) {
@@ -175,22 +203,42 @@ fn second_pass(alloc: Global, names: &Names, source: &[u8]) -> Result<Vec<u8>, S
             }));
         }
         if is_last(&statement.work) {
-            return Ok(image);
+            return Ok(assembly);
         }
         place = moved(place, piece.line, &statement.work, measure);
         pieces = behind;
     }
-    Ok(image)
+    Ok(assembly)
 }
 
-/// The image, or why there is none.
-#[tactic(auto, unfolding(crate::specs::Passes::both_passes))]
-fn both_passes(alloc: Global, source: &[u8]) -> Result<Vec<u8>, Stop>
-    ensures { Gives vec_items result (both_passes source.now) }
+/// The image and the places, or why there are none.
+#[tactic(auto, unfolding(crate::specs::Passes::both_passes, crate::specs::Placing::places))]
+fn both_passes(alloc: Global, source: &[u8]) -> Result<Assembly, Stop>
+    ensures image { Gives image_of result (both_passes source.now) }
+    ensures places { IfOk result (λ a. a.places.items ≡ places source.now) }
 {
     match first_pass(alloc, source) {
         Ok(names) => second_pass(alloc, &names, source),
         Err(stop) => Err(stop),
+    }
+}
+
+/// The image of a source in 8080 assembly language, as `assemble` gives it, and where its statements stand in it: those that
+/// have bytes, DS, and labels, ORG and EQU, which have none.
+///
+/// It is refused as by `assemble`.
+pub fn assemble_placed(alloc: Global, source: &[u8]) -> Result<Assembly, AsmError>
+    ensures exact { Assembles result (both_passes source.now) }
+    ensures assembled { IfOk result (λ a. Assembled source.now a.image.items) }
+    ensures places { IfOk result (λ a. ArePlaces source.now a.image.items a.places.items) }
+{
+    match both_passes(alloc, source) {
+        Ok(assembly) => Ok(assembly),
+        Err(Stop::Refused(refusal)) => Err(refusal),
+        Err(Stop::OutOfMemory(line)) => Err(AsmError {
+            line,
+            kind: AsmErrorKind::OutOfMemory,
+        }),
     }
 }
 
@@ -204,12 +252,8 @@ pub fn assemble(alloc: Global, source: &[u8]) -> Result<Vec<u8>, AsmError>
     ensures exact { Answers result (both_passes source.now) }
     ensures assembled { IfOk result (λ image. Assembled source.now image.items) }
 {
-    match both_passes(alloc, source) {
-        Ok(image) => Ok(image),
-        Err(Stop::Refused(refusal)) => Err(refusal),
-        Err(Stop::OutOfMemory(line)) => Err(AsmError {
-            line,
-            kind: AsmErrorKind::OutOfMemory,
-        }),
+    match assemble_placed(alloc, source) {
+        Ok(assembly) => Ok(assembly.image),
+        Err(error) => Err(error),
     }
 }

@@ -25,8 +25,8 @@ user_within (Some given) task has = user_of given task has
 pub users_of : (words : List Text) (task : Task) → IsTaskOf words task → HasUsers task
 users_of words (Disk task) has = user_within (subcommand_of disk_app (drop 1 words)) task has.1
 users_of words (Com task) has = tt
-users_of words (Asm source out) has = tt
+users_of words (Asm source out listing) has = tt
 users_of words (Listed file cpu) has = tt
 users_of words (Check image) has = tt
 users_of words (Run task) has = tt
-users_of words (Debug file cpu) has = tt
+users_of words (Debug file cpu listing) has = tt

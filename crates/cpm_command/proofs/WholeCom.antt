@@ -58,7 +58,7 @@ repeated_words name = record { action = inr (inr refl); values = inl refl }
 
 com_plain : IsPlain com_built.rules
 com_plain = plain_by_ids com_built.rules refl
-    (operand_word _ _, (tail_words, (flag_word _, (steps_word, (value_word _, (repeated_words _, (repeated_words _, (flag_word _, (value_word _, (flag_word _, tt))))))))))
+    (operand_word _ _, (tail_words, (flag_word _, (steps_word, (value_word _, (repeated_words _, (repeated_words _, (flag_word _, (value_word _, (flag_word _, (flag_word _, tt)))))))))))
 
 com_no_shorts : HasNoShorts com_built.rules
 com_no_shorts x = refl
@@ -99,6 +99,9 @@ com_whole words e =
           (default_text com_built com_plain com_no_shorts words e (flag_rule (codes "keyboard")) (inr (inr (inr (inr (inr (inr (inr (inl refl)))))))) tt);
       progress = flag_in (codes "progress") rows
           (default_text com_built com_plain com_no_shorts words e (flag_rule (codes "progress")) (inr (inr (inr (inr (inr (inr (inr (inr (inr (inl refl)))))))))) tt);
+      idle = flag_in (codes "stop-idle") rows
+          (default_text com_built com_plain com_no_shorts words e (flag_rule (codes "stop-idle"))
+          (inr (inr (inr (inr (inr (inr (inr (inr (inr (inr (inl refl))))))))))) tt);
     }
 
 -- ---- the other subcommands
@@ -120,7 +123,7 @@ list_whole words e =
 
 asm_plain : IsPlain asm_built.rules
 asm_plain = plain_by_ids asm_built.rules refl
-    (operand_word _ _, (operand_word _ _, tt))
+    (operand_word _ _, (operand_word _ _, (value_word _, tt)))
 
 asm_no_shorts : HasNoShorts asm_built.rules
 asm_no_shorts x = refl
@@ -155,7 +158,8 @@ check_whole words e =
     record { image = given_first check_built check_plain check_no_shorts words e image_rule (inl refl) image }
 
 run_plain : IsPlain run_built.rules
-run_plain = plain_by_ids run_built.rules refl (operand_word _ _, (value_word _, (value_word _, (flag_word _, tt))))
+run_plain = plain_by_ids run_built.rules refl
+    (operand_word _ _, (value_word _, (value_word _, (flag_word _, (flag_word _, (value_word _, tt))))))
 
 run_no_shorts : HasNoShorts run_built.rules
 run_no_shorts x = refl
@@ -171,10 +175,12 @@ run_whole words e =
       config = given_first run_built run_plain run_no_shorts words e config_rule (inl refl) config;
       progress = flag_in (codes "progress") rows
           (default_text run_built run_plain run_no_shorts words e (flag_rule (codes "progress")) (inr (inr (inr (inl refl)))) tt);
+      idle = flag_in (codes "stop-idle") rows
+          (default_text run_built run_plain run_no_shorts words e (flag_rule (codes "stop-idle")) (inr (inr (inr (inr (inl refl))))) tt);
     }
 
 debug_plain : IsPlain debug_built.rules
-debug_plain = plain_by_ids debug_built.rules refl (operand_word _ _, (flag_word _, tt))
+debug_plain = plain_by_ids debug_built.rules refl (operand_word _ _, (flag_word _, (value_word _, tt)))
 
 debug_no_shorts : HasNoShorts debug_built.rules
 debug_no_shorts x = refl

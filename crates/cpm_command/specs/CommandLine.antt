@@ -47,15 +47,17 @@ abbrev pub program_app : App
 program_app = with_rule (with_rule (with_rule (with_rule (with_rule (new_app (codes "com"))
     (operand (codes "file"))) (words_left_out (codes "tail"))) (flag (codes "z80"))) steps_option) (value_option (codes "keys"))
 
--- own: `com`, with `[--disk IMAGE].. [--out-disk IMAGE].. [--keyboard] [--record SCRIPT] [--progress]` behind these
+-- own: `com`, with `[--disk IMAGE].. [--out-disk IMAGE].. [--keyboard] [--record SCRIPT] [--progress] [--stop-idle]`
+-- behind these
 abbrev pub com_app : App
-com_app = with_rule (with_rule (with_rule (with_rule (with_rule program_app
+com_app = with_rule (with_rule (with_rule (with_rule (with_rule (with_rule program_app
     (repeated_option (codes "disk"))) (repeated_option (codes "out-disk"))) (flag (codes "keyboard"))) (value_option (codes "record")))
-    (flag (codes "progress"))
+    (flag (codes "progress"))) (flag (codes "stop-idle"))
 
--- `asm SOURCE OUT`
+-- own: `asm SOURCE OUT [--list FILE]`
 abbrev pub asm_app : App
-asm_app = with_rule (with_rule (new_app (codes "asm")) (operand (codes "source"))) (operand (codes "out"))
+asm_app = with_rule (with_rule (with_rule (new_app (codes "asm"))
+    (operand (codes "source"))) (operand (codes "out"))) (value_option (codes "list"))
 
 -- `list FILE [--z80]`
 abbrev pub list_app : App
@@ -65,14 +67,16 @@ list_app = with_rule (with_rule (new_app (codes "list")) (operand (codes "file")
 abbrev pub check_app : App
 check_app = with_rule (new_app (codes "check")) (operand (codes "image"))
 
--- own: `run CONFIG [--keyboard NAME] [--record SCRIPT] [--progress]`
+-- own: `run CONFIG [--keyboard NAME] [--record SCRIPT] [--progress] [--stop-idle] [--record-all FOLDER]`
 abbrev pub run_app : App
-run_app = with_rule (with_rule (with_rule (with_rule (new_app (codes "run"))
-    (operand (codes "config"))) (value_option (codes "keyboard"))) (value_option (codes "record"))) (flag (codes "progress"))
+run_app = with_rule (with_rule (with_rule (with_rule (with_rule (with_rule (new_app (codes "run"))
+    (operand (codes "config"))) (value_option (codes "keyboard"))) (value_option (codes "record"))) (flag (codes "progress")))
+    (flag (codes "stop-idle"))) (value_option (codes "record-all"))
 
--- `debug FILE [--z80]`
+-- own: `debug FILE [--z80] [--list FILE]`
 abbrev pub debug_app : App
-debug_app = with_rule (with_rule (new_app (codes "debug")) (operand (codes "file"))) (flag (codes "z80"))
+debug_app = with_rule (with_rule (with_rule (new_app (codes "debug"))
+    (operand (codes "file"))) (flag (codes "z80"))) (value_option (codes "list"))
 
 -- a command without its subcommands: it wants one, and adds no help of its own
 abbrev pub top_app : List ℕ → App
@@ -135,9 +139,11 @@ HasEntriesOf given (Com task) =
     × (one_of (codes "keyboard") given.1 ≡ Some (bool_text task.is_live))
     × (first_of (codes "record") given.1 ≡ option_map (λ t. t.now) task.«record»)
     × (one_of (codes "progress") given.1 ≡ Some (bool_text task.has_progress))
-HasEntriesOf given (Asm source out) =
+    × (one_of (codes "stop-idle") given.1 ≡ Some (bool_text task.stops_idle))
+HasEntriesOf given (Asm source out list) =
     (given.0 ≡ codes "asm") × (first_of (codes "source") given.1 ≡ Some source.now)
     × (first_of (codes "out") given.1 ≡ Some out.now)
+    × (first_of (codes "list") given.1 ≡ option_map (λ t. t.now) list)
 HasEntriesOf given (Listing file cpu) =
     (given.0 ≡ codes "list") × (first_of (codes "file") given.1 ≡ Some file.now)
     × (one_of (codes "z80") given.1 ≡ Some (flag_text cpu))
@@ -148,9 +154,12 @@ HasEntriesOf given (Run task) =
     × (first_of (codes "keyboard") given.1 ≡ option_map (λ t. t.now) task.keyboard)
     × (first_of (codes "record") given.1 ≡ option_map (λ t. t.now) task.«record»)
     × (one_of (codes "progress") given.1 ≡ Some (bool_text task.has_progress))
-HasEntriesOf given (Debug file cpu) =
+    × (one_of (codes "stop-idle") given.1 ≡ Some (bool_text task.stops_idle))
+    × (first_of (codes "record-all") given.1 ≡ option_map (λ t. t.now) task.scripts)
+HasEntriesOf given (Debug file cpu list) =
     (given.0 ≡ codes "debug") × (first_of (codes "file") given.1 ≡ Some file.now)
     × (one_of (codes "z80") given.1 ≡ Some (flag_text cpu))
+    × (first_of (codes "list") given.1 ≡ option_map (λ t. t.now) list)
 HasEntriesOf given (Disk task) = ⊥
 
 -- ---- entries that make a task
@@ -183,6 +192,7 @@ pub record IsWholeCom (rows : List Row) : Type 0 where
   pub steps : IsCountIfAny (one_of (codes "steps") rows)
   pub keyboard : IsFlag (one_of (codes "keyboard") rows)
   pub progress : IsFlag (one_of (codes "progress") rows)
+  pub idle : IsFlag (one_of (codes "stop-idle") rows)
 
 -- the entries of `asm` are whole
 pub record IsWholeAsm (rows : List Row) : Type 0 where
@@ -202,6 +212,7 @@ pub record IsWholeCheck (rows : List Row) : Type 0 where
 pub record IsWholeRun (rows : List Row) : Type 0 where
   pub config : IsSome (first_of (codes "config") rows)
   pub progress : IsFlag (one_of (codes "progress") rows)
+  pub idle : IsFlag (one_of (codes "stop-idle") rows)
 
 -- the entries of `debug` are whole
 pub record IsWholeDebug (rows : List Row) : Type 0 where

@@ -108,7 +108,7 @@ fn program_command<'a>(alloc: Global) -> Result<Command<'a>, AllocError>
 }
 
 /// `com FILE [TAIL..] [--z80] [--steps N] [--keys SCRIPT] [--disk IMAGE].. [--out-disk IMAGE]..
-/// [--keyboard] [--record SCRIPT] [--progress]`
+/// [--keyboard] [--record SCRIPT] [--progress] [--stop-idle]`
 fn com_command<'a>(alloc: Global) -> Result<Command<'a>, AllocError>
     ensures { IfOk result (IsCommandOf com_app) }
 {
@@ -117,10 +117,11 @@ fn com_command<'a>(alloc: Global) -> Result<Command<'a>, AllocError>
     let with_outs = with_argument(with_disks, repeated_argument(alloc, "out-disk", "IMAGE"))?;
     let with_keyboard = with_argument(with_outs, flag_argument(alloc, "keyboard"))?;
     let with_record = with_argument(with_keyboard, value_argument(alloc, "record", "SCRIPT"))?;
-    with_argument(with_record, flag_argument(alloc, "progress"))
+    let with_progress = with_argument(with_record, flag_argument(alloc, "progress"))?;
+    with_argument(with_progress, flag_argument(alloc, "stop-idle"))
 }
 
-/// `asm SOURCE OUT`
+/// `asm SOURCE OUT [--list FILE]`
 fn asm_command<'a>(alloc: Global) -> Result<Command<'a>, AllocError>
     ensures { IfOk result (IsCommandOf asm_app) }
 {
@@ -128,7 +129,8 @@ fn asm_command<'a>(alloc: Global) -> Result<Command<'a>, AllocError>
         named(alloc, "asm"),
         required_word(alloc, "source", "SOURCE"),
     )?;
-    with_argument(with_source, required_word(alloc, "out", "OUT"))
+    let with_out = with_argument(with_source, required_word(alloc, "out", "OUT"))?;
+    with_argument(with_out, value_argument(alloc, "list", "FILE"))
 }
 
 /// `list FILE [--z80]`
@@ -149,7 +151,7 @@ fn check_command<'a>(alloc: Global) -> Result<Command<'a>, AllocError>
     )
 }
 
-/// `run CONFIG [--keyboard NAME] [--record SCRIPT] [--progress]`
+/// `run CONFIG [--keyboard NAME] [--record SCRIPT] [--progress] [--stop-idle] [--record-all FOLDER]`
 fn run_command<'a>(alloc: Global) -> Result<Command<'a>, AllocError>
     ensures { IfOk result (IsCommandOf run_app) }
 {
@@ -159,15 +161,18 @@ fn run_command<'a>(alloc: Global) -> Result<Command<'a>, AllocError>
     )?;
     let with_keyboard = with_argument(with_config, value_argument(alloc, "keyboard", "NAME"))?;
     let with_record = with_argument(with_keyboard, value_argument(alloc, "record", "SCRIPT"))?;
-    with_argument(with_record, flag_argument(alloc, "progress"))
+    let with_progress = with_argument(with_record, flag_argument(alloc, "progress"))?;
+    let with_idle = with_argument(with_progress, flag_argument(alloc, "stop-idle"))?;
+    with_argument(with_idle, value_argument(alloc, "record-all", "FOLDER"))
 }
 
-/// `debug FILE [--z80]`
+/// `debug FILE [--z80] [--list FILE]`
 fn debug_command<'a>(alloc: Global) -> Result<Command<'a>, AllocError>
     ensures { IfOk result (IsCommandOf debug_app) }
 {
     let with_file = with_argument(named(alloc, "debug"), required_word(alloc, "file", "FILE"))?;
-    with_argument(with_file, flag_argument(alloc, "z80"))
+    let with_flag = with_argument(with_file, flag_argument(alloc, "z80"))?;
+    with_argument(with_flag, value_argument(alloc, "list", "FILE"))
 }
 
 /// The program's command, with its subcommands but for `disk`.

@@ -44,9 +44,12 @@ pub enum Fault {
     /// An option was given twice.
     #[error("the argument '{0}' was given twice; try 'cpmhost --help'")]
     GivenTwice(Word),
-    /// Keys are to be recorded, and none are typed.
-    #[error("'--record' takes the keys of '--keyboard'; give both, or neither; try 'cpmhost --help'")]
+    /// The keys of a program are to be recorded, and come from nowhere.
+    #[error("'--record' takes the keys of '--keyboard' or '--keys'; give one of these with it; try 'cpmhost --help'")]
     RecordAlone,
+    /// The keys of a session are to be recorded, and none are typed.
+    #[error("'--record' takes the keys of '--keyboard'; give both, or neither; try 'cpmhost --help'")]
+    RecordUntyped,
     /// The keys are to come from a script, and to be typed.
     #[error("'--keys' and '--keyboard' both give the keys; give one of them; try 'cpmhost --help'")]
     TwoScripts,

@@ -12,7 +12,7 @@ const DRIVES: usize = 4;
 fn com_fault(task: &ComTask<'_>) -> Option<Fault>
     ensures { result ≡ fault_of_com task.now }
 {
-    if task.record.is_some() && !task.is_live {
+    if task.record.is_some() && !task.is_live && task.keys.is_none() {
         Some(Fault::RecordAlone)
     } else if task.keys.is_some() && task.is_live {
         Some(Fault::TwoScripts)
@@ -32,7 +32,7 @@ fn run_fault(task: &RunTask<'_>) -> Option<Fault>
     ensures { result ≡ fault_of_run task.now }
 {
     if task.record.is_some() && task.keyboard.is_none() {
-        Some(Fault::RecordAlone)
+        Some(Fault::RecordUntyped)
     } else if task.has_progress && task.keyboard.is_some() {
         Some(Fault::ProgressAtKeyboard)
     } else {

@@ -34,6 +34,7 @@ fn com_task<'a>(alloc: Global, matches: &ArgMatches<'a>) -> Result<Task<'a>, All
         is_live: flag_of(matches, "keyboard"),
         record: text_if_any(matches, "record"),
         has_progress: flag_of(matches, "progress"),
+        stops_idle: flag_of(matches, "stop-idle"),
     }))
 }
 
@@ -45,6 +46,7 @@ fn asm_task<'a>(matches: &ArgMatches<'a>) -> Task<'a>
     Task::Asm {
         source: text_of(matches, "source"),
         out: text_of(matches, "out"),
+        list: text_if_any(matches, "list"),
     }
 }
 
@@ -80,6 +82,8 @@ fn run_task<'a>(matches: &ArgMatches<'a>) -> Task<'a>
         keyboard: text_if_any(matches, "keyboard"),
         record: text_if_any(matches, "record"),
         has_progress: flag_of(matches, "progress"),
+        stops_idle: flag_of(matches, "stop-idle"),
+        scripts: text_if_any(matches, "record-all"),
     })
 }
 
@@ -92,6 +96,7 @@ fn debug_task<'a>(matches: &ArgMatches<'a>) -> Task<'a>
     Task::Debug {
         file: text_of(matches, "file"),
         cpu,
+        list: text_if_any(matches, "list"),
     }
 }
 

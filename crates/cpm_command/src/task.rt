@@ -7,26 +7,42 @@ use cpm_flags::Cpu;
 pub enum Task<'a> {
     /// `com ..`: run a program.
     Com(ComTask<'a>),
-    /// `asm SOURCE OUT`: assemble SOURCE, and write its image to OUT.
-    Asm { source: &'a str, out: &'a str },
+    /// `asm SOURCE OUT [--list FILE]`: assemble SOURCE, and write its image to OUT. `list` is the file that
+    /// a listing is written to.
+    Asm {
+        source: &'a str,
+        out: &'a str,
+        list: Option<&'a str>,
+    },
     /// `list FILE [--z80]`: list the program in FILE as instructions of that processor.
-    List { file: &'a str, cpu: Cpu },
+    List {
+        file: &'a str,
+        cpu: Cpu,
+    },
     /// `check IMAGE`: tell whether the directory of the drive in IMAGE agrees with itself.
-    Check { image: &'a str },
+    Check {
+        image: &'a str,
+    },
     /// `run ..`: run the sessions of a configuration.
     Run(RunTask<'a>),
-    /// `debug FILE [--z80]`: run the program in FILE on that processor, as lines of standard input say.
-    Debug { file: &'a str, cpu: Cpu },
+    /// `debug FILE [--z80] [--list FILE]`: run the program in FILE on that processor, as lines of standard
+    /// input say. `list` is a listing as `asm` writes it, which is read.
+    Debug {
+        file: &'a str,
+        cpu: Cpu,
+        list: Option<&'a str>,
+    },
     /// `disk ..`: make an image of a disk, or do something with the files in one.
     Disk(DiskTask<'a>),
 }
 
 /// `com FILE [TAIL..] [--z80] [--steps N] [--keys SCRIPT] [--disk IMAGE].. [--out-disk IMAGE]..
-/// [--keyboard] [--record SCRIPT] [--progress]`: run the program in FILE on that processor for at most
-/// `steps` steps, with the words of `tail` behind its name, and with the keys of SCRIPT or, where it is
-/// live, of standard input. `drives` are the images of the drives from A on, and `outs` the files that
-/// these are written to; `record` is the script that live keys are written to. With `has_progress` it is
-/// told how much of the steps is done.
+/// [--keyboard] [--record SCRIPT] [--progress] [--stop-idle]`: run the program in FILE on that processor
+/// for at most `steps` steps, with the words of `tail` behind its name, and with the keys of SCRIPT or,
+/// where it is live, of standard input. `drives` are the images of the drives from A on, and `outs` the
+/// files that these are written to; `record` is the script that its keys are written to, where it is live
+/// or has a script. With `has_progress` it is told how much of the steps is done. With `stops_idle` it
+/// ends where the program waits for a key and no key of the script will come.
 #[derive(Debug, PartialEq, Eq, Drop)]
 pub struct ComTask<'a> {
     pub file: &'a str,
@@ -39,17 +55,22 @@ pub struct ComTask<'a> {
     pub is_live: bool,
     pub record: Option<&'a str>,
     pub has_progress: bool,
+    pub stops_idle: bool,
 }
 
-/// `run CONFIG [--keyboard NAME] [--record SCRIPT] [--progress]`: run the sessions of the configuration
-/// in CONFIG. `keyboard` is the session that gets the keys of standard input, and `record` the script
-/// that these are written to. With `has_progress` it is told how much of the steps is done.
+/// `run CONFIG [--keyboard NAME] [--record SCRIPT] [--progress] [--stop-idle] [--record-all FOLDER]`: run
+/// the sessions of the configuration in CONFIG. `keyboard` is the session that gets the keys of standard
+/// input, and `record` the script that these are written to. With `has_progress` it is told how much of
+/// the steps is done. With `stops_idle` a session ends where it waits for a key and no key of its script
+/// will come. `scripts` is the folder that the keys of each session are written to, as a script NAME.keys.
 #[derive(Debug, PartialEq, Eq, Drop)]
 pub struct RunTask<'a> {
     pub config: &'a str,
     pub keyboard: Option<&'a str>,
     pub record: Option<&'a str>,
     pub has_progress: bool,
+    pub stops_idle: bool,
+    pub scripts: Option<&'a str>,
 }
 
 /// A command of `disk` with its words. The files are those of `user`, from 0 to 15.

@@ -10,15 +10,16 @@ cpmhost runs CP/M 2.2 programs for the 8080 and the Z80 processor.
 
 Usage:
   cpmhost run CONFIG [--keyboard NAME] [--record SCRIPT] [--progress]
+          [--stop-idle] [--record-all FOLDER]
                    run the sessions of the configuration in CONFIG by turns,
                    write their files, and print how each session ended
   cpmhost com FILE [TAIL..] [--z80] [--steps N] [--keys SCRIPT]
           [--disk IMAGE].. [--out-disk IMAGE].. [--keyboard] [--record SCRIPT]
-          [--progress]
+          [--progress] [--stop-idle]
                    run the CP/M program in FILE, such as a .COM file, with the
                    words TAIL.. behind its name, and print what it writes to
                    its console
-  cpmhost asm SOURCE OUT
+  cpmhost asm SOURCE OUT [--list FILE]
                    assemble the 8080 source in SOURCE and write the program,
                    which begins at 0100h, to the file OUT
   cpmhost list FILE [--z80]
@@ -26,7 +27,7 @@ Usage:
   cpmhost check IMAGE
                    print 'ok' if no two files in the image IMAGE of a drive
                    share a block and each block can be a file's
-  cpmhost debug FILE [--z80]
+  cpmhost debug FILE [--z80] [--list FILE]
                    run the program in FILE as the lines of standard input say
   cpmhost disk new IMAGE [--large]
                    write the image of a blank disk to the file IMAGE
@@ -67,16 +68,27 @@ Words and options of com, and --z80 of debug and list:
   --keyboard  take the keys from standard input as they are typed; '^]', which
               is Control and ], ends it
   --record SCRIPT
-              write the keys that --keyboard takes to the file SCRIPT, which
-              --keys takes
+              write the keys that come by --keyboard or --keys to the file
+              SCRIPT, which --keys takes
   --progress  tell on standard error how much of the steps is done
+  --stop-idle end where the program waits for a key and no key of the script
+              will come
 
 Options of run:
   --keyboard NAME
               take the keys of the session NAME from standard input, as for com
   --record SCRIPT
               write these keys to the file SCRIPT, as for com
+  --record-all FOLDER
+              write the keys of each session NAME to the script NAME.keys in
+              the folder FOLDER
   --progress  tell on standard error how much of the steps is done
+  --stop-idle end a session where it waits for a key and no key of its script
+              will come
+
+Option of asm and debug:
+  --list FILE write a listing of the source to FILE, or for debug read such a
+              listing of the program from FILE
 
 Options of disk:
   --large     make a large disk, of 2105344 bytes in place of 256256
@@ -106,7 +118,8 @@ Examples:
   cpmhost com turbo.com --z80 --keys turbo.keys
   cpmhost com pip.com --disk work.img --out-disk work.img b.txt=a.txt
   cpmhost com turbo.com --z80 --disk turbo.img --keyboard --record turbo.keys
-  cpmhost asm hello.asm hello.com
+  cpmhost asm hello.asm hello.com --list hello.lst
+  cpmhost debug hello.com --list hello.lst
   cpmhost list hello.com
   cpmhost check work.img
   cpmhost disk put work.img life.com notes.txt=NOTES.DOC --user 3
@@ -117,7 +130,7 @@ program counter then stood, as in 'end Exited count 7 pc E406':
   Exited    the program returned to the system
   Halted    it executed HLT
   Illegal   it came to an opcode that the processor does not have
-  Running   it was cut off by --steps
+  Running   it was still running after --steps, or waiting for a key
 
 For run, a line on standard output says for each session its name, how it
 ended, after how many steps, and how many bytes its console got. Beside the

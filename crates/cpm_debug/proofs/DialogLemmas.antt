@@ -1,6 +1,6 @@
 -- A dialog, line by line.
-use Rattle.std.proofs.Common.{◌≡◌, ◌≢◌, ◌∙◌, ◌++◌, ◌≤◌, ◌+◌, ◌-◌, ap, sym, subst, refl, ℕ, zero, suc, Bool, true, false, List, [], ◌∷◌, Option, Some, None, IfSome, Result, Ok, Err, length, take, append-nil, append_assoc, option_map}
-use Rattle.std.specs.Prelude.{⊤, OnOk, OnErr, IfErr, if◌then◌else◌}
+use Rattle.std.proofs.Common.{◌≡◌, ◌≢◌, ◌∙◌, ◌++◌, ◌≤◌, ap, sym, subst, refl, ℕ, suc, true, false, List, [], ◌∷◌, Option, Some, None, IfSome, Result, Ok, Err, length, take, append-nil, append_assoc, option_map}
+use Rattle.std.specs.Prelude.{⊤, OnOk, IfErr, if◌then◌else◌}
 use Rattle.std.proofs.Math.Seq.{take-nil}
 use Rattle.std.proofs.KnownBytes.{Appends-nil, Appends-trans}
 use Rattle.std.specs.Io.KnownBytes.{Appends}
@@ -8,7 +8,7 @@ use Rattle.cpm_flags.specs.declared.regs.Cpu.{Cpu}
 use Rattle.cpm_geom.specs.Disk.{Disk}
 use Rattle.cpm_slots.specs.MachineState.{MachineState}
 use Rattle.cpm_debug.specs.Debug.{IsCutShort, IsDebugRefusal, IsFailure, IsHeld, IsReadFailure, IsUnanswered, debugged, system_drive}
-use Rattle.cpm_debug.specs.Dialog.{Reply, answer, answer_to, dialog, is_quit, pressed, reply, unknown_line}
+use Rattle.cpm_debug.specs.Dialog.{answer, answer_to, dialog, is_quit, pressed, reply, unknown_line}
 use Rattle.cpm_debug.specs.Hearing.{Hears, heard, lines_within}
 use Rattle.cpm_debug.specs.Orders.{Request, press_of, request_of}
 use Rattle.cpm_debug.specs.declared.error.DebugError.{DebugError}
@@ -20,23 +20,23 @@ on_ok (Ok x) p = p
 on_ok (Err e) p = tt
 
 -- the answer to keys
-pub answer_press : (system : Disk) (cpu : Cpu) (o : Option (List ℕ)) (s : MachineState)
-    → answer system cpu (press_of o) s ≡ reply (if (pressed (press_of o) s).accepted then [] else unknown_line) (pressed (press_of o) s).state
+pub answer_press : (system : Disk) (cpu : Cpu) (listing : List ℕ) (o : Option (List ℕ)) (s : MachineState)
+    → answer system cpu listing (press_of o) s ≡ reply (if (pressed (press_of o) s).accepted then [] else unknown_line) (pressed (press_of o) s).state
 unfolding answer
-answer_press system cpu None s = refl
-answer_press system cpu (Some []) s = refl
-answer_press system cpu (Some (k ∷ ks)) s = refl
+answer_press system cpu listing None s = refl
+answer_press system cpu listing (Some []) s = refl
+answer_press system cpu listing (Some (k ∷ ks)) s = refl
 
 -- ---- the first line of a dialog
 
-first_answer : (system : Disk) (cpu : Cpu) (line : List ℕ) (more : List (List ℕ)) (s : MachineState) → is_quit (request_of line) ≡ false
-    → dialog system cpu (line ∷ more) s ≡ (answer_to system cpu line s).text ++ dialog system cpu more (answer_to system cpu line s).state
-first_answer system cpu line more s goes_on =
-    ap (λ q. if q then [] else (answer_to system cpu line s).text ++ dialog system cpu more (answer_to system cpu line s).state) goes_on
+first_answer : (system : Disk) (cpu : Cpu) (listing line : List ℕ) (more : List (List ℕ)) (s : MachineState) → is_quit (request_of line) ≡ false
+    → dialog system cpu listing (line ∷ more) s ≡ (answer_to system cpu listing line s).text ++ dialog system cpu listing more (answer_to system cpu listing line s).state
+first_answer system cpu listing line more s goes_on =
+    ap (λ q. if q then [] else (answer_to system cpu listing line s).text ++ dialog system cpu listing more (answer_to system cpu listing line s).state) goes_on
 
-quit_first : (system : Disk) (cpu : Cpu) (line : List ℕ) (more : List (List ℕ)) (s : MachineState) → is_quit (request_of line) ≡ true → dialog system cpu (line ∷ more) s ≡ []
-quit_first system cpu line more s ends =
-    ap (λ q. if q then [] else (answer_to system cpu line s).text ++ dialog system cpu more (answer_to system cpu line s).state) ends
+quit_first : (system : Disk) (cpu : Cpu) (listing line : List ℕ) (more : List (List ℕ)) (s : MachineState) → is_quit (request_of line) ≡ true → dialog system cpu listing (line ∷ more) s ≡ []
+quit_first system cpu listing line more s ends =
+    ap (λ q. if q then [] else (answer_to system cpu listing line s).text ++ dialog system cpu listing more (answer_to system cpu listing line s).state) ends
 
 -- ---- which lines were heard
 
@@ -85,110 +85,110 @@ with_line (Some text) (Some now) left bytes lines line follows = sym (append_ass
 -- ---- a dialog that goes on
 
 -- A dialog that was held so far: some lines were answered, and what is answered to more follows behind.
-pub record IsSoFar (system : Disk) (cpu : Cpu) (start now : MachineState) (known rest before after_it : Option (List ℕ)) (left room : ℕ) : Type 0 where
+pub record IsSoFar (system : Disk) (cpu : Cpu) (listing : List ℕ) (start now : MachineState) (known rest before after_it : Option (List ℕ)) (left room : ℕ) : Type 0 where
   pub lines : List (List ℕ)
   pub follows : Follows known rest left room lines
-  pub written : Appends before after_it (dialog system cpu lines start)
-  pub goes : (more : List (List ℕ)) → dialog system cpu (lines ++ more) start ≡ dialog system cpu lines start ++ dialog system cpu more now
+  pub written : Appends before after_it (dialog system cpu listing lines start)
+  pub goes : (more : List (List ℕ)) → dialog system cpu listing (lines ++ more) start ≡ dialog system cpu listing lines start ++ dialog system cpu listing more now
 
 follows_none : (known : Option (List ℕ)) → Follows known known 1000000 16777216 []
 follows_none None = tt
 follows_none (Some text) = refl
 
-pub so_far_none : (system : Disk) (cpu : Cpu) (start : MachineState) (known before : Option (List ℕ)) → IsSoFar system cpu start start known known before before 1000000 16777216
-so_far_none system cpu start known before = record { lines = []; follows = follows_none known; written = Appends-nil before; goes = λ more. refl }
+pub so_far_none : (system : Disk) (cpu : Cpu) (listing : List ℕ) (start : MachineState) (known before : Option (List ℕ)) → IsSoFar system cpu listing start start known known before before 1000000 16777216
+so_far_none system cpu listing start known before = record { lines = []; follows = follows_none known; written = Appends-nil before; goes = λ more. refl }
 
 -- a line that was answered
-answered : {system : Disk} {cpu : Cpu} {start now : MachineState} {known rest before after_it : Option (List ℕ)} (left room : ℕ) (so : IsSoFar system cpu start now known rest before after_it left room) (line : List ℕ)
-    → is_quit (request_of line) ≡ false → dialog system cpu (so.lines ++ line ∷ []) start ≡ dialog system cpu so.lines start ++ (answer_to system cpu line now).text
-answered {system = system} {cpu = cpu} {start = start} {now = now} left room so line goes_on =
-    so.goes (line ∷ []) ∙ ap (λ t. dialog system cpu so.lines start ++ t) (first_answer system cpu line [] now goes_on ∙ append-nil (answer_to system cpu line now).text)
+answered : {system : Disk} {cpu : Cpu} {listing : List ℕ} {start now : MachineState} {known rest before after_it : Option (List ℕ)} (left room : ℕ) (so : IsSoFar system cpu listing start now known rest before after_it left room) (line : List ℕ)
+    → is_quit (request_of line) ≡ false → dialog system cpu listing (so.lines ++ line ∷ []) start ≡ dialog system cpu listing so.lines start ++ (answer_to system cpu listing line now).text
+answered {system = system} {cpu = cpu} {listing = listing} {start = start} {now = now} left room so line goes_on =
+    so.goes (line ∷ []) ∙ ap (λ t. dialog system cpu listing so.lines start ++ t) (first_answer system cpu listing line [] now goes_on ∙ append-nil (answer_to system cpu listing line now).text)
 
 -- and what is answered behind it
-answered_more : {system : Disk} {cpu : Cpu} {start now : MachineState} {known rest before after_it : Option (List ℕ)} (left room : ℕ) (so : IsSoFar system cpu start now known rest before after_it left room) (line : List ℕ)
+answered_more : {system : Disk} {cpu : Cpu} {listing : List ℕ} {start now : MachineState} {known rest before after_it : Option (List ℕ)} (left room : ℕ) (so : IsSoFar system cpu listing start now known rest before after_it left room) (line : List ℕ)
     (goes_on : is_quit (request_of line) ≡ false) (more : List (List ℕ))
-    → dialog system cpu ((so.lines ++ line ∷ []) ++ more) start ≡ dialog system cpu (so.lines ++ line ∷ []) start ++ dialog system cpu more (answer_to system cpu line now).state
-answered_more {system = system} {cpu = cpu} {start = start} {now = now} left room so line goes_on more =
-    let before_it = dialog system cpu so.lines start in
-    let text = (answer_to system cpu line now).text in
-    let behind = dialog system cpu more (answer_to system cpu line now).state in
-    ap (λ ls. dialog system cpu ls start) (append_assoc so.lines (line ∷ []) more) ∙ so.goes (line ∷ more)
-    ∙ ap (λ t. before_it ++ t) (first_answer system cpu line more now goes_on) ∙ sym (append_assoc before_it text behind)
+    → dialog system cpu listing ((so.lines ++ line ∷ []) ++ more) start ≡ dialog system cpu listing (so.lines ++ line ∷ []) start ++ dialog system cpu listing more (answer_to system cpu listing line now).state
+answered_more {system = system} {cpu = cpu} {listing = listing} {start = start} {now = now} left room so line goes_on more =
+    let before_it = dialog system cpu listing so.lines start in
+    let text = (answer_to system cpu listing line now).text in
+    let behind = dialog system cpu listing more (answer_to system cpu listing line now).state in
+    ap (λ ls. dialog system cpu listing ls start) (append_assoc so.lines (line ∷ []) more) ∙ so.goes (line ∷ more)
+    ∙ ap (λ t. before_it ++ t) (first_answer system cpu listing line more now goes_on) ∙ sym (append_assoc before_it text behind)
     ∙ ap (λ t. t ++ behind) (sym (answered left room so line goes_on))
 
-pub so_far_more : {system : Disk} {cpu : Cpu} {start now : MachineState} {known rest before after_it : Option (List ℕ)} (left room bytes : ℕ) (next : MachineState) (heard_rest later : Option (List ℕ)) (line : List ℕ) (asks : Request)
-    → IsSoFar system cpu start now known rest before after_it (suc left) room → Hears room bytes rest heard_rest (Some line) → asks ≡ request_of line → is_quit asks ≡ false
-    → next ≡ (answer system cpu asks now).state → Appends after_it later (answer system cpu asks now).text → IsSoFar system cpu start next known heard_rest before later left bytes
-so_far_more {system = system} {cpu = cpu} {start = start} {now = now} {known = known} {rest = rest} {before = before} {after_it = after_it} left room bytes next heard_rest later line asks so hears is goes_on state writes =
+pub so_far_more : {system : Disk} {cpu : Cpu} {listing : List ℕ} {start now : MachineState} {known rest before after_it : Option (List ℕ)} (left room bytes : ℕ) (next : MachineState) (heard_rest later : Option (List ℕ)) (line : List ℕ) (asks : Request)
+    → IsSoFar system cpu listing start now known rest before after_it (suc left) room → Hears room bytes rest heard_rest (Some line) → asks ≡ request_of line → is_quit asks ≡ false
+    → next ≡ (answer system cpu listing asks now).state → Appends after_it later (answer system cpu listing asks now).text → IsSoFar system cpu listing start next known heard_rest before later left bytes
+so_far_more {system = system} {cpu = cpu} {listing = listing} {start = start} {now = now} {known = known} {rest = rest} {before = before} {after_it = after_it} left room bytes next heard_rest later line asks so hears is goes_on state writes =
     let on : is_quit (request_of line) ≡ false = ap is_quit (sym is) ∙ goes_on in
-    let there : next ≡ (answer_to system cpu line now).state = state ∙ ap (λ q. (answer system cpu q now).state) is in
-    let wrote : Appends after_it later (answer_to system cpu line now).text = subst (λ (q : Request). Appends after_it later (answer system cpu q now).text) is writes in
+    let there : next ≡ (answer_to system cpu listing line now).state = state ∙ ap (λ q. (answer system cpu listing q now).state) is in
+    let wrote : Appends after_it later (answer_to system cpu listing line now).text = subst (λ (q : Request). Appends after_it later (answer system cpu listing q now).text) is writes in
     record {
       lines = so.lines ++ line ∷ [];
       follows = one_more known rest heard_rest left room bytes so.lines line so.follows hears;
       written = subst (λ (t : List ℕ). Appends before later t) (sym (answered (suc left) room so line on))
-          (Appends-trans before after_it later (dialog system cpu so.lines start) (answer_to system cpu line now).text so.written wrote);
-      goes = λ more. answered_more (suc left) room so line on more ∙ ap (λ s. dialog system cpu (so.lines ++ line ∷ []) start ++ dialog system cpu more s) (sym there);
+          (Appends-trans before after_it later (dialog system cpu listing so.lines start) (answer_to system cpu listing line now).text so.written wrote);
+      goes = λ more. answered_more (suc left) room so line on more ∙ ap (λ s. dialog system cpu listing (so.lines ++ line ∷ []) start ++ dialog system cpu listing more s) (sym there);
     }
 
 -- ---- how it ends
 
-pub held_none : {system : Disk} {cpu : Cpu} {start now : MachineState} {known rest before after_it : Option (List ℕ)} (left room bytes : ℕ) (heard_rest : Option (List ℕ)) → IsSoFar system cpu start now known rest before after_it left room
-    → Hears room bytes rest heard_rest None → IsHeld system cpu start known before after_it
+pub held_none : {system : Disk} {cpu : Cpu} {listing : List ℕ} {start now : MachineState} {known rest before after_it : Option (List ℕ)} (left room bytes : ℕ) (heard_rest : Option (List ℕ)) → IsSoFar system cpu listing start now known rest before after_it left room
+    → Hears room bytes rest heard_rest None → IsHeld system cpu listing start known before after_it
 held_none {known = known} {rest = rest} left room bytes heard_rest so hears =
     record { lines = so.lines; heard = no_more known rest heard_rest left room bytes so.lines so.follows hears; written = so.written }
 
-pub held_all : {system : Disk} {cpu : Cpu} {start now : MachineState} {known rest before after_it : Option (List ℕ)} (left room : ℕ) → IsSoFar system cpu start now known rest before after_it left room → left ≡ 0
-    → IsHeld system cpu start known before after_it
+pub held_all : {system : Disk} {cpu : Cpu} {listing : List ℕ} {start now : MachineState} {known rest before after_it : Option (List ℕ)} (left room : ℕ) → IsSoFar system cpu listing start now known rest before after_it left room → left ≡ 0
+    → IsHeld system cpu listing start known before after_it
 held_all {known = known} {rest = rest} left room so none =
     record { lines = so.lines; heard = no_turn known rest room so.lines (subst (λ n. Follows known rest n room so.lines) none so.follows); written = so.written }
 
-pub held_quit : {system : Disk} {cpu : Cpu} {start now : MachineState} {known rest before after_it : Option (List ℕ)} (left room bytes : ℕ) (heard_rest : Option (List ℕ)) (line : List ℕ) (asks : Request)
-    → IsSoFar system cpu start now known rest before after_it (suc left) room → Hears room bytes rest heard_rest (Some line) → asks ≡ request_of line → is_quit asks ≡ true
-    → IsHeld system cpu start known before after_it
-held_quit {system = system} {cpu = cpu} {start = start} {now = now} {known = known} {rest = rest} {before = before} {after_it = after_it} left room bytes heard_rest line asks so hears is ends =
+pub held_quit : {system : Disk} {cpu : Cpu} {listing : List ℕ} {start now : MachineState} {known rest before after_it : Option (List ℕ)} (left room bytes : ℕ) (heard_rest : Option (List ℕ)) (line : List ℕ) (asks : Request)
+    → IsSoFar system cpu listing start now known rest before after_it (suc left) room → Hears room bytes rest heard_rest (Some line) → asks ≡ request_of line → is_quit asks ≡ true
+    → IsHeld system cpu listing start known before after_it
+held_quit {system = system} {cpu = cpu} {listing = listing} {start = start} {now = now} {known = known} {rest = rest} {before = before} {after_it = after_it} left room bytes heard_rest line asks so hears is ends =
     let more = more_of heard_rest left bytes in
-    let same : dialog system cpu (so.lines ++ line ∷ more) start ≡ dialog system cpu so.lines start =
-    so.goes (line ∷ more) ∙ ap (λ t. dialog system cpu so.lines start ++ t) (quit_first system cpu line more now (ap is_quit (sym is) ∙ ends)) ∙ append-nil (dialog system cpu so.lines start) in
+    let same : dialog system cpu listing (so.lines ++ line ∷ more) start ≡ dialog system cpu listing so.lines start =
+    so.goes (line ∷ more) ∙ ap (λ t. dialog system cpu listing so.lines start ++ t) (quit_first system cpu listing line more now (ap is_quit (sym is) ∙ ends)) ∙ append-nil (dialog system cpu listing so.lines start) in
     record {
       lines = so.lines ++ line ∷ more;
       heard = with_line known heard_rest left bytes so.lines line (one_more known rest heard_rest left room bytes so.lines line so.follows hears);
       written = subst (λ (t : List ℕ). Appends before after_it t) (sym same) so.written;
     }
 
-cut_short : {system : Disk} {cpu : Cpu} {start now : MachineState} {known rest before after_it : Option (List ℕ)} (left room : ℕ) → IsSoFar system cpu start now known rest before after_it left room → IsCutShort system cpu start known before after_it
+cut_short : {system : Disk} {cpu : Cpu} {listing : List ℕ} {start now : MachineState} {known rest before after_it : Option (List ℕ)} (left room : ℕ) → IsSoFar system cpu listing start now known rest before after_it left room → IsCutShort system cpu listing start known before after_it
 cut_short {known = known} {rest = rest} left room so =
     record { lines = so.lines; more = more_of rest left room; heard = heard_more known rest left room so.lines so.follows; written = so.written }
 
-read_failure : (system : Disk) (cpu : Cpu) (start : MachineState) (known before after_it : Option (List ℕ)) (e : DebugError) → IsReadFailure e
-    → IsCutShort system cpu start known before after_it → IsFailure system cpu start known before after_it e
-read_failure system cpu start known before after_it (ProgramTooLong n) fails cut = absurd fails
-read_failure system cpu start known before after_it (Unreadable reason) fails cut = cut
-read_failure system cpu start known before after_it (Unwritable reason) fails cut = absurd fails
-read_failure system cpu start known before after_it OutOfMemory fails cut = cut
+read_failure : (system : Disk) (cpu : Cpu) (listing : List ℕ) (start : MachineState) (known before after_it : Option (List ℕ)) (e : DebugError) → IsReadFailure e
+    → IsCutShort system cpu listing start known before after_it → IsFailure system cpu listing start known before after_it e
+read_failure system cpu listing start known before after_it (ProgramTooLong n) fails cut = absurd fails
+read_failure system cpu listing start known before after_it (Unreadable reason) fails cut = cut
+read_failure system cpu listing start known before after_it (Unwritable reason) fails cut = absurd fails
+read_failure system cpu listing start known before after_it OutOfMemory fails cut = cut
 
 -- the reader failed
-pub unread : {system : Disk} {cpu : Cpu} {start now : MachineState} {known rest before after_it : Option (List ℕ)} (left room : ℕ) (e : DebugError) → IsSoFar system cpu start now known rest before after_it left room → IsReadFailure e
-    → IsFailure system cpu start known before after_it e
-unread {system = system} {cpu = cpu} {start = start} {known = known} {before = before} {after_it = after_it} left room e so fails =
-    read_failure system cpu start known before after_it e fails (cut_short left room so)
+pub unread : {system : Disk} {cpu : Cpu} {listing : List ℕ} {start now : MachineState} {known rest before after_it : Option (List ℕ)} (left room : ℕ) (e : DebugError) → IsSoFar system cpu listing start now known rest before after_it left room → IsReadFailure e
+    → IsFailure system cpu listing start known before after_it e
+unread {system = system} {cpu = cpu} {listing = listing} {start = start} {known = known} {before = before} {after_it = after_it} left room e so fails =
+    read_failure system cpu listing start known before after_it e fails (cut_short left room so)
 
 both_empty : (xs ys : List ℕ) → xs ++ ys ≡ [] → ys ≡ []
 both_empty [] ys e = e
 both_empty (x ∷ xs) ys e = absurd (let bad : ⊥ = cc in bad)
 
 -- the writer failed
-pub unanswered : {system : Disk} {cpu : Cpu} {start now : MachineState} {known rest before after_it : Option (List ℕ)} (left room bytes : ℕ) (heard_rest : Option (List ℕ)) (line : List ℕ) (asks : Request)
-    → IsSoFar system cpu start now known rest before after_it (suc left) room → Hears room bytes rest heard_rest (Some line) → asks ≡ request_of line → is_quit asks ≡ false
-    → (answer system cpu asks now).text ≢ [] → IsUnanswered system cpu start known
-unanswered {system = system} {cpu = cpu} {start = start} {now = now} {known = known} {rest = rest} left room bytes heard_rest line asks so hears is goes_on some =
+pub unanswered : {system : Disk} {cpu : Cpu} {listing : List ℕ} {start now : MachineState} {known rest before after_it : Option (List ℕ)} (left room bytes : ℕ) (heard_rest : Option (List ℕ)) (line : List ℕ) (asks : Request)
+    → IsSoFar system cpu listing start now known rest before after_it (suc left) room → Hears room bytes rest heard_rest (Some line) → asks ≡ request_of line → is_quit asks ≡ false
+    → (answer system cpu listing asks now).text ≢ [] → IsUnanswered system cpu listing start known
+unanswered {system = system} {cpu = cpu} {listing = listing} {start = start} {now = now} {known = known} {rest = rest} left room bytes heard_rest line asks so hears is goes_on some =
     let on : is_quit (request_of line) ≡ false = ap is_quit (sym is) ∙ goes_on in
     record {
       lines = so.lines ++ line ∷ [];
       more = more_of heard_rest left bytes;
       heard = heard_more known heard_rest left bytes (so.lines ++ line ∷ []) (one_more known rest heard_rest left room bytes so.lines line so.follows hears);
-      some = λ none. some (ap (λ q. (answer system cpu q now).text) is
-          ∙ both_empty (dialog system cpu so.lines start) (answer_to system cpu line now).text (sym (answered (suc left) room so line on) ∙ none));
+      some = λ none. some (ap (λ q. (answer system cpu listing q now).text) is
+          ∙ both_empty (dialog system cpu listing so.lines start) (answer_to system cpu listing line now).text (sym (answered (suc left) room so line on) ∙ none));
     }
 
 -- ---- a reader that is read so far and no further
@@ -197,25 +197,25 @@ same_heard : (known : Option (List ℕ)) (lines : List (List ℕ)) → IfSome (o
 same_heard None lines h = tt
 same_heard (Some text) lines h = h ∙ heard_bounded text
 
-pub held_whole : (system : Disk) (cpu : Cpu) (start : MachineState) (known before after_it : Option (List ℕ)) → IsHeld system cpu start (option_map (take 16777217) known) before after_it
-    → IsHeld system cpu start known before after_it
-held_whole system cpu start known before after_it held = record { lines = held.lines; heard = same_heard known held.lines held.heard; written = held.written }
+pub held_whole : (system : Disk) (cpu : Cpu) (listing : List ℕ) (start : MachineState) (known before after_it : Option (List ℕ)) → IsHeld system cpu listing start (option_map (take 16777217) known) before after_it
+    → IsHeld system cpu listing start known before after_it
+held_whole system cpu listing start known before after_it held = record { lines = held.lines; heard = same_heard known held.lines held.heard; written = held.written }
 
-cut_whole : (system : Disk) (cpu : Cpu) (start : MachineState) (known before after_it : Option (List ℕ)) → IsCutShort system cpu start (option_map (take 16777217) known) before after_it
-    → IsCutShort system cpu start known before after_it
-cut_whole system cpu start known before after_it cut =
+cut_whole : (system : Disk) (cpu : Cpu) (listing : List ℕ) (start : MachineState) (known before after_it : Option (List ℕ)) → IsCutShort system cpu listing start (option_map (take 16777217) known) before after_it
+    → IsCutShort system cpu listing start known before after_it
+cut_whole system cpu listing start known before after_it cut =
     record { lines = cut.lines; more = cut.more; heard = same_heard known (cut.lines ++ cut.more) cut.heard; written = cut.written }
 
-unanswered_whole : (system : Disk) (cpu : Cpu) (start : MachineState) (known : Option (List ℕ)) → IsUnanswered system cpu start (option_map (take 16777217) known)
-    → IsUnanswered system cpu start known
-unanswered_whole system cpu start known un = record { lines = un.lines; more = un.more; heard = same_heard known (un.lines ++ un.more) un.heard; some = un.some }
+unanswered_whole : (system : Disk) (cpu : Cpu) (listing : List ℕ) (start : MachineState) (known : Option (List ℕ)) → IsUnanswered system cpu listing start (option_map (take 16777217) known)
+    → IsUnanswered system cpu listing start known
+unanswered_whole system cpu listing start known un = record { lines = un.lines; more = un.more; heard = same_heard known (un.lines ++ un.more) un.heard; some = un.some }
 
-pub refusal_whole : {W : Type 0} (cpu : Cpu) (program : List ℕ) (known before after_it : Option (List ℕ)) (old new : W) (e : DebugError) → length program ≤ 58112
-    → IsFailure system_drive cpu (debugged cpu program) (option_map (take 16777217) known) before after_it e → IsDebugRefusal cpu program known before after_it old new e
-refusal_whole cpu program known before after_it old new (ProgramTooLong n) fits fails = absurd fails
-refusal_whole cpu program known before after_it old new (Unreadable reason) fits fails = (fits, cut_whole system_drive cpu (debugged cpu program) known before after_it fails)
-refusal_whole cpu program known before after_it old new (Unwritable reason) fits fails = (fits, unanswered_whole system_drive cpu (debugged cpu program) known fails)
-refusal_whole cpu program known before after_it old new OutOfMemory fits fails = (fits, cut_whole system_drive cpu (debugged cpu program) known before after_it fails)
+pub refusal_whole : {W : Type 0} (cpu : Cpu) (listing program : List ℕ) (known before after_it : Option (List ℕ)) (old new : W) (e : DebugError) → length program ≤ 58112
+    → IsFailure system_drive cpu listing (debugged cpu program) (option_map (take 16777217) known) before after_it e → IsDebugRefusal cpu listing program known before after_it old new e
+refusal_whole cpu listing program known before after_it old new (ProgramTooLong n) fits fails = absurd fails
+refusal_whole cpu listing program known before after_it old new (Unreadable reason) fits fails = (fits, cut_whole system_drive cpu listing (debugged cpu program) known before after_it fails)
+refusal_whole cpu listing program known before after_it old new (Unwritable reason) fits fails = (fits, unanswered_whole system_drive cpu listing (debugged cpu program) known fails)
+refusal_whole cpu listing program known before after_it old new OutOfMemory fits fails = (fits, cut_whole system_drive cpu listing (debugged cpu program) known before after_it fails)
 
 -- memory was refused before anything was read
 abbrev heard_of : Option (List ℕ) → List (List ℕ)
@@ -226,27 +226,27 @@ all_heard : (known : Option (List ℕ)) → IfSome known (λ text. heard_of know
 all_heard None = tt
 all_heard (Some text) = refl
 
-pub at_once : (system : Disk) (cpu : Cpu) (start : MachineState) (known before : Option (List ℕ)) → IsCutShort system cpu start known before before
-at_once system cpu start known before = record { lines = []; more = heard_of known; heard = all_heard known; written = Appends-nil before }
+pub at_once : (system : Disk) (cpu : Cpu) (listing : List ℕ) (start : MachineState) (known before : Option (List ℕ)) → IsCutShort system cpu listing start known before before
+at_once system cpu listing start known before = record { lines = []; more = heard_of known; heard = all_heard known; written = Appends-nil before }
 
 -- ---- what the debugger answers, from the dialog that it held
 
-pub held_result : {A E : Type 0} (r : Result A E) (system : Disk) (cpu : Cpu) (s : MachineState) (program : List ℕ) (known k before after_it : Option (List ℕ))
-    → system ≡ system_drive → s ≡ debugged cpu program → k ≡ option_map (take 16777217) known → OnOk r (IsHeld system cpu s k before after_it)
-    → OnOk r (IsHeld system_drive cpu (debugged cpu program) known before after_it)
-held_result (Err e) system cpu s program known k before after_it drive machine reader held = tt
-held_result (Ok x) system cpu s program known k before after_it drive machine reader held =
-    let on_drive = subst (λ (d : Disk). IsHeld d cpu s k before after_it) drive held in
-    let on_machine = subst (λ (m : MachineState). IsHeld system_drive cpu m k before after_it) machine on_drive in
-    held_whole system_drive cpu (debugged cpu program) known before after_it
-    (subst (λ (o : Option (List ℕ)). IsHeld system_drive cpu (debugged cpu program) o before after_it) reader on_machine)
+pub held_result : {A E : Type 0} (r : Result A E) (system : Disk) (cpu : Cpu) (listing : List ℕ) (s : MachineState) (program : List ℕ) (known k before after_it : Option (List ℕ))
+    → system ≡ system_drive → s ≡ debugged cpu program → k ≡ option_map (take 16777217) known → OnOk r (IsHeld system cpu listing s k before after_it)
+    → OnOk r (IsHeld system_drive cpu listing (debugged cpu program) known before after_it)
+held_result (Err e) system cpu listing s program known k before after_it drive machine reader held = tt
+held_result (Ok x) system cpu listing s program known k before after_it drive machine reader held =
+    let on_drive = subst (λ (d : Disk). IsHeld d cpu listing s k before after_it) drive held in
+    let on_machine = subst (λ (m : MachineState). IsHeld system_drive cpu listing m k before after_it) machine on_drive in
+    held_whole system_drive cpu listing (debugged cpu program) known before after_it
+    (subst (λ (o : Option (List ℕ)). IsHeld system_drive cpu listing (debugged cpu program) o before after_it) reader on_machine)
 
-pub refused_result : {A W : Type 0} (r : Result A DebugError) (system : Disk) (cpu : Cpu) (s : MachineState) (program : List ℕ) (known k before after_it : Option (List ℕ)) (old new : W)
-    → system ≡ system_drive → s ≡ debugged cpu program → k ≡ option_map (take 16777217) known → length program ≤ 58112 → IfErr r (IsFailure system cpu s k before after_it)
-    → IfErr r (IsDebugRefusal cpu program known before after_it old new)
-refused_result (Ok x) system cpu s program known k before after_it old new drive machine reader fits failed = tt
-refused_result (Err e) system cpu s program known k before after_it old new drive machine reader fits failed =
-    let on_drive = subst (λ (d : Disk). IsFailure d cpu s k before after_it e) drive failed in
-    let on_machine = subst (λ (m : MachineState). IsFailure system_drive cpu m k before after_it e) machine on_drive in
-    refusal_whole cpu program known before after_it old new e fits
-    (subst (λ (o : Option (List ℕ)). IsFailure system_drive cpu (debugged cpu program) o before after_it e) reader on_machine)
+pub refused_result : {A W : Type 0} (r : Result A DebugError) (system : Disk) (cpu : Cpu) (listing : List ℕ) (s : MachineState) (program : List ℕ) (known k before after_it : Option (List ℕ)) (old new : W)
+    → system ≡ system_drive → s ≡ debugged cpu program → k ≡ option_map (take 16777217) known → length program ≤ 58112 → IfErr r (IsFailure system cpu listing s k before after_it)
+    → IfErr r (IsDebugRefusal cpu listing program known before after_it old new)
+refused_result (Ok x) system cpu listing s program known k before after_it old new drive machine reader fits failed = tt
+refused_result (Err e) system cpu listing s program known k before after_it old new drive machine reader fits failed =
+    let on_drive = subst (λ (d : Disk). IsFailure d cpu listing s k before after_it e) drive failed in
+    let on_machine = subst (λ (m : MachineState). IsFailure system_drive cpu listing m k before after_it e) machine on_drive in
+    refusal_whole cpu listing program known before after_it old new e fits
+    (subst (λ (o : Option (List ℕ)). IsFailure system_drive cpu listing (debugged cpu program) o before after_it e) reader on_machine)

@@ -1,11 +1,11 @@
 -- Keys pressed one after another.
-use Rattle.std.proofs.Common.{◌≡◌, ◌∙◌, ap, sym, refl, ℕ, ◌<◌, Bool, true, false, List, [], ◌∷◌, Option, Some, None, length, arith}
+use Rattle.std.proofs.Common.{◌≡◌, ◌∙◌, ap, refl, ℕ, ◌<◌, true, false, List, [], ◌∷◌, Option, Some, None, length, arith}
 use Rattle.std.specs.Prelude.{is_some, option_map, unwrap_or, if◌then◌else◌, ◌==◌}
 use Rattle.cpm_script.specs.KeyText.{first_key, keys_of}
 use Rattle.cpm_script.proofs.KeyLemmas.{fronted, keys_of-first, keys_of-some, not_empty}
 use Rattle.cpm_slots.specs.MachineState.{MachineState}
 use Rattle.cpm_slots.specs.Serve.{keyed, takes_key}
-use Rattle.cpm_debug.specs.Dialog.{Pressed, keys_in, press, pressed}
+use Rattle.cpm_debug.specs.Dialog.{keys_in, press, pressed}
 use Rattle.cpm_debug.specs.Orders.{press_of}
 
 -- the keys of a text that begins with a key

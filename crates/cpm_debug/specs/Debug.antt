@@ -12,24 +12,24 @@ use Rattle.cpm_debug.specs.declared.error.DebugError.TheVariants.{ProgramTooLong
 
 -- A dialog was held with a machine: the writer's known bytes grew by what is answered to some lines. Where the bytes of
 -- the reader are known, these are the lines that are heard of them.
-pub record IsHeld (system : Disk) (cpu : Cpu) (s : MachineState) (known before now : Option (List ℕ)) : Type 0 where
+pub record IsHeld (system : Disk) (cpu : Cpu) (listing : List ℕ) (s : MachineState) (known before now : Option (List ℕ)) : Type 0 where
   pub lines : List (List ℕ)
   pub heard : IfSome known (λ text. lines ≡ heard text)
-  pub written : Appends before now (dialog system cpu lines s)
+  pub written : Appends before now (dialog system cpu listing lines s)
 
 -- The reader failed behind some lines, which were answered.
-pub record IsCutShort (system : Disk) (cpu : Cpu) (s : MachineState) (known before now : Option (List ℕ)) : Type 0 where
+pub record IsCutShort (system : Disk) (cpu : Cpu) (listing : List ℕ) (s : MachineState) (known before now : Option (List ℕ)) : Type 0 where
   pub lines : List (List ℕ)
   pub more : List (List ℕ)
   pub heard : IfSome known (λ text. lines ++ more ≡ heard text)
-  pub written : Appends before now (dialog system cpu lines s)
+  pub written : Appends before now (dialog system cpu listing lines s)
 
 -- The writer failed, where there is something to answer to some lines.
-pub record IsUnanswered (system : Disk) (cpu : Cpu) (s : MachineState) (known : Option (List ℕ)) : Type 0 where
+pub record IsUnanswered (system : Disk) (cpu : Cpu) (listing : List ℕ) (s : MachineState) (known : Option (List ℕ)) : Type 0 where
   pub lines : List (List ℕ)
   pub more : List (List ℕ)
   pub heard : IfSome known (λ text. lines ++ more ≡ heard text)
-  pub some : dialog system cpu lines s ≢ []
+  pub some : dialog system cpu listing lines s ≢ []
 
 -- what a failed read comes to
 abbrev pub IsReadFailure : DebugError → Type 0
@@ -38,11 +38,11 @@ IsReadFailure OutOfMemory = ⊤
 IsReadFailure _ = ⊥
 
 -- when a dialog with a machine ends early
-abbrev pub IsFailure : Disk → Cpu → MachineState → Option (List ℕ) → Option (List ℕ) → Option (List ℕ) → DebugError → Type 0
-IsFailure system cpu s known before now (Unreadable reason) = IsCutShort system cpu s known before now
-IsFailure system cpu s known before now OutOfMemory = IsCutShort system cpu s known before now
-IsFailure system cpu s known before now (Unwritable reason) = IsUnanswered system cpu s known
-IsFailure system cpu s known before now _ = ⊥
+abbrev pub IsFailure : Disk → Cpu → List ℕ → MachineState → Option (List ℕ) → Option (List ℕ) → Option (List ℕ) → DebugError → Type 0
+IsFailure system cpu listing s known before now (Unreadable reason) = IsCutShort system cpu listing s known before now
+IsFailure system cpu listing s known before now OutOfMemory = IsCutShort system cpu listing s known before now
+IsFailure system cpu listing s known before now (Unwritable reason) = IsUnanswered system cpu listing s known
+IsFailure system cpu listing s known before now _ = ⊥
 
 -- the system drive, and the machine with a program, a blank drive and all pages
 abbrev pub system_drive : Disk
@@ -52,6 +52,6 @@ abbrev pub debugged : Cpu → List ℕ → MachineState
 debugged cpu program = opened_with cpu (blank_disk Ibm3740 ∷ []) program
 
 -- When the debugger of a program is refused: the program is too long, and nothing was written, or the dialog ended early.
-abbrev pub IsDebugRefusal : {W : Type 0} → Cpu → List ℕ → Option (List ℕ) → Option (List ℕ) → Option (List ℕ) → W → W → DebugError → Type 0
-IsDebugRefusal cpu program known before now old new (ProgramTooLong count) = (58112 < length program) × (count ≡ length program) × (new ≡ old)
-IsDebugRefusal cpu program known before now old new error = (length program ≤ 58112) × IsFailure system_drive cpu (debugged cpu program) known before now error
+abbrev pub IsDebugRefusal : {W : Type 0} → Cpu → List ℕ → List ℕ → Option (List ℕ) → Option (List ℕ) → Option (List ℕ) → W → W → DebugError → Type 0
+IsDebugRefusal cpu listing program known before now old new (ProgramTooLong count) = (58112 < length program) × (count ≡ length program) × (new ≡ old)
+IsDebugRefusal cpu listing program known before now old new error = (length program ≤ 58112) × IsFailure system_drive cpu listing (debugged cpu program) known before now error

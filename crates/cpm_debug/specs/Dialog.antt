@@ -1,5 +1,5 @@
 -- What the debugger answers, and the machine that each answer leaves. The form of the answers is own.
-use Rattle.std.specs.Prelude.{◌≡◌, ◌≢◌, ℕ, ◌+◌, ◌%◌, Bool, true, false, if◌then◌else◌, List, [], ◌∷◌, ◌++◌, codes, decimal, unwrap_or}
+use Rattle.std.specs.Prelude.{ℕ, ◌+◌, ◌%◌, Bool, true, false, if◌then◌else◌, List, [], ◌∷◌, ◌++◌, codes, decimal, unwrap_or}
 use Rattle.cpm_flags.specs.declared.regs.Cpu.{Cpu}
 use Rattle.cpm_geom.specs.Disk.{Disk}
 use Rattle.cpm_lines.specs.Dump.{dump_line}
@@ -17,15 +17,23 @@ use Rattle.cpm_slots.specs.declared.reply.Granted.{Granted}
 use Rattle.cpm_slots.specs.declared.reply.Why.{Why}
 use Rattle.cpm_slots.specs.declared.reply.Why.TheVariants.{All, Stopped, Break, Blocked}
 use Rattle.cpm_debug.specs.Orders.{Request, Grant, GrantUntil, Dump, ListAt, Registers, Press, Output, Quit, Unknown, request_of}
+use Rattle.cpm_debug.specs.Source.{source_line}
 
 -- the text of an answer, and the state after it
 pub record Reply : Type 0 where
   pub text : List ℕ
   pub state : MachineState
 
+-- ---- lines
+
 -- a text and the newline that ends it
 abbrev pub line_of : List ℕ → List ℕ
 line_of text = text ++ 0x0A ∷ []
+
+-- a line, and behind it a line of the listing, where there is one
+abbrev pub with_source : List ℕ → List ℕ → List ℕ
+with_source text [] = line_of text
+with_source text (b ∷ source) = line_of text ++ line_of (b ∷ source)
 
 -- ---- grants
 
@@ -81,17 +89,21 @@ unknown_line = line_of (codes "?")
 abbrev pub reply : List ℕ → MachineState → Reply
 reply text s = record { text = text; state = s }
 
--- what is answered with this system drive, and the state after it
-unfoldable pub answer : Disk → Cpu → Request → MachineState → Reply
-answer system cpu (Grant steps) s = reply (line_of (grant_line (granted system steps s))) (after system (executed system steps s) s)
-answer system cpu (GrantUntil pc steps) s = reply (line_of (grant_line (granted_until system pc steps s))) (after system (executed_until system pc steps s) s)
-answer system cpu (Dump address) s = reply (line_of (dump_line address (bytes_from s.memory address 16))) s
-answer system cpu (ListAt address) s = reply (line_of (instruction_line cpu address (bytes_from s.memory address 4))) s
-answer system cpu Registers s = reply (line_of (regs_line cpu s.cpm.regs s.count)) s
-answer system cpu (Press keys) s = reply (if (press keys s).accepted then [] else unknown_line) (press keys s).state
-answer system cpu Output s = reply (line_of s.cpm.console.screen) (without_text s)
-answer system cpu Quit s = reply [] s
-answer system cpu Unknown s = reply unknown_line s
+-- a line, with the line of the listing that shows the bytes at PC, and the state
+abbrev pub reply_at : List ℕ → List ℕ → MachineState → Reply
+reply_at listing text s = reply (with_source text (source_line listing s.cpm.regs.pc)) s
+
+-- what is answered with this system drive and this listing, and the state after it
+unfoldable pub answer : Disk → Cpu → List ℕ → Request → MachineState → Reply
+answer system cpu listing (Grant steps) s = reply_at listing (grant_line (granted system steps s)) (after system (executed system steps s) s)
+answer system cpu listing (GrantUntil pc steps) s = reply_at listing (grant_line (granted_until system pc steps s)) (after system (executed_until system pc steps s) s)
+answer system cpu listing (Dump address) s = reply (line_of (dump_line address (bytes_from s.memory address 16))) s
+answer system cpu listing (ListAt address) s = reply (line_of (instruction_line cpu address (bytes_from s.memory address 4))) s
+answer system cpu listing Registers s = reply_at listing (regs_line cpu s.cpm.regs s.count) s
+answer system cpu listing (Press keys) s = reply (if (press keys s).accepted then [] else unknown_line) (press keys s).state
+answer system cpu listing Output s = reply (line_of s.cpm.console.screen) (without_text s)
+answer system cpu listing Quit s = reply [] s
+answer system cpu listing Unknown s = reply unknown_line s
 
 -- ---- dialogs
 
@@ -100,11 +112,11 @@ is_quit Quit = true
 is_quit _ = false
 
 -- what is answered to a line
-abbrev pub answer_to : Disk → Cpu → List ℕ → MachineState → Reply
-answer_to system cpu line s = answer system cpu (request_of line) s
+abbrev pub answer_to : Disk → Cpu → List ℕ → List ℕ → MachineState → Reply
+answer_to system cpu listing line s = answer system cpu listing (request_of line) s
 
 -- what is answered to lines, one after another, up to the order that ends the dialog
-abbrev pub dialog : Disk → Cpu → List (List ℕ) → MachineState → List ℕ
-dialog system cpu [] s = []
-dialog system cpu (line ∷ lines) s = if is_quit (request_of line) then []
-    else (answer_to system cpu line s).text ++ dialog system cpu lines (answer_to system cpu line s).state
+abbrev pub dialog : Disk → Cpu → List ℕ → List (List ℕ) → MachineState → List ℕ
+dialog system cpu listing [] s = []
+dialog system cpu listing (line ∷ lines) s = if is_quit (request_of line) then []
+    else (answer_to system cpu listing line s).text ++ dialog system cpu listing lines (answer_to system cpu listing line s).state

@@ -1,5 +1,5 @@
 -- The debugger's orders. All of it is own.
-use Rattle.std.specs.Prelude.{ℕ, ◌+◌, ◌-◌, ◌*◌, ◌==◌, Bool, true, false, if◌then◌else◌, List, [], ◌∷◌, Option, Some, None, option_map, option_and_then}
+use Rattle.std.specs.Prelude.{ℕ, ◌+◌, ◌-◌, ◌*◌, ◌==◌, if◌then◌else◌, List, [], ◌∷◌, Option, Some, None, option_map, option_and_then}
 use Rattle.cpm_script.specs.KeyText.{count_of, is_within, keys_of}
 use Rattle.cpm_debug.specs.declared.order.Order.{Order}
 use Rattle.cpm_debug.specs.declared.order.Order.TheVariants as order

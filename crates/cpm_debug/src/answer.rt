@@ -9,14 +9,16 @@ ghost use Rattle.cpm_slots.specs.Until.{executed_until, granted_until};
 ghost use Rattle.cpm_lines.specs.Dump.{dump_line};
 ghost use Rattle.cpm_lines.specs.Instruction.{instruction_line};
 ghost use Rattle.cpm_lines.specs.Registers.{regs_line};
-ghost use Rattle.cpm_debug.specs.Dialog.{answer, bytes_from, grant_line, line_of, pressed, unknown_line};
+ghost use Rattle.cpm_debug.specs.Dialog.{answer, bytes_from, grant_line, line_of, pressed, unknown_line, with_source};
 ghost use Rattle.cpm_debug.specs.Orders.{asked, press_of};
+ghost use Rattle.cpm_debug.specs.Source.{source_line};
 
 use crate::grant_line::grant_line;
 use crate::memory::{four, sixteen};
 use crate::order::Order;
 use crate::press::press_text;
-use crate::write::{write_line, write_text};
+use crate::source::source_line;
+use crate::write::{write_line, write_text, write_with_source};
 use cpm_flags::Cpu;
 use cpm_geom::Image;
 use cpm_lines::{dump_line, instruction_line, regs_line};
@@ -24,19 +26,40 @@ use cpm_slots::Machine;
 use std::io;
 use std::io::Write;
 
+/// Writes a line, and the line of the listing that shows where the program stands.
+#[tactic(auto, unfolding(cpm_slots::specs::Serve::look_of))]
+fn write_place<W: Write>(
+    line: &str,
+    listing: &[u8],
+    machine: &Machine,
+    out: &mut W,
+) -> io::Result<()>
+    ensures { OnOk result (Appends (W.contents out.old) (W.contents out.new)
+        (with_source line.now (source_line listing.now machine.now.cpm.regs.pc))) }
+{
+    write_with_source(out, line, source_line(listing, machine.look().regs.pc))
+}
+
 /// Grants steps.
-fn grant<W: Write>(system: &Image, steps: u64, machine: &mut Machine, out: &mut W) -> io::Result<()>
+fn grant<W: Write>(
+    system: &Image,
+    listing: &[u8],
+    steps: u64,
+    machine: &mut Machine,
+    out: &mut W,
+) -> io::Result<()>
     ensures state { machine.new ≡ after system.now (executed system.now steps machine.old) machine.old }
     ensures text { OnOk result (Appends (W.contents out.old) (W.contents out.new)
-        (line_of (grant_line (granted system.now steps machine.old)))) }
+        (with_source (grant_line (granted system.now steps machine.old)) (source_line listing.now machine.new.cpm.regs.pc))) }
 {
     let granted = machine.grant(system, steps);
-    write_line(out, grant_line(granted).as_str())
+    write_place(grant_line(granted).as_str(), listing, machine, out)
 }
 
 /// Grants steps up to an address.
 fn grant_until<W: Write>(
     system: &Image,
+    listing: &[u8],
     pc: u16,
     steps: u64,
     machine: &mut Machine,
@@ -44,10 +67,10 @@ fn grant_until<W: Write>(
 ) -> io::Result<()>
     ensures state { machine.new ≡ after system.now (executed_until system.now pc steps machine.old) machine.old }
     ensures text { OnOk result (Appends (W.contents out.old) (W.contents out.new)
-        (line_of (grant_line (granted_until system.now pc steps machine.old)))) }
+        (with_source (grant_line (granted_until system.now pc steps machine.old)) (source_line listing.now machine.new.cpm.regs.pc))) }
 {
     let granted = machine.grant_until(system, steps, pc);
-    write_line(out, grant_line(granted).as_str())
+    write_place(grant_line(granted).as_str(), listing, machine, out)
 }
 
 /// Shows sixteen bytes.
@@ -70,13 +93,13 @@ fn list_at<W: Write>(cpu: Cpu, address: u16, machine: &Machine, out: &mut W) -> 
 
 /// Shows the registers.
 #[tactic(auto, unfolding(cpm_slots::specs::Serve::look_of))]
-fn registers<W: Write>(cpu: Cpu, machine: &Machine, out: &mut W) -> io::Result<()>
+fn registers<W: Write>(cpu: Cpu, listing: &[u8], machine: &Machine, out: &mut W) -> io::Result<()>
     ensures { OnOk result (Appends (W.contents out.old) (W.contents out.new)
-        (line_of (regs_line cpu machine.now.cpm.regs machine.now.count))) }
+        (with_source (regs_line cpu machine.now.cpm.regs machine.now.count) (source_line listing.now machine.now.cpm.regs.pc))) }
 {
     let look = machine.look();
     let line = regs_line(cpu, &look.regs, look.count);
-    write_line(out, line.as_str())
+    write_place(line.as_str(), listing, machine, out)
 }
 
 /// Presses the keys that a text stands for.
@@ -96,25 +119,26 @@ fn press_keys<W: Write>(text: &[u8], machine: &mut Machine, out: &mut W) -> io::
 /// Does what an order asks for, and writes the answer.
 ///
 /// An error is the writer's: it comes only where there is an answer.
-#[tactic(auto, unfolding(crate::specs::Dialog::answer))]
+#[tactic(auto, using(crate::proofs::SourceLemmas::with_source_some), unfolding(crate::specs::Dialog::answer))]
 pub(crate) fn obey<W: Write>(
     system: &Image,
     cpu: Cpu,
+    listing: &[u8],
     order: Order<'_>,
     machine: &mut Machine,
     out: &mut W,
 ) -> io::Result<()>
-    ensures state { OnOk result (machine.new ≡ (answer system.now cpu (asked order.entry) machine.old).state) }
+    ensures state { OnOk result (machine.new ≡ (answer system.now cpu listing.now (asked order.entry) machine.old).state) }
     ensures text { OnOk result (Appends (W.contents out.old) (W.contents out.new)
-        (answer system.now cpu (asked order.entry) machine.old).text) }
-    ensures refused { OnErr result ((answer system.now cpu (asked order.entry) machine.old).text ≢ []) }
+        (answer system.now cpu listing.now (asked order.entry) machine.old).text) }
+    ensures refused { OnErr result ((answer system.now cpu listing.now (asked order.entry) machine.old).text ≢ []) }
 {
     match order {
-        Order::Grant(steps) => grant(system, steps, machine, out),
-        Order::GrantUntil(pc, steps) => grant_until(system, pc, steps, machine, out),
+        Order::Grant(steps) => grant(system, listing, steps, machine, out),
+        Order::GrantUntil(pc, steps) => grant_until(system, listing, pc, steps, machine, out),
         Order::Dump(address) => dump(address, machine, out),
         Order::ListAt(address) => list_at(cpu, address, machine, out),
-        Order::Registers => registers(cpu, machine, out),
+        Order::Registers => registers(cpu, listing, machine, out),
         Order::Press(text) => press_keys(text, machine, out),
         Order::Output => write_text(machine, out),
         Order::Quit => Ok(()),

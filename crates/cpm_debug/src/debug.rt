@@ -52,12 +52,13 @@ fn converse<R: BufRead, W: Write>(
     alloc: Global,
     system: &Image,
     cpu: Cpu,
+    listing: &[u8],
     machine: &mut Machine,
     input: &mut R,
     out: &mut W,
 ) -> Result<(), DebugError>
-    ensures held { OnOk result (IsHeld system.now cpu machine.old (R.remaining input.old) (W.contents out.old) (W.contents out.new)) }
-    ensures failed { IfErr result (IsFailure system.now cpu machine.old (R.remaining input.old) (W.contents out.old) (W.contents out.new)) }
+    ensures held { OnOk result (IsHeld system.now cpu listing.now machine.old (R.remaining input.old) (W.contents out.old) (W.contents out.new)) }
+    ensures failed { IfErr result (IsFailure system.now cpu listing.now machine.old (R.remaining input.old) (W.contents out.old) (W.contents out.new)) }
 {
     let mut room = MOST_BYTES;
     for _line in 0..MOST_LINES {
@@ -68,7 +69,7 @@ fn converse<R: BufRead, W: Write>(
         if order.is_quit() {
             return Ok(());
         }
-        match obey(system, cpu, order, machine, out) {
+        match obey(system, cpu, listing, order, machine, out) {
             Ok(()) => {}
             Err(error) => return Err(DebugError::Unwritable(error)),
         }
@@ -80,7 +81,8 @@ fn converse<R: BufRead, W: Write>(
 /// before it reads the next, up to `Q`, to the end of the input, or to 1,000,000 lines. A line is dropped, and ends the dialog, where it doesn't end within the
 /// first 16,777,216 bytes.
 ///
-/// The orders are `S n`, `G addr n`, `D addr`, `L addr`, `R`, `K text`, `O` and `Q`.
+/// The orders are `S n`, `G addr n`, `D addr`, `L addr`, `R`, `K text`, `O` and `Q`. Behind the answer to `S`, `G` and `R` comes the line of the
+/// assembler's listing that shows the bytes at the program's PC, if it has one. An empty listing has none.
 ///
 /// What a live reader gives can't be named; what is written is then the answer to some lines.
 ///
@@ -90,15 +92,16 @@ pub fn run_debug<R: BufRead, W: Write>(
     alloc: Global,
     cpu: Cpu,
     program: Vec<u8>,
+    listing: &[u8],
     input: &mut R,
     out: &mut W,
 ) -> Result<(), DebugError>
-    ensures held { OnOk result (IsHeld system_drive cpu (debugged cpu program.items)
+    ensures held { OnOk result (IsHeld system_drive cpu listing.now (debugged cpu program.items)
         (R.remaining input.old) (W.contents out.old) (W.contents out.new)) }
 
     ensures too_long { IsErrOf result (DebugError.ProgramTooLong (length program.items))
         ↔ (58112 < length program.items) }
-    ensures refusal { IfErr result (IsDebugRefusal cpu program.items
+    ensures refusal { IfErr result (IsDebugRefusal cpu listing.now program.items
         (R.remaining input.old) (W.contents out.old) (W.contents out.new) out.old out.new) }
 {
     if program.len() > MOST_PROGRAM {
@@ -106,5 +109,5 @@ pub fn run_debug<R: BufRead, W: Write>(
     }
     let (system, mut machine) = made(alloc, cpu, program)?;
     let mut heard = input.take(MOST_BYTES as u64 + 1);
-    converse(alloc, &system, cpu, &mut machine, &mut heard, out)
+    converse(alloc, &system, cpu, listing, &mut machine, &mut heard, out)
 }

@@ -1,23 +1,13 @@
 //! Hearing lines.
 ghost use Rattle.std.specs.Prelude.{◌≡◌, IfErr, IfOk};
-ghost use Rattle.std.specs.Str.Lines.{strip_carriage_return};
 ghost use Rattle.cpm_debug.specs.Debug.{IsReadFailure};
 ghost use Rattle.cpm_debug.specs.Hearing.{Hears, line_in, without_end};
 
 use crate::error::DebugError;
+use cpm_script::without_return;
 use std::alloc::Global;
 use std::io;
 use std::io::BufRead;
-
-/// A line without the carriage return before its end.
-fn without_return(line: &[u8]) -> &[u8]
-    ensures { result.now ≡ strip_carriage_return line.now }
-{
-    match line.split_last() {
-        Some((b'\r', front)) => front,
-        _ => line,
-    }
-}
 
 /// A line without the newline that ends it, and without the carriage return before that.
 pub(crate) fn without_end(line: &[u8]) -> &[u8]

@@ -9,6 +9,7 @@ mod hear;
 mod memory;
 mod order;
 mod press;
+mod source;
 mod write;
 
 pub use debug::run_debug;

@@ -1,7 +1,7 @@
 //! Writing answers.
 ghost use Rattle.std.specs.Prelude.{◌≡◌, ◌++◌, OnOk};
 ghost use Rattle.std.specs.Io.KnownBytes.{Appends};
-ghost use Rattle.cpm_debug.specs.Dialog.{line_of, without_text};
+ghost use Rattle.cpm_debug.specs.Dialog.{line_of, with_source, without_text};
 
 use cpm_slots::Machine;
 use std::io;
@@ -11,11 +11,32 @@ use std::io::Write;
 const CHUNK: usize = 8192;
 
 /// Writes a line and its end.
+fn put_line<W: Write>(out: &mut W, line: &[u8]) -> io::Result<()>
+    ensures { OnOk result (Appends (W.contents out.old) (W.contents out.new) (line_of line.now)) }
+{
+    out.write_all(line)?;
+    out.write_all(b"\n")?;
+    Ok(())
+}
+
+/// Writes a line and its end, and flushes.
 pub(crate) fn write_line<W: Write>(out: &mut W, line: &str) -> io::Result<()>
     ensures { OnOk result (Appends (W.contents out.old) (W.contents out.new) (line_of line.now)) }
 {
-    out.write_all(line.as_bytes())?;
-    out.write_all(b"\n")?;
+    put_line(out, line.as_bytes())?;
+    out.flush()?;
+    Ok(())
+}
+
+/// Writes a line, and the line of a listing behind it, where it is no empty one.
+pub(crate) fn write_with_source<W: Write>(out: &mut W, line: &str, source: &[u8]) -> io::Result<()>
+    ensures { OnOk result (Appends (W.contents out.old) (W.contents out.new) (with_source line.now source.now)) }
+{
+    if source.is_empty() {
+        return write_line(out, line);
+    }
+    put_line(out, line.as_bytes())?;
+    put_line(out, source)?;
     out.flush()?;
     Ok(())
 }

@@ -1,4 +1,5 @@
 pub mod AsmLemmas
+pub mod AsmListingLemmas
 pub mod AtPcLemmas
 pub mod FinishLemmas
 pub mod InputLemmas

@@ -3,9 +3,11 @@
 #![tactic(auto)]
 
 mod asm;
+mod asm_listing;
 mod at_pc;
 mod check;
 mod com;
+mod cued;
 mod ending;
 mod error;
 mod illegal;
@@ -18,7 +20,7 @@ mod report;
 mod run;
 mod tail;
 
-pub use asm::run_asm;
+pub use asm::{Listed, run_asm, run_asm_listed};
 pub use check::run_check;
 pub use com::{Ran, Script, Start, run_com};
 pub use cpm_batch::ReadError;
@@ -27,10 +29,11 @@ pub use cpm_command::{
 };
 pub use cpm_config::{Config, ConfigError, Origin, Session};
 pub use cpm_debug::{DebugError, run_debug};
-pub use cpm_script::{Key, LineFault, ScriptError, key_line, read_keys};
-pub use cpm_slots::{Opening, Tail};
+pub use cpm_script::{Cue, Key, LineFault, ScriptError, key_line, read_keys};
+pub use cpm_slots::{End, Opening, Tail};
 pub use cpm_store::{MemoryStore, Store, StoreError};
 pub use cpm_turns::{Progress, Unwatched, Watcher};
+pub use cued::{Cued, cues_of, rehearse_session, run_waiting};
 pub use ending::Ending;
 pub use error::HostError;
 pub use illegal::IllegalBytes;

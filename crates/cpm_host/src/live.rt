@@ -96,7 +96,7 @@ pub struct SessionStart<'a> {
 }
 
 /// Why a session has no machine, if its opening is refused so.
-fn opening_refused(name: &str, fault: OpenError) -> HostError
+pub(crate) fn opening_refused(name: &str, fault: OpenError) -> HostError
     ensures { (o : Option OpenErrorValue) → IsRefusal o fault → IsOpeningRefused name.now o result }
 {
     match fault {

@@ -8,17 +8,30 @@ use arrayvec::ArrayString;
 pub(crate) type Line = ArrayString<96>;
 
 /// The digit of a number below 16.
-fn digit_of(value: u8) -> char
+fn digit_of(value: u8) -> u8
     requires { value < 16 }
     ensures value { result ≡ hexadecimal value }
     ensures ascii { result < 128 }
 {
-    let byte = if value < 10 {
+    if value < 10 {
         b'0' + value
     } else {
         b'A' + (value - 10)
-    };
-    char::from(byte)
+    }
+}
+
+/// A word in four hexadecimal digits, 0 to 9 and A to F.
+#[tactic(auto, unfolding(crate::specs::Digits::four_digits, crate::specs::Digits::two_digits))]
+pub fn four_digits(value: u16) -> [u8; 4]
+    ensures { result ≡ four_digits value }
+{
+    let [high, low] = value.to_be_bytes();
+    [
+        digit_of(high / 16),
+        digit_of(high % 16),
+        digit_of(low / 16),
+        digit_of(low % 16),
+    ]
 }
 
 /// Adds a character below 80h.
@@ -38,8 +51,8 @@ pub(crate) fn add_byte(line: &mut Line, value: u8)
     ensures text { line.new.bytes ≡ line.old.bytes ++ two_digits value }
     ensures length { length line.new.bytes ≡ length line.old.bytes + 2 }
 {
-    add_character(line, digit_of(value / 16));
-    add_character(line, digit_of(value % 16));
+    add_character(line, char::from(digit_of(value / 16)));
+    add_character(line, char::from(digit_of(value % 16)));
 }
 
 /// Adds a word in four digits.

@@ -12,6 +12,7 @@ mod operands;
 mod operands_z80;
 mod registers;
 
+pub use digits::four_digits;
 pub use dump::dump_line;
 pub use instruction::{instruction_length, instruction_line};
 pub use listing::list_line;

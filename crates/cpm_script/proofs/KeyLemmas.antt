@@ -69,10 +69,10 @@ pub joined-end : (keys : List Key) (count : ℕ) (rest : List ℕ) → true ≡ 
 joined-end keys count [] e = ap Some (sym (append-nil keys))
 joined-end keys count (x ∷ rest) e = absurd (omega (arith, eqb-true (length (x ∷ rest)) 0 (sym e)))
 
-fits : (n m : ℕ) → n + m ≤ most_keys → nat_le (n + m) most_keys ≡ true
+pub fits : (n m : ℕ) → n + m ≤ most_keys → nat_le (n + m) most_keys ≡ true
 fits n m room = grind (arith, nat_tests)
 
-too_many : (n m : ℕ) → most_keys < n + m → nat_le (n + m) most_keys ≡ false
+pub too_many : (n m : ℕ) → most_keys < n + m → nat_le (n + m) most_keys ≡ false
 too_many n m over = grind (arith, nat_tests)
 
 -- the text's keys, or the fault of the line

@@ -1,9 +1,10 @@
 -- The keys of a session that is forked from another one at a count of steps. All of it is own: this
 -- project's form of forks.
-use Rattle.std.specs.Prelude.{ℕ, ◌+◌, ◌-◌, nat_lt, if◌then◌else◌, List, [], ◌∷◌, ◌++◌, length, Option, Some, None, option_map, Result, Ok, Err}
+use Rattle.std.specs.Prelude.{ℕ, ◌+◌, ◌-◌, nat_lt, if◌then◌else◌, List, [], ◌∷◌, ◌++◌, length, Option, Some, None, option_map, option_and_then, Result, Ok, Err}
 use Rattle.std.specs.List.{filter, before_first, after_first}
 use Rattle.std.specs.Option.{option_zip}
 use Rattle.std.specs.Str.Lines.{lines}
+use Rattle.cpm_script.specs.Cues.{Said, cues, is_expect, is_wait, quoted}
 use Rattle.cpm_script.specs.KeyText.{count_of, keys_of}
 use Rattle.cpm_script.specs.Script.{is_skipped, is_space, most_keys, script}
 use Rattle.cpm_script.specs.declared.script.Key.{Key}
@@ -55,3 +56,35 @@ with_own (Err fault) next = Err fault
 abbrev pub forked_script : (at : ℕ) (before : List Key) → List ℕ → Result (List Key) (ℕ × LineFault)
 forked_script at before text =
     with_own (script text) (forked_keys before (fork_fault at (most_keys - length before) 1 (lines text)))
+
+-- ---- scripts with lines that wait
+
+-- the count of a line that begins with this word, or this one where the line waits, and how many keys stand
+-- behind it, where it has both
+abbrev pub word_cues : ℕ → List ℕ → List ℕ → Option (ℕ × ℕ)
+word_cues at word text =
+    if is_wait word then option_zip (Some at) (option_map length (keys_of text))
+    else (if is_expect word then option_zip (Some at) (option_and_then (λ parts. option_map length (keys_of parts.1)) (quoted text))
+    else option_zip (count_of word) (option_map length (keys_of text)))
+
+abbrev pub line_cues : ℕ → List ℕ → Option (ℕ × ℕ)
+line_cues at line =
+    if is_skipped line then None else word_cues at (before_first is_space line) (after_first is_space line)
+
+-- the first line, from this line number on, with a count before the fork, or with more keys than there is
+-- room for
+abbrev pub cue_fault : (at room number : ℕ) → List (List ℕ) → Option (ℕ × LineFault)
+cue_fault at room number [] = None
+cue_fault at room number (line ∷ rest) =
+    fault_or number (room_left at room (line_cues at line)) (λ left. cue_fault at left (number + 1) rest)
+
+-- the own cues of a forked session, unless a line has a fault
+abbrev pub own_cues : Option (ℕ × LineFault) → Result (List Said) (ℕ × LineFault) → Result (List Said) (ℕ × LineFault)
+own_cues fault (Err first) = Err first
+own_cues None (Ok own) = Ok own
+own_cues (Some fault) (Ok own) = Err fault
+
+-- the own cues of a session that is forked at a count of steps, where its parent had so many keys before;
+-- the script's own faults come first
+abbrev pub forked_cues : (at before : ℕ) → List ℕ → Result (List Said) (ℕ × LineFault)
+forked_cues at before text = own_cues (cue_fault at (most_keys - before) 1 (lines text)) (cues text)

@@ -1,9 +1,13 @@
--- Laws over the keys of forked sessions, and of recorded ones. (own)
-use Rattle.std.specs.Prelude.{⊤, ◌≡◌, ℕ, ◌<◌, ◌≤◌, List, [], ◌∷◌, ◌++◌, length, Ok, IfOk}
+-- Laws over the keys of forked sessions, of recorded ones, and of scripts with lines that wait. (own)
+use Rattle.std.specs.Prelude.{⊤, ◌≡◌, ◌≢◌, ℕ, ◌<◌, ◌≤◌, Bool, true, false, List, [], ◌∷◌, ◌++◌, length, map, Result, Ok, Err, IfOk}
 use Rattle.std.specs.List.{All}
+use Rattle.cpm_script.specs.Cues.{Awaited, Counted, Pressed, Said, cues, is_plain, keys_in, plain_keys, said}
 use Rattle.cpm_script.specs.Fork.{forked_script, keys_before}
 use Rattle.cpm_script.specs.Recording.{AreTyped, recorded}
 use Rattle.cpm_script.specs.Script.{most_keys, script}
+use Rattle.cpm_script.specs.declared.cue.Cue.{Cue}
+use Rattle.cpm_script.specs.declared.fault.LineFault.{LineFault}
+use Rattle.cpm_script.specs.declared.fault.LineFault.TheVariants.{NoCount}
 use Rattle.cpm_script.specs.declared.script.Key.{Key}
 
 -- the counts are at least this one, and do not fall
@@ -38,3 +42,49 @@ KeysBeforeAreFirst = (n at : ℕ) (keys : List Key) → AreFrom n keys → IsCut
 -- the lines of keys that were typed are a script with just these keys
 abbrev pub RecordedKeys : Type 0
 RecordedKeys = (keys : List Key) → AreTyped 0 keys → length keys ≤ most_keys → script (recorded keys) ≡ Ok keys
+
+-- ---- scripts with lines that wait
+
+-- the same keys, or the same fault unless a count is missing
+abbrev pub MeansTheSame : Result (List Key) (ℕ × LineFault) → Result (List Said) (ℕ × LineFault) → Type 0
+MeansTheSame (Ok keys) read = read ≡ Ok (map Counted keys)
+MeansTheSame (Err fault) read = fault.1 ≢ NoCount → read ≡ Err fault
+
+-- a script with no line that waits means what it meant
+abbrev pub PlainScripts : Type 0
+PlainScripts = (text : List ℕ) → MeansTheSame (script text) (cues text)
+
+-- the counts are at least this one and do not fall, whatever waits between them
+abbrev pub CountsRise : ℕ → List Said → Type 0
+CountsRise n [] = ⊤
+CountsRise n (Counted key ∷ cs) = (n ≤ key.count) × CountsRise key.count cs
+CountsRise n (Awaited text ∷ cs) = CountsRise n cs
+CountsRise n (Pressed byte ∷ cs) = CountsRise n cs
+
+-- each key is below 80h
+abbrev pub KeysAreAscii : List Said → Type 0
+KeysAreAscii [] = ⊤
+KeysAreAscii (Counted key ∷ cs) = (key.byte < 128) × KeysAreAscii cs
+KeysAreAscii (Awaited text ∷ cs) = KeysAreAscii cs
+KeysAreAscii (Pressed byte ∷ cs) = (byte < 128) × KeysAreAscii cs
+
+-- each key without a count stands behind a wait, or behind another such key
+abbrev pub PressesFollow : Bool → List Said → Type 0
+PressesFollow waited [] = ⊤
+PressesFollow waited (Counted key ∷ cs) = PressesFollow false cs
+PressesFollow waited (Awaited text ∷ cs) = PressesFollow true cs
+PressesFollow waited (Pressed byte ∷ cs) = (waited ≡ true) × PressesFollow true cs
+
+pub record AreInOrder (cs : List Said) : Type 0 where
+  pub few : keys_in cs ≤ most_keys
+  pub counts : CountsRise 0 cs
+  pub ascii : KeysAreAscii cs
+  pub presses : PressesFollow false cs
+
+-- what a script says is in order, and has not too many keys
+abbrev pub CuesInOrder : Type 0
+CuesInOrder = (text : List ℕ) → IfOk (cues text) AreInOrder
+
+-- cues of which none waits are their keys
+abbrev pub PlainCues : Type 0
+PlainCues = (cs : List Cue) → is_plain cs ≡ true → map Counted (plain_keys cs) ≡ map said cs

@@ -17,6 +17,9 @@ pub enum LineFault {
     /// Nothing stands after the count.
     #[error("one space and at least one key are wanted after the count")]
     NoKey,
+    /// No text in quotes stands behind `expect`, or an empty one.
+    #[error("a text in quotes is missing")]
+    NoText,
     /// With the keys of this line there are more than 4,096.
     #[error("a script has at most 4096 keys")]
     TooManyKeys,

@@ -32,11 +32,15 @@ fn line_keys(line: &[u8]) -> Option<(u64, usize)>
     count_of(number).zip(count_keys(text))
 }
 
-/// What the keys of a line leave of the room, unless they come before the fork.
-fn room_left(line: &[u8], at: u64, room: usize) -> Result<usize, LineFault>
-    ensures { result ≡ room_left at room (line_keys line.now) }
+/// What a line leaves of the room, unless it comes before the fork: this is its count, and how many keys it has.
+pub(crate) fn room_left(
+    line: Option<(u64, usize)>,
+    at: u64,
+    room: usize,
+) -> Result<usize, LineFault>
+    ensures { result ≡ room_left at room line }
 {
-    let Some((count, keys)) = line_keys(line) else {
+    let Some((count, keys)) = line else {
         return Ok(room);
     };
     if count < at {
@@ -54,7 +58,7 @@ fn fork_fault(text: &[u8], at: u64, mut room: usize) -> Option<(u64, LineFault)>
     while !rest.is_empty() {
         let (line, after) = first_line(rest);
         number += 1;
-        match room_left(line, at, room) {
+        match room_left(line_keys(line), at, room) {
             Ok(left) => room = left,
             Err(fault) => return Some((number, fault)),
         }

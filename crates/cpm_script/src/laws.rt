@@ -1,6 +1,6 @@
-//! Laws of the keys of forked sessions, and of recorded ones, as contracts.
+//! Laws of the keys of forked sessions, of recorded ones, and of scripts with lines that wait, as contracts.
 
-ghost use Rattle.cpm_script.specs.Laws.{ForkedKeysInOrder, KeysBeforeAreFirst, RecordedKeys};
+ghost use Rattle.cpm_script.specs.Laws.{CuesInOrder, ForkedKeysInOrder, KeysBeforeAreFirst, PlainCues, PlainScripts, RecordedKeys};
 
 /// The keys of a forked session are those that its parent had before the fork, and then its own, which come
 /// at the fork or later and in order; they are at most 4,096.
@@ -17,4 +17,21 @@ pub fn keys_before_are_first()
 /// writes them, one after another.
 pub fn recorded_keys()
     ensures { RecordedKeys }
+{}
+
+/// A script with no line that waits gives its keys, as `read_keys` does, and has the same fault where that is
+/// another than the want of a count.
+pub fn plain_scripts()
+    ensures { PlainScripts }
+{}
+
+/// What a script says has at most 4,096 keys, each below 80h; counts do not fall, whatever waits between them;
+/// and a key without a count stands behind a wait, or behind another such key.
+pub fn cues_in_order()
+    ensures { CuesInOrder }
+{}
+
+/// Cues of which none waits are the keys that `plain_keys` gives.
+pub fn plain_cues()
+    ensures { PlainCues }
 {}

@@ -2,8 +2,10 @@
 #![tactic(auto)]
 
 mod count;
+mod cue;
 mod fault;
 mod fork;
+mod forked_cue;
 mod keys;
 pub mod laws;
 mod lines;
@@ -11,8 +13,11 @@ mod script;
 mod writing;
 
 pub use count::count_of;
+pub use cue::{Cue, is_plain, plain_keys, read_cues};
 pub use fault::{LineFault, ScriptError};
 pub use fork::{keys_before, read_forked_keys};
+pub use forked_cue::read_forked_cues;
 pub use keys::{are_keys, first_key};
+pub use lines::{first_line, without_return};
 pub use script::{Key, read_keys};
 pub use writing::key_line;

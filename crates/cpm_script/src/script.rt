@@ -21,7 +21,7 @@ pub struct Key {
 
 /// Why the keys of a line are not added.
 #[derive(Clone, Copy)]
-enum Stop {
+pub(crate) enum Stop {
     Fault(LineFault),
     OutOfMemory,
 }

@@ -1,5 +1,7 @@
+pub mod BusyLaws
 pub mod StepLaws
 pub mod UntilLaws
+pub mod ToWaitLaws
 pub mod GrantLaws
 pub mod PressLaws
 pub mod AloneLaws

@@ -9,6 +9,7 @@ use Rattle.cpm_slots.specs.declared.steps.Outcome.TheVariants as outcome
 use Rattle.cpm_slots.specs.MachineState.{MachineState}
 use Rattle.cpm_slots.specs.Step.{step, after, can_step, after_part, made}
 use Rattle.cpm_slots.specs.Serve.{executed, look_of}
+use Rattle.cpm_slots.specs.ToWait.{can_work, executed_to_wait}
 use Rattle.cpm_slots.specs.Waits.{WaitsWhereItSays}
 use Rattle.cpm_slots.specs.Alone.{Press, due, alone}
 use Rattle.cpm_slots.specs.Calls.{Call, no_account, account_after, state_after, state_behind}
@@ -22,6 +23,10 @@ pub record IsLongest (test : ℕ → Bool) (n k : ℕ) : Type 0 where
 -- what a grant executes is the greatest number of steps that can be made
 abbrev pub Greatest : Type 0
 Greatest = (system : Disk) (n : ℕ) (s : MachineState) → IsLongest (λ k. can_step (after system k s)) n (executed system n s)
+
+-- a grant up to a wait executes the greatest number of steps of which each can be made and waits for no key
+abbrev pub GreatestToWait : Type 0
+GreatestToWait = (system : Disk) (n : ℕ) (s : MachineState) → IsLongest (λ k. can_work (after system k s)) n (executed_to_wait system n s)
 
 -- two grants are one of the sum
 abbrev pub Cutting : Type 0

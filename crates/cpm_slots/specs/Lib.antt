@@ -4,6 +4,7 @@ pub mod Until
 pub mod MachineState
 pub mod Step
 pub mod Serve
+pub mod ToWait
 pub mod Waits
 pub mod Alone
 pub mod Runner

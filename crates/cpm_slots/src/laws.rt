@@ -1,10 +1,15 @@
 //! Laws of machines, as contracts.
 
-ghost use Rattle.cpm_slots.specs.Laws.{Greatest, Cutting, Bounded, KeysLeave, KeysFromFront, Alone, LateKeys, Waiting, WaitsExactly};
+ghost use Rattle.cpm_slots.specs.Laws.{Greatest, GreatestToWait, Cutting, Bounded, KeysLeave, KeysFromFront, Alone, LateKeys, Waiting, WaitsExactly};
 
 /// A grant executes the greatest number of steps that can be made.
 pub fn greatest()
     ensures { Greatest }
+{}
+
+/// A grant up to a wait executes the greatest number of steps of which each can be made and waits for no key.
+pub fn greatest_to_wait()
+    ensures { GreatestToWait }
 {}
 
 /// Cutting a grant changes nothing.

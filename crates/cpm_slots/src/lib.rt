@@ -7,6 +7,7 @@ pub mod opening;
 mod program;
 pub mod reply;
 pub mod steps;
+pub mod to_wait;
 mod trap;
 pub mod until;
 

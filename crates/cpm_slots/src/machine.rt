@@ -8,13 +8,14 @@ ghost use Rattle.cpm_slots.specs.Step.{can_step, step, after};
 ghost use Rattle.cpm_slots.specs.Laws.{IsBounded};
 ghost use Rattle.cpm_slots.specs.Serve.{executed, why, look_of, taken, taken_list, takes_key, keyed};
 ghost use Rattle.cpm_slots.specs.Until.{executed_until, why_until};
+ghost use Rattle.cpm_slots.specs.ToWait.{executed_to_wait};
 ghost use Rattle.cpm_slots.specs.Parts.{AreNew};
 ghost use Rattle.cpm_slots.specs.Opening.{opening_fault, program_fault, IsRefusal};
 
 use crate::opening::{OpenError, Opening};
 use crate::reply::{Closed, End, Granted, KeysFull, Look};
 use crate::steps::{self, Runner};
-use crate::until;
+use crate::{to_wait, until};
 use cpm_bdos::Cpm;
 use cpm_ccp::{Tail, leave_tail};
 use cpm_console::Console;
@@ -187,6 +188,16 @@ impl Machine {
         ensures within { result.executed ≤ steps }
     {
         until::grant_until(system, &mut self.runner, &mut self.memory, steps, pc)
+    }
+
+    /// Executes the greatest number of steps, at most `steps`, that can be made with this system drive and of which none waits
+    /// for a key; says how many.
+    pub fn grant_to_wait(&mut self, system: &Image, steps: u64) -> u64
+        ensures executed { result ≡ executed_to_wait system.now steps self.old }
+        ensures within { result ≤ steps }
+        ensures state { self.new ≡ after system.now result self.old }
+    {
+        to_wait::grant_to_wait(system, &mut self.runner, &mut self.memory, steps)
     }
 
     /// Presses a key, which the next step can read. Refused, with nothing changed, where 4,096 keys are pending.

@@ -1,13 +1,14 @@
 -- The machine run alone for keys of which the last are not pressed, or after it has ended.
-use Rattle.std.proofs.Common.{◌≡◌, ℕ, zero, suc, ◌+◌, ◌<◌, ◌≤◌, ◌==◌, Bool, true, false, List, [], ◌∷◌, ◌++◌, refl, sym, ap, ◌∙◌, subst, arith, add-zero, add-suc, append-nil, if◌then◌else◌}
+use Rattle.std.proofs.Common.{◌≡◌, ℕ, zero, suc, ◌+◌, ◌<◌, ◌≤◌, ◌==◌, Bool, true, false, List, [], ◌∷◌, ◌++◌, length, refl, sym, ap, ◌∙◌, subst, arith, add-zero, add-suc, append-nil, if◌then◌else◌}
 use Rattle.std.proofs.lemmas.Bool.Decides.{nat_tests}
 use Rattle.cpm_geom.specs.Disk.{Disk}
 use Rattle.cpm_script.specs.declared.script.Key.{Key}
 use Rattle.cpm_slots.specs.Alone.{Press, due, alone}
 use Rattle.cpm_slots.specs.Calls.{state_behind}
 use Rattle.cpm_slots.specs.MachineState.{MachineState}
-use Rattle.cpm_slots.specs.Step.{step, step_if, is_running}
+use Rattle.cpm_slots.specs.Step.{after, step, step_if, is_running}
 use Rattle.cpm_slots.proofs.AloneLaws.{step-behind}
+use Rattle.cpm_slots.proofs.KeyLaws.{keys_leave-step}
 use Rattle.cpm_slots.proofs.PressLaws.{alone-late}
 use Rattle.cpm_turns.specs.Playing.{presses_of, IsInOrder, HasText}
 
@@ -61,6 +62,18 @@ alone-ended system presses n (suc k) start ended =
     let before : keyless (alone system presses (n + k) start) ≡ keyless (alone system presses n start) = alone-ended system presses n k start ended in
     let stopped : is_running (alone system presses (n + k) start).ended ≡ false = keyless-ended (alone system presses (n + k) start) (alone system presses n start) before ended in
     ap (λ m. keyless (alone system presses m start)) (add-suc n k) ∙ keyless-last system presses (n + k) start ∙ ap keyless (step-stays system (alone system presses (n + k) start) stopped) ∙ before
+
+-- ---- steps alone
+
+pub after-pending : (system : Disk) (n : ℕ) (s : MachineState) → length (after system n s).cpm.console.keys ≤ length s.cpm.console.keys
+after-pending system zero s = omega arith
+after-pending system (suc n) s =
+    let before = after-pending system n s in let last = keys_leave-step system (after system n s) in omega arith
+
+pub after-ended : (system : Disk) (n : ℕ) (s : MachineState) → is_running s.ended ≡ false → is_running (after system n s).ended ≡ false
+after-ended system zero s ended = ended
+after-ended system (suc n) s ended =
+    ap (λ (t : MachineState). is_running t.ended) (step-stays system (after system n s) (after-ended system n s ended)) ∙ after-ended system n s ended
 
 -- ---- text that was shown stays
 

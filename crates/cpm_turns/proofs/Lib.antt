@@ -12,4 +12,10 @@ pub mod RoundLemmas
 pub mod PlayLemmas
 pub mod ScriptLemmas
 pub mod TypingLemmas
+pub mod GoingLemmas
 pub mod LiveLemmas
+pub mod WaitLemmas
+pub mod RunLemmas
+pub mod CuedLemmas
+pub mod FollowLemmas
+pub mod PlainLemmas

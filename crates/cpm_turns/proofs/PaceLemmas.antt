@@ -21,7 +21,6 @@ use Rattle.cpm_slots.specs.Serve.{executed, keyed, taken, taken_list, takes_key}
 use Rattle.cpm_slots.specs.Step.{after, can_step, is_running}
 use Rattle.cpm_slots.proofs.AloneLaws.{after-behind, taken-behind, taken_list-behind}
 use Rattle.cpm_slots.proofs.GrantLaws.{longest-is}
-use Rattle.cpm_slots.proofs.KeyLaws.{keys_leave-step}
 use Rattle.cpm_slots.proofs.PressLaws.{alone-add, alone-pressed, with_keys-nil, AllCame-later, AllCame-pressed}
 use Rattle.cpm_sessions.proofs.ServeLaws.{taken_from}
 use Rattle.cpm_turns.specs.declared.pace.Pace.{Pace}
@@ -29,17 +28,12 @@ use Rattle.cpm_turns.specs.Pacing.{due_at, first_pace, left_in, turn_of, up_to, 
 use Rattle.cpm_turns.specs.Playing.{presses_of, EndsAs, HasText, IsFresh, IsInOrder, IsPlayed, IsQuiet}
 use Rattle.cpm_turns.specs.ScriptedSlots.{console_with, list_with}
 use Rattle.cpm_turns.proofs.TextLemmas.{appends_more, appends_none, keeps_all, both_empty}
-use Rattle.cpm_turns.proofs.AloneLemmas.{step-stays, alone-ended, alone-taken, keyless, keyless-ended, none-due, presses-append, presses-more, text-alone}
+use Rattle.cpm_turns.proofs.AloneLemmas.{after-ended, after-pending, alone-ended, alone-taken, keyless, keyless-ended, none-due, presses-append, presses-more, text-alone}
 use Rattle.cpm_turns.proofs.OrderLemmas.{order-first, order-later}
 
 -- ---- the keys that are still to come
 
 -- ---- one call more
-
-after-pending : (system : Disk) (n : ℕ) (s : MachineState) → length (after system n s).cpm.console.keys ≤ length s.cpm.console.keys
-after-pending system zero s = omega arith
-after-pending system (suc n) s =
-    let before = after-pending system n s in let last = keys_leave-step system (after system n s) in omega arith
 
 -- before the first turn
 pub on-start : (system : Disk) (keys : List Key) (steps : ℕ) (start : MachineState) → IsFresh start → IsInOrder 0 keys → IsOn system keys steps start (first_pace steps) [] [] start
@@ -106,11 +100,6 @@ all-later : (steps k : ℕ) (pace : Pace) (now next : MachineState) → k ≤ le
 all-later steps k pace now next fits ends all =
     let within = all.within in
     record { within = omega arith; most = all.most; all = ⊎_elim (λ whole. inl whole) (λ ended. inr (ends ended)) all.all }
-
-after-ended : (system : Disk) (n : ℕ) (s : MachineState) → is_running s.ended ≡ false → is_running (after system n s).ended ≡ false
-after-ended system zero s ended = ended
-after-ended system (suc n) s ended =
-    ap (λ (t : MachineState). is_running t.ended) (step-stays system (after system n s) (after-ended system n s ended)) ∙ after-ended system n s ended
 
 -- the steps of a turn
 pub on-turn : (system : Disk) (keys : List Key) (steps k m : ℕ) (start : MachineState) (pace : Pace) (console list : List ℕ) (now : MachineState) →

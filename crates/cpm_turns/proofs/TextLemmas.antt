@@ -1,6 +1,7 @@
 -- Moving the bytes that wait out of a machine.
-use Rattle.std.proofs.Common.{◌≡◌, ◌∙◌, ◌++◌, ◌≤◌, ap, ap₂, sym, refl, Result, Ok, Err, OnErr, OnOk, ℕ, List, [], ◌∷◌, Option, Some, None, length, take, drop, min, arith, append-nil}
-use Rattle.std.proofs.lemmas.List.{append_assoc, length-take-le, take-append-drop, take_at}
+use Rattle.std.proofs.Common.{◌≡◌, ◌∙◌, ◌++◌, ◌<◌, ◌≤◌, ap, ap₂, sym, refl, Result, Ok, Err, OnErr, OnOk, Bool, true, ℕ, List, [], ◌∷◌, Option, Some, None, length, take, drop, min, arith, append-nil}
+use Rattle.std.proofs.lemmas.List.{append_assoc, length-take-le, nil_from_length, take-append-drop, take_at}
+use Rattle.std.proofs.Math.Seq.{drop-nil}
 use Rattle.std.specs.Io.KnownBytes.{Appends, Keeps}
 use Rattle.cpm_slots.specs.MachineState.{MachineState}
 use Rattle.cpm_slots.specs.Serve.{taken}
@@ -52,6 +53,37 @@ moved_more start now next before middle grown kept room chunk moved is state wri
           ∙ ap (λ v. moved.text ++ v) (take-append-drop count screen) ∙ moved.whole;
       state = state ∙ ap (taken room) moved.state ∙ ap (λ v. with_text v start) (sym left);
     }
+
+-- the last chunk, which is empty
+pub moved_end : (start now next : MachineState) (before after : Option (List ℕ)) (room count : ℕ) → (moved : IsMoved start now before after) → count ≡ min room (length now.cpm.console.screen) → count ≡ 0 → 0 < room
+    → next ≡ taken room now → (next ≡ with_text [] start) × (moved.text ≡ start.cpm.console.screen)
+moved_end start now next before after room count moved is none some state =
+    let screen = now.cpm.console.screen in
+    let zero : length screen ≡ 0 = omega arith in
+    let empty : screen ≡ [] = nil_from_length screen zero in (
+      state ∙ ap (taken room) moved.state ∙ ap (λ xs. with_text (drop (min room (length xs)) xs) start) empty ∙ ap (λ xs. with_text xs start) (drop-nil (min room 0)),
+      sym (append-nil moved.text) ∙ ap (λ v. moved.text ++ v) (sym empty) ∙ moved.whole,
+    )
+
+-- some of them, which were kept too if there was memory for them
+pub record IsMovedKept (start now : MachineState) (before after : Option (List ℕ)) (old held : List ℕ) (whole : Bool) : Type 0 where
+  pub moved : IsMoved start now before after
+  pub kept : whole ≡ true → held ≡ old ++ moved.text
+
+pub kept_none : (start : MachineState) (written : Option (List ℕ)) (old : List ℕ) (whole : Bool) → IsMovedKept start start written written old old whole
+kept_none start written old whole = record {
+  moved = record { text = []; written = appends_none written; whole = refl; state = refl };
+  kept = λ yes. sym (append-nil old);
+}
+
+pub kept_more : (start now next : MachineState) (before middle grown held : Option (List ℕ)) (room : ℕ) (chunk old kept more : List ℕ) (had whole : Bool) → IsMovedKept start now before middle old kept had
+    → chunk ≡ take (min room (length now.cpm.console.screen)) now.cpm.console.screen → next ≡ taken room now → Appends middle grown chunk → Keeps grown held
+    → (whole ≡ true → had ≡ true) → (whole ≡ true → more ≡ kept ++ chunk) → IsMovedKept start next before held old more whole
+unfolding moved_more
+kept_more start now next before middle grown held room chunk old kept more had whole so_far is state writes keeps all keeps_it = record {
+  moved = moved_more start now next before middle grown held room chunk so_far.moved is state writes keeps;
+  kept = λ yes. keeps_it yes ∙ ap (λ v. v ++ chunk) (so_far.kept (all yes)) ∙ append_assoc old so_far.moved.text chunk;
+}
 
 -- what lies in the buffer after bytes were taken into it
 pub chunk_taken : (screen old new : List ℕ) (n room : ℕ) → n ≡ min room (length screen) → new ≡ take n screen ++ drop n old → take n new ≡ take (min room (length screen)) screen

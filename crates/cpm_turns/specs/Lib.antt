@@ -5,3 +5,4 @@ pub mod Laws
 pub mod Players
 pub mod Typing
 pub mod Live
+pub mod Cued

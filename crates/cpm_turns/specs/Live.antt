@@ -4,11 +4,12 @@ use Rattle.std.specs.Io.KnownBytes.{Appends, IsAtEnd}
 use Rattle.cpm_geom.specs.Disk.{Disk}
 use Rattle.cpm_script.specs.Recording.{AreTyped, recorded}
 use Rattle.cpm_script.specs.declared.script.Key.{Key}
+use Rattle.cpm_slots.specs.Calls.{state_behind}
 use Rattle.cpm_slots.specs.MachineState.{MachineState}
 use Rattle.cpm_slots.specs.Step.{is_running}
 use Rattle.cpm_turns.specs.declared.live.LiveError.{LiveError}
 use Rattle.cpm_turns.specs.declared.live.LiveError.TheVariants.{Unreadable, Unwritable, Unrecorded, OutOfMemory}
-use Rattle.cpm_turns.specs.Playing.{EndsAs, HasText, alone_by}
+use Rattle.cpm_turns.specs.Playing.{EndsAs, HasText, IsQuiet, alone_by}
 use Rattle.cpm_turns.specs.Typing.{HasQuit, HasRead}
 
 -- ---- the keys
@@ -27,6 +28,25 @@ pub record AreGiven (most steps : ℕ) (keys : List Key) : Type 0 where
 -- their bytes
 abbrev pub bytes_of : List Key → List ℕ
 bytes_of keys = map (λ k. k.byte) keys
+
+-- ---- how a session goes
+
+-- The session went from a start so far: with the bytes that were taken put back in front, it is the machine run alone for its keys and steps, and all of them have come.
+pub record HasGone (system : Disk) (start : MachineState) (keys : List Key) (done : ℕ) (console list : List ℕ) (now : MachineState) : Type 0 where
+  pub state : state_behind console list now ≡ alone_by system keys done start
+  pub come : AreBy done keys
+  pub typed : AreTyped 0 keys
+
+-- and the writer got its text, and the record its keys
+pub record IsGoing (system : Disk) (steps most : ℕ) (start now : MachineState) (before written unrecorded record_now : Option (List ℕ)) (keys : List Key) (done : ℕ) : Type 0 where
+  pub console : List ℕ
+  pub list : List ℕ
+  pub gone : HasGone system start keys done console list now
+  pub shown : Appends before written console
+  pub quiet : IsQuiet now
+  pub within : done ≤ steps
+  pub few : length keys ≤ most
+  pub noted : Appends unrecorded record_now (recorded keys)
 
 -- ---- what is said of a session that was played
 

@@ -1,6 +1,7 @@
 //! Sessions that are played by their key scripts: many of a host in turns, or one machine.
 #![tactic(auto)]
 
+mod cued;
 mod error;
 mod forks;
 pub mod laws;
@@ -15,6 +16,7 @@ mod turn;
 mod typing;
 mod watch;
 
+pub use cued::play_cues;
 pub use error::PlayError;
 pub use live::{Live, LiveError, play_live};
 pub use machine::play_machine;

@@ -68,7 +68,7 @@ fn write_line<S: Write>(record: &mut S, key: Key) -> io::Result<()>
 
 impl Live {
     /// Presses a key where the machine stands, and records it before.
-    fn give<S: Write>(
+    pub(crate) fn give<S: Write>(
         &mut self,
         machine: &mut Machine,
         byte: u8,
@@ -100,7 +100,7 @@ impl Live {
 }
 
 /// Moves all console bytes to the writer, and drops the list bytes.
-fn show<W: Write>(machine: &mut Machine, out: &mut W) -> Result<(), LiveError>
+pub(crate) fn show<W: Write>(machine: &mut Machine, out: &mut W) -> Result<(), LiveError>
     ensures state { OnOk result (machine.new ≡ without_list (without_text machine.old)) }
     ensures text { OnOk result (Appends (W.contents out.old) (W.contents out.new) machine.old.cpm.console.screen) }
     ensures refused { IfErr result (λ e. IsUnwritable e × HasText machine.old) }

@@ -14,10 +14,10 @@ use std::io;
 use std::io::Write;
 
 /// How many steps a turn has at most, so that output appears as it comes.
-const QUANTUM: u64 = 100_000;
+pub(crate) const QUANTUM: u64 = 100_000;
 
 /// The same for a machine: where it waits for a key nothing comes before the next one, so all waits are one turn.
-fn quantum_of(machine: &Machine) -> u64
+pub(crate) fn quantum_of(machine: &Machine) -> u64
     ensures { 0 < result }
 {
     if machine.look().waiting {
@@ -28,7 +28,7 @@ fn quantum_of(machine: &Machine) -> u64
 }
 
 /// How many bytes are taken at once.
-const CHUNK: usize = 8192;
+pub(crate) const CHUNK: usize = 8192;
 
 /// Presses the keys that are due.
 fn press_due(machine: &mut Machine, keys: &[Key], pace: &mut Pace)

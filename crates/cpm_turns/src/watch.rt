@@ -24,7 +24,10 @@ const POLLS: u32 = 64;
 /// How many steps a turn has at most, so that output appears as it comes.
 const QUANTUM: u64 = 100_000;
 
-/// The same after a poll of CONST: so long the calls of the BDOS are watched, of which one may come between two polls.
+/// How many the first turn has, and the first after a key: at the prompt, a turn ends for no wait, and the next key comes behind it.
+const FIRST_QUANTUM: u64 = 100;
+
+/// The most after a poll of CONST: so long the calls of the BDOS are watched, of which one may come between two polls.
 const PAUSE: u64 = 10_000;
 
 /// Whether a call of the BDOS with these registers asks whether a key is there.
@@ -41,8 +44,10 @@ pub(crate) struct Watch {
     polls: u32,
     /// Before which address the next turn stops.
     address: u16,
-    /// Whether the next turn is short.
+    /// Whether the next turn is the one after a poll of CONST.
     is_pause: bool,
+    /// How many steps the next turn has at most where it isn't.
+    quantum: u64,
 }
 
 impl Watch {
@@ -52,6 +57,7 @@ impl Watch {
             polls: 0,
             address: BDOS,
             is_pause: false,
+            quantum: FIRST_QUANTUM,
         }
     }
 
@@ -64,7 +70,11 @@ impl Watch {
     pub(crate) fn most(&self) -> u64
         ensures { 0 < result }
     {
-        if self.is_pause { PAUSE } else { QUANTUM }
+        if self.is_pause {
+            PAUSE
+        } else {
+            self.quantum.max(FIRST_QUANTUM)
+        }
     }
 
     /// Whether the machine, of which this is seen, wants a key: it waits for one, or it polls, and none is pending.
@@ -83,6 +93,7 @@ impl Watch {
             self.see_call(look);
         } else {
             self.is_pause = false;
+            self.quantum = self.quantum.saturating_mul(2).min(QUANTUM);
             self.address = if self.address == BDOS {
                 CONSOLE_STATUS
             } else {
@@ -105,5 +116,6 @@ impl Watch {
     /// A key was given.
     pub(crate) fn give(&mut self) {
         self.polls = 0;
+        self.quantum = FIRST_QUANTUM;
     }
 }

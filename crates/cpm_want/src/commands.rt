@@ -96,7 +96,7 @@ pub fn debug(alloc: Global) -> Result<Outcome, AllocError> {
     let mut lines: &[u8] = b"S 2\nR\nK ^M\nG EC06 100\nO\nD 0100\nL 0100\nQ\n";
     let mut out = Counter { count: 0 };
     Ok(
-        match run_debug(alloc, Cpu::Z80, program, &mut lines, &mut out) {
+        match run_debug(alloc, Cpu::Z80, program, &[], &mut lines, &mut out) {
             Ok(()) if out.count > 0 => Outcome::Made,
             Err(DebugError::OutOfMemory) => Outcome::Refused,
             _ => Outcome::Wrong,

@@ -6,10 +6,15 @@ use crate::output::Outputs;
 use crate::place::check_com;
 use crate::progress::{Form, Teller};
 use crate::refused::Refused;
+use crate::rehearse::waits_in;
 use crate::screen::Screen;
 use crate::typing::{Terminals, record_in, tell_quit};
+use crate::waiting_word;
 use cpm_geom::Image;
-use cpm_host::{ComTask, Ending, HostError, Ran, Script, Start, run_com, run_live, tail_of};
+use cpm_host::{
+    ComTask, Cued, End, Ending, HostError, Ran, Script, Start, cues_of, run_com, run_live,
+    run_waiting, tail_of,
+};
 use std::io;
 use std::io::BufReader;
 use std::rt::Files;
@@ -29,13 +34,13 @@ pub fn com(
     for out in &task.outs {
         check_file(rt, outputs, out)?;
     }
-    let ran = if task.is_live {
-        play_keyboard(rt, task, start, terminals)?
+    let (ran, waits) = if task.is_live {
+        (play_keyboard(rt, task, start, terminals)?, false)
     } else {
         play_script(rt, task, start, terminals)?
     };
     write_drives(rt, outputs, &task.outs, ran.drives)?;
-    tell(rt, ran.ending);
+    tell(rt, ran.ending, waits);
     Ok(())
 }
 
@@ -59,30 +64,59 @@ fn start_of(rt: &(impl Files + AllocGlobal), task: &ComTask<'_>) -> Result<Start
     })
 }
 
-/// Runs a program by the keys of the script in a file, if there is one. A screen gets its control bytes as text.
+/// Runs a program by the keys of the script in a file, if there is one, and says whether it stopped where it waits and no key comes.
 fn play_script(
     rt: &(impl Files + Print + Eprint + AllocGlobal),
     task: &ComTask<'_>,
     start: Start,
     terminals: Terminals,
-) -> Result<Ran, Refused> {
-    let Some(name) = task.keys else {
-        return play(rt, task, start, None, terminals);
+) -> Result<(Ran, bool), Refused> {
+    let text = match task.keys {
+        Some(name) => read_file(rt, name)?,
+        None => Vec::new(rt.alloc()),
     };
-    let text = read_file(rt, name)?;
     let script = Script {
-        name,
+        name: task.keys.unwrap_or(""),
         text: text.as_slice(),
     };
-    play(rt, task, start, Some(script), terminals)
+    if task.stops_idle || task.record.is_some() || waits_in(script.text) {
+        return play_waiting(rt, task, start, script, terminals);
+    }
+    Ok((play(rt, task, start, script, terminals)?, false))
 }
 
-/// Runs a program by the keys of a script.
+/// Runs a program by a script that may wait for it, and records its keys if that is asked. With `--stop-idle` it stops where it waits and no key comes.
+fn play_waiting(
+    rt: &(impl Files + Print + Eprint + AllocGlobal),
+    task: &ComTask<'_>,
+    start: Start,
+    script: Script<'_>,
+    terminals: Terminals,
+) -> Result<(Ran, bool), Refused> {
+    let cues = cues_of(rt.alloc(), script)?;
+    let cued = Cued {
+        cues: cues.as_slice(),
+        stops_idle: task.stops_idle,
+    };
+    let mut record = record_in(rt, task.record)?;
+    let steps = task.steps.unwrap_or(STEPS);
+    let typed = if terminals.is_screen {
+        let mut out = Screen::new(io::writer(rt));
+        run_waiting(rt.alloc(), start, steps, cued, &mut out, &mut record)?
+    } else {
+        let mut out = io::writer(rt);
+        run_waiting(rt.alloc(), start, steps, cued, &mut out, &mut record)?
+    };
+    let is_short = typed.ran.ending.ended == End::Running && typed.steps < steps;
+    Ok((typed.ran, is_short))
+}
+
+/// Runs a program by the keys of a script. A screen gets its control bytes as text.
 fn play(
     rt: &(impl Print + Eprint + AllocGlobal),
     task: &ComTask<'_>,
     start: Start,
-    script: Option<Script<'_>>,
+    script: Script<'_>,
     terminals: Terminals,
 ) -> Result<Ran, Refused> {
     let steps = task.steps.unwrap_or(STEPS);
@@ -90,10 +124,24 @@ fn play(
     let mut teller = Teller::new(rt, None, form);
     let ran = if terminals.is_screen {
         let mut screen = Screen::new(io::writer(rt));
-        run_com(rt.alloc(), start, script, steps, &mut screen, &mut teller)
+        run_com(
+            rt.alloc(),
+            start,
+            Some(script),
+            steps,
+            &mut screen,
+            &mut teller,
+        )
     } else {
         let mut out = io::writer(rt);
-        run_com(rt.alloc(), start, script, steps, &mut out, &mut teller)
+        run_com(
+            rt.alloc(),
+            start,
+            Some(script),
+            steps,
+            &mut out,
+            &mut teller,
+        )
     };
     teller.end();
     Ok(ran?)
@@ -155,9 +203,10 @@ fn write_drives(
 }
 
 /// Prints how a program ended. It ran and its text is out, even where nobody reads that.
-fn tell(rt: &impl Eprint, ending: Ending) {
+fn tell(rt: &impl Eprint, ending: Ending, waits: bool) {
     if let Some(illegal) = ending.illegal() {
         let _ = eprintln!(rt; "{illegal}");
     }
-    let _ = eprintln!(rt; "{ending}");
+    let word = waiting_word(waits);
+    let _ = eprintln!(rt; "{ending}{word}");
 }

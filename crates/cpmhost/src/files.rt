@@ -4,8 +4,9 @@ ghost use Rattle.cpm_host.specs.Refusals.{IsFileRefusal, IsOutRefusal};
 ghost use Rattle.cpm_store.specs.Files.{CountsFailure};
 
 use crate::output::Outputs;
+use crate::place::script_paths;
 use crate::refused::Behind;
-use crate::typing::TYPED;
+use crate::rehearse::Rehearsals;
 use cpm_host::{Config, HostError, Store, StoreError, read_whole, shown};
 use std::alloc::Global;
 use std::io::ErrorKind;
@@ -79,6 +80,41 @@ pub fn check_outputs(
     Ok(())
 }
 
+/// Fails where one of the scripts that a run is to write to a folder can't be written.
+pub fn check_scripts(
+    rt: &(impl Files + AllocGlobal),
+    outputs: Outputs,
+    config: &Config,
+    folder: Option<&str>,
+) -> Result<(), HostError> {
+    for script in &script_paths(rt.alloc(), config, folder)? {
+        check_file(rt, outputs, script.as_str())?;
+    }
+    Ok(())
+}
+
+/// Writes for each session a script by which it does the same, if that is asked: that by which it was played by itself, or else its own.
+pub fn write_scripts(
+    rt: &(impl Files + AllocGlobal),
+    outputs: Outputs,
+    config: &Config,
+    rehearsals: &Rehearsals,
+    folder: Option<&str>,
+) -> Result<(), HostError> {
+    let scripts = script_paths(rt.alloc(), config, folder)?;
+    for (place, (session, script)) in config.sessions.iter().zip(&scripts).enumerate() {
+        match (rehearsals.script_at(place), &session.keys) {
+            (Some(text), _) => write_file(rt, outputs, script.as_str(), text)?,
+            (None, Some(name)) => {
+                let text = read_file(rt, name.as_str())?;
+                write_file(rt, outputs, script.as_str(), text.as_slice())?;
+            }
+            (None, None) => write_file(rt, outputs, script.as_str(), &[])?,
+        }
+    }
+    Ok(())
+}
+
 /// Why a file was not written.
 pub fn unwritable(name: &str, reason: io::Error) -> HostError
     ensures { IsOutRefusal result ⊎ (result ≡ HostError.OutOfMemory) }
@@ -107,26 +143,37 @@ fn unreadable(name: &str, reason: io::Error) -> HostError
     }
 }
 
+/// These bytes once more.
+fn copied(alloc: Global, bytes: &[u8]) -> Result<Vec<u8>, StoreError>
+    ensures { IfErr result (λ e. e ≡ StoreError.OutOfMemory) }
+{
+    let mut copy = Vec::new(alloc);
+    match copy.extend_from_slice(bytes) {
+        Ok(()) => Ok(copy),
+        Err(_) => Err(StoreError::OutOfMemory),
+    }
+}
+
 /// The files of the machine as a store. It doesn't tell what they hold, since others can write them.
 #[derive(Drop)]
 pub struct MachineFiles<'a, R: Files + AllocGlobal> {
     rt: &'a R,
     outputs: Outputs,
-    /// The script of a session whose keys were typed.
-    typed: Option<Vec<u8>>,
+    /// The scripts of the sessions that were played by themselves.
+    rehearsals: &'a Rehearsals,
     failures: u64,
     reason: Option<io::Error>,
 }
 
 impl<'a, R: Files + AllocGlobal> MachineFiles<'a, R> {
-    /// The files, of which no call has failed yet, and the script of the session whose keys were typed.
-    pub fn new(rt: &'a R, outputs: Outputs, typed: Option<Vec<u8>>) -> MachineFiles<'a, R>
+    /// The files, of which no call has failed yet, and the scripts of the sessions that were played by themselves.
+    pub fn new(rt: &'a R, outputs: Outputs, rehearsals: &'a Rehearsals) -> MachineFiles<'a, R>
         ensures { result.failures ≡ 0 }
     {
         MachineFiles {
             rt,
             outputs,
-            typed,
+            rehearsals,
             failures: 0,
             reason: None,
         }
@@ -138,19 +185,6 @@ impl<'a, R: Files + AllocGlobal> MachineFiles<'a, R> {
             Some(reason) => Behind::Reason(reason),
             None => Behind::Nothing,
         }
-    }
-
-    /// The script of the session whose keys were typed.
-    fn typed_script(&self, alloc: Global) -> Result<Vec<u8>, StoreError>
-        ensures { IfErr result (λ e. e ≡ StoreError.OutOfMemory) }
-    {
-        let mut text = Vec::new(alloc);
-        if let Some(typed) = &self.typed
-            && text.extend_from_slice(typed).is_err()
-        {
-            return Err(StoreError::OutOfMemory);
-        }
-        Ok(text)
     }
 
     /// What a call answers that failed so, which is counted but for want of memory.
@@ -177,8 +211,8 @@ impl<R: Files + AllocGlobal> Store for MachineFiles<'_, R> {
     ghost does = { λ _ _ _. ⊤ };
 
     fn read(&mut self, alloc: Global, name: &str) -> Result<Vec<u8>, StoreError> {
-        if name == TYPED {
-            return self.typed_script(alloc);
+        if let Some(script) = self.rehearsals.script_named(name) {
+            return copied(alloc, script);
         }
         match whole_file(self.rt, alloc, name) {
             Ok(bytes) => Ok(bytes),

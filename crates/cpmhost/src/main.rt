@@ -11,21 +11,25 @@ mod output;
 mod place;
 mod progress;
 mod refused;
+mod rehearse;
 mod screen;
 mod typing;
 
 use com::com;
 use cpm_flags::Cpu;
 use cpm_host::{
-    Config, HostError, RunTask, Task, command, help, run_asm, run_check, run_debug, run_host,
-    run_list,
+    Config, HostError, RunTask, Task, command, help, run_asm, run_asm_listed, run_check, run_debug,
+    run_host, run_list,
 };
 use disk::do_disk;
-use files::{MachineFiles, check_outputs, read_file, write_file};
+use files::{
+    MachineFiles, check_file, check_outputs, check_scripts, read_file, write_file, write_scripts,
+};
 use output::Outputs;
-use place::{check_apart, check_pair};
+use place::{check_apart, check_asm};
 use progress::{Form, Teller};
 use refused::{Behind, Refused};
+use rehearse::{Rehearsals, rehearse_all};
 use screen::Screen;
 use std::env::Env;
 use std::io::{BufReader, BufWriter, ErrorKind, IsTerminal};
@@ -60,13 +64,25 @@ fn run_sessions(
     let text = read_file(rt, task.config)?;
     let mut config = Config::read(rt.alloc(), text.as_slice()).map_err(HostError::from)?;
     check_outputs(rt, outputs, &config)?;
-    check_apart(rt, task.config, &config, task.record)?;
-    let typed = match task.keyboard {
-        Some(name) => Some(type_in(rt, &mut config, name, task.record, terminals.is_screen)?),
-        None => None,
-    };
+    check_scripts(rt, outputs, &config, task.scripts)?;
+    check_apart(rt, task.config, &config, task)?;
+    let mut rehearsals = Rehearsals::new(rt);
+    if let Some(name) = task.keyboard {
+        let is_screen = terminals.is_screen;
+        type_in(
+            rt,
+            &mut config,
+            &mut rehearsals,
+            name,
+            task.record,
+            is_screen,
+        )?;
+    }
+    rehearse_all(rt, &mut config, &mut rehearsals, task.stops_idle)?;
     let form = Form::of(task.has_progress, terminals.is_error_terminal);
-    play_sessions(rt, outputs, &config, typed, form)
+    play_sessions(rt, outputs, &config, &rehearsals, form)?;
+    write_scripts(rt, outputs, &config, &rehearsals, task.scripts)?;
+    Ok(())
 }
 
 /// Runs the sessions of a configuration, and prints how each ended, and the bytes at which one ended that are no instruction.
@@ -74,10 +90,10 @@ fn play_sessions(
     rt: &(impl Files + Print + Eprint + AllocGlobal),
     outputs: Outputs,
     config: &Config,
-    typed: Option<Vec<u8>>,
+    rehearsals: &Rehearsals,
     form: Form,
 ) -> Result<(), Refused> {
-    let mut files = MachineFiles::new(rt, outputs, typed);
+    let mut files = MachineFiles::new(rt, outputs, rehearsals);
     let mut teller = Teller::new(rt, Some(config), form);
     let ran = run_host(rt.alloc(), config, &mut files, &mut teller);
     teller.end();
@@ -88,8 +104,9 @@ fn play_sessions(
             return Err(Refused { error, behind });
         }
     };
-    for session in &report {
-        println!(rt; "{session}").map_err(HostError::OutputUnwritable)?;
+    for (place, session) in report.iter().enumerate() {
+        let word = waiting_word(rehearsals.is_idle(place));
+        println!(rt; "{session}{word}").map_err(HostError::OutputUnwritable)?;
         if let Some(illegal) = session.illegal() {
             let name = session.name.as_str();
             let _ = eprintln!(rt; "{name} {illegal}");
@@ -98,17 +115,30 @@ fn play_sessions(
     Ok(())
 }
 
-/// Assembles the source in a file, and writes its image to another.
+/// The fifth word of a report, where the session waits for a key and none comes.
+pub fn waiting_word(waits: bool) -> &'static str {
+    if waits { " waiting" } else { "" }
+}
+
+/// Assembles the source in a file, and writes its image to another, and a listing if that is asked.
 fn asm(
     rt: &(impl Files + AllocGlobal),
     outputs: Outputs,
     source: &str,
     out: &str,
+    list: Option<&str>,
 ) -> Result<(), Refused> {
     let text = read_file(rt, source)?;
-    check_pair(rt, source, out)?;
-    let image = run_asm(rt.alloc(), text.as_slice())?;
-    write_file(rt, outputs, out, image.as_slice())?;
+    check_asm(rt, source, out, list)?;
+    let Some(list) = list else {
+        let image = run_asm(rt.alloc(), text.as_slice())?;
+        write_file(rt, outputs, out, image.as_slice())?;
+        return Ok(());
+    };
+    check_file(rt, outputs, list)?;
+    let listed = run_asm_listed(rt.alloc(), text.as_slice())?;
+    write_file(rt, outputs, out, listed.image.as_slice())?;
+    write_file(rt, outputs, list, listed.listing.as_slice())?;
     Ok(())
 }
 
@@ -132,17 +162,24 @@ fn debug(
     rt: &(impl Files + Input + Print + AllocGlobal),
     file: &str,
     cpu: Cpu,
+    list: Option<&str>,
     is_screen: bool,
 ) -> Result<(), HostError> {
     let program = read_file(rt, file)?;
+    let listing = match list {
+        Some(list) => read_file(rt, list)?,
+        None => Vec::new(rt.alloc()),
+    };
+    let listing = listing.as_slice();
     let Ok(mut input) = BufReader::new(rt.alloc(), rt.reader()) else {
         return Err(HostError::OutOfMemory);
     };
     if is_screen {
         let mut screen = Screen::new(io::writer(rt));
-        run_debug(rt.alloc(), cpu, program, &mut input, &mut screen)?;
+        run_debug(rt.alloc(), cpu, program, listing, &mut input, &mut screen)?;
     } else {
-        run_debug(rt.alloc(), cpu, program, &mut input, &mut io::writer(rt))?;
+        let mut out = io::writer(rt);
+        run_debug(rt.alloc(), cpu, program, listing, &mut input, &mut out)?;
     }
     Ok(())
 }
@@ -174,11 +211,11 @@ fn do_words(
     };
     match task {
         Task::Com(task) => com(rt, outputs, &task, terminals)?,
-        Task::Asm { source, out } => asm(rt, outputs, source, out)?,
+        Task::Asm { source, out, list } => asm(rt, outputs, source, out, list)?,
         Task::List { file, cpu } => list(rt, file, cpu)?,
         Task::Check { image } => check(rt, image)?,
         Task::Run(task) => run_sessions(rt, outputs, &task, terminals)?,
-        Task::Debug { file, cpu } => debug(rt, file, cpu, terminals.is_screen)?,
+        Task::Debug { file, cpu, list } => debug(rt, file, cpu, list, terminals.is_screen)?,
         Task::Disk(task) => do_disk(rt, outputs, &task)?,
     }
     Ok(())

@@ -3,7 +3,7 @@
 use crate::disk::Taken;
 use crate::output::target_of;
 use crate::refused::{Behind, Refused};
-use cpm_host::{ComTask, Config, HostError, Origin, shown};
+use cpm_host::{ComTask, Config, HostError, Origin, RunTask, shown};
 use std::alloc::{AllocError, Global};
 use std::fs;
 use std::io::ErrorKind;
@@ -166,8 +166,9 @@ pub fn check_apart(
     rt: &(impl Files + AllocGlobal),
     file: &str,
     config: &Config,
-    record: Option<&str>,
+    task: &RunTask<'_>,
 ) -> Result<(), Refused> {
+    let scripts = script_paths(rt.alloc(), config, task.scripts)?;
     let mut looked = inputs_of(rt, file, config)?;
     for session in &config.sessions {
         looked.add_output(rt, session.console.as_str(), false)?;
@@ -180,21 +181,43 @@ pub fn check_apart(
             }
         }
     }
-    if let Some(record) = record {
+    if let Some(record) = task.record {
         looked.add_output(rt, record, false)?;
+    }
+    for script in &scripts {
+        looked.add_output(rt, script.as_str(), false)?;
     }
     Ok(())
 }
 
-/// Refuses an output that is the one input.
-pub fn check_pair(
+/// The files in a folder to which the scripts of the sessions are written, in their order; none where there is no folder.
+pub fn script_paths(
+    alloc: Global,
+    config: &Config,
+    folder: Option<&str>,
+) -> Result<Vec<String>, AllocError> {
+    let mut paths = Vec::new(alloc);
+    if let Some(folder) = folder {
+        for session in &config.sessions {
+            let name = session.name.as_str();
+            paths.push(format!(in alloc; "{folder}/{name}.keys")?)?;
+        }
+    }
+    Ok(paths)
+}
+
+/// Refuses to assemble a source to an output or a listing that is the source, and to write both to one file.
+pub fn check_asm(
     rt: &(impl Files + AllocGlobal),
-    input: &str,
-    output: &str,
+    source: &str,
+    out: &str,
+    list: Option<&str>,
 ) -> Result<(), Refused> {
-    let read = place_of(rt, input)?;
-    if read.is_some() && read == place_of(rt, output)? {
-        return Err(twin(output, Behind::Input(shown(input))));
+    let mut looked = Looked::new(rt.alloc());
+    looked.add_input(rt, source, false)?;
+    looked.add_output(rt, out, false)?;
+    if let Some(list) = list {
+        looked.add_output(rt, list, false)?;
     }
     Ok(())
 }

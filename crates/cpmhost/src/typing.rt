@@ -5,13 +5,10 @@ ghost use Rattle.std.specs.Prelude.{◌<◌, IfSome, length};
 use crate::disk::read_image;
 use crate::files::{read_file, unwritable};
 use crate::refused::Refused;
+use crate::rehearse::{Rehearsals, last_fork, opening_of};
 use crate::screen::Screen;
 use cpm_geom::Image;
-use cpm_host::{
-    Config, HostError, MOST_SCRIPT, Opening, Origin, Session, SessionStart, Typed, key_line, shown,
-    type_session,
-};
-use std::alloc::AllocError;
+use cpm_host::{Config, HostError, MOST_SCRIPT, SessionStart, Typed, shown, type_session};
 use std::io::{BufReader, Write};
 use std::rt::Files;
 use std::{fs, io};
@@ -76,23 +73,23 @@ pub fn tell_quit(rt: &impl Eprint) {
     let _ = eprintln!(rt; "cpmhost: keys come from standard input; ^] ends");
 }
 
-/// The name by which the typed keys of a session are found, which no file has.
-pub const TYPED: &str = "\0keys";
-
-/// Plays a session of a configuration by itself, by the keys of standard input. The configuration's session then has these keys as its script,
-/// of which the text is given, and the steps that were played: a person's session has no limit of steps before.
+/// Plays a session of a configuration by itself, by the keys of standard input. The configuration's session then has these keys as its script, and
+/// the steps that were played: a person's session has no limit of steps before.
 pub fn type_in(
     rt: &(impl Files + Input + Print + Eprint + AllocGlobal),
     config: &mut Config,
+    all: &mut Rehearsals,
     name: &str,
     record: Option<&str>,
     is_screen: bool,
-) -> Result<Vec<u8>, Refused> {
+) -> Result<(), Refused> {
     let Some(place) = place_of(config, name) else {
         return Err(Refused::from(HostError::NoSession(shown(name))));
     };
     let system = read_image(rt, config.system.as_str())?;
-    let opening = opening_of(rt, &config.sessions[place])?;
+    let Some(opening) = opening_of(rt, &config.sessions[place])? else {
+        return Err(Refused::from(HostError::NotOpened(shown(name))));
+    };
     let start = SessionStart {
         name,
         opening,
@@ -100,10 +97,11 @@ pub fn type_in(
     };
     let typed = typed_by(rt, &system, start, record, is_screen)?;
     let steps = typed.steps.max(last_fork(config, name));
+    let script = all.add(rt, place, typed, false)?;
     let session = &mut config.sessions[place];
-    session.keys = Some(String::from_str(rt.alloc(), TYPED)?);
+    session.keys = Some(script);
     session.steps = steps;
-    Ok(script_of(rt, &typed)?)
+    Ok(())
 }
 
 /// Where the session of a name stands.
@@ -114,35 +112,6 @@ fn place_of(config: &Config, name: &str) -> Option<usize>
         .sessions
         .iter()
         .position(|session| session.name.as_str() == name)
-}
-
-/// The greatest count at which a session is forked from this one.
-fn last_fork(config: &Config, name: &str) -> u64 {
-    let mut last = 0;
-    for session in &config.sessions {
-        if let Origin::Forked { parent, at } = &session.origin
-            && parent.as_str() == name
-        {
-            last = (*at).max(last);
-        }
-    }
-    last
-}
-
-/// What a session is opened with.
-fn opening_of(rt: &(impl Files + AllocGlobal), session: &Session) -> Result<Opening, Refused> {
-    let Origin::Opened { cpu, quota, drives } = &session.origin else {
-        return Err(Refused::from(HostError::NotOpened(shown(session.name.as_str()))));
-    };
-    let mut images: Vec<Image> = Vec::new(rt.alloc());
-    for drive in drives {
-        images.push(read_image(rt, drive.as_str())?)?;
-    }
-    Ok(Opening {
-        cpu: *cpu,
-        quota: *quota,
-        drives: images,
-    })
 }
 
 /// Plays a session by itself, by the keys of standard input.
@@ -173,15 +142,4 @@ fn typed_by(
         type_session(rt.alloc(), system, start, &mut input, &mut out, &mut record)?
     };
     Ok(typed)
-}
-
-/// The script of typed keys.
-fn script_of(rt: &impl AllocGlobal, typed: &Typed) -> Result<Vec<u8>, AllocError> {
-    let mut text = Vec::new(rt.alloc());
-    for key in &typed.keys {
-        if let Some(line) = key_line(*key) {
-            text.extend_from_slice(line.as_bytes())?;
-        }
-    }
-    Ok(text)
 }

@@ -79,15 +79,34 @@ fn copied(rt: &(impl Abort + AllocGlobal), bytes: &[u8]) -> Vec<u8> {
     copy
 }
 
-/// Fails unless this is answered to these lines.
-fn check(rt: &(impl Abort + AllocGlobal), program: &[u8], lines: &[u8], wanted: &[u8]) {
+/// Fails unless this is answered to these lines, with a listing.
+fn check_with(
+    rt: &(impl Abort + AllocGlobal),
+    program: &[u8],
+    listing: &[u8],
+    lines: &[u8],
+    wanted: &[u8],
+) {
     let mut input = lines;
     let mut out = Recorder::new(rt.alloc());
     let program = copied(rt, program);
-    if let Err(error) = run_debug(rt.alloc(), Cpu::I8080, program, &mut input, &mut out) {
+    let told = run_debug(
+        rt.alloc(),
+        Cpu::I8080,
+        program,
+        listing,
+        &mut input,
+        &mut out,
+    );
+    if let Err(error) = told {
         panic!(rt; "refused: {error}");
     }
     same(rt, out.bytes.as_slice(), wanted);
+}
+
+/// Fails unless this is answered to these lines.
+fn check(rt: &(impl Abort + AllocGlobal), program: &[u8], lines: &[u8], wanted: &[u8]) {
+    check_with(rt, program, &[], lines, wanted);
 }
 
 #[test]
@@ -104,6 +123,79 @@ A=00 F=02 BC=0002 DE=0041 HL=0000 SP=EBFC PC=EC06 N=4
 A
 ?
 ",
+    );
+}
+
+/// A listing of `LETTER`, with lines that show no bytes, two lines of one address, and none of the last instruction.
+const LISTING: &[u8] = b"                ; prints A
+ 0005           BDOS     EQU 5
+ 0100           START:
+ 0100 0E02               MVI C,2
+0102 1E41       no space first
+ 0102
+ 0102 1E41               MVI E,'A'
+ 01041CD0500    no space behind the address
+ 0104 CD0500             CALL BDOS
+ 0104 CD0500             the same address
+ ec06 C9                 small letters
+ EC06 C9                 SERVES: RET
+";
+
+#[test]
+fn shows_the_line_of_a_listing(rt: HostRuntime) {
+    check_with(
+        &rt,
+        LETTER,
+        LISTING,
+        b"R\nS 1\nS 1\nG EC06 100\nG 0107 100\nS 10\nL 0104\nO\nX\n",
+        b"A=00 F=02 BC=0000 DE=0000 HL=0000 SP=EBFE PC=0100 N=0
+ 0100 0E02               MVI C,2
+1 All
+ 0102 1E41               MVI E,'A'
+1 All
+ 0104 CD0500             CALL BDOS
+2 Break
+ EC06 C9                 SERVES: RET
+1 Break
+2 Stopped
+0104  CD 05 00  CALL 00005H
+A
+?
+",
+    );
+}
+
+#[test]
+fn takes_either_end_of_a_line_of_a_listing(rt: HostRuntime) {
+    check_with(
+        &rt,
+        LETTER,
+        b" 0100 0E02  MVI C,2\r\n 0102\r\n 0102 1E41  MVI E,'A'\r\n 0104 CD0500  CALL 5",
+        b"S 0\nS 1\nS 1\n",
+        b"0 All
+ 0100 0E02  MVI C,2
+1 All
+ 0102 1E41  MVI E,'A'
+1 All
+ 0104 CD0500  CALL 5
+",
+    );
+}
+
+#[test]
+fn answers_alone_where_a_listing_has_no_line(rt: HostRuntime) {
+    let lines: &[u8] = b"S 2\nR\nG EC06 100\n";
+    let wanted: &[u8] = b"2 All
+A=00 F=02 BC=0002 DE=0041 HL=0000 SP=EBFE PC=0104 N=2
+2 Break
+";
+    check_with(&rt, LETTER, b"", lines, wanted);
+    check_with(
+        &rt,
+        LETTER,
+        b"\n\r\n 0104 \n 0104\n 0104  CALL 5\n 0105 00\n",
+        lines,
+        wanted,
     );
 }
 
@@ -193,7 +285,7 @@ fn answers_what_was_read_before_a_fault(rt: HostRuntime) {
     let mut input = BufReader::new(rt.alloc(), Broken { is_read: false }).expect(&rt, "memory");
     let mut out = Recorder::new(rt.alloc());
     let program = copied(&rt, LETTER);
-    match run_debug(rt.alloc(), Cpu::I8080, program, &mut input, &mut out) {
+    match run_debug(rt.alloc(), Cpu::I8080, program, &[], &mut input, &mut out) {
         Ok(()) => panic!(&rt; "not refused"),
         Err(error) => {
             let text = error.to_string(rt.alloc()).expect(&rt, "memory");
@@ -210,7 +302,7 @@ fn stops_where_the_writer_fails(rt: HostRuntime) {
     let mut out = Recorder::new(rt.alloc());
     out.fails_at = Some(10);
     let program = copied(&rt, LETTER);
-    let error = match run_debug(rt.alloc(), Cpu::I8080, program, &mut input, &mut out) {
+    let error = match run_debug(rt.alloc(), Cpu::I8080, program, &[], &mut input, &mut out) {
         Ok(()) => panic!(&rt; "not refused"),
         Err(error) => error,
     };
@@ -228,7 +320,7 @@ fn refuses_a_program_that_is_too_long(rt: HostRuntime) {
     program.resize(58_113, 0).expect(&rt, "memory");
     let mut input: &[u8] = b"R\n";
     let mut out = Recorder::new(rt.alloc());
-    match run_debug(rt.alloc(), Cpu::Z80, program, &mut input, &mut out) {
+    match run_debug(rt.alloc(), Cpu::Z80, program, &[], &mut input, &mut out) {
         Ok(()) => panic!(&rt; "not refused"),
         Err(error) => {
             let text = error.to_string(rt.alloc()).expect(&rt, "memory");

@@ -20,6 +20,8 @@ mod lab;
 #[cfg(test)]
 mod large;
 #[cfg(test)]
+mod listings;
+#[cfg(test)]
 mod refusals;
 #[cfg(test)]
 mod runs;

@@ -8,6 +8,8 @@ mod commands;
 #[cfg(test)]
 mod console;
 #[cfg(test)]
+mod cued;
+#[cfg(test)]
 mod disks;
 #[cfg(test)]
 mod live;
@@ -27,5 +29,7 @@ mod same;
 mod stops;
 #[cfg(test)]
 mod tails;
+#[cfg(test)]
+mod to_wait;
 #[cfg(test)]
 mod waits;

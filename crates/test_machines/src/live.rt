@@ -157,11 +157,12 @@ fn gives_keys_where_they_are_wanted(rt: HostRuntime) -> Result<(), Fail> {
 
 #[test]
 fn sees_calls_of_the_bios(rt: HostRuntime) -> Result<(), Fail> {
-    // CONST is watched behind 100,000 steps, and behind each of its calls the BDOS for 10,000 steps.
+    // CONST is watched behind 100 steps, and behind each of its calls the BDOS for 10,000 steps. Its circle has 5 steps, of which the call is
+    // the third: the first call is behind 102 steps, and each of the 63 others 10,005 later.
     plays(
         &rt,
         rt.alloc(),
-        &plain(CALLS_BIOS, b"z", b"z", b"730317 z\n", 730_330),
+        &plain(CALLS_BIOS, b"z", b"z", b"630417 z\n", 630_430),
     )
 }
 

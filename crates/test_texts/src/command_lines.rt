@@ -69,36 +69,188 @@ fn takes_a_configuration(rt: HostRuntime) {
             keyboard,
             record,
             has_progress,
+            stops_idle: false,
+            scripts: None,
         }));
         assert_eq!(rt; command(rt.alloc(), words), wanted, "at {words:?}");
     }
 }
 
-/// Lines with a program to debug, and its processor.
-const DEBUGGED: [(&[&str], Cpu); 3] = [
-    (&["cpmhost", "debug", "a.com"], Cpu::I8080),
-    (&["cpmhost", "debug", "a.com", "--z80"], Cpu::Z80),
-    (&["cpmhost", "debug", "--z80", "a.com"], Cpu::Z80),
+/// Lines with a configuration, the session that gets the keys of standard input, whether sessions end that wait for a key in
+/// vain, and the folder that their keys are written to.
+const SCRIPTED: [(&[&str], Option<&str>, bool, Option<&str>); 7] = [
+    (
+        &["cpmhost", "run", "a.toml", "--stop-idle"],
+        None,
+        true,
+        None,
+    ),
+    (
+        &["cpmhost", "run", "--stop-idle", "--", "a.toml"],
+        None,
+        true,
+        None,
+    ),
+    (
+        &["cpmhost", "run", "a.toml", "--record-all", "keys"],
+        None,
+        false,
+        Some("keys"),
+    ),
+    (
+        &["cpmhost", "run", "--record-all=keys", "a.toml"],
+        None,
+        false,
+        Some("keys"),
+    ),
+    (
+        &[
+            "cpmhost",
+            "run",
+            "--record-all",
+            "a.keys",
+            "--stop-idle",
+            "a.toml",
+        ],
+        None,
+        true,
+        Some("a.keys"),
+    ),
+    (
+        &[
+            "cpmhost",
+            "run",
+            "a.toml",
+            "--keyboard=ann",
+            "--record-all=keys",
+        ],
+        Some("ann"),
+        false,
+        Some("keys"),
+    ),
+    (
+        &[
+            "cpmhost",
+            "run",
+            "--stop-idle",
+            "a.toml",
+            "--keyboard",
+            "ann",
+        ],
+        Some("ann"),
+        true,
+        None,
+    ),
 ];
 
 #[test]
-fn takes_a_program_to_debug(rt: HostRuntime) {
-    for (words, cpu) in DEBUGGED {
-        let wanted = Ok(Task::Debug { file: "a.com", cpu });
+fn takes_scripts_of_a_configuration(rt: HostRuntime) {
+    for (words, keyboard, stops_idle, scripts) in SCRIPTED {
+        let wanted = Ok(Task::Run(RunTask {
+            config: "a.toml",
+            keyboard,
+            record: None,
+            has_progress: false,
+            stops_idle,
+            scripts,
+        }));
         assert_eq!(rt; command(rt.alloc(), words), wanted, "at {words:?}");
     }
 }
 
+/// A line with all options of `run` that don't go against another.
+const ALL_OF_RUN: &[&str] = &[
+    "cpmhost",
+    "run",
+    "--record-all",
+    "keys",
+    "--record",
+    "a.keys",
+    "a.toml",
+    "--stop-idle",
+    "--keyboard",
+    "ann",
+];
+
+#[test]
+fn takes_all_of_run(rt: HostRuntime) {
+    let wanted = Ok(Task::Run(RunTask {
+        config: "a.toml",
+        keyboard: Some("ann"),
+        record: Some("a.keys"),
+        has_progress: false,
+        stops_idle: true,
+        scripts: Some("keys"),
+    }));
+    assert_eq!(rt; command(rt.alloc(), ALL_OF_RUN), wanted);
+}
+
+/// Lines with a program to debug, its processor and its listing.
+const DEBUGGED: [(&[&str], Cpu, Option<&str>); 6] = [
+    (&["cpmhost", "debug", "a.com"], Cpu::I8080, None),
+    (&["cpmhost", "debug", "a.com", "--z80"], Cpu::Z80, None),
+    (&["cpmhost", "debug", "--z80", "a.com"], Cpu::Z80, None),
+    (
+        &["cpmhost", "debug", "a.com", "--list", "a.lst"],
+        Cpu::I8080,
+        Some("a.lst"),
+    ),
+    (
+        &["cpmhost", "debug", "--list=a.lst", "--", "a.com"],
+        Cpu::I8080,
+        Some("a.lst"),
+    ),
+    (
+        &["cpmhost", "debug", "--list", "a.lst", "a.com", "--z80"],
+        Cpu::Z80,
+        Some("a.lst"),
+    ),
+];
+
+#[test]
+fn takes_a_program_to_debug(rt: HostRuntime) {
+    for (words, cpu, list) in DEBUGGED {
+        let wanted = Ok(Task::Debug {
+            file: "a.com",
+            cpu,
+            list,
+        });
+        assert_eq!(rt; command(rt.alloc(), words), wanted, "at {words:?}");
+    }
+}
+
+/// Lines with a source, and the file that its listing is written to.
+const SOURCES: [(&[&str], Option<&str>); 6] = [
+    (&["cpmhost", "asm", "a.asm", "a.com"], None),
+    (&["cpmhost", "asm", "--", "a.asm", "a.com"], None),
+    (
+        &["cpmhost", "asm", "a.asm", "a.com", "--list", "a.lst"],
+        Some("a.lst"),
+    ),
+    (
+        &["cpmhost", "asm", "--list=a.lst", "a.asm", "a.com"],
+        Some("a.lst"),
+    ),
+    (
+        &["cpmhost", "asm", "a.asm", "--list", "a.lst", "a.com"],
+        Some("a.lst"),
+    ),
+    (
+        &["cpmhost", "asm", "--list=", "a.asm", "--", "a.com"],
+        Some(""),
+    ),
+];
+
 #[test]
 fn takes_a_source(rt: HostRuntime) {
-    let asm = Ok(Task::Asm {
-        source: "a.asm",
-        out: "a.com",
-    });
-    assert_eq!(rt;
-        command(rt.alloc(), &["cpmhost", "asm", "a.asm", "a.com"]),
-        asm
-    );
+    for (words, list) in SOURCES {
+        let wanted = Ok(Task::Asm {
+            source: "a.asm",
+            out: "a.com",
+            list,
+        });
+        assert_eq!(rt; command(rt.alloc(), words), wanted, "at {words:?}");
+    }
 }
 
 /// Lines with a program to list, and its processor.

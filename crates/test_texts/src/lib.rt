@@ -13,9 +13,13 @@ mod disk_lines;
 #[cfg(test)]
 mod expressions;
 #[cfg(test)]
+mod key_lines;
+#[cfg(test)]
 mod key_scripts;
 #[cfg(test)]
 mod lines;
+#[cfg(test)]
+mod places;
 #[cfg(test)]
 mod program_lines;
 #[cfg(test)]
@@ -25,6 +29,8 @@ mod refused_command_lines;
 #[cfg(test)]
 mod refused_options;
 #[cfg(test)]
+mod refused_values;
+#[cfg(test)]
 mod same;
 #[cfg(test)]
 mod sources;
@@ -32,3 +38,5 @@ mod sources;
 mod stores;
 #[cfg(test)]
 mod unknown_keys;
+#[cfg(test)]
+mod waiting_scripts;

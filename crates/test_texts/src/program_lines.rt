@@ -6,21 +6,22 @@ use std::process::Abort;
 
 /// What a line of `com` names.
 #[derive(Clone, Copy, Drop)]
-struct Program {
-    file: &'static str,
-    tail: &'static [&'static str],
-    cpu: Cpu,
-    steps: Option<u64>,
-    keys: Option<&'static str>,
-    drives: &'static [&'static str],
-    outs: &'static [&'static str],
-    is_live: bool,
-    record: Option<&'static str>,
-    has_progress: bool,
+pub struct Program {
+    pub file: &'static str,
+    pub tail: &'static [&'static str],
+    pub cpu: Cpu,
+    pub steps: Option<u64>,
+    pub keys: Option<&'static str>,
+    pub drives: &'static [&'static str],
+    pub outs: &'static [&'static str],
+    pub is_live: bool,
+    pub record: Option<&'static str>,
+    pub has_progress: bool,
+    pub stops_idle: bool,
 }
 
 /// A program with nothing but its file.
-const PLAIN: Program = Program {
+pub const PLAIN: Program = Program {
     file: "a.com",
     tail: &[],
     cpu: Cpu::I8080,
@@ -31,6 +32,7 @@ const PLAIN: Program = Program {
     is_live: false,
     record: None,
     has_progress: false,
+    stops_idle: false,
 };
 
 /// Owned words.
@@ -39,7 +41,7 @@ fn owned<'a>(rt: &(impl Abort + AllocGlobal), words: &[&'a str]) -> Vec<&'a str>
 }
 
 /// Fails unless the words name this program.
-fn names_program(
+pub fn names_program(
     rt: &(impl Abort + AllocGlobal),
     words: &'static [&'static str],
     program: &Program,
@@ -55,6 +57,7 @@ fn names_program(
         is_live: program.is_live,
         record: program.record,
         has_progress: program.has_progress,
+        stops_idle: program.stops_idle,
     }));
     assert_eq!(rt; command(rt.alloc(), words), wanted, "at {words:?}");
 }
@@ -135,26 +138,8 @@ fn takes_a_processor(rt: HostRuntime) {
     }
 }
 
-/// Lines with a program and its keys.
-const KEY_SCRIPTS: [&[&str]; 3] = [
-    &["cpmhost", "com", "a.com", "--keys", "a.keys"],
-    &["cpmhost", "com", "--keys", "a.keys", "a.com"],
-    &["cpmhost", "com", "--keys=a.keys", "--", "a.com"],
-];
-
-#[test]
-fn takes_a_key_script(rt: HostRuntime) {
-    for words in KEY_SCRIPTS {
-        let program = Program {
-            keys: Some("a.keys"),
-            ..PLAIN
-        };
-        names_program(&rt, words, &program);
-    }
-}
-
 /// Lines with a program, and the words behind its name.
-const TAILS: [(&[&str], &[&str]); 11] = [
+const TAILS: [(&[&str], &[&str]); 12] = [
     (
         &["cpmhost", "com", "a.com", "b.txt=c.txt"],
         &["b.txt=c.txt"],
@@ -173,6 +158,10 @@ const TAILS: [(&[&str], &[&str]); 11] = [
         &["x", "--z80"],
     ),
     (&["cpmhost", "com", "a.com", "--", "--help"], &["--help"]),
+    (
+        &["cpmhost", "com", "a.com", "--", "--stop-idle"],
+        &["--stop-idle"],
+    ),
     (&["cpmhost", "com", "a.com", "--", "--"], &["--"]),
     (&["cpmhost", "com", "a.com", "--"], &[]),
 ];
@@ -260,39 +249,6 @@ fn takes_disks(rt: HostRuntime) {
     }
 }
 
-/// Lines with a program that gets the keys of standard input, and the script that these are written
-/// to.
-const KEYBOARDS: [(&[&str], Option<&str>); 3] = [
-    (&["cpmhost", "com", "a.com", "--keyboard"], None),
-    (
-        &[
-            "cpmhost",
-            "com",
-            "--keyboard",
-            "a.com",
-            "--record",
-            "a.keys",
-        ],
-        Some("a.keys"),
-    ),
-    (
-        &["cpmhost", "com", "--record=a.keys", "a.com", "--keyboard"],
-        Some("a.keys"),
-    ),
-];
-
-#[test]
-fn takes_a_keyboard(rt: HostRuntime) {
-    for (words, record) in KEYBOARDS {
-        let program = Program {
-            is_live: true,
-            record,
-            ..PLAIN
-        };
-        names_program(&rt, words, &program);
-    }
-}
-
 /// Lines with a program whose progress is told, the words behind its name, and its keys.
 const PROGRESS: [(&[&str], &[&str], Option<&str>); 4] = [
     (&["cpmhost", "com", "a.com", "--progress"], &[], None),
@@ -344,6 +300,7 @@ const ALL: &[&str] = &[
     "--keyboard",
     "--disk",
     "b",
+    "--stop-idle",
     "--",
     "-y",
 ];
@@ -361,6 +318,7 @@ fn takes_all_of_com(rt: HostRuntime) {
         is_live: true,
         record: Some("r"),
         has_progress: false,
+        stops_idle: true,
     };
     names_program(&rt, ALL, &program);
 }

@@ -2,8 +2,12 @@
 
 use crate::refused_command_lines::names;
 
-/// What is said of keys that are recorded, and not typed.
-const RECORD_ALONE: &str = "'--record' takes the keys of '--keyboard'; give both, or neither";
+/// What is said of the keys of a program that are recorded, and come from nowhere.
+const RECORD_ALONE: &str =
+    "'--record' takes the keys of '--keyboard' or '--keys'; give one of these with it";
+
+/// What is said of the keys of a session that are recorded, and not typed.
+const RECORD_UNTYPED: &str = "'--record' takes the keys of '--keyboard'; give both, or neither";
 
 /// What is said of keys from two places.
 const TWO_SCRIPTS: &str = "'--keys' and '--keyboard' both give the keys; give one of them";
@@ -21,13 +25,25 @@ const PROGRESS_AT_KEYBOARD: &str =
 
 /// Lines with options that don't go together, or with one of these that is wrong by itself, and what is
 /// said of them before the word on help.
-const WRONG_OPTIONS: [(&[&str], &str); 38] = [
+const WRONG_OPTIONS: [(&[&str], &str); 43] = [
     (&["cpmhost", "com", "a", "--record", "k"], RECORD_ALONE),
     (
-        &["cpmhost", "com", "a", "--record=k", "--keys=s"],
+        &["cpmhost", "com", "a", "--record=k", "--stop-idle"],
         RECORD_ALONE,
     ),
-    (&["cpmhost", "run", "a", "--record", "k"], RECORD_ALONE),
+    (
+        &["cpmhost", "com", "a", "--record=k", "--", "--keys=s"],
+        RECORD_ALONE,
+    ),
+    (&["cpmhost", "run", "a", "--record", "k"], RECORD_UNTYPED),
+    (
+        &["cpmhost", "run", "a", "--record=k", "--record-all=f"],
+        RECORD_UNTYPED,
+    ),
+    (
+        &["cpmhost", "run", "a", "--record=k", "--stop-idle"],
+        RECORD_UNTYPED,
+    ),
     (
         &["cpmhost", "com", "a", "--keys=s", "--keyboard"],
         TWO_SCRIPTS,
@@ -97,6 +113,21 @@ const WRONG_OPTIONS: [(&[&str], &str); 38] = [
         ],
         TOO_MANY_DISKS,
     ),
+    (
+        &[
+            "cpmhost",
+            "com",
+            "a",
+            "--disk=1",
+            "--disk=2",
+            "--disk=3",
+            "--disk=4",
+            "--disk=5",
+            "--record=k",
+            "--keys=s",
+        ],
+        TOO_MANY_DISKS,
+    ),
     (&["cpmhost", "com", "a", "--out-disk=o"], OUT_WITHOUT_DISK),
     (
         &[
@@ -129,8 +160,20 @@ const WRONG_OPTIONS: [(&[&str], &str); 38] = [
         PROGRESS_AT_KEYBOARD,
     ),
     (
+        &[
+            "cpmhost",
+            "run",
+            "a",
+            "--progress",
+            "--keyboard=ann",
+            "--stop-idle",
+            "--record-all=f",
+        ],
+        PROGRESS_AT_KEYBOARD,
+    ),
+    (
         &["cpmhost", "run", "a", "--progress", "--record=k"],
-        RECORD_ALONE,
+        RECORD_UNTYPED,
     ),
     (
         &["cpmhost", "com", "a", "--progress", "--record=k"],

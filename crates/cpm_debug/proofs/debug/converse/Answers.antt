@@ -1,9 +1,8 @@
-use Rattle.std.proofs.Common.{◌≡◌, ◌∙◌, ◌+◌, ◌-◌, ◌≤◌, ap, sym, subst, suc, ℕ, arith, false, true}
+use Rattle.std.proofs.Common.{◌≡◌, ◌∙◌, ◌+◌, ◌-◌, ap, sym, subst, suc, ℕ, arith}
 use Rattle.std.proofs.lemmas.Result.{err_from_is_err_and}
-use Rattle.cpm_debug.specs.Dialog.{is_quit}
 use Rattle.cpm_debug.specs.Hearing.{without_end}
 use Rattle.cpm_debug.specs.Orders.{asked, request_of}
-use Rattle.cpm_debug.proofs.DialogLemmas.{IsSoFar, held_all, held_none, held_quit, so_far_more, so_far_none, unanswered, unread}
+use Rattle.cpm_debug.proofs.DialogLemmas.{IsSoFar, held_all, held_none, held_quit, so_far_more, unanswered, unread}
 use Rattle.cpm_debug.proofs.debug.converse.Goals as goal
 
 pub returns-in_err-line-clause-failed : goal.returns-in_err-line-clause-failed
@@ -18,7 +17,7 @@ returns-in_default-clause-held g c =
 pub returns-then-is_quit-clause-held : goal.returns-then-is_quit-clause-held
 returns-then-is_quit-clause-held g c =
     let at : suc (1000000 - (c.loop-line._line + 1)) ≡ 1000000 - c.loop-line._line = let t = c.loop-line-test.true in omega arith in
-    let so = subst (λ (n : ℕ). IsSoFar c.args.system.now c.args.cpu c.args.machine.now c.loop-line.machine (g.R.Read.remaining c.args.input.now) (g.R.Read.remaining c.loop-line.input)
+    let so = subst (λ (n : ℕ). IsSoFar c.args.system.now c.args.cpu c.args.listing.now c.args.machine.now c.loop-line.machine (g.R.Read.remaining c.args.input.now) (g.R.Read.remaining c.loop-line.input)
     (g.W.Write.contents c.args.out.now) (g.W.Write.contents c.loop-line.out) n c.loop-line.room) (sym at) c.loop-line.invariant in
     let hears = rw c.in-Some.is at c.in_ok-line.ensures.line in
     let is : asked c.read-order.result ≡ request_of (without_end c.in-Some.line.items) =
@@ -28,7 +27,7 @@ returns-then-is_quit-clause-held g c =
 pub returns-in-Err-clause-failed : goal.returns-in-Err-clause-failed
 returns-in-Err-clause-failed g c =
     let at : suc (1000000 - (c.loop-line._line + 1)) ≡ 1000000 - c.loop-line._line = let t = c.loop-line-test.true in omega arith in
-    let so = subst (λ (n : ℕ). IsSoFar c.args.system.now c.args.cpu c.args.machine.now c.loop-line.machine (g.R.Read.remaining c.args.input.now) (g.R.Read.remaining c.loop-line.input)
+    let so = subst (λ (n : ℕ). IsSoFar c.args.system.now c.args.cpu c.args.listing.now c.args.machine.now c.loop-line.machine (g.R.Read.remaining c.args.input.now) (g.R.Read.remaining c.loop-line.input)
     (g.W.Write.contents c.args.out.now) (g.W.Write.contents c.loop-line.out) n c.loop-line.room) (sym at) c.loop-line.invariant in
     let hears = rw c.in-Some.is at c.in_ok-line.ensures.line in
     let is : asked c.read-order.result ≡ request_of (without_end c.in-Some.line.items) =
@@ -38,7 +37,7 @@ returns-in-Err-clause-failed g c =
 pub loop-line-preserved : goal.loop-line-preserved
 loop-line-preserved g c =
     let at : suc (1000000 - (c.loop-line._line + 1)) ≡ 1000000 - c.loop-line._line = let t = c.loop-line-test.true in omega arith in
-    let so = subst (λ (n : ℕ). IsSoFar c.args.system.now c.args.cpu c.args.machine.now c.loop-line.machine (g.R.Read.remaining c.args.input.now) (g.R.Read.remaining c.loop-line.input)
+    let so = subst (λ (n : ℕ). IsSoFar c.args.system.now c.args.cpu c.args.listing.now c.args.machine.now c.loop-line.machine (g.R.Read.remaining c.args.input.now) (g.R.Read.remaining c.loop-line.input)
     (g.W.Write.contents c.args.out.now) (g.W.Write.contents c.loop-line.out) n c.loop-line.room) (sym at) c.loop-line.invariant in
     let hears = rw c.in-Some.is at c.in_ok-line.ensures.line in
     let is : asked c.read-order.result ≡ request_of (without_end c.in-Some.line.items) =

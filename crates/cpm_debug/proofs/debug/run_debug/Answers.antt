@@ -1,4 +1,4 @@
-use Rattle.std.proofs.Common.{◌≡◌, ◌≤◌, ap, ap₂, ℕ, arith, length, take, option_map}
+use Rattle.std.proofs.Common.{◌≤◌, ap, ap₂, ℕ, arith, length, take, option_map}
 use Rattle.std.proofs.lemmas.Result.{err_from_is_err_and}
 use Rattle.cpm_debug.specs.Debug.{debugged, system_drive}
 use Rattle.cpm_debug.proofs.DialogLemmas.{at_once, held_result, refused_result}
@@ -9,12 +9,12 @@ returns-in_err-system-clause-refusal g c =
     let p = err_from_is_err_and c.from_residual.result c.from_residual.ensures.1 in
     let fits : length c.args.program.items ≤ 58112 = let l = c.len.ensures in let f = c.if-len-gt-MOST_PROGRAM.false in let k = c.args.program.ok.0 in omega arith in
     rw (p.1, p.2, c.in_err-system.ensures.refusal)
-    (fits, at_once system_drive c.args.cpu (debugged c.args.cpu c.args.program.items) (g.R.Read.remaining c.args.input.now) (g.W.Write.contents c.args.out.now))
+    (fits, at_once system_drive c.args.cpu c.args.listing.now (debugged c.args.cpu c.args.program.items) (g.R.Read.remaining c.args.input.now) (g.W.Write.contents c.args.out.now))
 
 pub returns-clause-held : goal.returns-clause-held
 returns-clause-held g c =
     let reader = ap₂ (λ (n : ℕ) (x : g.row.R.Denot). option_map (take n) (g.R.Read.remaining x)) c.take-heard.ensures.limit (ap (λ r. r.now) c.take-heard.ensures.inner) in
-    held_result c.converse.result c.in_ok-system.system c.args.cpu c.in_ok-system.machine c.args.program.items (g.R.Read.remaining c.args.input.now)
+    held_result c.converse.result c.in_ok-system.system c.args.cpu c.args.listing.now c.in_ok-system.machine c.args.program.items (g.R.Read.remaining c.args.input.now)
     (option_map (take c.take-heard.result.limit) (g.R.Read.remaining c.take-heard.result.inner.now)) (g.W.Write.contents c.args.out.now) (g.W.Write.contents c.converse.new.out)
     c.in_ok-system.ensures.made.0 c.in_ok-system.ensures.made.1 reader c.converse.ensures.held
 
@@ -22,6 +22,6 @@ pub returns-clause-refusal : goal.returns-clause-refusal
 returns-clause-refusal g c =
     let reader = ap₂ (λ (n : ℕ) (x : g.row.R.Denot). option_map (take n) (g.R.Read.remaining x)) c.take-heard.ensures.limit (ap (λ r. r.now) c.take-heard.ensures.inner) in
     let fits : length c.args.program.items ≤ 58112 = let l = c.len.ensures in let f = c.if-len-gt-MOST_PROGRAM.false in let k = c.args.program.ok.0 in omega arith in
-    refused_result c.converse.result c.in_ok-system.system c.args.cpu c.in_ok-system.machine c.args.program.items (g.R.Read.remaining c.args.input.now)
+    refused_result c.converse.result c.in_ok-system.system c.args.cpu c.args.listing.now c.in_ok-system.machine c.args.program.items (g.R.Read.remaining c.args.input.now)
     (option_map (take c.take-heard.result.limit) (g.R.Read.remaining c.take-heard.result.inner.now)) (g.W.Write.contents c.args.out.now) (g.W.Write.contents c.converse.new.out)
     c.args.out.now c.converse.new.out c.in_ok-system.ensures.made.0 c.in_ok-system.ensures.made.1 reader fits c.converse.ensures.failed

@@ -1,4 +1,4 @@
-use Rattle.std.proofs.Common.{◌≡◌, ◌∙◌, ◌++◌, ◌-◌, ◌<◌, IfSome, refl, ap, arith, subst, List, ℕ, length, Option, Some, None, [], sym}
+use Rattle.std.proofs.Common.{◌≡◌, ◌∙◌, ◌++◌, ◌-◌, ◌<◌, IfSome, refl, ap, arith, List, ℕ, length, Option, Some, None, []}
 use Rattle.std.specs.Io.BufRead.{take_through}
 use Rattle.cpm_debug.proofs.HearingLemmas.{hears_cut, hears_end, hears_line}
 use Rattle.cpm_debug.proofs.hear.next_line.Goals as goal

@@ -1,4 +1,4 @@
-use Rattle.std.proofs.Common.{◌≡◌, ◌∙◌, ap, sym, false}
+use Rattle.std.proofs.Common.{◌∙◌, ap, sym}
 use Rattle.cpm_debug.specs.Dialog.{Pressed, keys_in, press}
 use Rattle.cpm_debug.proofs.PressLemmas.{keys_in-front, none_first, press_accepted, press_refused, rest_keys}
 use Rattle.cpm_debug.proofs.press.press.Goals as goal

@@ -1,0 +1,75 @@
+-- A program, or a session, that is played by a script that may wait for it. All of it is own.
+use Rattle.std.specs.Prelude.{⊤, ◌≡◌, ◌⊎◌, ◌≤◌, ℕ, List, Option, Result, Err}
+use Rattle.std.specs.Io.KnownBytes.{Appends}
+use Rattle.cpm_batch.specs.declared.error.ReadError.TheVariants as read
+use Rattle.cpm_disks.specs.Disks.{images_of}
+use Rattle.cpm_geom.specs.Disk.{Disk, blank_disk}
+use Rattle.cpm_geom.specs.declared.format.Format.TheVariants.{Ibm3740}
+use Rattle.cpm_script.specs.Cues.{Said}
+use Rattle.cpm_script.specs.Recording.{recorded}
+use Rattle.cpm_script.specs.declared.cue.Cue.{Cue}
+use Rattle.cpm_script.specs.declared.fault.LineFault.{LineFault}
+use Rattle.cpm_slots.specs.MachineState.{MachineState}
+use Rattle.cpm_slots.specs.Opening.{opening_fault}
+use Rattle.cpm_turns.specs.Cued.{AreAscii, HasEndedCued, IsCued, IsCutOff, key_count}
+use Rattle.cpm_turns.specs.Live.{AreGiven}
+use Rattle.cpm_turns.specs.Playing.{alone_by}
+use Rattle.cpm_turns.specs.declared.live.LiveError.{LiveError}
+use Rattle.cpm_host.specs.Com.{Given, IsStartRefusal, ending_of, machine_of, text_of}
+use Rattle.cpm_host.specs.Live.{IsOpeningRefused, begun}
+use Rattle.cpm_host.specs.Refusals.{host_error_of_live}
+use Rattle.cpm_host.specs.declared.cued.Cued.{Cued}
+use Rattle.cpm_host.specs.declared.live.SessionStart.{SessionStart}
+use Rattle.cpm_host.specs.declared.live.Typed.{Typed}
+use Rattle.cpm_host.specs.declared.error.HostError.{HostError}
+use Rattle.cpm_host.specs.declared.error.HostError.TheVariants.{FileRefused, OutOfMemory}
+
+-- a machine takes all keys of a script
+pub record AreFit (cues : List Cue) : Type 0 where
+  pub ascii : AreAscii cues
+  pub few : key_count cues ≤ 4096
+
+-- how a script is refused, of which this was read
+abbrev pub IsCueRefusal : Result (List Said) (ℕ × LineFault) → HostError → Type 0
+IsCueRefusal read_of (FileRefused (read.Script name line fault)) = read_of ≡ Err (line, fault)
+IsCueRefusal read_of OutOfMemory = ⊤
+IsCueRefusal read_of _ = ⊥
+
+-- A machine was played by a script that may wait: the keys that came are those that the script gives to the machine run alone; what it left is that of the machine run alone by these keys, for so many steps; and it ended as a script has it end.
+pub record IsRehearsed (system : Disk) (start : MachineState) (steps : ℕ) (c : Cued) (t : Typed) : Type 0 where
+  pub within : t.steps ≤ steps
+  pub keys : IsCued system start steps c.cues.now t.keys.items
+  pub given : AreGiven (key_count c.cues.now) t.steps t.keys.items
+  pub ending : t.ran.ending ≡ ending_of (alone_by system t.keys.items t.steps start)
+  pub drives : t.ran.drives ≡ images_of (alone_by system t.keys.items t.steps start).cpm.disks
+  pub ends : HasEndedCued system start steps c.stops_idle t.keys.items t.steps (alone_by system t.keys.items t.steps start)
+
+-- and what it showed, and its keys as lines of a script, went to two writers
+pub record IsPlayedCued (system : Disk) (start : MachineState) (steps : ℕ) (c : Cued) (t : Typed) (before written unrecorded record_now : Option (List ℕ)) : Type 0 where
+  pub rehearsed : IsRehearsed system start steps c t
+  pub text : Appends before written (text_of (alone_by system t.keys.items t.steps start))
+  pub lines : Appends unrecorded record_now (recorded t.keys.items)
+
+-- it was not played to its end, and this is told of it
+pub record IsCutCued (system : Disk) (start : MachineState) (steps : ℕ) (c : Cued) (before written unrecorded record_now : Option (List ℕ)) (e : HostError) : Type 0 where
+  pub error : LiveError
+  pub told : e ≡ host_error_of_live error
+  pub now : MachineState
+  pub short : IsCutOff system steps (key_count c.cues.now) start now before written unrecorded record_now error
+
+-- how such a program is refused: its machine is, as of a program that doesn't wait, or memory was refused for the system drive; or it was cut short
+abbrev pub IsWaitingRefusal : Given → ℕ → Cued → (before written unrecorded record_now : Option (List ℕ)) → HostError → Type 0
+IsWaitingRefusal g steps c before written unrecorded record_now e =
+    IsStartRefusal g e ⊎ IsCutCued (blank_disk Ibm3740) (machine_of g) steps c before written unrecorded record_now e
+
+-- a session that was played by itself was cut short, whatever became of what it showed and of its keys
+pub record IsRehearsalCut (system : Disk) (start : MachineState) (steps : ℕ) (c : Cued) (e : HostError) : Type 0 where
+  pub before : Option (List ℕ)
+  pub written : Option (List ℕ)
+  pub unrecorded : Option (List ℕ)
+  pub record_now : Option (List ℕ)
+  pub cut : IsCutCued system start steps c before written unrecorded record_now e
+
+-- how such a session is refused: its opening is, or it was cut short
+abbrev pub IsRehearsalRefusal : Disk → SessionStart → Cued → HostError → Type 0
+IsRehearsalRefusal system s c e = IsOpeningRefused s.name.now (opening_fault s.opening) e ⊎ IsRehearsalCut system (begun s) s.steps c e

@@ -1,0 +1,143 @@
+//! A program, or a session, that is played by a script that may wait for it.
+
+ghost use Rattle.std.specs.Prelude.{◌≡◌, IfErr, IfOk, Ok};
+ghost use Rattle.cpm_geom.specs.Disk.{blank_disk};
+ghost use Rattle.cpm_geom.specs.declared.format.Format.TheVariants.{Ibm3740};
+ghost use Rattle.cpm_script.specs.Cues.{all_said, cues};
+ghost use Rattle.cpm_turns.specs.Playing.{IsFresh};
+ghost use Rattle.cpm_host.specs.Com.{given, machine_of};
+ghost use Rattle.cpm_host.specs.Cued.{AreFit, IsCueRefusal, IsCutCued, IsPlayedCued, IsRehearsalRefusal, IsRehearsed, IsWaitingRefusal};
+ghost use Rattle.cpm_host.specs.Live.{begun};
+
+use crate::com::{Script, Start, left_of, machine_of};
+use crate::error::HostError;
+use crate::live::{SessionStart, Typed, opening_refused};
+use cpm_batch::ReadError;
+use cpm_command::shown;
+use cpm_geom::{Format, Image};
+use cpm_script::laws::cues_in_order;
+use cpm_script::{Cue, ScriptError, read_cues};
+use cpm_slots::Machine;
+use cpm_turns::{Live, play_cues};
+use std::alloc::Global;
+use std::io;
+use std::io::Write;
+
+/// What a machine is played by.
+#[derive(Clone, Copy, Debug)]
+pub struct Cued<'a> {
+    /// What a script says whose lines may wait.
+    pub cues: &'a [Cue],
+    /// Whether it ends where the machine waits and no key of the script will come.
+    pub stops_idle: bool,
+}
+
+/// What a script says whose lines may wait.
+///
+/// `FileRefused` names its first line with a fault. `OutOfMemory` comes only where memory is refused.
+pub fn cues_of(alloc: Global, script: Script<'_>) -> Result<Vec<Cue>, HostError>
+    ensures cues { IfOk result (λ v. cues script.entry.text.now ≡ Ok (all_said v)) }
+    ensures fit { IfOk result (λ v. AreFit v.items) }
+    ensures refusal { IfErr result (IsCueRefusal (cues script.entry.text.now)) }
+{
+    cues_in_order();
+    match read_cues(alloc, script.text) {
+        Ok(cues) => Ok(cues),
+        Err(ScriptError::Line { number, fault }) => Err(HostError::FileRefused(
+            ReadError::Script {
+                name: shown(script.name),
+                line: number,
+                fault,
+            },
+        )),
+        Err(ScriptError::OutOfMemory) => Err(HostError::OutOfMemory),
+    }
+}
+
+/// Plays a machine by a script that may wait, for at most `steps` steps.
+fn play_cued<W: Write, S: Write>(
+    alloc: Global,
+    system: &Image,
+    machine: Machine,
+    steps: u64,
+    cued: Cued<'_>,
+    out: &mut W,
+    record: &mut S,
+) -> Result<Typed, HostError>
+    requires fresh { IsFresh machine }
+    requires fit { AreFit cued.cues.now }
+    ensures played { IfOk result (λ t. IsPlayedCued system.now machine steps cued.entry t (W.contents out.old) (W.contents out.new) (S.contents «record».old) (S.contents «record».new)) }
+    ensures refusal { IfErr result (IsCutCued system.now machine steps cued.entry (W.contents out.old) (W.contents out.new) (S.contents «record».old) (S.contents «record».new)) }
+{
+    let mut machine = machine;
+    let Live { keys, steps } = play_cues(
+        alloc,
+        system,
+        &mut machine,
+        steps,
+        cued.cues,
+        cued.stops_idle,
+        out,
+        record,
+    )?;
+    Ok(Typed {
+        ran: left_of(machine),
+        keys,
+        steps,
+    })
+}
+
+/// Runs a program on a machine of its own, with a blank system drive and a script that may wait, for at most `steps` steps. It writes what the program
+/// shows as it comes, and each key to `record` as a line of a key script. What it sends to its list device is dropped.
+///
+/// `ProgramTooLong`, `OpeningRefused` for more than four drives, and `OutOfMemory` for the machine come before anything is written.
+/// `OutputUnwritable` and `RecordUnwritable` have the errors of the two.
+pub fn run_waiting<W: Write, S: Write>(
+    alloc: Global,
+    start: Start,
+    steps: u64,
+    cued: Cued<'_>,
+    out: &mut W,
+    record: &mut S,
+) -> Result<Typed, HostError>
+    requires fit { AreFit cued.cues.now }
+    ensures played { IfOk result (λ t. IsPlayedCued (blank_disk Ibm3740) (machine_of (given start)) steps cued.entry t (W.contents out.old) (W.contents out.new) (S.contents «record».old) (S.contents «record».new)) }
+    ensures refusal { IfErr result (IsWaitingRefusal (given start) steps cued.entry (W.contents out.old) (W.contents out.new) (S.contents «record».old) (S.contents «record».new)) }
+{
+    let machine = machine_of(alloc, start)?;
+    let system = Image::blank(alloc, Format::Ibm3740)?;
+    play_cued(alloc, &system, machine, steps, cued, out, record)
+}
+
+/// Plays a session by itself, with this system drive and a script that may wait. What it shows is dropped, and its keys are in the result.
+///
+/// `SessionRefused` has the fault of the opening. `OutOfMemory` comes only where memory is refused.
+pub fn rehearse_session(
+    alloc: Global,
+    system: &Image,
+    start: SessionStart<'_>,
+    cued: Cued<'_>,
+) -> Result<Typed, HostError>
+    requires fit { AreFit cued.cues.now }
+    ensures played { IfOk result (λ t. IsRehearsed system.now (begun start.entry) start.entry.steps cued.entry t) }
+    ensures refusal { IfErr result (IsRehearsalRefusal system.now start.entry cued.entry) }
+{
+    let SessionStart {
+        name,
+        opening,
+        steps,
+    } = start;
+    let machine = match Machine::new(alloc, opening) {
+        Ok(machine) => machine,
+        Err((_, fault)) => return Err(opening_refused(name, fault)),
+    };
+    play_cued(
+        alloc,
+        system,
+        machine,
+        steps,
+        cued,
+        &mut io::sink(),
+        &mut io::sink(),
+    )
+}

@@ -1,0 +1,175 @@
+-- What a script says where some of its lines wait, line by line. All of it is own: this project's form of
+-- key scripts.
+use Rattle.std.specs.Prelude.{◌≡◌, ◌≤◌, ℕ, suc, ◌+◌, Bool, not, is_some, codes, Vec, ◌&&◌, ◌||◌, ◌==◌, nat_le, if◌then◌else◌, List, [], ◌∷◌, ◌++◌, length, map, take, drop, Option, Some, None, option_and_then, Result, Ok, Err}
+use Rattle.std.specs.List.{filter_map, list_all, list_any, before_first, after_first}
+use Rattle.std.specs.Str.{bytes_eq}
+use Rattle.std.specs.Str.Lines.{lines}
+use Rattle.std.specs.declared.alloc.Global.{Global}
+use Rattle.memchr.specs.Find.{first_of, matches}
+use Rattle.cpm_script.specs.KeyText.{count_of, keys_of}
+use Rattle.cpm_script.specs.Script.{is_skipped, is_space, most_keys, numbered, or_fault}
+use Rattle.cpm_script.specs.declared.cue.Cue.{Cue}
+use Rattle.cpm_script.specs.declared.cue.Cue.TheVariants as cue
+use Rattle.cpm_script.specs.declared.cue.Reading.{Reading}
+use Rattle.cpm_script.specs.declared.script.Key.{Key}
+use Rattle.cpm_script.specs.declared.script.Stop.{Stop}
+use Rattle.cpm_script.specs.declared.script.Stop.TheVariants as stop
+use Rattle.cpm_script.specs.declared.script.Stop.TheVariants.{Fault}
+use Rattle.cpm_script.specs.declared.fault.LineFault.{LineFault}
+use Rattle.cpm_script.specs.declared.fault.LineFault.TheVariants.{NoCount, CountFalls, NotAKey, NoKey, NoText, TooManyKeys}
+use Rattle.cpm_script.specs.declared.fault.ScriptError.{ScriptError}
+use Rattle.cpm_script.specs.declared.fault.ScriptError.TheVariants.{Line, OutOfMemory}
+
+-- ---- cues
+
+-- a key at its count; that the session waits for a key, and has shown this text since the last one; or a
+-- key at once, behind what stands before it
+pub data Said : Type 0 where
+  Counted : (key : Key) → Said
+  Awaited : (text : List ℕ) → Said
+  Pressed : (byte : ℕ) → Said
+
+-- a cue, with the text that it waits for as a list
+abbrev pub said : Cue → Said
+said (cue.Key key) = Counted key
+said (cue.Wait text) = Awaited text.items
+said (cue.Press byte) = Pressed byte
+
+abbrev pub all_said : Vec Cue Global → List Said
+all_said cues = map said cues.items
+
+-- the key of one that has a count
+abbrev pub counted_key : Said → Option Key
+counted_key (Counted key) = Some key
+counted_key (Awaited text) = None
+counted_key (Pressed byte) = None
+
+-- each of them is a key with a count
+abbrev pub is_plain : List Cue → Bool
+is_plain = list_all (λ c. is_some (counted_key (said c)))
+
+-- the keys of those that have a count
+abbrev pub plain_keys : List Cue → List Key
+plain_keys = filter_map (λ c. counted_key (said c))
+
+-- how many keys they are
+abbrev pub keys_in : List Said → ℕ
+keys_in [] = 0
+keys_in (Counted key ∷ cs) = suc (keys_in cs)
+keys_in (Awaited text ∷ cs) = keys_in cs
+keys_in (Pressed byte ∷ cs) = suc (keys_in cs)
+
+-- the count of the last key with one, or this one where there is none
+abbrev pub last_count : ℕ → List Said → ℕ
+last_count n [] = n
+last_count n (Counted key ∷ cs) = last_count key.count cs
+last_count n (Awaited text ∷ cs) = last_count n cs
+last_count n (Pressed byte ∷ cs) = last_count n cs
+
+-- a byte as a key, at a count, where there is one, or at once
+abbrev pub pressed : Option ℕ → ℕ → Said
+pressed None byte = Pressed byte
+pressed (Some count) byte = Counted (record { count = count; byte = byte })
+
+-- ---- a text in quotes
+
+-- a quote and a space
+abbrev pub closing : List ℕ
+closing = codes "\" "
+
+-- what stands behind a first quote, cut at this place: before it, where there is anything, and behind the
+-- quote and the space there
+abbrev pub cut_at : List ℕ → ℕ → Option (List ℕ × List ℕ)
+cut_at inner place = if place == 0 then None else Some (take place inner, drop (place + 2) inner)
+
+-- the text between a quote in front and the next one with a space behind it, and what follows that space
+abbrev pub quoted : List ℕ → Option (List ℕ × List ℕ)
+quoted [] = None
+quoted (b ∷ inner) = if b == 0x22 then option_and_then (cut_at inner) (first_of (matches inner closing 0)) else None
+
+-- ---- a line
+
+-- the cues with these bytes as keys behind them: at least one, and not too many in all
+abbrev pub with_keys : List Said → Option ℕ → List ℕ → Result (List Said) LineFault
+with_keys cues at [] = Err NoKey
+with_keys cues at (b ∷ bytes) =
+    if nat_le (keys_in cues + length (b ∷ bytes)) most_keys
+    then Ok (cues ++ map (pressed at) (b ∷ bytes)) else Err TooManyKeys
+
+-- the cues with the keys that a text stands for
+abbrev pub with_text : List Said → Option ℕ → List ℕ → Result (List Said) LineFault
+with_text cues at text = or_fault NotAKey (keys_of text) (with_keys cues at)
+
+-- the cues with the keys of a text at the count that a number writes, which is not below the last one
+abbrev pub with_counted : List Said → List ℕ → List ℕ → Result (List Said) LineFault
+with_counted cues number text = or_fault NoCount (count_of number) (λ count.
+    if nat_le (last_count 0 cues) count then with_text cues (Some count) text else Err CountFalls)
+
+-- the cues with the keys of a text, once the session waits and has shown what another text stands for
+abbrev pub with_awaited : List Said → List ℕ → List ℕ → Result (List Said) LineFault
+with_awaited cues shown text = or_fault NotAKey (keys_of shown) (λ bytes. with_text (cues ++ Awaited bytes ∷ []) None text)
+
+-- the cues with the keys behind a text in quotes, once the session waits and has shown that text
+abbrev pub with_expected : List Said → List ℕ → Result (List Said) LineFault
+with_expected cues text = or_fault NoText (quoted text) (λ parts. with_awaited cues parts.0 parts.1)
+
+abbrev pub is_wait : List ℕ → Bool
+is_wait word = bytes_eq word (codes "wait")
+
+abbrev pub is_expect : List ℕ → Bool
+is_expect word = bytes_eq word (codes "expect")
+
+-- the cues with those of a line that begins with this word
+abbrev pub with_word : List Said → List ℕ → List ℕ → Result (List Said) LineFault
+with_word cues word text =
+    if is_wait word then with_awaited cues [] text
+    else (if is_expect word then with_expected cues text else with_counted cues word text)
+
+-- the cues so far and those of this line
+abbrev pub with_line : List Said → List ℕ → Result (List Said) LineFault
+with_line cues line =
+    if is_skipped line then Ok cues
+    else with_word cues (before_first is_space line) (after_first is_space line)
+
+-- ---- a script
+
+-- the cues of the lines, from this line number on, after these
+abbrev pub cues_from : ℕ → List Said → List (List ℕ) → Result (List Said) (ℕ × LineFault)
+cues_from number cues [] = Ok cues
+cues_from number cues (line ∷ rest) =
+    numbered number (with_line cues line) (λ more. cues_from (number + 1) more rest)
+
+-- what a script says, or the number of its first line with a fault, and the fault; a line ends with LF or
+-- CR LF
+abbrev pub cues : List ℕ → Result (List Said) (ℕ × LineFault)
+cues text = cues_from 1 [] (lines text)
+
+-- a line begins with this word, so that what it says may be kept
+abbrev pub is_opening : List ℕ → Bool
+is_opening word = is_wait word || (is_expect word || is_some (count_of word))
+
+abbrev pub is_cue : List ℕ → Bool
+is_cue line = not (is_skipped line) && is_opening (before_first is_space line)
+
+abbrev pub has_cue : List (List ℕ) → Bool
+has_cue = list_any is_cue
+
+-- ---- the code's values
+
+-- the numbers beside the cues are theirs
+pub record IsReading (reading : Reading) : Type 0 where
+  pub keys : reading.keys ≡ keys_in (all_said reading.cues)
+  pub last : reading.last ≡ last_count 0 (all_said reading.cues)
+  pub room : reading.keys ≤ most_keys
+
+-- what was read of a script, unless memory ran out
+abbrev pub ReadsCues : Result (Vec Cue Global) ScriptError → Result (List Said) (ℕ × LineFault) → Type 0
+ReadsCues (Ok v) read = read ≡ Ok (all_said v)
+ReadsCues (Err (Line number fault)) read = read ≡ Err (number, fault)
+ReadsCues (Err OutOfMemory) read = Unit {0}
+
+-- what was added to the cues, unless memory ran out
+abbrev pub AddsCues : Result (List Said) LineFault → Result (Unit {0}) Stop → List Said → Type 0
+AddsCues read (Ok done) new = read ≡ Ok new
+AddsCues read (Err (Fault fault)) new = read ≡ Err fault
+AddsCues read (Err stop.OutOfMemory) new = Unit {0}

@@ -1,0 +1,158 @@
+-- A session that is played by a script that may wait: one more cue, and where it ends.
+use Rattle.std.proofs.Common.{◌≡◌, ℕ, suc, ◌+◌, ◌-◌, ◌^◌, ◌<◌, ◌≤◌, ◌==◌, ◌||◌, not, Bool, true, false, true≢false, ◌⊎◌, inl, inr, ⊎_elim, Option, List, [], ◌∷◌, ◌++◌, length, drop, refl, sym, ap, ◌∙◌, subst, arith}
+use Rattle.std.proofs.lemmas.Bool.{cases_eq, cases_lt}
+use Rattle.std.proofs.lemmas.Bool.Decides.{nat_tests}
+use Rattle.std.proofs.lemmas.List.{drop-append-le, drop_all, length_push, length-append, nil_from_length}
+use Rattle.std.specs.Io.KnownBytes.{Appends}
+use Rattle.memchr.specs.Find.{OccursAt}
+use Rattle.cpm_geom.specs.Disk.{Disk}
+use Rattle.cpm_script.specs.Recording.{key_line, recorded}
+use Rattle.cpm_script.specs.declared.cue.Cue.{Cue}
+use Rattle.cpm_script.specs.declared.script.Key.{Key}
+use Rattle.cpm_slots.specs.Alone.{alone}
+use Rattle.cpm_slots.specs.Calls.{state_behind}
+use Rattle.cpm_slots.specs.MachineState.{MachineState}
+use Rattle.cpm_slots.specs.Serve.{keyed, look_of, takes_key}
+use Rattle.cpm_slots.specs.declared.reply.End.{End}
+use Rattle.cpm_slots.specs.declared.reply.End.TheVariants.{Running, Halted, Illegal, Quota, CountEnd, Exited}
+use Rattle.cpm_slots.specs.declared.reply.Look.{Look}
+use Rattle.cpm_slots.specs.Step.{after, is_running}
+use Rattle.cpm_slots.proofs.AloneLaws.{after-behind}
+use Rattle.cpm_slots.proofs.GrantLaws.{after-add}
+use Rattle.cpm_slots.proofs.PressLaws.{alone-add, alone-pressed}
+use Rattle.cpm_turns.specs.Cued.{Comes, HasEndedCued, HasMissed, HasNoWait, HasPressed, HasRun, HasShown, HasStopped, IsBusyFor, IsCutOff, IsMet, IsPressCut, IsRunCut, IsUntaken, last_count, runs_at, screen_at, waits_at}
+use Rattle.cpm_turns.specs.Live.{AreBy, HasGone, IsGoing}
+use Rattle.cpm_turns.specs.declared.live.LiveError.{LiveError}
+use Rattle.cpm_turns.specs.declared.live.LiveError.TheVariants.{Unreadable, Unwritable, Unrecorded, OutOfMemory}
+use Rattle.cpm_turns.specs.Playing.{presses_of, alone_by, HasText}
+use Rattle.cpm_turns.proofs.AloneLemmas.{after-ended, after-pending, presses-more}
+use Rattle.cpm_turns.proofs.GoingLemmas.{going-come, going-key, going-screen, going-text, going-turn, none-after}
+use Rattle.cpm_turns.proofs.RunLemmas.{bare, ended-waits, quiet-taken, waits-bare, waits-behind}
+
+-- ---- counts at which it does not wait
+
+pub no-wait-more : (system : Disk) (start : MachineState) (keys : List Key) (a b c : ℕ) → HasNoWait system start keys a b → HasNoWait system start keys b c → HasNoWait system start keys a c
+no-wait-more system start keys a b c first second i low high = ⊎_elim (λ less. first i low less) (λ past. second i past high) (cases_lt i b)
+
+pub last-more : (n : ℕ) (keys : List Key) (k : Key) → last_count n (keys ++ k ∷ []) ≡ k.count
+last-more n [] k = refl
+last-more n (x ∷ xs) k = last-more x.count xs k
+
+-- ---- a key and the steps up to it
+
+pub look-ended : (s : MachineState) (look : Look) → look ≡ look_of s → look.ended ≡ s.ended
+unfolding look_of
+look-ended s look is = ap (λ (l : Look). l.ended) is
+
+pub not-running : (e : End) → (e ≡ Running → ⊥) → is_running e ≡ false
+not-running Running other = absurd (other refl)
+not-running Halted other = refl
+not-running Illegal other = refl
+not-running Quota other = refl
+not-running CountEnd other = refl
+not-running Exited other = refl
+
+module _ (system : Disk) (k : ℕ) (old now : MachineState) (before written : Option (List ℕ)) (run : HasRun system k old now before written) where
+  pub takes-later : takes_key old ≡ true → takes_key now ≡ true
+  takes-later takes =
+      let left_it = after-pending system k old in
+      let same : length now.cpm.console.keys ≡ length (after system k old).cpm.console.keys = ap (λ (s : MachineState). length s.cpm.console.keys) run.state in
+      let room : length old.cpm.console.keys < 4096 = grind (arith, nat_tests) in
+      let still : length now.cpm.console.keys < 4096 = omega arith in
+      grind (arith, nat_tests)
+
+  pub reached : (key : Key) (done : ℕ) → done ≤ key.count → HasStopped false system (key.count - done) k old now → is_running now.ended ≡ true → done + k ≡ key.count
+  reached key done low (inl all) runs = omega arith
+  reached key done low (inr ended) runs = absurd (true≢false (sym runs ∙ ended))
+
+  pub missed-ended : (key : Key) (steps done done_now : ℕ) → done ≤ key.count → key.count < steps → k ≤ key.count - done → done_now ≡ done + k → is_running now.ended ≡ false →
+      HasMissed system key steps done done_now old now before written
+  missed-ended key steps done done_now low within fits at ended =
+      let count : k ≡ done_now - done = omega arith in
+      let P : ℕ → Type 0 = λ n. HasRun system n old now before written in
+      record { low = omega arith; run = subst P count run; why = inr (within, omega arith, ended) }
+
+  pub pressed-there : (key : Key) (done : ℕ) (next : MachineState) (unrecorded record_now : Option (List ℕ)) → done ≤ key.count → done + k ≡ key.count → is_running now.ended ≡ true → next ≡ keyed key.byte now →
+      Appends unrecorded record_now (key_line (record { count = done + k; byte = key.byte })) → HasPressed system key (key.count - done) old next before written unrecorded record_now
+  pressed-there key done next unrecorded record_now low there runs is notes =
+      let count : k ≡ key.count - done = omega arith in
+      let P : ℕ → Type 0 = λ n. HasPressed system key n old next before written unrecorded record_now in
+      let Q : ℕ → Type 0 = λ n. Appends unrecorded record_now (key_line (record { count = n; byte = key.byte })) in
+      subst P count (record {
+        runs = sym (ap (λ (s : MachineState). is_running s.ended) run.state) ∙ runs;
+        state = is ∙ ap (keyed key.byte) run.state;
+        text = run.text;
+        noted = subst Q there notes;
+      })
+
+-- ---- the machine run alone, from where the session is
+
+module _ (system : Disk) (steps most : ℕ) (start now : MachineState) (before written unrecorded record_now : Option (List ℕ)) (keys : List Key) (done : ℕ)
+    (going : IsGoing system steps most start now before written unrecorded record_now keys done) where
+  pub going-state : (i : ℕ) → alone_by system keys (done + i) start ≡ state_behind going.console going.list (after system i now)
+  going-state i =
+      alone-add system (presses_of keys) done i start (λ j past. none-after done j keys going.gone.come past)
+      ∙ ap (after system i) (sym going.gone.state) ∙ after-behind system going.console going.list i now
+
+  pub going-waits : (i : ℕ) → waits_at system start keys (done + i) ≡ (look_of (after system i now)).waiting
+  going-waits i = ap (λ (s : MachineState). (look_of s).waiting) (going-state i) ∙ waits-behind going.console going.list (after system i now)
+
+  pub going-runs : (i : ℕ) → runs_at system start keys (done + i) ≡ is_running (after system i now).ended
+  going-runs i = ap (λ (s : MachineState). is_running s.ended) (going-state i)
+
+  pub going-shows : (i : ℕ) → screen_at system start keys (done + i) ≡ screen_at system start keys done ++ (after system i now).cpm.console.screen
+  going-shows i =
+      ap (λ (s : MachineState). s.cpm.console.screen) (going-state i)
+      ∙ ap (λ xs. xs ++ (after system i now).cpm.console.screen) (going-screen system steps most start now before written unrecorded record_now keys done going)
+
+  pub going-busy : (k : ℕ) → IsBusyFor system k now → HasNoWait system start keys done (done + k)
+  going-busy k busy i low high =
+      let at : done + (i - done) ≡ i = omega arith in
+      let P : ℕ → Type 0 = λ n. waits_at system start keys n ≡ false in
+      subst P at (going-waits (i - done) ∙ busy (i - done) (omega arith))
+
+  -- steps whose text is taken
+  pub going-run : (k : ℕ) (next : MachineState) (written_then : Option (List ℕ)) → k ≤ steps - done → HasRun system k now next written written_then →
+      IsGoing system steps most start next before written_then unrecorded record_now keys (done + k)
+  going-run k next written_then fits run =
+      going-turn system steps most start now before written unrecorded record_now keys done going k (after system k now) next written_then fits refl run.state run.text
+
+  -- what is left where they are cut short
+  pub going-cut : (next : MachineState) (written_then : Option (List ℕ)) (e : LiveError) → IsRunCut system (steps - done) now next written written_then e →
+      IsCutOff system steps most start next before written_then unrecorded record_now e
+  going-cut next written_then (Unreadable e) cut = cut.2
+  going-cut next written_then (Unrecorded e) cut = absurd cut.2
+  going-cut next written_then (Unwritable e) cut =
+      (keys, going-text system steps most start now before written unrecorded record_now keys done going cut.0 (after system cut.0 now) cut.1 refl cut.2, going.noted)
+  going-cut next written_then OutOfMemory cut =
+      (keys, going-come system steps most start next before written_then unrecorded record_now keys (done + cut.0) (going-run cut.0 next written_then cut.1 cut.2), going.noted)
+
+  pub going-press-cut : (next : MachineState) (written_then record_then : Option (List ℕ)) (e : LiveError) → IsPressCut system (steps - done) now next written written_then record_now record_then e →
+      IsCutOff system steps most start next before written_then unrecorded record_then e
+  going-press-cut next written_then record_then (Unreadable e) cut = cut
+  going-press-cut next written_then record_then (Unrecorded e) cut =
+      (keys, going-come system steps most start next before written_then unrecorded record_now keys (done + cut.0) (going-run cut.0 next written_then cut.1 cut.2))
+  going-press-cut next written_then record_then (Unwritable e) cut =
+      subst (λ r. IsCutOff system steps most start next before written_then unrecorded r (Unwritable e)) (sym cut.1) (going-cut next written_then (Unwritable e) cut.0)
+  going-press-cut next written_then record_then OutOfMemory cut =
+      subst (λ r. IsCutOff system steps most start next before written_then unrecorded r OutOfMemory) (sym cut.1) (going-cut next written_then OutOfMemory cut.0)
+
+  -- where it ends
+  run-ended : (k : ℕ) (next : MachineState) (written_then : Option (List ℕ)) → HasRun system k now next written written_then → is_running now.ended ≡ false → is_running next.ended ≡ false
+  run-ended k next written_then run ended = ap (λ (s : MachineState). is_running s.ended) run.state ∙ after-ended system k now ended
+
+  pub run-waits : (k : ℕ) (next : MachineState) (written_then : Option (List ℕ)) → HasRun system k now next written written_then → waits_at system start keys (done + k) ≡ (look_of next).waiting
+  run-waits k next written_then run =
+      going-waits k ∙ sym (waits-bare (after system k now)) ∙ sym (ap (λ (s : MachineState). (look_of s).waiting) run.state)
+
+  pub going-ends : (stops : Bool) (k : ℕ) (next : MachineState) (written_then : Option (List ℕ)) → k ≤ steps - done → HasRun system k now next written written_then →
+      HasStopped stops system (steps - done) k now next → (is_running now.ended ≡ false) ⊎ HasNoWait system start keys (last_count 0 keys) done →
+      HasEndedCued system start steps stops keys (done + k) next
+  going-ends false k next written_then fits run (inl all) busy = let within = going.within in inl (omega arith)
+  going-ends false k next written_then fits run (inr ended) busy = inr ended
+  going-ends true k next written_then fits run stopped (inl ended) = inl (run-ended k next written_then run ended)
+  going-ends true k next written_then fits run stopped (inr busy) =
+      let none = no-wait-more system start keys (last_count 0 keys) done (done + k) busy (going-busy k stopped.0) in
+      let within = going.within in
+      ⊎_elim (λ (all : k ≡ steps - done). inr (none, inl (omega arith)))
+      (λ rest. ⊎_elim (λ ended. inl ended) (λ waits. inr (none, inr (run-waits k next written_then run ∙ waits))) rest) stopped.1

@@ -1,0 +1,322 @@
+-- A script that is followed, cue by cue.
+use Rattle.std.proofs.Common.{◌≡◌, ℕ, suc, ◌+◌, ◌-◌, ◌^◌, ◌<◌, ◌≤◌, ◌==◌, ◌||◌, max, not, Bool, true, false, true≢false, ◌⊎◌, inl, inr, ⊎_elim, Option, List, [], ◌∷◌, ◌++◌, length, drop, Vec, refl, sym, ap, ◌∙◌, subst, arith}
+use Rattle.std.proofs.lemmas.Bool.{cases_lt}
+use Rattle.std.proofs.lemmas.Bool.Decides.{nat_tests}
+use Rattle.std.proofs.lemmas.List.{drop-append-le, drop_all, length_push, length-append, nil_from_length}
+use Rattle.std.specs.declared.alloc.Global.{Global}
+use Rattle.memchr.specs.Find.{OccursAt}
+use Rattle.cpm_geom.specs.Disk.{Disk}
+use Rattle.cpm_script.specs.declared.cue.Cue.{Cue}
+use Rattle.cpm_script.specs.declared.cue.Cue.TheVariants.{Key as Timed, Wait, Press}
+use Rattle.cpm_script.specs.declared.script.Key.{Key}
+use Rattle.cpm_slots.specs.Alone.{alone}
+use Rattle.cpm_slots.specs.MachineState.{MachineState}
+use Rattle.cpm_slots.specs.Serve.{look_of, takes_key}
+use Rattle.cpm_slots.specs.Step.{after, is_running}
+use Rattle.cpm_slots.proofs.GrantLaws.{after-add}
+use Rattle.cpm_slots.proofs.PressLaws.{alone-pressed}
+use Rattle.cpm_turns.specs.Cued.{AreAscii, Comes, HasMissed, HasNoWait, HasPressed, HasRun, HasShown, HasStopped, IsCued, IsCuedFrom, IsMet, key_count, last_count, looks_back, runs_at, screen_at, waits_at}
+use Rattle.cpm_turns.specs.Live.{IsGoing}
+use Rattle.cpm_turns.specs.Playing.{presses_of, alone_by, IsFresh}
+use Rattle.cpm_turns.proofs.AloneLemmas.{after-ended, after-pending, presses-more}
+use Rattle.cpm_turns.proofs.CuedLemmas.{going-busy, going-run, going-runs, going-shows, going-state, going-waits, last-more, no-wait-more, run-waits}
+use Rattle.cpm_turns.proofs.GoingLemmas.{going-key, going-start}
+use Rattle.cpm_turns.proofs.RunLemmas.{bare, ended-waits}
+
+-- ---- small facts
+
+-- a key changes no text
+screen-pressed : (system : Disk) (start : MachineState) (keys more : List Key) (key : Key) → more ≡ keys ++ key ∷ [] → screen_at system start more key.count ≡ screen_at system start keys key.count
+screen-pressed system start keys more key is =
+    ap (λ ks. screen_at system start ks key.count) is
+    ∙ ap (λ ps. (alone system ps key.count start).cpm.console.screen) (presses-more keys key)
+    ∙ ap (λ (s : MachineState). s.cpm.console.screen) (alone-pressed system (presses_of keys) key.count key.byte start)
+
+-- an empty text stands everywhere
+empty-shown : (text shown : List ℕ) → text ≡ [] → HasShown text shown
+empty-shown text shown none =
+    let P : List ℕ → Type 0 = λ t. HasShown t shown in
+    subst P (sym none) (0, record { fits = omega arith; reads = λ j below. absurd (omega arith) })
+
+or-left : (a b : Bool) → (a || b) ≡ false → a ≡ false
+or-left false b e = refl
+or-left true b e = e
+
+or-right : (a b : Bool) → b ≡ true → (a || b) ≡ true
+or-right false b e = e
+or-right true b e = refl
+
+none-empty : (text : List ℕ) → not (length text == 0) ≡ false → text ≡ []
+none-empty text e = nil_from_length text (by_test (length text == 0) refl e)
+  where
+    by_test : (b : Bool) → (length text == 0) ≡ b → not b ≡ false → length text ≡ 0
+    by_test true is e = grind (arith, nat_tests)
+    by_test false is e = absurd (let bad : ⊥ = cc in bad)
+
+-- ---- how a script is followed
+
+-- The session goes, its keys are those of the cues so far, and those of the other cues make them the script's.
+pub record IsFollowing (system : Disk) (start : MachineState) (steps most : ℕ) (cues : List Cue) (now : MachineState) (before written unrecorded record_now : Option (List ℕ))
+    (keys : List Key) (done : ℕ) (rest : List Cue) (shown : List ℕ) : Type 0 where
+  pub going : IsGoing system steps most start now before written unrecorded record_now keys done
+  pub mark : ℕ
+  pub marked : mark ≤ length (screen_at system start keys done)
+  pub cued : (ks : List Key) → IsCuedFrom system start steps keys done mark rest ks → IsCued system start steps cues ks
+  pub kept : looks_back rest ≡ true → shown ≡ drop mark (screen_at system start keys done)
+  pub busy : HasNoWait system start keys (last_count 0 keys) done
+  pub ascii : AreAscii rest
+  pub room : length keys + key_count rest ≤ most
+  pub pending : length now.cpm.console.keys ≤ length keys
+
+pub follow-start : (system : Disk) (start : MachineState) (steps : ℕ) (cues : List Cue) (written record_now : Option (List ℕ)) (keys : List Key) (shown : List ℕ) → IsFresh start → AreAscii cues → keys ≡ [] → shown ≡ [] →
+    IsFollowing system start steps (key_count cues) cues start written written record_now record_now keys 0 cues shown
+follow-start system start steps cues written record_now keys shown fresh ascii none empty =
+    let P : List Key → Type 0 = λ ks. IsFollowing system start steps (key_count cues) cues start written written record_now record_now ks 0 cues shown in
+    subst P (sym none) (record {
+      going = going-start system steps (key_count cues) start written record_now fresh;
+      mark = 0;
+      marked = omega arith;
+      cued = λ ks is. is;
+      kept = λ looks. empty ∙ sym fresh.screen;
+      busy = λ i low high. absurd (omega arith);
+      ascii = ascii;
+      room = omega arith;
+      pending = let bare : length start.cpm.console.keys ≡ 0 = ap length fresh.keys in omega arith;
+    })
+
+-- What a key of the script at this count makes of the keys that come behind it.
+pub record IsKeyCue (system : Disk) (start : MachineState) (steps most : ℕ) (cues : List Cue) (keys : List Key) (done : ℕ) (key : Key) (others : List Cue) : Type 0 where
+  pub later : done ≤ key.count
+  pub ascii : key.byte < 128
+  pub others_ascii : AreAscii others
+  pub room : length keys + suc (key_count others) ≤ most
+  pub cued : (ks : List Key) →
+      (Comes system start steps keys key.count × IsCuedFrom system start steps (keys ++ key ∷ []) key.count (length (screen_at system start keys key.count)) others ks)
+      ⊎ ((Comes system start steps keys key.count → ⊥) × (ks ≡ keys)) → IsCued system start steps cues ks
+
+module _ (system : Disk) (start : MachineState) (steps most : ℕ) (cues : List Cue) (now : MachineState) (before written unrecorded record_now : Option (List ℕ))
+    (keys : List Key) (done : ℕ) (shown : List ℕ) where
+  -- the next cue is this one
+  pub at-cue : (x y : Cue) (rest others : List Cue) → rest ≡ x ∷ others → x ≡ y → IsFollowing system start steps most cues now before written unrecorded record_now keys done rest shown →
+      IsFollowing system start steps most cues now before written unrecorded record_now keys done (y ∷ others) shown
+  at-cue x y rest others first is f =
+      let P : List Cue → Type 0 = λ r. IsFollowing system start steps most cues now before written unrecorded record_now keys done r shown in
+      subst P (first ∙ ap (λ c. c ∷ others) is) f
+
+  pub cue-timed : (k : Key) (count : ℕ) (others : List Cue) → count ≡ max done k.count → IsFollowing system start steps most cues now before written unrecorded record_now keys done (Timed k ∷ others) shown →
+      IsKeyCue system start steps most cues keys done (record { count = count; byte = k.byte }) others
+  cue-timed k count others at f =
+      let P : ℕ → Type 0 = λ n. IsKeyCue system start steps most cues keys done (record { count = n; byte = k.byte }) others in
+      subst P (sym at) (record { later = omega arith; ascii = f.ascii.0; others_ascii = f.ascii.1; room = f.room; cued = f.cued })
+
+  pub cue-press : (b : ℕ) (others : List Cue) → IsFollowing system start steps most cues now before written unrecorded record_now keys done (Press b ∷ others) shown →
+      IsKeyCue system start steps most cues keys done (record { count = done; byte = b }) others
+  cue-press b others f = record { later = omega arith; ascii = f.ascii.0; others_ascii = f.ascii.1; room = f.room; cued = f.cued }
+
+  module _ (rest : List Cue) (following : IsFollowing system start steps most cues now before written unrecorded record_now keys done rest shown)
+      (key : Key) (others : List Cue) (cue : IsKeyCue system start steps most cues keys done key others) where
+    pub takes-cue : most ≤ 4096 → takes_key now ≡ true
+    takes-cue few =
+        let pending = following.pending in
+        let count = cue.room in
+        let room : length now.cpm.console.keys < 4096 = omega arith in
+        grind (arith, nat_tests)
+
+    -- a key that comes
+    pub follow-pressed : (next : MachineState) (written_then record_then : Option (List ℕ)) (more : List Key) (count : ℕ) (left : List ℕ) → key.count < steps → steps < 2 ^ 64 → count ≡ key.count →
+        HasPressed system key (key.count - done) now next written written_then record_now record_then → more ≡ keys ++ key ∷ [] → left ≡ [] →
+        IsFollowing system start steps most cues next before written_then unrecorded record_then more count others left
+    follow-pressed next written_then record_then more count left within fits at pressed is empty =
+        let low = cue.later in
+        let k = key.count - done in
+        let there : done + k ≡ key.count = omega arith in
+        let going = following.going in
+        let reached : MachineState = bare (after system k now) in
+        let P : ℕ → Type 0 = λ n. IsGoing system steps most start reached before written_then unrecorded record_now keys n in
+        let went : IsGoing system steps most start reached before written_then unrecorded record_now keys key.count =
+        subst P there (going-run system steps most start now before written unrecorded record_now keys done going k reached written_then (omega arith) (record { state = refl; text = pressed.text })) in
+        let count_room = cue.room in
+        let same = screen-pressed system start keys more key is in
+        let mark : ℕ = length (screen_at system start keys key.count) in
+        let marks : length (screen_at system start more key.count) ≡ mark = ap length same in
+        let runs : Comes system start steps keys key.count =
+        (within, subst (λ n. runs_at system start keys n ≡ true) there (going-runs system steps most start now before written unrecorded record_now keys done going k ∙ pressed.runs)) in
+        let longer : length more ≡ length keys + 1 = ap length is ∙ length_push keys key in
+        let Q : ℕ → Type 0 = λ n. IsFollowing system start steps most cues next before written_then unrecorded record_then more n others left in
+        subst Q (sym at) (record {
+          going = going-key system steps most start reached before written_then unrecorded record_now keys key.count went key.byte next record_then more cue.ascii (omega arith) (omega arith) is pressed.state pressed.noted;
+          mark = mark;
+          marked = omega arith;
+          cued = λ ks h. cue.cued ks (inl (runs, subst (λ gs. IsCuedFrom system start steps gs key.count mark others ks) is h));
+          kept = λ looks. empty ∙ sym (drop_all mark (screen_at system start more key.count) (omega arith));
+          busy = λ i from until. let last = ap (last_count 0) is ∙ last-more 0 keys key in absurd (omega arith);
+          ascii = cue.others_ascii;
+          room = omega arith;
+          pending =
+              let before_it = following.pending in
+              let left_it = after-pending system k now in
+              let one : length next.cpm.console.keys ≡ length (after system k now).cpm.console.keys + 1 =
+              ap (λ (s : MachineState). length s.cpm.console.keys) pressed.state ∙ length_push (after system k now).cpm.console.keys key.byte in
+              omega arith;
+        })
+
+    -- a key that does not
+    module _ (next : MachineState) (written_then record_then : Option (List ℕ)) (more : List Key) (done_now : ℕ) (missed : HasMissed system key steps done done_now now next written written_then)
+        (still : (more ≡ keys) × (record_then ≡ record_now)) where
+      never : Comes system start steps keys key.count → ⊥
+      never comes = ⊎_elim (λ past. let far = past.0 in let near = comes.0 in omega arith)
+          (λ ended.
+          let low = missed.low in
+          let high = ended.1 in
+          let k = done_now - done in
+          let j = key.count - done_now in
+          let there : done + (k + j) ≡ key.count = omega arith in
+          let stopped : is_running (after system k now).ended ≡ false = sym (ap (λ (s : MachineState). is_running s.ended) missed.run.state) ∙ ended.2 in
+          let last : is_running (after system (k + j) now).ended ≡ false =
+          ap (λ (s : MachineState). is_running s.ended) (after-add system k j now) ∙ after-ended system j (after system k now) stopped in
+          let P : ℕ → Type 0 = λ n. runs_at system start keys n ≡ false in
+          let off : runs_at system start keys key.count ≡ false =
+          subst P there (going-runs system steps most start now before written unrecorded record_now keys done following.going (k + j) ∙ last) in
+          true≢false (sym comes.1 ∙ off)) missed.why
+
+      within-missed : done_now - done ≤ steps - done
+      within-missed = let within = following.going.within in let low = missed.low in
+          ⊎_elim (λ past. let same = past.1 in omega arith) (λ ended. let near = ended.0 in let high = ended.1 in omega arith) missed.why
+
+      pub missed-going : IsGoing system steps most start next before written_then unrecorded record_then more done_now
+      missed-going =
+          let low = missed.low in
+          let there : done + (done_now - done) ≡ done_now = omega arith in
+          let P : ℕ → Type 0 = λ n. IsGoing system steps most start next before written_then unrecorded record_now keys n in
+          let went : IsGoing system steps most start next before written_then unrecorded record_now keys done_now =
+          subst P there (going-run system steps most start now before written unrecorded record_now keys done following.going (done_now - done) next written_then within-missed missed.run) in
+          subst (λ r. IsGoing system steps most start next before written_then unrecorded r more done_now) (sym still.1)
+          (subst (λ ks. IsGoing system steps most start next before written_then unrecorded record_now ks done_now) (sym still.0) went)
+
+      pub missed-cued : IsCued system start steps cues more
+      missed-cued = cue.cued more (inr (never, still.0))
+
+      pub missed-busy : (is_running next.ended ≡ false) ⊎ HasNoWait system start more (last_count 0 more) done_now
+      missed-busy = subst (λ ks. (is_running next.ended ≡ false) ⊎ HasNoWait system start ks (last_count 0 ks) done_now) (sym still.0) ((⊎_elim (λ past. inr (let P : ℕ → Type 0 = λ n. HasNoWait system start keys (last_count 0 keys) n in subst P (sym past.1) following.busy)) (λ ended. inl ended.2) missed.why))
+
+  -- ---- waits
+
+  -- steps up to a wait, whose text was kept if it is looked for
+  module _ (text : Vec ℕ Global) (others : List Cue) (following : IsFollowing system start steps most cues now before written unrecorded record_now keys done (Wait text ∷ others) shown)
+      (k : ℕ) (next : MachineState) (written_then : Option (List ℕ)) (left : List ℕ) (fits : k ≤ steps - done) (run : HasRun system k now next written written_then)
+      (stopped : HasStopped true system (steps - done) k now next) (kept : looks_back (Wait text ∷ others) ≡ true → left ≡ shown ++ (after system k now).cpm.console.screen) where
+    pub wait-going : IsGoing system steps most start next before written_then unrecorded record_now keys (done + k)
+    wait-going = going-run system steps most start now before written unrecorded record_now keys done following.going k next written_then fits run
+
+    none-before : HasNoWait system start keys done (done + k)
+    none-before = going-busy system steps most start now before written unrecorded record_now keys done following.going k stopped.0
+
+    pub wait-busy : HasNoWait system start keys (last_count 0 keys) (done + k)
+    wait-busy = no-wait-more system start keys (last_count 0 keys) done (done + k) following.busy none-before
+
+    waits-there : waits_at system start keys (done + k) ≡ (look_of next).waiting
+    waits-there = run-waits system steps most start now before written unrecorded record_now keys done following.going k next written_then run
+
+    grows : screen_at system start keys (done + k) ≡ screen_at system start keys done ++ (after system k now).cpm.console.screen
+    grows = going-shows system steps most start now before written unrecorded record_now keys done following.going k
+
+    seen : looks_back (Wait text ∷ others) ≡ true → left ≡ drop following.mark (screen_at system start keys (done + k))
+    seen looks =
+        kept looks ∙ ap (λ xs. xs ++ (after system k now).cpm.console.screen) (following.kept looks)
+        ∙ sym (drop-append-le following.mark (screen_at system start keys done) (after system k now).cpm.console.screen following.marked)
+        ∙ ap (drop following.mark) (sym grows)
+
+    shown-there : (b : Bool) → looks_back (Wait text ∷ others) ≡ b → HasShown text.items left → HasShown text.items (drop following.mark (screen_at system start keys (done + k)))
+    shown-there true looks found = subst (λ xs. HasShown text.items xs) (seen looks) found
+    shown-there false looks found = empty-shown text.items (drop following.mark (screen_at system start keys (done + k))) (none-empty text.items (or-left (not (length text.items == 0)) (looks_back others) looks))
+
+    shown-here : (b : Bool) → looks_back (Wait text ∷ others) ≡ b → HasShown text.items (drop following.mark (screen_at system start keys (done + k))) → HasShown text.items left
+    shown-here true looks found = subst (λ xs. HasShown text.items xs) (sym (seen looks)) found
+    shown-here false looks found = empty-shown text.items left (none-empty text.items (or-left (not (length text.items == 0)) (looks_back others) looks))
+
+    -- where it waits, and has shown the text
+    pub follow-met : done + k < steps → (look_of next).waiting ≡ true → HasShown text.items left →
+        IsFollowing system start steps most cues next before written_then unrecorded record_now keys (done + k) others left
+    follow-met within waits found = record {
+      going = wait-going;
+      mark = following.mark;
+      marked =
+          let marked = following.marked in
+          let longer : length (screen_at system start keys (done + k)) ≡ length (screen_at system start keys done) + length (after system k now).cpm.console.screen =
+          ap length grows ∙ length-append (screen_at system start keys done) (after system k now).cpm.console.screen in
+          omega arith;
+      cued = λ ks h. following.cued ks (inl (
+        done + k,
+        record {
+          next = record { later = omega arith; waits = waits-there ∙ waits; first = none-before };
+          within = within;
+          shown = shown-there (looks_back (Wait text ∷ others)) refl found;
+        },
+        h,
+      ));
+      kept = λ looks. seen (or-right (not (length text.items == 0)) (looks_back others) looks);
+      busy = wait-busy;
+      ascii = following.ascii;
+      room = following.room;
+      pending =
+          let before_it = following.pending in
+          let left_it = after-pending system k now in
+          let same : length next.cpm.console.keys ≡ length (after system k now).cpm.console.keys = ap (λ (s : MachineState). length s.cpm.console.keys) run.state in
+          omega arith;
+    }
+
+    -- and where not, it never does so within the steps
+    never-met : (steps ≤ done + k) ⊎ (((look_of next).waiting ≡ false) ⊎ (HasShown text.items left → ⊥)) → (at : ℕ) → IsMet system start steps keys done following.mark text.items at → ⊥
+    never-met why at met =
+        let low = met.next.later in
+        let high = met.within in
+        let going_within = following.going.within in
+        let late : done + k ≤ at = ⊎_elim (λ (early : at < done + k). absurd (true≢false (sym met.next.waits ∙ none-before at low early))) (λ (late : done + k ≤ at). late) (cases_lt at (done + k)) in
+        ⊎_elim (λ (past : steps ≤ done + k). omega arith)
+        (λ other. ⊎_elim (λ (all : k ≡ steps - done). omega arith)
+        (λ halts. ⊎_elim (ended-never at late met) (waits-never at late met other) halts) stopped.1) why
+      where
+        ended-never : (at : ℕ) → done + k ≤ at → IsMet system start steps keys done following.mark text.items at → is_running next.ended ≡ false → ⊥
+        ended-never at late met ended =
+            let j = at - (done + k) in
+            let there : done + (k + j) ≡ at = omega arith in
+            let halted : is_running (after system k now).ended ≡ false = sym (ap (λ (s : MachineState). is_running s.ended) run.state) ∙ ended in
+            let last : is_running (after system (k + j) now).ended ≡ false =
+            ap (λ (s : MachineState). is_running s.ended) (after-add system k j now) ∙ after-ended system j (after system k now) halted in
+            let P : ℕ → Type 0 = λ n. waits_at system start keys n ≡ false in
+            let quiet : waits_at system start keys at ≡ false =
+            subst P there (going-waits system steps most start now before written unrecorded record_now keys done following.going (k + j) ∙ ended-waits (after system (k + j) now) last) in
+            true≢false (sym met.next.waits ∙ quiet)
+
+        waits-never : (at : ℕ) → done + k ≤ at → IsMet system start steps keys done following.mark text.items at →
+            ((look_of next).waiting ≡ false) ⊎ (HasShown text.items left → ⊥) → (look_of next).waiting ≡ true → ⊥
+        waits-never at late met other waits =
+            let here : at ≡ done + k = ⊎_elim (λ (past : done + k < at). absurd (true≢false (sym (waits-there ∙ waits) ∙ met.next.first (done + k) (omega arith) past))) (λ (upto : at ≤ done + k). omega arith) (cases_lt (done + k) at) in
+            let P : ℕ → Type 0 = λ n. HasShown text.items (drop following.mark (screen_at system start keys n)) in
+            let found = shown-here (looks_back (Wait text ∷ others)) refl (subst P here met.shown) in
+            ⊎_elim (λ still. true≢false (sym waits ∙ still)) (λ lacks. lacks found) other
+
+    -- the same of the slices in which it is looked for
+    module _ (needle hay : List ℕ) (is_text : needle ≡ text.items) (is_left : hay ≡ left) where
+      met-slices : HasShown needle hay → HasShown text.items left
+      met-slices found = subst (λ xs. HasShown xs left) is_text (subst (λ xs. HasShown needle xs) is_left found)
+
+      unmet-slices : (HasShown needle hay → ⊥) → HasShown text.items left → ⊥
+      unmet-slices lacks found = lacks (subst (λ xs. HasShown needle xs) (sym is_left) (subst (λ xs. HasShown xs left) (sym is_text) found))
+
+      pub follow-found : done + k < steps → ((look_of next).waiting ≡ true) × HasShown needle hay →
+          IsFollowing system start steps most cues next before written_then unrecorded record_now keys (done + k) others left
+      follow-found within met = follow-met within met.0 (met-slices met.1)
+
+      pub unfound-cued : ((look_of next).waiting ≡ false) ⊎ (HasShown needle hay → ⊥) → IsCued system start steps cues keys
+      unfound-cued why = following.cued keys (inr (never-met (inr (⊎_elim (λ still. inl still) (λ lacks. inr (unmet-slices lacks)) why)), refl))
+
+    pub past-cued : steps ≤ done + k → IsCued system start steps cues keys
+    past-cued past = following.cued keys (inr (never-met (inl past), refl))
+
+-- behind the last cue
+pub follow-end : (system : Disk) (start : MachineState) (steps most : ℕ) (cues : List Cue) (now : MachineState) (before written unrecorded record_now : Option (List ℕ))
+    (keys : List Key) (done : ℕ) (rest : List Cue) (shown : List ℕ) → rest ≡ [] → IsFollowing system start steps most cues now before written unrecorded record_now keys done rest shown → IsCued system start steps cues keys
+follow-end system start steps most cues now before written unrecorded record_now keys done rest shown none following =
+    let P : List Cue → Type 0 = λ r. IsCuedFrom system start steps keys done following.mark r keys in
+    following.cued keys (subst P (sym none) refl)

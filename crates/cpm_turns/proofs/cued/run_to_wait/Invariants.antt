@@ -1,0 +1,17 @@
+use Rattle.std.proofs.Common.{◌≡◌, ◌++◌, ◌-◌, ◌≤◌, true}
+use Rattle.cpm_slots.specs.Step.{after}
+use Rattle.cpm_turns.specs.Cued.{HasRun, IsBusyFor}
+use Rattle.cpm_turns.specs.Playing.{IsQuiet}
+use Rattle.cpm_turns.proofs.cued.run_to_wait.Given as goal
+
+abbrev pub invariant-loop-executed : goal.invariant-loop-executed
+invariant-loop-executed g l = record {
+  within : l.executed ≤ l.steps;
+  run : HasRun l.system l.executed l.fn.machine l.machine (g.W.Write.contents l.fn.out) (g.W.Write.contents l.out);
+  quiet : IsQuiet l.machine;
+  busy : IsBusyFor l.system l.executed l.fn.machine;
+  kept : l.keeps ≡ true → l.kept.items ≡ l.fn.kept.items ++ (after l.system l.executed l.fn.machine).cpm.console.screen;
+}
+
+abbrev pub decreases-loop-executed : goal.decreases-loop-executed
+decreases-loop-executed g l = l.steps - l.executed

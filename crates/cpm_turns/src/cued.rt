@@ -1,0 +1,329 @@
+//! One machine that is played by a script that may wait.
+
+ghost use Rattle.std.specs.Prelude.{◌≡◌, ◌-◌, ◌<◌, ◌≤◌, ◌++◌, ◌∷◌, [], ◌⊎◌, true, false, IfErr, IfOk, OnErr, OnOk};
+ghost use Rattle.std.specs.Io.KnownBytes.{Appends};
+ghost use Rattle.cpm_script.specs.Recording.{recorded};
+ghost use Rattle.cpm_slots.specs.Serve.{look_of, takes_key};
+ghost use Rattle.cpm_slots.specs.Step.{after, is_running};
+ghost use Rattle.cpm_turns.specs.Cued.{AreAscii, HasEndedCued, HasMissed, HasNoWait, HasPressed, HasRun, HasShown, HasStopped, IsCued, IsCutOff, IsPressCut, IsRunCut, IsTaken, IsUntaken, key_count, last_count, looks_back};
+ghost use Rattle.cpm_turns.specs.Live.{AreGiven, IsGoing};
+ghost use Rattle.cpm_turns.specs.Pacing.{without_text};
+ghost use Rattle.cpm_turns.specs.Playing.{EndsAs, HasText, IsFresh, IsQuiet, alone_by};
+
+use crate::live::{Live, LiveError, show};
+use crate::machine::{CHUNK, QUANTUM, drop_list, quantum_of};
+use cpm_geom::Image;
+use cpm_script::{Cue, Key};
+use cpm_slots::{End, Machine};
+use memchr::memmem;
+use std::alloc::Global;
+use std::io;
+use std::io::Write;
+
+/// Whether a text is looked for before the next key.
+fn looks_back(cues: &[Cue]) -> bool
+    ensures { result ≡ looks_back cues.now }
+{
+    let mut rest = cues;
+    while let Some((cue, after)) = rest.split_first() {
+        let Cue::Wait(text) = cue else {
+            return false;
+        };
+        if !text.as_slice().is_empty() {
+            return true;
+        }
+        rest = after;
+    }
+    false
+}
+
+/// Keeps more bytes; says whether all were kept, where those before were.
+fn keep(kept: &mut Vec<u8>, whole: bool, bytes: &[u8]) -> bool
+    ensures whole { result ≡ true → whole ≡ true }
+    ensures kept { result ≡ true → kept.new.items ≡ kept.old.items ++ bytes.now }
+{
+    kept.extend_from_slice(bytes).is_ok() && whole
+}
+
+/// Moves all console bytes to the writer, and keeps them; says whether there was memory for all.
+fn move_kept<W: Write>(machine: &mut Machine, kept: &mut Vec<u8>, out: &mut W) -> io::Result<bool>
+    ensures state { OnOk result (machine.new ≡ without_text machine.old) }
+    ensures text { OnOk result (Appends (W.contents out.old) (W.contents out.new) machine.old.cpm.console.screen) }
+    ensures kept { IfOk result (λ whole. whole ≡ true → kept.new.items ≡ kept.old.items ++ machine.old.cpm.console.screen) }
+    ensures refused { OnErr result (HasText machine.old) }
+{
+    let mut chunk = [0u8; CHUNK];
+    let mut whole = true;
+    loop {
+        let count = machine.take(&mut chunk);
+        if count == 0 {
+            return Ok(whole);
+        }
+        out.write_all(&chunk[..count])?;
+        out.flush()?;
+        whole = keep(kept, whole, &chunk[..count]);
+    }
+}
+
+/// Moves all console bytes to the writer, and keeps them if so asked. List bytes are dropped.
+fn show_kept<W: Write>(
+    machine: &mut Machine,
+    keeps: bool,
+    kept: &mut Vec<u8>,
+    out: &mut W,
+) -> Result<(), LiveError>
+    ensures taken { OnOk result (IsTaken machine.old machine.new (W.contents out.old) (W.contents out.new)) }
+    ensures kept { OnOk result (keeps ≡ true → kept.new.items ≡ kept.old.items ++ machine.old.cpm.console.screen) }
+    ensures refused { IfErr result (IsUntaken machine.old machine.new (W.contents out.old) (W.contents out.new)) }
+{
+    if !keeps {
+        return show(machine, out);
+    }
+    match move_kept(machine, kept, out) {
+        Err(error) => Err(LiveError::Unwritable(error)),
+        Ok(whole) => {
+            drop_list(machine);
+            if whole {
+                Ok(())
+            } else {
+                Err(LiveError::OutOfMemory)
+            }
+        }
+    }
+}
+
+/// Executes so many steps, or those up to the machine's end, and shows their text; says how many.
+fn run<W: Write>(
+    system: &Image,
+    machine: &mut Machine,
+    steps: u64,
+    out: &mut W,
+) -> Result<u64, LiveError>
+    requires { IsQuiet machine.old }
+    ensures within { IfOk result (λ k. k ≤ steps) }
+    ensures run { IfOk result (λ k. HasRun system.now k machine.old machine.new (W.contents out.old) (W.contents out.new)) }
+    ensures stopped { IfOk result (λ k. HasStopped false system.now steps k machine.old machine.new) }
+    ensures refused { IfErr result (IsRunCut system.now steps machine.old machine.new (W.contents out.old) (W.contents out.new)) }
+{
+    let mut executed = 0;
+    while executed < steps {
+        let most = quantum_of(machine).min(steps - executed);
+        let granted = machine.grant(system, most);
+        if granted.executed == 0 {
+            return Ok(executed);
+        }
+        executed += granted.executed;
+        show(machine, out)?;
+    }
+    Ok(executed)
+}
+
+/// Executes steps up to where the machine waits for a key or has ended, at most so many, shows their text, and keeps it if so
+/// asked; says how many.
+fn run_to_wait<W: Write>(
+    system: &Image,
+    machine: &mut Machine,
+    steps: u64,
+    keeps: bool,
+    kept: &mut Vec<u8>,
+    out: &mut W,
+) -> Result<u64, LiveError>
+    requires { IsQuiet machine.old }
+    ensures within { IfOk result (λ k. k ≤ steps) }
+    ensures run { IfOk result (λ k. HasRun system.now k machine.old machine.new (W.contents out.old) (W.contents out.new)) }
+    ensures stopped { IfOk result (λ k. HasStopped true system.now steps k machine.old machine.new) }
+    ensures kept { IfOk result (λ k. keeps ≡ true → kept.new.items ≡ kept.old.items ++ (after system.now k machine.old).cpm.console.screen) }
+    ensures refused { IfErr result (IsRunCut system.now steps machine.old machine.new (W.contents out.old) (W.contents out.new)) }
+{
+    let mut executed = 0;
+    while executed < steps {
+        let granted = machine.grant_to_wait(system, QUANTUM.min(steps - executed));
+        if granted == 0 {
+            return Ok(executed);
+        }
+        executed += granted;
+        show_kept(machine, keeps, kept, out)?;
+    }
+    Ok(executed)
+}
+
+/// Whether the machine still runs.
+fn runs(machine: &Machine) -> bool
+    ensures { result ≡ is_running machine.now.ended }
+{
+    match machine.look().ended {
+        End::Running => true,
+        _ => false,
+    }
+}
+
+/// Whether the machine waits for a key and this text was shown.
+fn has_met(machine: &Machine, text: &[u8], shown: &[u8]) -> bool
+    ensures met { result ≡ true → ((look_of machine.now).waiting ≡ true) × HasShown text.now shown.now }
+    ensures unmet { result ≡ false → ((look_of machine.now).waiting ≡ false) ⊎ (HasShown text.now shown.now → ⊥) }
+{
+    machine.look().waiting && memmem::find(shown, text).is_some()
+}
+
+impl Live {
+    /// Presses a key at its count, if the machine then runs and that is within the steps; says whether it is.
+    fn press<W: Write, S: Write>(
+        &mut self,
+        system: &Image,
+        machine: &mut Machine,
+        key: Key,
+        steps: u64,
+        out: &mut W,
+        record: &mut S,
+    ) -> Result<bool, LiveError>
+        requires ascii { key.byte < 128 }
+        requires later { self.old.steps ≤ key.count }
+        requires quiet { IsQuiet machine.old }
+        requires room { takes_key machine.old ≡ true }
+        ensures pressed { IfOk result (λ comes. comes ≡ true → HasPressed system.now key (key.count - self.old.steps) machine.old machine.new
+            (W.contents out.old) (W.contents out.new) (S.contents record.old) (S.contents record.new)) }
+        ensures count { IfOk result (λ comes. comes ≡ true → (key.count < steps) × (self.new.steps ≡ key.count)) }
+        ensures keys { IfOk result (λ comes. comes ≡ true → self.new.keys.items ≡ self.old.keys.items ++ key ∷ []) }
+        ensures missed { IfOk result (λ comes. comes ≡ false → HasMissed system.now key steps self.old.steps self.new.steps machine.old machine.new
+            (W.contents out.old) (W.contents out.new)) }
+        ensures still { IfOk result (λ comes. comes ≡ false → (self.new.keys.items ≡ self.old.keys.items) × (S.contents record.new ≡ S.contents record.old)) }
+        ensures refused { IfErr result (IsPressCut system.now (steps - self.old.steps) machine.old machine.new
+            (W.contents out.old) (W.contents out.new) (S.contents record.old) (S.contents record.new)) }
+    {
+        if key.count >= steps {
+            return Ok(false);
+        }
+        self.steps += run(system, machine, key.count - self.steps, out)?;
+        if !runs(machine) {
+            return Ok(false);
+        }
+        self.give(machine, key.byte, record)?;
+        Ok(true)
+    }
+}
+
+/// Plays a machine by a script as far as its keys come.
+fn follow<W: Write, S: Write>(
+    alloc: Global,
+    system: &Image,
+    machine: &mut Machine,
+    steps: u64,
+    cues: &[Cue],
+    out: &mut W,
+    record: &mut S,
+) -> Result<Live, LiveError>
+    requires fresh { IsFresh machine.old }
+    requires ascii { AreAscii cues.now }
+    requires few { key_count cues.now ≤ 4096 }
+    ensures going { IfOk result (λ live. IsGoing system.now steps (key_count cues.now) machine.old machine.new (W.contents out.old) (W.contents out.new)
+        (S.contents record.old) (S.contents record.new) live.keys.items live.steps) }
+    ensures keys { IfOk result (λ live. IsCued system.now machine.old steps cues.now live.keys.items) }
+    ensures busy { IfOk result (λ live. (is_running machine.new.ended ≡ false)
+        ⊎ HasNoWait system.now machine.old live.keys.items (last_count 0 live.keys.items) live.steps) }
+    ensures refused { IfErr result (IsCutOff system.now steps (key_count cues.now) machine.old machine.new (W.contents out.old) (W.contents out.new)
+        (S.contents record.old) (S.contents record.new)) }
+{
+    let mut live = Live {
+        keys: Vec::new(alloc),
+        steps: 0,
+    };
+    let mut shown = Vec::new(alloc);
+    let mut rest = cues;
+    while let Some((cue, after)) = rest.split_first() {
+        let keeps = looks_back(rest);
+        rest = after;
+        match cue {
+            Cue::Key(key) => {
+                let key = Key {
+                    count: live.steps.max(key.count),
+                    byte: key.byte,
+                };
+                if !live.press(system, machine, key, steps, out, record)? {
+                    return Ok(live);
+                }
+                shown.clear();
+            }
+            Cue::Press(byte) => {
+                let key = Key {
+                    count: live.steps,
+                    byte: *byte,
+                };
+                if !live.press(system, machine, key, steps, out, record)? {
+                    return Ok(live);
+                }
+                shown.clear();
+            }
+            Cue::Wait(text) => {
+                let left = steps - live.steps;
+                let executed = run_to_wait(system, machine, left, keeps, &mut shown, out)?;
+                live.steps += executed;
+                if live.steps >= steps {
+                    return Ok(live);
+                }
+                if !has_met(machine, text.as_slice(), shown.as_slice()) {
+                    return Ok(live);
+                }
+            }
+        }
+    }
+    Ok(live)
+}
+
+/// Executes the steps that are left, with `stops_idle` none past the one where the machine waits for a key, and shows their
+/// text; says how many.
+fn run_on<W: Write>(
+    alloc: Global,
+    system: &Image,
+    machine: &mut Machine,
+    steps: u64,
+    stops_idle: bool,
+    out: &mut W,
+) -> Result<u64, LiveError>
+    requires { IsQuiet machine.old }
+    ensures within { IfOk result (λ k. k ≤ steps) }
+    ensures run { IfOk result (λ k. HasRun system.now k machine.old machine.new (W.contents out.old) (W.contents out.new)) }
+    ensures stopped { IfOk result (λ k. HasStopped stops_idle system.now steps k machine.old machine.new) }
+    ensures refused { IfErr result (IsRunCut system.now steps machine.old machine.new (W.contents out.old) (W.contents out.new)) }
+{
+    if stops_idle {
+        run_to_wait(system, machine, steps, false, &mut Vec::new(alloc), out)
+    } else {
+        run(system, machine, steps, out)
+    }
+}
+
+/// Plays one machine by a script that may wait, for at most so many steps, and writes its console bytes as they come. List bytes
+/// are dropped.
+///
+/// Each key is written to `record` as a line of a key script: by that script the machine shows and does the same again. With
+/// `stops_idle` it ends where the machine waits for a key and none of the script will come.
+pub fn play_cues<W: Write, S: Write>(
+    alloc: Global,
+    system: &Image,
+    machine: &mut Machine,
+    steps: u64,
+    cues: &[Cue],
+    stops_idle: bool,
+    out: &mut W,
+    record: &mut S,
+) -> Result<Live, LiveError>
+    requires fresh { IsFresh machine.old }
+    requires ascii { AreAscii cues.now }
+    requires few { key_count cues.now ≤ 4096 }
+    ensures within { IfOk result (λ live. live.steps ≤ steps) }
+    ensures keys { IfOk result (λ live. IsCued system.now machine.old steps cues.now live.keys.items) }
+    ensures given { IfOk result (λ live. AreGiven (key_count cues.now) live.steps live.keys.items) }
+    ensures text { IfOk result (λ live. Appends (W.contents out.old) (W.contents out.new)
+        (alone_by system.now live.keys.items live.steps machine.old).cpm.console.screen) }
+    ensures ending { IfOk result (λ live. EndsAs (alone_by system.now live.keys.items live.steps machine.old) machine.new) }
+    ensures record { IfOk result (λ live. Appends (S.contents record.old) (S.contents record.new) (recorded live.keys.items)) }
+    ensures ends { IfOk result (λ live. HasEndedCued system.now machine.old steps stops_idle live.keys.items live.steps machine.new) }
+    ensures refused { IfErr result (IsCutOff system.now steps (key_count cues.now) machine.old machine.new (W.contents out.old) (W.contents out.new)
+        (S.contents record.old) (S.contents record.new)) }
+{
+    let mut live = follow(alloc, system, machine, steps, cues, out, record)?;
+    let left = steps - live.steps;
+    let executed = run_on(alloc, system, machine, left, stops_idle, out)?;
+    live.steps += executed;
+    Ok(live)
+}
