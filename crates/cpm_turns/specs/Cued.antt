@@ -50,29 +50,29 @@ HasShown text shown = (place : ℕ) × OccursAt shown text place
 abbrev pub Comes : Disk → MachineState → ℕ → List Key → ℕ → Type 0
 Comes system start steps keys at = (at < steps) × (runs_at system start keys at ≡ true)
 
--- from one count on it next waits at another within the steps, and then has shown this text behind so many bytes
-pub record IsMet (system : Disk) (start : MachineState) (steps : ℕ) (keys : List Key) (from mark : ℕ) (text : List ℕ) (at : ℕ) : Type 0 where
-  pub next : IsNextWait system start keys from at
+-- from one count on, and from where waits count, it next waits at another within the steps, and then has shown this text behind so many bytes
+pub record IsMet (system : Disk) (start : MachineState) (steps waits_from : ℕ) (keys : List Key) (from mark : ℕ) (text : List ℕ) (at : ℕ) : Type 0 where
+  pub next : IsNextWait system start keys (max waits_from from) at
   pub within : at < steps
   pub shown : HasShown text (drop mark (screen_at system start keys at))
 
--- The keys of the rest of a script behind those that were given, where its next cue counts from this count on, and so many bytes had been shown when the last key came. A key that does not come is the end of the script, and so is a text that has not been shown where the machine next waits: while it waits it shows nothing more.
-abbrev pub IsCuedFrom : Disk → MachineState → ℕ → (given : List Key) → (from mark : ℕ) → List Cue → List Key → Type 0
-IsCuedFrom system start steps given from mark [] keys = keys ≡ given
-IsCuedFrom system start steps given from mark (Timed k ∷ cues) keys =
+-- The keys of the rest of a script behind those that were given, where its next cue counts from this count on, and so many bytes had been shown when the last key came. A key that does not come is the end of the script, and so is a text that has not been shown where the machine next waits: while it waits it shows nothing more. A wait before `waits_from` steps does not count.
+abbrev pub IsCuedFrom : Disk → MachineState → (steps waits_from : ℕ) → (given : List Key) → (from mark : ℕ) → List Cue → List Key → Type 0
+IsCuedFrom system start steps waits_from given from mark [] keys = keys ≡ given
+IsCuedFrom system start steps waits_from given from mark (Timed k ∷ cues) keys =
     let at = max from k.count in
-    (Comes system start steps given at × IsCuedFrom system start steps (given ++ record { count = at; byte = k.byte } ∷ []) at (length (screen_at system start given at)) cues keys)
+    (Comes system start steps given at × IsCuedFrom system start steps waits_from (given ++ record { count = at; byte = k.byte } ∷ []) at (length (screen_at system start given at)) cues keys)
     ⊎ ((Comes system start steps given at → ⊥) × (keys ≡ given))
-IsCuedFrom system start steps given from mark (Press b ∷ cues) keys =
-    (Comes system start steps given from × IsCuedFrom system start steps (given ++ record { count = from; byte = b } ∷ []) from (length (screen_at system start given from)) cues keys)
+IsCuedFrom system start steps waits_from given from mark (Press b ∷ cues) keys =
+    (Comes system start steps given from × IsCuedFrom system start steps waits_from (given ++ record { count = from; byte = b } ∷ []) from (length (screen_at system start given from)) cues keys)
     ⊎ ((Comes system start steps given from → ⊥) × (keys ≡ given))
-IsCuedFrom system start steps given from mark (Wait text ∷ cues) keys =
-    ((at : ℕ) × IsMet system start steps given from mark text.items at × IsCuedFrom system start steps given at mark cues keys)
-    ⊎ (((at : ℕ) → IsMet system start steps given from mark text.items at → ⊥) × (keys ≡ given))
+IsCuedFrom system start steps waits_from given from mark (Wait text ∷ cues) keys =
+    ((at : ℕ) × IsMet system start steps waits_from given from mark text.items at × IsCuedFrom system start steps waits_from given at mark cues keys)
+    ⊎ (((at : ℕ) → IsMet system start steps waits_from given from mark text.items at → ⊥) × (keys ≡ given))
 
--- the keys of a script, for at most so many steps
-abbrev pub IsCued : Disk → MachineState → ℕ → List Cue → List Key → Type 0
-IsCued system start steps cues keys = IsCuedFrom system start steps [] 0 0 cues keys
+-- the keys of a script, for at most so many steps, where waits count from this step on
+abbrev pub IsCued : Disk → MachineState → (steps waits_from : ℕ) → List Cue → List Key → Type 0
+IsCued system start steps waits_from cues keys = IsCuedFrom system start steps waits_from [] 0 0 cues keys
 
 -- ---- where a session ends
 
@@ -81,11 +81,12 @@ abbrev pub last_count : ℕ → List Key → ℕ
 last_count n [] = n
 last_count n (k ∷ ks) = last_count k.count ks
 
--- It ends where the machine has, and else behind its steps. One that stops where it is idle ends sooner, where the machine next waits after the last key.
-abbrev pub HasEndedCued : Disk → MachineState → ℕ → (stops_idle : Bool) → List Key → ℕ → MachineState → Type 0
-HasEndedCued system start steps false keys done now = (done ≡ steps) ⊎ (is_running now.ended ≡ false)
-HasEndedCued system start steps true keys done now =
-    (is_running now.ended ≡ false) ⊎ (HasNoWait system start keys (last_count 0 keys) done × ((done ≡ steps) ⊎ (waits_at system start keys done ≡ true)))
+-- It ends where the machine has, and else behind its steps. One that stops where it is idle ends sooner, where the machine next waits after the last key, if waits count there.
+abbrev pub HasEndedCued : Disk → MachineState → (steps waits_from : ℕ) → (stops_idle : Bool) → List Key → ℕ → MachineState → Type 0
+HasEndedCued system start steps waits_from false keys done now = (done ≡ steps) ⊎ (is_running now.ended ≡ false)
+HasEndedCued system start steps waits_from true keys done now =
+    (is_running now.ended ≡ false)
+    ⊎ (HasNoWait system start keys (max waits_from (last_count 0 keys)) done × ((done ≡ steps) ⊎ ((waits_from ≤ done) × (waits_at system start keys done ≡ true))))
 
 -- Why it was not played to its end, and what it had come to. The writer fails where there is text, and all keys are recorded. The record fails at a key that is not pressed, and all is shown; where memory is refused all is shown and recorded.
 abbrev pub IsCutOff : Disk → (steps most : ℕ) → (start now : MachineState) → (before written unrecorded record_now : Option (List ℕ)) → LiveError → Type 0
@@ -135,6 +136,13 @@ HasRun system k old now before written = IsTaken (after system k old) now before
 -- the first of these steps did not wait for a key
 abbrev pub IsBusyFor : Disk → ℕ → MachineState → Type 0
 IsBusyFor system k s = (i : ℕ) → i < k → (look_of (after system i s)).waiting ≡ false
+
+-- the steps up to where it waits for a key and waits count, or to its end; else all
+pub record HasIdled (system : Disk) (steps waits_from done done_now : ℕ) (old now : MachineState) (before written : Option (List ℕ)) : Type 0 where
+  pub low : done ≤ done_now
+  pub run : HasRun system (done_now - done) old now before written
+  pub busy : (i : ℕ) → max waits_from done ≤ i → i < done_now → (look_of (after system (i - done) old)).waiting ≡ false
+  pub why : (done_now ≡ steps) ⊎ (is_running now.ended ≡ false) ⊎ ((waits_from ≤ done_now) × ((look_of now).waiting ≡ true))
 
 -- why not all of so many steps were executed, and what was
 abbrev pub IsRunCut : Disk → ℕ → (old now : MachineState) → (before written : Option (List ℕ)) → LiveError → Type 0

@@ -1,11 +1,11 @@
 //! One machine that is played by a script that may wait.
 
-ghost use Rattle.std.specs.Prelude.{◌≡◌, ◌-◌, ◌<◌, ◌≤◌, ◌++◌, ◌∷◌, [], ◌⊎◌, true, false, IfErr, IfOk, OnErr, OnOk};
+ghost use Rattle.std.specs.Prelude.{◌≡◌, ◌-◌, ◌<◌, ◌≤◌, max, ◌++◌, ◌∷◌, [], ◌⊎◌, true, false, IfErr, IfOk, OnErr, OnOk};
 ghost use Rattle.std.specs.Io.KnownBytes.{Appends};
 ghost use Rattle.cpm_script.specs.Recording.{recorded};
 ghost use Rattle.cpm_slots.specs.Serve.{look_of, takes_key};
 ghost use Rattle.cpm_slots.specs.Step.{after, is_running};
-ghost use Rattle.cpm_turns.specs.Cued.{AreAscii, HasEndedCued, HasMissed, HasNoWait, HasPressed, HasRun, HasShown, HasStopped, IsCued, IsCutOff, IsPressCut, IsRunCut, IsTaken, IsUntaken, key_count, last_count, looks_back};
+ghost use Rattle.cpm_turns.specs.Cued.{AreAscii, HasEndedCued, HasIdled, HasMissed, HasNoWait, HasPressed, HasRun, HasShown, HasStopped, IsCued, IsCutOff, IsPressCut, IsRunCut, IsTaken, IsUntaken, key_count, last_count, looks_back};
 ghost use Rattle.cpm_turns.specs.Live.{AreGiven, IsGoing};
 ghost use Rattle.cpm_turns.specs.Pacing.{without_text};
 ghost use Rattle.cpm_turns.specs.Playing.{EndsAs, HasText, IsFresh, IsQuiet, alone_by};
@@ -19,6 +19,17 @@ use memchr::memmem;
 use std::alloc::Global;
 use std::io;
 use std::io::Write;
+
+/// What a machine is played by.
+#[derive(Clone, Copy, Debug)]
+pub struct Cued<'a> {
+    /// What a script says whose lines may wait.
+    pub cues: &'a [Cue],
+    /// Where the machine waits for a key before so many steps, that does not count: a forked session's waits count from its fork on.
+    pub waits_from: u64,
+    /// Whether it ends where the machine waits, and that counts, and no key of the script will come.
+    pub stops_idle: bool,
+}
 
 /// Whether a text is looked for before the next key.
 fn looks_back(cues: &[Cue]) -> bool
@@ -92,38 +103,13 @@ fn show_kept<W: Write>(
     }
 }
 
-/// Executes so many steps, or those up to the machine's end, and shows their text; says how many.
+/// Executes so many steps, or those up to the machine's end, or with `to_wait` to where it waits for a key. Shows their text, and keeps it if
+/// so asked; says how many.
 fn run<W: Write>(
     system: &Image,
     machine: &mut Machine,
     steps: u64,
-    out: &mut W,
-) -> Result<u64, LiveError>
-    requires { IsQuiet machine.old }
-    ensures within { IfOk result (λ k. k ≤ steps) }
-    ensures run { IfOk result (λ k. HasRun system.now k machine.old machine.new (W.contents out.old) (W.contents out.new)) }
-    ensures stopped { IfOk result (λ k. HasStopped false system.now steps k machine.old machine.new) }
-    ensures refused { IfErr result (IsRunCut system.now steps machine.old machine.new (W.contents out.old) (W.contents out.new)) }
-{
-    let mut executed = 0;
-    while executed < steps {
-        let most = quantum_of(machine).min(steps - executed);
-        let granted = machine.grant(system, most);
-        if granted.executed == 0 {
-            return Ok(executed);
-        }
-        executed += granted.executed;
-        show(machine, out)?;
-    }
-    Ok(executed)
-}
-
-/// Executes steps up to where the machine waits for a key or has ended, at most so many, shows their text, and keeps it if so
-/// asked; says how many.
-fn run_to_wait<W: Write>(
-    system: &Image,
-    machine: &mut Machine,
-    steps: u64,
+    to_wait: bool,
     keeps: bool,
     kept: &mut Vec<u8>,
     out: &mut W,
@@ -131,13 +117,20 @@ fn run_to_wait<W: Write>(
     requires { IsQuiet machine.old }
     ensures within { IfOk result (λ k. k ≤ steps) }
     ensures run { IfOk result (λ k. HasRun system.now k machine.old machine.new (W.contents out.old) (W.contents out.new)) }
-    ensures stopped { IfOk result (λ k. HasStopped true system.now steps k machine.old machine.new) }
+    ensures stopped { IfOk result (λ k. HasStopped to_wait system.now steps k machine.old machine.new) }
     ensures kept { IfOk result (λ k. keeps ≡ true → kept.new.items ≡ kept.old.items ++ (after system.now k machine.old).cpm.console.screen) }
     ensures refused { IfErr result (IsRunCut system.now steps machine.old machine.new (W.contents out.old) (W.contents out.new)) }
 {
     let mut executed = 0;
     while executed < steps {
-        let granted = machine.grant_to_wait(system, QUANTUM.min(steps - executed));
+        let left = steps - executed;
+        let granted = if to_wait {
+            machine.grant_to_wait(system, QUANTUM.min(left))
+        } else {
+            machine
+                .grant(system, quantum_of(machine).min(left))
+                .executed
+        };
         if granted == 0 {
             return Ok(executed);
         }
@@ -166,13 +159,14 @@ fn has_met(machine: &Machine, text: &[u8], shown: &[u8]) -> bool
 }
 
 impl Live {
-    /// Presses a key at its count, if the machine then runs and that is within the steps; says whether it is.
+    /// Presses a key at its count, if the machine then runs and that is within the steps; says whether it is. What was shown before is then forgotten.
     fn press<W: Write, S: Write>(
         &mut self,
         system: &Image,
         machine: &mut Machine,
         key: Key,
         steps: u64,
+        shown: &mut Vec<u8>,
         out: &mut W,
         record: &mut S,
     ) -> Result<bool, LiveError>
@@ -184,6 +178,7 @@ impl Live {
             (W.contents out.old) (W.contents out.new) (S.contents record.old) (S.contents record.new)) }
         ensures count { IfOk result (λ comes. comes ≡ true → (key.count < steps) × (self.new.steps ≡ key.count)) }
         ensures keys { IfOk result (λ comes. comes ≡ true → self.new.keys.items ≡ self.old.keys.items ++ key ∷ []) }
+        ensures forgotten { IfOk result (λ comes. comes ≡ true → shown.new.items ≡ []) }
         ensures missed { IfOk result (λ comes. comes ≡ false → HasMissed system.now key steps self.old.steps self.new.steps machine.old machine.new
             (W.contents out.old) (W.contents out.new)) }
         ensures still { IfOk result (λ comes. comes ≡ false → (self.new.keys.items ≡ self.old.keys.items) × (S.contents record.new ≡ S.contents record.old)) }
@@ -193,12 +188,40 @@ impl Live {
         if key.count >= steps {
             return Ok(false);
         }
-        self.steps += run(system, machine, key.count - self.steps, out)?;
+        let left = key.count - self.steps;
+        self.steps += run(system, machine, left, false, false, shown, out)?;
         if !runs(machine) {
             return Ok(false);
         }
         self.give(machine, key.byte, record)?;
+        shown.clear();
         Ok(true)
+    }
+
+    /// Executes steps up to where the machine waits for a key, not before `waits_from`, or has ended. Shows their text, and keeps it if so asked.
+    fn idle<W: Write>(
+        &mut self,
+        system: &Image,
+        machine: &mut Machine,
+        steps: u64,
+        waits_from: u64,
+        keeps: bool,
+        shown: &mut Vec<u8>,
+        out: &mut W,
+    ) -> Result<(), LiveError>
+        requires quiet { IsQuiet machine.old }
+        requires within { self.old.steps ≤ steps }
+        ensures idled { OnOk result (HasIdled system.now steps waits_from self.old.steps self.new.steps machine.old machine.new (W.contents out.old) (W.contents out.new)) }
+        ensures within { OnOk result (self.new.steps ≤ steps) }
+        ensures still { self.new.keys.items ≡ self.old.keys.items }
+        ensures kept { OnOk result (keeps ≡ true → shown.new.items ≡ shown.old.items ++ (after system.now (self.new.steps - self.old.steps) machine.old).cpm.console.screen) }
+        ensures refused { IfErr result (IsRunCut system.now (steps - self.old.steps) machine.old machine.new (W.contents out.old) (W.contents out.new)) }
+    {
+        let pause = waits_from.min(steps).saturating_sub(self.steps);
+        self.steps += run(system, machine, pause, false, keeps, shown, out)?;
+        let left = steps - self.steps;
+        self.steps += run(system, machine, left, true, keeps, shown, out)?;
+        Ok(())
     }
 }
 
@@ -208,19 +231,19 @@ fn follow<W: Write, S: Write>(
     system: &Image,
     machine: &mut Machine,
     steps: u64,
-    cues: &[Cue],
+    cued: Cued<'_>,
     out: &mut W,
     record: &mut S,
 ) -> Result<Live, LiveError>
     requires fresh { IsFresh machine.old }
-    requires ascii { AreAscii cues.now }
-    requires few { key_count cues.now ≤ 4096 }
-    ensures going { IfOk result (λ live. IsGoing system.now steps (key_count cues.now) machine.old machine.new (W.contents out.old) (W.contents out.new)
+    requires ascii { AreAscii cued.entry.cues.now }
+    requires few { key_count cued.entry.cues.now ≤ 4096 }
+    ensures going { IfOk result (λ live. IsGoing system.now steps (key_count cued.entry.cues.now) machine.old machine.new (W.contents out.old) (W.contents out.new)
         (S.contents record.old) (S.contents record.new) live.keys.items live.steps) }
-    ensures keys { IfOk result (λ live. IsCued system.now machine.old steps cues.now live.keys.items) }
+    ensures keys { IfOk result (λ live. IsCued system.now machine.old steps cued.entry.waits_from cued.entry.cues.now live.keys.items) }
     ensures busy { IfOk result (λ live. (is_running machine.new.ended ≡ false)
-        ⊎ HasNoWait system.now machine.old live.keys.items (last_count 0 live.keys.items) live.steps) }
-    ensures refused { IfErr result (IsCutOff system.now steps (key_count cues.now) machine.old machine.new (W.contents out.old) (W.contents out.new)
+        ⊎ HasNoWait system.now machine.old live.keys.items (max cued.entry.waits_from (last_count 0 live.keys.items)) live.steps) }
+    ensures refused { IfErr result (IsCutOff system.now steps (key_count cued.entry.cues.now) machine.old machine.new (W.contents out.old) (W.contents out.new)
         (S.contents record.old) (S.contents record.new)) }
 {
     let mut live = Live {
@@ -228,102 +251,79 @@ fn follow<W: Write, S: Write>(
         steps: 0,
     };
     let mut shown = Vec::new(alloc);
-    let mut rest = cues;
+    let mut rest = cued.cues;
     while let Some((cue, after)) = rest.split_first() {
         let keeps = looks_back(rest);
         rest = after;
-        match cue {
-            Cue::Key(key) => {
-                let key = Key {
-                    count: live.steps.max(key.count),
-                    byte: key.byte,
-                };
-                if !live.press(system, machine, key, steps, out, record)? {
-                    return Ok(live);
-                }
-                shown.clear();
-            }
-            Cue::Press(byte) => {
-                let key = Key {
-                    count: live.steps,
-                    byte: *byte,
-                };
-                if !live.press(system, machine, key, steps, out, record)? {
-                    return Ok(live);
-                }
-                shown.clear();
-            }
+        let (count, byte) = match cue {
+            Cue::Key(key) => (live.steps.max(key.count), key.byte),
+            Cue::Press(byte) => (live.steps, *byte),
             Cue::Wait(text) => {
-                let left = steps - live.steps;
-                let executed = run_to_wait(system, machine, left, keeps, &mut shown, out)?;
-                live.steps += executed;
-                if live.steps >= steps {
-                    return Ok(live);
+                live.idle(
+                    system,
+                    machine,
+                    steps,
+                    cued.waits_from,
+                    keeps,
+                    &mut shown,
+                    out,
+                )?;
+                if live.steps < steps && has_met(machine, text.as_slice(), shown.as_slice()) {
+                    continue;
                 }
-                if !has_met(machine, text.as_slice(), shown.as_slice()) {
-                    return Ok(live);
-                }
+                return Ok(live);
             }
+        };
+        let key = Key { count, byte };
+        if !live.press(system, machine, key, steps, &mut shown, out, record)? {
+            return Ok(live);
         }
     }
     Ok(live)
 }
 
-/// Executes the steps that are left, with `stops_idle` none past the one where the machine waits for a key, and shows their
-/// text; says how many.
-fn run_on<W: Write>(
-    alloc: Global,
-    system: &Image,
-    machine: &mut Machine,
-    steps: u64,
-    stops_idle: bool,
-    out: &mut W,
-) -> Result<u64, LiveError>
-    requires { IsQuiet machine.old }
-    ensures within { IfOk result (λ k. k ≤ steps) }
-    ensures run { IfOk result (λ k. HasRun system.now k machine.old machine.new (W.contents out.old) (W.contents out.new)) }
-    ensures stopped { IfOk result (λ k. HasStopped stops_idle system.now steps k machine.old machine.new) }
-    ensures refused { IfErr result (IsRunCut system.now steps machine.old machine.new (W.contents out.old) (W.contents out.new)) }
-{
-    if stops_idle {
-        run_to_wait(system, machine, steps, false, &mut Vec::new(alloc), out)
-    } else {
-        run(system, machine, steps, out)
-    }
-}
-
 /// Plays one machine by a script that may wait, for at most so many steps, and writes its console bytes as they come. List bytes
 /// are dropped.
 ///
-/// Each key is written to `record` as a line of a key script: by that script the machine shows and does the same again. With
-/// `stops_idle` it ends where the machine waits for a key and none of the script will come.
+/// Each key is written to `record` as a line of a key script: by that script the machine shows and does the same again.
 pub fn play_cues<W: Write, S: Write>(
     alloc: Global,
     system: &Image,
     machine: &mut Machine,
     steps: u64,
-    cues: &[Cue],
-    stops_idle: bool,
+    cued: Cued<'_>,
     out: &mut W,
     record: &mut S,
 ) -> Result<Live, LiveError>
     requires fresh { IsFresh machine.old }
-    requires ascii { AreAscii cues.now }
-    requires few { key_count cues.now ≤ 4096 }
+    requires ascii { AreAscii cued.entry.cues.now }
+    requires few { key_count cued.entry.cues.now ≤ 4096 }
     ensures within { IfOk result (λ live. live.steps ≤ steps) }
-    ensures keys { IfOk result (λ live. IsCued system.now machine.old steps cues.now live.keys.items) }
-    ensures given { IfOk result (λ live. AreGiven (key_count cues.now) live.steps live.keys.items) }
+    ensures keys { IfOk result (λ live. IsCued system.now machine.old steps cued.entry.waits_from cued.entry.cues.now live.keys.items) }
+    ensures given { IfOk result (λ live. AreGiven (key_count cued.entry.cues.now) live.steps live.keys.items) }
     ensures text { IfOk result (λ live. Appends (W.contents out.old) (W.contents out.new)
         (alone_by system.now live.keys.items live.steps machine.old).cpm.console.screen) }
     ensures ending { IfOk result (λ live. EndsAs (alone_by system.now live.keys.items live.steps machine.old) machine.new) }
     ensures record { IfOk result (λ live. Appends (S.contents record.old) (S.contents record.new) (recorded live.keys.items)) }
-    ensures ends { IfOk result (λ live. HasEndedCued system.now machine.old steps stops_idle live.keys.items live.steps machine.new) }
-    ensures refused { IfErr result (IsCutOff system.now steps (key_count cues.now) machine.old machine.new (W.contents out.old) (W.contents out.new)
+    ensures ends { IfOk result (λ live. HasEndedCued system.now machine.old steps cued.entry.waits_from cued.entry.stops_idle live.keys.items live.steps machine.new) }
+    ensures refused { IfErr result (IsCutOff system.now steps (key_count cued.entry.cues.now) machine.old machine.new (W.contents out.old) (W.contents out.new)
         (S.contents record.old) (S.contents record.new)) }
 {
-    let mut live = follow(alloc, system, machine, steps, cues, out, record)?;
-    let left = steps - live.steps;
-    let executed = run_on(alloc, system, machine, left, stops_idle, out)?;
-    live.steps += executed;
+    let mut live = follow(alloc, system, machine, steps, cued, out, record)?;
+    let mut unkept = Vec::new(alloc);
+    if cued.stops_idle {
+        live.idle(
+            system,
+            machine,
+            steps,
+            cued.waits_from,
+            false,
+            &mut unkept,
+            out,
+        )?;
+    } else {
+        let left = steps - live.steps;
+        live.steps += run(system, machine, left, false, false, &mut unkept, out)?;
+    }
     Ok(live)
 }
