@@ -162,7 +162,7 @@ ascii-keys (b ∷ c ∷ rest) all is = ascii-caret (b == caret) b c rest all (λ
 
 -- ---- what follows what is in order
 
-counts-append : (n : ℕ) (a b : List Said) → CountsRise n a → CountsRise (last_count n a) b → CountsRise n (a ++ b)
+pub counts-append : (n : ℕ) (a b : List Said) → CountsRise n a → CountsRise (last_count n a) b → CountsRise n (a ++ b)
 counts-append n [] b first later = later
 counts-append n (Counted key ∷ a) b first later = (first.0, counts-append key.count a b first.1 later)
 counts-append n (Awaited text ∷ a) b first later = counts-append n a b first later
@@ -196,12 +196,12 @@ follows a b good later room = record {
 
 -- ---- the keys of a line
 
-as_many : (at : Option ℕ) (bytes : List ℕ) → keys_in (map (pressed at) bytes) ≡ length bytes
+pub as_many : (at : Option ℕ) (bytes : List ℕ) → keys_in (map (pressed at) bytes) ≡ length bytes
 as_many at [] = refl
 as_many None (b ∷ bytes) = omega (arith, as_many None bytes)
 as_many (Some count) (b ∷ bytes) = omega (arith, as_many (Some count) bytes)
 
-counts-at : (n count : ℕ) (bytes : List ℕ) → n ≤ count → CountsRise n (map (pressed (Some count)) bytes)
+pub counts-at : (n count : ℕ) (bytes : List ℕ) → n ≤ count → CountsRise n (map (pressed (Some count)) bytes)
 counts-at n count [] low = tt
 counts-at n count (b ∷ bytes) low = (low, counts-at count count bytes (omega arith))
 
@@ -209,7 +209,7 @@ presses-at : (count : ℕ) (t : Bool) (bytes : List ℕ) → PressesFollow t (ma
 presses-at count t [] = tt
 presses-at count t (b ∷ bytes) = presses-at count false bytes
 
-counts-none : (n : ℕ) (bytes : List ℕ) → CountsRise n (map (pressed None) bytes)
+pub counts-none : (n : ℕ) (bytes : List ℕ) → CountsRise n (map (pressed None) bytes)
 counts-none n [] = tt
 counts-none n (b ∷ bytes) = counts-none n bytes
 
@@ -223,7 +223,7 @@ ascii-said None (b ∷ bytes) all = (all.0, ascii-said None bytes all.1)
 ascii-said (Some count) (b ∷ bytes) all = (all.0, ascii-said (Some count) bytes all.1)
 
 -- what is true of cues with keys of a text behind them, whatever keys they are
-by-keys : (P : List Said → Type 0) (cs all : List Said) (at : Option ℕ) (keys : Option (List ℕ)) → or_fault NotAKey keys (cue.with_keys cs at) ≡ Ok all
+pub by-keys : (P : List Said → Type 0) (cs all : List Said) (at : Option ℕ) (keys : Option (List ℕ)) → or_fault NotAKey keys (cue.with_keys cs at) ≡ Ok all
     → ((bytes : List ℕ) → keys ≡ Some bytes → keys_in cs + length bytes ≤ most_keys → P (cs ++ map (pressed at) bytes)) → P all
 by-keys P cs all at None is each = absurd (cc)
 by-keys P cs all at (Some []) is each = absurd (cc)

@@ -24,7 +24,7 @@ after_line : (number : ℕ) (r : Result (List Key) LineFault) (next : List Key �
 after_line number (Ok more) next all P goes is = goes more refl is
 after_line number (Err fault) next all P goes is = absurd (cc)
 
-after_room : (number : ℕ) (r : Result ℕ LineFault) (next : ℕ → Option (ℕ × LineFault)) (P : Type 0)
+pub after_room : (number : ℕ) (r : Result ℕ LineFault) (next : ℕ → Option (ℕ × LineFault)) (P : Type 0)
     → ((left : ℕ) → r ≡ Ok left → next left ≡ None → P) → fault_or number r next ≡ None → P
 after_room number (Ok left) next P goes is = goes left refl is
 after_room number (Err fault) next P goes is = absurd (cc)
@@ -104,7 +104,7 @@ added-is keys more count (b ∷ bytes) is = by_test (nat_le (length keys + lengt
     by_test true e = cc
     by_test false e = absurd (cc)
 
-room-is : (at room left count n : ℕ) → room_left at room (Some (count, n)) ≡ Ok left → (at ≤ count) × (left + n ≡ room)
+pub room-is : (at room left count n : ℕ) → room_left at room (Some (count, n)) ≡ Ok left → (at ≤ count) × (left + n ≡ room)
 room-is at room left count n is = by_tests (nat_lt count at) (nat_lt room n) refl refl is
   where
     by_tests : (early over : Bool) → nat_lt count at ≡ early → nat_lt room n ≡ over

@@ -1,8 +1,8 @@
 -- Laws over the keys of forked sessions, of recorded ones, and of scripts with lines that wait. (own)
-use Rattle.std.specs.Prelude.{⊤, ◌≡◌, ◌≢◌, ℕ, ◌<◌, ◌≤◌, Bool, true, false, List, [], ◌∷◌, ◌++◌, length, map, Result, Ok, Err, IfOk}
+use Rattle.std.specs.Prelude.{⊤, ◌≡◌, ◌≢◌, ℕ, ◌+◌, ◌<◌, ◌≤◌, Bool, true, false, List, [], ◌∷◌, ◌++◌, length, map, Result, Ok, Err, IfOk}
 use Rattle.std.specs.List.{All}
 use Rattle.cpm_script.specs.Cues.{Awaited, Counted, Pressed, Said, cues, is_plain, keys_in, plain_keys, said}
-use Rattle.cpm_script.specs.Fork.{forked_script, keys_before}
+use Rattle.cpm_script.specs.Fork.{forked_cues, forked_script, keys_before}
 use Rattle.cpm_script.specs.Recording.{AreTyped, recorded}
 use Rattle.cpm_script.specs.Script.{most_keys, script}
 use Rattle.cpm_script.specs.declared.cue.Cue.{Cue}
@@ -84,6 +84,16 @@ pub record AreInOrder (cs : List Said) : Type 0 where
 -- what a script says is in order, and has not too many keys
 abbrev pub CuesInOrder : Type 0
 CuesInOrder = (text : List ℕ) → IfOk (cues text) AreInOrder
+
+-- what the own script of a forked session says: in order, from the count of the fork on, and with the keys that its parent had before not too many keys
+pub record AreOwn (at before : ℕ) (cs : List Said) : Type 0 where
+  pub in_order : AreInOrder cs
+  pub from_fork : CountsRise at cs
+  pub room : before + keys_in cs ≤ most_keys
+
+-- the own script of a forked session goes on from the fork
+abbrev pub ForkedCuesInOrder : Type 0
+ForkedCuesInOrder = (at before : ℕ) (text : List ℕ) → before ≤ most_keys → IfOk (forked_cues at before text) (AreOwn at before)
 
 -- cues of which none waits are their keys
 abbrev pub PlainCues : Type 0

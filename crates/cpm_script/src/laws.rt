@@ -1,6 +1,6 @@
 //! Laws of the keys of forked sessions, of recorded ones, and of scripts with lines that wait, as contracts.
 
-ghost use Rattle.cpm_script.specs.Laws.{CuesInOrder, ForkedKeysInOrder, KeysBeforeAreFirst, PlainCues, PlainScripts, RecordedKeys};
+ghost use Rattle.cpm_script.specs.Laws.{CuesInOrder, ForkedCuesInOrder, ForkedKeysInOrder, KeysBeforeAreFirst, PlainCues, PlainScripts, RecordedKeys};
 
 /// The keys of a forked session are those that its parent had before the fork, and then its own, which come
 /// at the fork or later and in order; they are at most 4,096.
@@ -29,6 +29,12 @@ pub fn plain_scripts()
 /// and a key without a count stands behind a wait, or behind another such key.
 pub fn cues_in_order()
     ensures { CuesInOrder }
+{}
+
+/// What the own script of a forked session says is in order, and counts from the fork on; with the keys that its
+/// parent had before they are at most 4,096.
+pub fn forked_cues_in_order()
+    ensures { ForkedCuesInOrder }
 {}
 
 /// Cues of which none waits are the keys that `plain_keys` gives.
