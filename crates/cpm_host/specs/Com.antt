@@ -6,6 +6,9 @@ use Rattle.cpm_geom.specs.Disk.{Disk, blank_disk}
 use Rattle.cpm_geom.specs.declared.format.Format.TheVariants.{Ibm3740}
 use Rattle.cpm_script.specs.Script.{script}
 use Rattle.cpm_script.specs.declared.fault.LineFault.{LineFault}
+use Rattle.cpm_script.specs.declared.fault.ScriptError.{ScriptError}
+use Rattle.cpm_script.specs.declared.fault.ScriptError.TheVariants.{Line}
+use Rattle.cpm_script.specs.declared.fault.ScriptError.TheVariants as script_error
 use Rattle.cpm_script.specs.declared.script.Key.{Key}
 use Rattle.cpm_slots.specs.MachineState.{MachineState, opened_with, with_tail}
 use Rattle.cpm_slots.specs.declared.opening.OpenError.TheVariants.{BadDrives}
@@ -77,6 +80,12 @@ machine_of g = with_tail_if_any g.tail (opened_with g.cpu (drives_or_blank g.dri
 -- a program run alone by its keys for so many steps, with a blank system drive
 abbrev pub ran_alone : Given → List Key → ℕ → MachineState
 ran_alone g keys steps = alone_by (blank_disk Ibm3740) keys steps (machine_of g)
+
+-- what is told of a script that is refused
+abbrev pub IsScriptTold : ScriptError → HostError → Type 0
+IsScriptTold (Line number fault) (FileRefused (read.Script name line told)) = (line ≡ number) × (told ≡ fault)
+IsScriptTold (Line number fault) _ = ⊥
+IsScriptTold script_error.OutOfMemory e = e ≡ OutOfMemory
 
 -- how a script is refused
 abbrev pub IsScriptRefusal : Option Script → HostError → Type 0

@@ -1,24 +1,28 @@
 -- A program, or a session, that is played by a script that may wait for it. All of it is own.
-use Rattle.std.specs.Prelude.{⊤, ◌≡◌, ◌⊎◌, ◌≤◌, ℕ, List, Option, Result, Err}
+use Rattle.std.specs.Prelude.{⊤, ◌≡◌, ◌⊎◌, ◌≤◌, ◌++◌, ℕ, List, length, map, Option, Result, Ok, Err}
 use Rattle.std.specs.Io.KnownBytes.{Appends}
 use Rattle.cpm_batch.specs.declared.error.ReadError.TheVariants as read
 use Rattle.cpm_disks.specs.Disks.{images_of}
 use Rattle.cpm_geom.specs.Disk.{Disk, blank_disk}
 use Rattle.cpm_geom.specs.declared.format.Format.TheVariants.{Ibm3740}
-use Rattle.cpm_script.specs.Cues.{Said}
+use Rattle.cpm_script.specs.Cues.{Counted, Said, all_said}
+use Rattle.cpm_script.specs.Fork.{forked_cues, keys_before}
 use Rattle.cpm_script.specs.Recording.{recorded}
+use Rattle.cpm_script.specs.Script.{script}
 use Rattle.cpm_script.specs.declared.cue.Cue.{Cue}
 use Rattle.cpm_script.specs.declared.fault.LineFault.{LineFault}
+use Rattle.cpm_script.specs.declared.script.Key.{Key}
 use Rattle.cpm_slots.specs.MachineState.{MachineState}
 use Rattle.cpm_slots.specs.Opening.{opening_fault}
 use Rattle.cpm_turns.specs.Cued.{AreAscii, HasEndedCued, IsCued, IsCutOff, key_count}
 use Rattle.cpm_turns.specs.Live.{AreGiven}
 use Rattle.cpm_turns.specs.Playing.{alone_by}
+use Rattle.cpm_turns.specs.declared.cued.Cued.{Cued}
 use Rattle.cpm_turns.specs.declared.live.LiveError.{LiveError}
 use Rattle.cpm_host.specs.Com.{Given, IsStartRefusal, ending_of, machine_of, text_of}
 use Rattle.cpm_host.specs.Live.{IsOpeningRefused, begun}
 use Rattle.cpm_host.specs.Refusals.{host_error_of_live}
-use Rattle.cpm_host.specs.declared.cued.Cued.{Cued}
+use Rattle.cpm_host.specs.declared.cued.ForkedCues.{ForkedCues}
 use Rattle.cpm_host.specs.declared.live.SessionStart.{SessionStart}
 use Rattle.cpm_host.specs.declared.live.Typed.{Typed}
 use Rattle.cpm_host.specs.declared.error.HostError.{HostError}
@@ -35,14 +39,31 @@ IsCueRefusal read_of (FileRefused (read.Script name line fault)) = read_of ≡ E
 IsCueRefusal read_of OutOfMemory = ⊤
 IsCueRefusal read_of _ = ⊥
 
+-- What a forked session plays: the keys that its parent's script gives before the fork, so many, and behind them what its own script says.
+pub record AreForked (parent own : List ℕ) (at : ℕ) (f : ForkedCues) : Type 0 where
+  pub keys : List Key
+  pub given : script parent ≡ Ok keys
+  pub before : f.before ≡ length (keys_before at keys)
+  pub said : List Said
+  pub read : forked_cues at f.before own ≡ Ok said
+  pub joined : all_said f.cues ≡ map Counted (keys_before at keys) ++ said
+
+-- how the scripts of a forked session are refused: its parent's, and then its own
+abbrev pub IsForkedRefusal : (parent own : List ℕ) → ℕ → HostError → Type 0
+IsForkedRefusal parent own at (FileRefused (read.Script name line fault)) =
+    (script parent ≡ Err (line, fault))
+    ⊎ ((keys : List Key) × (script parent ≡ Ok keys) × (forked_cues at (length (keys_before at keys)) own ≡ Err (line, fault)))
+IsForkedRefusal parent own at OutOfMemory = ⊤
+IsForkedRefusal parent own at _ = ⊥
+
 -- A machine was played by a script that may wait: the keys that came are those that the script gives to the machine run alone; what it left is that of the machine run alone by these keys, for so many steps; and it ended as a script has it end.
 pub record IsRehearsed (system : Disk) (start : MachineState) (steps : ℕ) (c : Cued) (t : Typed) : Type 0 where
   pub within : t.steps ≤ steps
-  pub keys : IsCued system start steps c.cues.now t.keys.items
+  pub keys : IsCued system start steps c.waits_from c.cues.now t.keys.items
   pub given : AreGiven (key_count c.cues.now) t.steps t.keys.items
   pub ending : t.ran.ending ≡ ending_of (alone_by system t.keys.items t.steps start)
   pub drives : t.ran.drives ≡ images_of (alone_by system t.keys.items t.steps start).cpm.disks
-  pub ends : HasEndedCued system start steps c.stops_idle t.keys.items t.steps (alone_by system t.keys.items t.steps start)
+  pub ends : HasEndedCued system start steps c.waits_from c.stops_idle t.keys.items t.steps (alone_by system t.keys.items t.steps start)
 
 -- and what it showed, and its keys as lines of a script, went to two writers
 pub record IsPlayedCued (system : Disk) (start : MachineState) (steps : ℕ) (c : Cued) (t : Typed) (before written unrecorded record_now : Option (List ℕ)) : Type 0 where

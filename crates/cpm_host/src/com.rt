@@ -1,11 +1,11 @@
 //! The command `com`.
-ghost use Rattle.std.specs.Prelude.{◌≡◌, ◌↔◌, ◌<◌, ◌≤◌, None, IfErr, IfOk, IsErrOf, OnOk, length};
+ghost use Rattle.std.specs.Prelude.{◌≡◌, ◌≢◌, ◌↔◌, ◌<◌, ◌≤◌, None, IfErr, IfOk, IsErrOf, OnOk, length};
 ghost use Rattle.std.specs.Io.KnownBytes.{Appends};
 ghost use Rattle.cpm_disks.specs.Disks.{images_of};
 ghost use Rattle.cpm_slots.specs.MachineState.{opened_with};
 ghost use Rattle.cpm_slots.specs.Opening.{program_fault, IsRefusal};
 ghost use Rattle.cpm_turns.specs.Playing.{IsFresh};
-ghost use Rattle.cpm_host.specs.Com.{HasScript, IsComRefusal, IsScriptRefusal, IsStartRefusal, drives_or_blank, ending_of, given, keys_given, machine_of, ran_alone, text_of, with_tail_if_any};
+ghost use Rattle.cpm_host.specs.Com.{HasScript, IsComRefusal, IsScriptRefusal, IsScriptTold, IsStartRefusal, drives_or_blank, ending_of, given, keys_given, machine_of, ran_alone, text_of, with_tail_if_any};
 
 use crate::ending::Ending;
 use crate::error::HostError;
@@ -14,7 +14,7 @@ use cpm_command::shown;
 use cpm_flags::Cpu;
 use cpm_geom::{Format, Image};
 use cpm_script::{Key, ScriptError, read_keys};
-use cpm_slots::{Closed, MOST_PROGRAM, MOST_QUOTA, Machine, OpenError, Opening, Tail};
+use cpm_slots::{Closed, MOST_DRIVES, MOST_PROGRAM, MOST_QUOTA, Machine, OpenError, Opening, Tail};
 use cpm_turns::{Watcher, play_machine};
 use std::alloc::Global;
 use std::io::Write;
@@ -26,8 +26,22 @@ pub struct Script<'a> {
     pub text: &'a [u8],
 }
 
+/// The refusal of the script in a file of this name.
+pub(crate) fn script_refused(name: &str, error: ScriptError) -> HostError
+    ensures { IsScriptTold error result }
+{
+    match error {
+        ScriptError::Line { number, fault } => HostError::FileRefused(ReadError::Script {
+            name: shown(name),
+            line: number,
+            fault,
+        }),
+        ScriptError::OutOfMemory => HostError::OutOfMemory,
+    }
+}
+
 /// The keys of a script, if there is one.
-fn keys_of(alloc: Global, script: Option<Script<'_>>) -> Result<Vec<Key>, HostError>
+pub(crate) fn keys_of(alloc: Global, script: Option<Script<'_>>) -> Result<Vec<Key>, HostError>
     ensures keys { IfOk result (λ v. HasScript script.entry v.items) }
     ensures refusal { IfErr result (IsScriptRefusal script.entry) }
 {
@@ -36,14 +50,7 @@ fn keys_of(alloc: Global, script: Option<Script<'_>>) -> Result<Vec<Key>, HostEr
     };
     match read_keys(alloc, script.text) {
         Ok(keys) => Ok(keys),
-        Err(ScriptError::Line { number, fault }) => Err(HostError::FileRefused(
-            ReadError::Script {
-                name: shown(script.name),
-                line: number,
-                fault,
-            },
-        )),
-        Err(ScriptError::OutOfMemory) => Err(HostError::OutOfMemory),
+        Err(error) => Err(script_refused(script.name, error)),
     }
 }
 
@@ -57,6 +64,22 @@ pub struct Start {
     pub tail: Option<Tail>,
     /// The images of its drives, the first as A; a blank one where there is none.
     pub drives: Vec<Image>,
+}
+
+impl Start {
+    /// Refuses a program that no machine runs: `ProgramTooLong`, then `OpeningRefused` for more than four drives.
+    pub fn check(&self) -> Result<(), HostError>
+        ensures fits { OnOk result ((length (given self.now).program ≤ 58112) × (length (given self.now).drives ≤ 4)) }
+        ensures refusal { IfErr result (λ e. IsStartRefusal (given self.now) e × (e ≢ HostError.OutOfMemory)) }
+    {
+        if self.program.len() > MOST_PROGRAM {
+            return Err(HostError::ProgramTooLong(self.program.len()));
+        }
+        if self.drives.len() > MOST_DRIVES {
+            return Err(HostError::OpeningRefused(OpenError::BadDrives));
+        }
+        Ok(())
+    }
 }
 
 /// What a program came to.
@@ -87,9 +110,7 @@ pub(crate) fn machine_of(alloc: Global, start: Start) -> Result<Machine, HostErr
     ensures fits { OnOk result ((length (given start).program ≤ 58112) × (length (given start).drives ≤ 4)) }
     ensures refusal { IfErr result (IsStartRefusal (given start)) }
 {
-    if start.program.len() > MOST_PROGRAM {
-        return Err(HostError::ProgramTooLong(start.program.len()));
-    }
+    start.check()?;
     let Start {
         cpu,
         program,

@@ -1,35 +1,33 @@
 //! A program, or a session, that is played by a script that may wait for it.
 
-ghost use Rattle.std.specs.Prelude.{◌≡◌, IfErr, IfOk, Ok};
+ghost use Rattle.std.specs.Prelude.{◌≡◌, ◌++◌, IfErr, IfOk, Ok, map};
 ghost use Rattle.cpm_geom.specs.Disk.{blank_disk};
 ghost use Rattle.cpm_geom.specs.declared.format.Format.TheVariants.{Ibm3740};
-ghost use Rattle.cpm_script.specs.Cues.{all_said, cues};
+ghost use Rattle.cpm_script.specs.Cues.{Counted, all_said, cues};
 ghost use Rattle.cpm_turns.specs.Playing.{IsFresh};
 ghost use Rattle.cpm_host.specs.Com.{given, machine_of};
-ghost use Rattle.cpm_host.specs.Cued.{AreFit, IsCueRefusal, IsCutCued, IsPlayedCued, IsRehearsalRefusal, IsRehearsed, IsWaitingRefusal};
+ghost use Rattle.cpm_host.specs.Cued.{AreFit, AreForked, IsCueRefusal, IsCutCued, IsForkedRefusal, IsPlayedCued, IsRehearsalRefusal, IsRehearsed, IsWaitingRefusal};
 ghost use Rattle.cpm_host.specs.Live.{begun};
 
-use crate::com::{Script, Start, left_of, machine_of};
+use crate::com::{Script, Start, keys_of, left_of, machine_of, script_refused};
 use crate::error::HostError;
 use crate::live::{SessionStart, Typed, opening_refused};
-use cpm_batch::ReadError;
-use cpm_command::shown;
 use cpm_geom::{Format, Image};
-use cpm_script::laws::cues_in_order;
-use cpm_script::{Cue, ScriptError, read_cues};
+use cpm_script::laws::{cues_in_order, forked_cues_in_order, plain_scripts};
+use cpm_script::{Cue, Key, keys_before, read_cues, read_forked_cues};
 use cpm_slots::Machine;
-use cpm_turns::{Live, play_cues};
-use std::alloc::Global;
+use cpm_turns::{Cued, Live, play_cues};
+use std::alloc::{AllocError, Global};
 use std::io;
 use std::io::Write;
 
-/// What a machine is played by.
-#[derive(Clone, Copy, Debug)]
-pub struct Cued<'a> {
-    /// What a script says whose lines may wait.
-    pub cues: &'a [Cue],
-    /// Whether it ends where the machine waits and no key of the script will come.
-    pub stops_idle: bool,
+/// What a session plays that is forked.
+#[derive(Drop)]
+pub struct ForkedCues {
+    /// The keys that its parent had before, and behind them what its own script says.
+    pub cues: Vec<Cue>,
+    /// How many the keys of its parent are.
+    pub before: usize,
 }
 
 /// What a script says whose lines may wait.
@@ -43,14 +41,48 @@ pub fn cues_of(alloc: Global, script: Script<'_>) -> Result<Vec<Cue>, HostError>
     cues_in_order();
     match read_cues(alloc, script.text) {
         Ok(cues) => Ok(cues),
-        Err(ScriptError::Line { number, fault }) => Err(HostError::FileRefused(
-            ReadError::Script {
-                name: shown(script.name),
-                line: number,
-                fault,
-            },
-        )),
-        Err(ScriptError::OutOfMemory) => Err(HostError::OutOfMemory),
+        Err(error) => Err(script_refused(script.name, error)),
+    }
+}
+
+/// These keys as cues, with others behind them.
+fn behind_keys(alloc: Global, keys: &[Key], mut others: Vec<Cue>) -> Result<Vec<Cue>, AllocError>
+    ensures { IfOk result (λ v. all_said v ≡ map Counted keys.now ++ all_said others) }
+{
+    let mut cues = Vec::new(alloc);
+    for key in keys {
+        cues.push(Cue::Key(*key))?;
+    }
+    cues.append(&mut others)?;
+    Ok(cues)
+}
+
+/// What a session plays that is forked after so many steps: the keys that its parent's script gives before, and then what its own script says.
+///
+/// `FileRefused` names the first line with a fault of its parent's script, which may not wait, or else of its own. `OutOfMemory` comes only where
+/// memory is refused.
+pub fn forked_cues_of(
+    alloc: Global,
+    parent: Script<'_>,
+    at: u64,
+    script: Script<'_>,
+) -> Result<ForkedCues, HostError>
+    ensures cues { IfOk result (AreForked parent.entry.text.now script.entry.text.now at) }
+    ensures fit { IfOk result (λ f. AreFit f.cues.items) }
+    ensures refusal { IfErr result (IsForkedRefusal parent.entry.text.now script.entry.text.now at) }
+{
+    plain_scripts();
+    cues_in_order();
+    forked_cues_in_order();
+    let keys = keys_of(alloc, Some(parent))?;
+    let first = keys_before(alloc, keys.as_slice(), at)?;
+    let before = first.len();
+    match read_forked_cues(alloc, script.text, at, before) {
+        Ok(own) => Ok(ForkedCues {
+            cues: behind_keys(alloc, first.as_slice(), own)?,
+            before,
+        }),
+        Err(error) => Err(script_refused(script.name, error)),
     }
 }
 
@@ -70,16 +102,7 @@ fn play_cued<W: Write, S: Write>(
     ensures refusal { IfErr result (IsCutCued system.now machine steps cued.entry (W.contents out.old) (W.contents out.new) (S.contents «record».old) (S.contents «record».new)) }
 {
     let mut machine = machine;
-    let Live { keys, steps } = play_cues(
-        alloc,
-        system,
-        &mut machine,
-        steps,
-        cued.cues,
-        cued.stops_idle,
-        out,
-        record,
-    )?;
+    let Live { keys, steps } = play_cues(alloc, system, &mut machine, steps, cued, out, record)?;
     Ok(Typed {
         ran: left_of(machine),
         keys,

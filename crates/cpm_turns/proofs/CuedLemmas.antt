@@ -1,5 +1,5 @@
 -- A session that is played by a script that may wait: one more cue, and where it ends.
-use Rattle.std.proofs.Common.{◌≡◌, ℕ, suc, ◌+◌, ◌-◌, ◌^◌, ◌<◌, ◌≤◌, ◌==◌, ◌||◌, not, Bool, true, false, true≢false, ◌⊎◌, inl, inr, ⊎_elim, Option, List, [], ◌∷◌, ◌++◌, length, drop, refl, sym, ap, ◌∙◌, subst, arith}
+use Rattle.std.proofs.Common.{◌≡◌, ℕ, suc, ◌+◌, ◌-◌, ◌^◌, ◌<◌, ◌≤◌, ◌==◌, ◌||◌, max, not, Bool, true, false, true≢false, ◌⊎◌, inl, inr, ⊎_elim, Option, List, [], ◌∷◌, ◌++◌, length, drop, refl, sym, ap, ◌∙◌, subst, arith}
 use Rattle.std.proofs.lemmas.Bool.{cases_eq, cases_lt}
 use Rattle.std.proofs.lemmas.Bool.Decides.{nat_tests}
 use Rattle.std.proofs.lemmas.List.{drop-append-le, drop_all, length_push, length-append, nil_from_length}
@@ -20,7 +20,7 @@ use Rattle.cpm_slots.specs.Step.{after, is_running}
 use Rattle.cpm_slots.proofs.AloneLaws.{after-behind}
 use Rattle.cpm_slots.proofs.GrantLaws.{after-add}
 use Rattle.cpm_slots.proofs.PressLaws.{alone-add, alone-pressed}
-use Rattle.cpm_turns.specs.Cued.{Comes, HasEndedCued, HasMissed, HasNoWait, HasPressed, HasRun, HasShown, HasStopped, IsBusyFor, IsCutOff, IsMet, IsPressCut, IsRunCut, IsUntaken, last_count, runs_at, screen_at, waits_at}
+use Rattle.cpm_turns.specs.Cued.{Comes, HasEndedCued, HasIdled, HasMissed, HasNoWait, HasPressed, HasRun, HasShown, HasStopped, IsBusyFor, IsCutOff, IsMet, IsPressCut, IsRunCut, IsUntaken, last_count, runs_at, screen_at, waits_at}
 use Rattle.cpm_turns.specs.Live.{AreBy, HasGone, IsGoing}
 use Rattle.cpm_turns.specs.declared.live.LiveError.{LiveError}
 use Rattle.cpm_turns.specs.declared.live.LiveError.TheVariants.{Unreadable, Unwritable, Unrecorded, OutOfMemory}
@@ -29,10 +29,7 @@ use Rattle.cpm_turns.proofs.AloneLemmas.{after-ended, after-pending, presses-mor
 use Rattle.cpm_turns.proofs.GoingLemmas.{going-come, going-key, going-screen, going-text, going-turn, none-after}
 use Rattle.cpm_turns.proofs.RunLemmas.{bare, ended-waits, quiet-taken, waits-bare, waits-behind}
 
--- ---- counts at which it does not wait
-
-pub no-wait-more : (system : Disk) (start : MachineState) (keys : List Key) (a b c : ℕ) → HasNoWait system start keys a b → HasNoWait system start keys b c → HasNoWait system start keys a c
-no-wait-more system start keys a b c first second i low high = ⊎_elim (λ less. first i low less) (λ past. second i past high) (cases_lt i b)
+-- ---- keys
 
 pub last-more : (n : ℕ) (keys : List Key) (k : Key) → last_count n (keys ++ k ∷ []) ≡ k.count
 last-more n [] k = refl
@@ -105,12 +102,6 @@ module _ (system : Disk) (steps most : ℕ) (start now : MachineState) (before w
       ap (λ (s : MachineState). s.cpm.console.screen) (going-state i)
       ∙ ap (λ xs. xs ++ (after system i now).cpm.console.screen) (going-screen system steps most start now before written unrecorded record_now keys done going)
 
-  pub going-busy : (k : ℕ) → IsBusyFor system k now → HasNoWait system start keys done (done + k)
-  going-busy k busy i low high =
-      let at : done + (i - done) ≡ i = omega arith in
-      let P : ℕ → Type 0 = λ n. waits_at system start keys n ≡ false in
-      subst P at (going-waits (i - done) ∙ busy (i - done) (omega arith))
-
   -- steps whose text is taken
   pub going-run : (k : ℕ) (next : MachineState) (written_then : Option (List ℕ)) → k ≤ steps - done → HasRun system k now next written written_then →
       IsGoing system steps most start next before written_then unrecorded record_now keys (done + k)
@@ -145,14 +136,42 @@ module _ (system : Disk) (steps most : ℕ) (start now : MachineState) (before w
   run-waits k next written_then run =
       going-waits k ∙ sym (waits-bare (after system k now)) ∙ sym (ap (λ (s : MachineState). (look_of s).waiting) run.state)
 
-  pub going-ends : (stops : Bool) (k : ℕ) (next : MachineState) (written_then : Option (List ℕ)) → k ≤ steps - done → HasRun system k now next written written_then →
-      HasStopped stops system (steps - done) k now next → (is_running now.ended ≡ false) ⊎ HasNoWait system start keys (last_count 0 keys) done →
-      HasEndedCued system start steps stops keys (done + k) next
-  going-ends false k next written_then fits run (inl all) busy = let within = going.within in inl (omega arith)
-  going-ends false k next written_then fits run (inr ended) busy = inr ended
-  going-ends true k next written_then fits run stopped (inl ended) = inl (run-ended k next written_then run ended)
-  going-ends true k next written_then fits run stopped (inr busy) =
-      let none = no-wait-more system start keys (last_count 0 keys) done (done + k) busy (going-busy k stopped.0) in
-      let within = going.within in
-      ⊎_elim (λ (all : k ≡ steps - done). inr (none, inl (omega arith)))
-      (λ rest. ⊎_elim (λ ended. inl ended) (λ waits. inr (none, inr (run-waits k next written_then run ∙ waits))) rest) stopped.1
+  pub run-ends : (waits_from k : ℕ) (next : MachineState) → HasStopped false system (steps - done) k now next → HasEndedCued system start steps waits_from false keys (done + k) next
+  run-ends waits_from k next (inl all) = let within = going.within in inl (omega arith)
+  run-ends waits_from k next (inr ended) = inr ended
+
+  -- steps up to a wait that counts
+  module _ (waits_from done_now : ℕ) (next : MachineState) (written_then : Option (List ℕ)) (idled : HasIdled system steps waits_from done done_now now next written written_then) where
+    past : done + (done_now - done) ≡ done_now
+    past = let low = idled.low in omega arith
+
+    pub idle-going : done_now ≤ steps → IsGoing system steps most start next before written_then unrecorded record_now keys done_now
+    idle-going within =
+        let P : ℕ → Type 0 = λ n. IsGoing system steps most start next before written_then unrecorded record_now keys n in
+        subst P past (going-run (done_now - done) next written_then (omega arith) idled.run)
+
+    pub idle-shows : screen_at system start keys done_now ≡ screen_at system start keys done ++ (after system (done_now - done) now).cpm.console.screen
+    idle-shows =
+        let P : ℕ → Type 0 = λ n. screen_at system start keys n ≡ screen_at system start keys done ++ (after system (done_now - done) now).cpm.console.screen in
+        subst P past (going-shows (done_now - done))
+
+    pub idle-waits : waits_at system start keys done_now ≡ (look_of next).waiting
+    idle-waits =
+        let P : ℕ → Type 0 = λ n. waits_at system start keys n ≡ (look_of next).waiting in
+        subst P past (run-waits (done_now - done) next written_then idled.run)
+
+    pub idle-none : HasNoWait system start keys (max waits_from done) done_now
+    idle-none i low high =
+        let at : done + (i - done) ≡ i = omega arith in
+        let P : ℕ → Type 0 = λ n. waits_at system start keys n ≡ false in
+        subst P at (going-waits (i - done) ∙ idled.busy i low high)
+
+    pub idle-busy : (last : ℕ) → HasNoWait system start keys (max waits_from last) done → HasNoWait system start keys (max waits_from last) done_now
+    idle-busy last first i low high = ⊎_elim (λ less. first i low less) (λ later. idle-none i (omega arith) high) (cases_lt i done)
+
+    pub idle-ends : (is_running now.ended ≡ false) ⊎ HasNoWait system start keys (max waits_from (last_count 0 keys)) done → HasEndedCued system start steps waits_from true keys done_now next
+    idle-ends (inl ended) = inl (run-ended (done_now - done) next written_then idled.run ended)
+    idle-ends (inr busy) =
+        let none = idle-busy (last_count 0 keys) busy in
+        ⊎_elim (λ (all : done_now ≡ steps). inr (none, inl all))
+        (λ rest. ⊎_elim (λ ended. inl ended) (λ waits. inr (none, inr (waits.0, idle-waits ∙ waits.1))) rest) idled.why

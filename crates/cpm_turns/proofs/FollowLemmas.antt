@@ -15,11 +15,11 @@ use Rattle.cpm_slots.specs.Serve.{look_of, takes_key}
 use Rattle.cpm_slots.specs.Step.{after, is_running}
 use Rattle.cpm_slots.proofs.GrantLaws.{after-add}
 use Rattle.cpm_slots.proofs.PressLaws.{alone-pressed}
-use Rattle.cpm_turns.specs.Cued.{AreAscii, Comes, HasMissed, HasNoWait, HasPressed, HasRun, HasShown, HasStopped, IsCued, IsCuedFrom, IsMet, key_count, last_count, looks_back, runs_at, screen_at, waits_at}
+use Rattle.cpm_turns.specs.Cued.{AreAscii, Comes, HasIdled, HasMissed, HasNoWait, HasPressed, HasShown, IsCued, IsCuedFrom, IsMet, key_count, last_count, looks_back, runs_at, screen_at, waits_at}
 use Rattle.cpm_turns.specs.Live.{IsGoing}
 use Rattle.cpm_turns.specs.Playing.{presses_of, alone_by, IsFresh}
 use Rattle.cpm_turns.proofs.AloneLemmas.{after-ended, after-pending, presses-more}
-use Rattle.cpm_turns.proofs.CuedLemmas.{going-busy, going-run, going-runs, going-shows, going-state, going-waits, last-more, no-wait-more, run-waits}
+use Rattle.cpm_turns.proofs.CuedLemmas.{going-run, going-runs, going-waits, idle-busy, idle-going, idle-none, idle-shows, idle-waits, last-more}
 use Rattle.cpm_turns.proofs.GoingLemmas.{going-key, going-start}
 use Rattle.cpm_turns.proofs.RunLemmas.{bare, ended-waits}
 
@@ -56,22 +56,22 @@ none-empty text e = nil_from_length text (by_test (length text == 0) refl e)
 -- ---- how a script is followed
 
 -- The session goes, its keys are those of the cues so far, and those of the other cues make them the script's.
-pub record IsFollowing (system : Disk) (start : MachineState) (steps most : ℕ) (cues : List Cue) (now : MachineState) (before written unrecorded record_now : Option (List ℕ))
+pub record IsFollowing (system : Disk) (start : MachineState) (steps waits_from most : ℕ) (cues : List Cue) (now : MachineState) (before written unrecorded record_now : Option (List ℕ))
     (keys : List Key) (done : ℕ) (rest : List Cue) (shown : List ℕ) : Type 0 where
   pub going : IsGoing system steps most start now before written unrecorded record_now keys done
   pub mark : ℕ
   pub marked : mark ≤ length (screen_at system start keys done)
-  pub cued : (ks : List Key) → IsCuedFrom system start steps keys done mark rest ks → IsCued system start steps cues ks
+  pub cued : (ks : List Key) → IsCuedFrom system start steps waits_from keys done mark rest ks → IsCued system start steps waits_from cues ks
   pub kept : looks_back rest ≡ true → shown ≡ drop mark (screen_at system start keys done)
-  pub busy : HasNoWait system start keys (last_count 0 keys) done
+  pub busy : HasNoWait system start keys (max waits_from (last_count 0 keys)) done
   pub ascii : AreAscii rest
   pub room : length keys + key_count rest ≤ most
   pub pending : length now.cpm.console.keys ≤ length keys
 
-pub follow-start : (system : Disk) (start : MachineState) (steps : ℕ) (cues : List Cue) (written record_now : Option (List ℕ)) (keys : List Key) (shown : List ℕ) → IsFresh start → AreAscii cues → keys ≡ [] → shown ≡ [] →
-    IsFollowing system start steps (key_count cues) cues start written written record_now record_now keys 0 cues shown
-follow-start system start steps cues written record_now keys shown fresh ascii none empty =
-    let P : List Key → Type 0 = λ ks. IsFollowing system start steps (key_count cues) cues start written written record_now record_now ks 0 cues shown in
+pub follow-start : (system : Disk) (start : MachineState) (steps waits_from : ℕ) (cues : List Cue) (written record_now : Option (List ℕ)) (keys : List Key) (shown : List ℕ) → IsFresh start → AreAscii cues → keys ≡ [] → shown ≡ [] →
+    IsFollowing system start steps waits_from (key_count cues) cues start written written record_now record_now keys 0 cues shown
+follow-start system start steps waits_from cues written record_now keys shown fresh ascii none empty =
+    let P : List Key → Type 0 = λ ks. IsFollowing system start steps waits_from (key_count cues) cues start written written record_now record_now ks 0 cues shown in
     subst P (sym none) (record {
       going = going-start system steps (key_count cues) start written record_now fresh;
       mark = 0;
@@ -85,36 +85,36 @@ follow-start system start steps cues written record_now keys shown fresh ascii n
     })
 
 -- What a key of the script at this count makes of the keys that come behind it.
-pub record IsKeyCue (system : Disk) (start : MachineState) (steps most : ℕ) (cues : List Cue) (keys : List Key) (done : ℕ) (key : Key) (others : List Cue) : Type 0 where
+pub record IsKeyCue (system : Disk) (start : MachineState) (steps waits_from most : ℕ) (cues : List Cue) (keys : List Key) (done : ℕ) (key : Key) (others : List Cue) : Type 0 where
   pub later : done ≤ key.count
   pub ascii : key.byte < 128
   pub others_ascii : AreAscii others
   pub room : length keys + suc (key_count others) ≤ most
   pub cued : (ks : List Key) →
-      (Comes system start steps keys key.count × IsCuedFrom system start steps (keys ++ key ∷ []) key.count (length (screen_at system start keys key.count)) others ks)
-      ⊎ ((Comes system start steps keys key.count → ⊥) × (ks ≡ keys)) → IsCued system start steps cues ks
+      (Comes system start steps keys key.count × IsCuedFrom system start steps waits_from (keys ++ key ∷ []) key.count (length (screen_at system start keys key.count)) others ks)
+      ⊎ ((Comes system start steps keys key.count → ⊥) × (ks ≡ keys)) → IsCued system start steps waits_from cues ks
 
-module _ (system : Disk) (start : MachineState) (steps most : ℕ) (cues : List Cue) (now : MachineState) (before written unrecorded record_now : Option (List ℕ))
+module _ (system : Disk) (start : MachineState) (steps waits_from most : ℕ) (cues : List Cue) (now : MachineState) (before written unrecorded record_now : Option (List ℕ))
     (keys : List Key) (done : ℕ) (shown : List ℕ) where
   -- the next cue is this one
-  pub at-cue : (x y : Cue) (rest others : List Cue) → rest ≡ x ∷ others → x ≡ y → IsFollowing system start steps most cues now before written unrecorded record_now keys done rest shown →
-      IsFollowing system start steps most cues now before written unrecorded record_now keys done (y ∷ others) shown
+  pub at-cue : (x y : Cue) (rest others : List Cue) → rest ≡ x ∷ others → x ≡ y → IsFollowing system start steps waits_from most cues now before written unrecorded record_now keys done rest shown →
+      IsFollowing system start steps waits_from most cues now before written unrecorded record_now keys done (y ∷ others) shown
   at-cue x y rest others first is f =
-      let P : List Cue → Type 0 = λ r. IsFollowing system start steps most cues now before written unrecorded record_now keys done r shown in
+      let P : List Cue → Type 0 = λ r. IsFollowing system start steps waits_from most cues now before written unrecorded record_now keys done r shown in
       subst P (first ∙ ap (λ c. c ∷ others) is) f
 
-  pub cue-timed : (k : Key) (count : ℕ) (others : List Cue) → count ≡ max done k.count → IsFollowing system start steps most cues now before written unrecorded record_now keys done (Timed k ∷ others) shown →
-      IsKeyCue system start steps most cues keys done (record { count = count; byte = k.byte }) others
+  pub cue-timed : (k : Key) (count : ℕ) (others : List Cue) → count ≡ max done k.count → IsFollowing system start steps waits_from most cues now before written unrecorded record_now keys done (Timed k ∷ others) shown →
+      IsKeyCue system start steps waits_from most cues keys done (record { count = count; byte = k.byte }) others
   cue-timed k count others at f =
-      let P : ℕ → Type 0 = λ n. IsKeyCue system start steps most cues keys done (record { count = n; byte = k.byte }) others in
+      let P : ℕ → Type 0 = λ n. IsKeyCue system start steps waits_from most cues keys done (record { count = n; byte = k.byte }) others in
       subst P (sym at) (record { later = omega arith; ascii = f.ascii.0; others_ascii = f.ascii.1; room = f.room; cued = f.cued })
 
-  pub cue-press : (b : ℕ) (others : List Cue) → IsFollowing system start steps most cues now before written unrecorded record_now keys done (Press b ∷ others) shown →
-      IsKeyCue system start steps most cues keys done (record { count = done; byte = b }) others
+  pub cue-press : (b : ℕ) (others : List Cue) → IsFollowing system start steps waits_from most cues now before written unrecorded record_now keys done (Press b ∷ others) shown →
+      IsKeyCue system start steps waits_from most cues keys done (record { count = done; byte = b }) others
   cue-press b others f = record { later = omega arith; ascii = f.ascii.0; others_ascii = f.ascii.1; room = f.room; cued = f.cued }
 
-  module _ (rest : List Cue) (following : IsFollowing system start steps most cues now before written unrecorded record_now keys done rest shown)
-      (key : Key) (others : List Cue) (cue : IsKeyCue system start steps most cues keys done key others) where
+  module _ (rest : List Cue) (following : IsFollowing system start steps waits_from most cues now before written unrecorded record_now keys done rest shown)
+      (key : Key) (others : List Cue) (cue : IsKeyCue system start steps waits_from most cues keys done key others) where
     pub takes-cue : most ≤ 4096 → takes_key now ≡ true
     takes-cue few =
         let pending = following.pending in
@@ -125,7 +125,7 @@ module _ (system : Disk) (start : MachineState) (steps most : ℕ) (cues : List 
     -- a key that comes
     pub follow-pressed : (next : MachineState) (written_then record_then : Option (List ℕ)) (more : List Key) (count : ℕ) (left : List ℕ) → key.count < steps → steps < 2 ^ 64 → count ≡ key.count →
         HasPressed system key (key.count - done) now next written written_then record_now record_then → more ≡ keys ++ key ∷ [] → left ≡ [] →
-        IsFollowing system start steps most cues next before written_then unrecorded record_then more count others left
+        IsFollowing system start steps waits_from most cues next before written_then unrecorded record_then more count others left
     follow-pressed next written_then record_then more count left within fits at pressed is empty =
         let low = cue.later in
         let k = key.count - done in
@@ -142,12 +142,12 @@ module _ (system : Disk) (start : MachineState) (steps most : ℕ) (cues : List 
         let runs : Comes system start steps keys key.count =
         (within, subst (λ n. runs_at system start keys n ≡ true) there (going-runs system steps most start now before written unrecorded record_now keys done going k ∙ pressed.runs)) in
         let longer : length more ≡ length keys + 1 = ap length is ∙ length_push keys key in
-        let Q : ℕ → Type 0 = λ n. IsFollowing system start steps most cues next before written_then unrecorded record_then more n others left in
+        let Q : ℕ → Type 0 = λ n. IsFollowing system start steps waits_from most cues next before written_then unrecorded record_then more n others left in
         subst Q (sym at) (record {
           going = going-key system steps most start reached before written_then unrecorded record_now keys key.count went key.byte next record_then more cue.ascii (omega arith) (omega arith) is pressed.state pressed.noted;
           mark = mark;
           marked = omega arith;
-          cued = λ ks h. cue.cued ks (inl (runs, subst (λ gs. IsCuedFrom system start steps gs key.count mark others ks) is h));
+          cued = λ ks h. cue.cued ks (inl (runs, subst (λ gs. IsCuedFrom system start steps waits_from gs key.count mark others ks) is h));
           kept = λ looks. empty ∙ sym (drop_all mark (screen_at system start more key.count) (omega arith));
           busy = λ i from until. let last = ap (last_count 0) is ∙ last-more 0 keys key in absurd (omega arith);
           ascii = cue.others_ascii;
@@ -193,62 +193,68 @@ module _ (system : Disk) (start : MachineState) (steps most : ℕ) (cues : List 
           subst (λ r. IsGoing system steps most start next before written_then unrecorded r more done_now) (sym still.1)
           (subst (λ ks. IsGoing system steps most start next before written_then unrecorded record_now ks done_now) (sym still.0) went)
 
-      pub missed-cued : IsCued system start steps cues more
+      pub missed-cued : IsCued system start steps waits_from cues more
       missed-cued = cue.cued more (inr (never, still.0))
 
-      pub missed-busy : (is_running next.ended ≡ false) ⊎ HasNoWait system start more (last_count 0 more) done_now
-      missed-busy = subst (λ ks. (is_running next.ended ≡ false) ⊎ HasNoWait system start ks (last_count 0 ks) done_now) (sym still.0) ((⊎_elim (λ past. inr (let P : ℕ → Type 0 = λ n. HasNoWait system start keys (last_count 0 keys) n in subst P (sym past.1) following.busy)) (λ ended. inl ended.2) missed.why))
+      pub missed-busy : (is_running next.ended ≡ false) ⊎ HasNoWait system start more (max waits_from (last_count 0 more)) done_now
+      missed-busy = subst (λ ks. (is_running next.ended ≡ false) ⊎ HasNoWait system start ks (max waits_from (last_count 0 ks)) done_now) (sym still.0) ((⊎_elim (λ past. inr (let P : ℕ → Type 0 = λ n. HasNoWait system start keys (max waits_from (last_count 0 keys)) n in subst P (sym past.1) following.busy)) (λ ended. inl ended.2) missed.why))
 
   -- ---- waits
 
-  -- steps up to a wait, whose text was kept if it is looked for
-  module _ (text : Vec ℕ Global) (others : List Cue) (following : IsFollowing system start steps most cues now before written unrecorded record_now keys done (Wait text ∷ others) shown)
-      (k : ℕ) (next : MachineState) (written_then : Option (List ℕ)) (left : List ℕ) (fits : k ≤ steps - done) (run : HasRun system k now next written written_then)
-      (stopped : HasStopped true system (steps - done) k now next) (kept : looks_back (Wait text ∷ others) ≡ true → left ≡ shown ++ (after system k now).cpm.console.screen) where
-    pub wait-going : IsGoing system steps most start next before written_then unrecorded record_now keys (done + k)
-    wait-going = going-run system steps most start now before written unrecorded record_now keys done following.going k next written_then fits run
+  -- steps up to a wait that counts, whose text was kept if it is looked for
+  module _ (text : Vec ℕ Global) (others : List Cue) (following : IsFollowing system start steps waits_from most cues now before written unrecorded record_now keys done (Wait text ∷ others) shown)
+      (done_now : ℕ) (next : MachineState) (written_then : Option (List ℕ)) (left : List ℕ) (within_steps : done_now ≤ steps)
+      (idled : HasIdled system steps waits_from done done_now now next written written_then)
+      (kept : looks_back (Wait text ∷ others) ≡ true → left ≡ shown ++ (after system (done_now - done) now).cpm.console.screen) where
+    pub wait-going : IsGoing system steps most start next before written_then unrecorded record_now keys done_now
+    wait-going = idle-going system steps most start now before written unrecorded record_now keys done following.going waits_from done_now next written_then idled within_steps
 
-    none-before : HasNoWait system start keys done (done + k)
-    none-before = going-busy system steps most start now before written unrecorded record_now keys done following.going k stopped.0
+    none-before : HasNoWait system start keys (max waits_from done) done_now
+    none-before = idle-none system steps most start now before written unrecorded record_now keys done following.going waits_from done_now next written_then idled
 
-    pub wait-busy : HasNoWait system start keys (last_count 0 keys) (done + k)
-    wait-busy = no-wait-more system start keys (last_count 0 keys) done (done + k) following.busy none-before
+    pub wait-busy : HasNoWait system start keys (max waits_from (last_count 0 keys)) done_now
+    wait-busy = idle-busy system steps most start now before written unrecorded record_now keys done following.going waits_from done_now next written_then idled (last_count 0 keys) following.busy
 
-    waits-there : waits_at system start keys (done + k) ≡ (look_of next).waiting
-    waits-there = run-waits system steps most start now before written unrecorded record_now keys done following.going k next written_then run
+    waits-there : waits_at system start keys done_now ≡ (look_of next).waiting
+    waits-there = idle-waits system steps most start now before written unrecorded record_now keys done following.going waits_from done_now next written_then idled
 
-    grows : screen_at system start keys (done + k) ≡ screen_at system start keys done ++ (after system k now).cpm.console.screen
-    grows = going-shows system steps most start now before written unrecorded record_now keys done following.going k
+    grows : screen_at system start keys done_now ≡ screen_at system start keys done ++ (after system (done_now - done) now).cpm.console.screen
+    grows = idle-shows system steps most start now before written unrecorded record_now keys done following.going waits_from done_now next written_then idled
 
-    seen : looks_back (Wait text ∷ others) ≡ true → left ≡ drop following.mark (screen_at system start keys (done + k))
+    seen : looks_back (Wait text ∷ others) ≡ true → left ≡ drop following.mark (screen_at system start keys done_now)
     seen looks =
-        kept looks ∙ ap (λ xs. xs ++ (after system k now).cpm.console.screen) (following.kept looks)
-        ∙ sym (drop-append-le following.mark (screen_at system start keys done) (after system k now).cpm.console.screen following.marked)
+        kept looks ∙ ap (λ xs. xs ++ (after system (done_now - done) now).cpm.console.screen) (following.kept looks)
+        ∙ sym (drop-append-le following.mark (screen_at system start keys done) (after system (done_now - done) now).cpm.console.screen following.marked)
         ∙ ap (drop following.mark) (sym grows)
 
-    shown-there : (b : Bool) → looks_back (Wait text ∷ others) ≡ b → HasShown text.items left → HasShown text.items (drop following.mark (screen_at system start keys (done + k)))
+    shown-there : (b : Bool) → looks_back (Wait text ∷ others) ≡ b → HasShown text.items left → HasShown text.items (drop following.mark (screen_at system start keys done_now))
     shown-there true looks found = subst (λ xs. HasShown text.items xs) (seen looks) found
-    shown-there false looks found = empty-shown text.items (drop following.mark (screen_at system start keys (done + k))) (none-empty text.items (or-left (not (length text.items == 0)) (looks_back others) looks))
+    shown-there false looks found = empty-shown text.items (drop following.mark (screen_at system start keys done_now)) (none-empty text.items (or-left (not (length text.items == 0)) (looks_back others) looks))
 
-    shown-here : (b : Bool) → looks_back (Wait text ∷ others) ≡ b → HasShown text.items (drop following.mark (screen_at system start keys (done + k))) → HasShown text.items left
+    shown-here : (b : Bool) → looks_back (Wait text ∷ others) ≡ b → HasShown text.items (drop following.mark (screen_at system start keys done_now)) → HasShown text.items left
     shown-here true looks found = subst (λ xs. HasShown text.items xs) (sym (seen looks)) found
     shown-here false looks found = empty-shown text.items left (none-empty text.items (or-left (not (length text.items == 0)) (looks_back others) looks))
 
+    -- a wait within the steps counts
+    counts : done_now < steps → (look_of next).waiting ≡ true → waits_from ≤ done_now
+    counts within waits = ⊎_elim (λ (all : done_now ≡ steps). omega arith)
+        (λ halts. ⊎_elim (λ ended. absurd (true≢false (sym waits ∙ ended-waits next ended))) (λ counted. counted.0) halts) idled.why
+
     -- where it waits, and has shown the text
-    pub follow-met : done + k < steps → (look_of next).waiting ≡ true → HasShown text.items left →
-        IsFollowing system start steps most cues next before written_then unrecorded record_now keys (done + k) others left
+    pub follow-met : done_now < steps → (look_of next).waiting ≡ true → HasShown text.items left →
+        IsFollowing system start steps waits_from most cues next before written_then unrecorded record_now keys done_now others left
     follow-met within waits found = record {
       going = wait-going;
       mark = following.mark;
       marked =
           let marked = following.marked in
-          let longer : length (screen_at system start keys (done + k)) ≡ length (screen_at system start keys done) + length (after system k now).cpm.console.screen =
-          ap length grows ∙ length-append (screen_at system start keys done) (after system k now).cpm.console.screen in
+          let longer : length (screen_at system start keys done_now) ≡ length (screen_at system start keys done) + length (after system (done_now - done) now).cpm.console.screen =
+          ap length grows ∙ length-append (screen_at system start keys done) (after system (done_now - done) now).cpm.console.screen in
           omega arith;
       cued = λ ks h. following.cued ks (inl (
-        done + k,
+        done_now,
         record {
-          next = record { later = omega arith; waits = waits-there ∙ waits; first = none-before };
+          next = record { later = let low = idled.low in let counted = counts within waits in omega arith; waits = waits-there ∙ waits; first = none-before };
           within = within;
           shown = shown-there (looks_back (Wait text ∷ others)) refl found;
         },
@@ -260,27 +266,28 @@ module _ (system : Disk) (start : MachineState) (steps most : ℕ) (cues : List 
       room = following.room;
       pending =
           let before_it = following.pending in
-          let left_it = after-pending system k now in
-          let same : length next.cpm.console.keys ≡ length (after system k now).cpm.console.keys = ap (λ (s : MachineState). length s.cpm.console.keys) run.state in
+          let left_it = after-pending system (done_now - done) now in
+          let same : length next.cpm.console.keys ≡ length (after system (done_now - done) now).cpm.console.keys = ap (λ (s : MachineState). length s.cpm.console.keys) idled.run.state in
           omega arith;
     }
 
     -- and where not, it never does so within the steps
-    never-met : (steps ≤ done + k) ⊎ (((look_of next).waiting ≡ false) ⊎ (HasShown text.items left → ⊥)) → (at : ℕ) → IsMet system start steps keys done following.mark text.items at → ⊥
+    never-met : (steps ≤ done_now) ⊎ (((look_of next).waiting ≡ false) ⊎ (HasShown text.items left → ⊥)) → (at : ℕ) → IsMet system start steps waits_from keys done following.mark text.items at → ⊥
     never-met why at met =
         let low = met.next.later in
         let high = met.within in
-        let going_within = following.going.within in
-        let late : done + k ≤ at = ⊎_elim (λ (early : at < done + k). absurd (true≢false (sym met.next.waits ∙ none-before at low early))) (λ (late : done + k ≤ at). late) (cases_lt at (done + k)) in
-        ⊎_elim (λ (past : steps ≤ done + k). omega arith)
-        (λ other. ⊎_elim (λ (all : k ≡ steps - done). omega arith)
-        (λ halts. ⊎_elim (ended-never at late met) (waits-never at late met other) halts) stopped.1) why
+        let late : done_now ≤ at = ⊎_elim (λ (early : at < done_now). absurd (true≢false (sym met.next.waits ∙ none-before at low early))) (λ (late : done_now ≤ at). late) (cases_lt at done_now) in
+        ⊎_elim (λ (past : steps ≤ done_now). omega arith)
+        (λ other. ⊎_elim (λ (all : done_now ≡ steps). omega arith)
+        (λ halts. ⊎_elim (ended-never at late met) (λ counted. waits-never at late met other counted.0 counted.1) halts) idled.why) why
       where
-        ended-never : (at : ℕ) → done + k ≤ at → IsMet system start steps keys done following.mark text.items at → is_running next.ended ≡ false → ⊥
+        ended-never : (at : ℕ) → done_now ≤ at → IsMet system start steps waits_from keys done following.mark text.items at → is_running next.ended ≡ false → ⊥
         ended-never at late met ended =
-            let j = at - (done + k) in
+            let low = idled.low in
+            let k = done_now - done in
+            let j = at - done_now in
             let there : done + (k + j) ≡ at = omega arith in
-            let halted : is_running (after system k now).ended ≡ false = sym (ap (λ (s : MachineState). is_running s.ended) run.state) ∙ ended in
+            let halted : is_running (after system k now).ended ≡ false = sym (ap (λ (s : MachineState). is_running s.ended) idled.run.state) ∙ ended in
             let last : is_running (after system (k + j) now).ended ≡ false =
             ap (λ (s : MachineState). is_running s.ended) (after-add system k j now) ∙ after-ended system j (after system k now) halted in
             let P : ℕ → Type 0 = λ n. waits_at system start keys n ≡ false in
@@ -288,10 +295,11 @@ module _ (system : Disk) (start : MachineState) (steps most : ℕ) (cues : List 
             subst P there (going-waits system steps most start now before written unrecorded record_now keys done following.going (k + j) ∙ ended-waits (after system (k + j) now) last) in
             true≢false (sym met.next.waits ∙ quiet)
 
-        waits-never : (at : ℕ) → done + k ≤ at → IsMet system start steps keys done following.mark text.items at →
-            ((look_of next).waiting ≡ false) ⊎ (HasShown text.items left → ⊥) → (look_of next).waiting ≡ true → ⊥
-        waits-never at late met other waits =
-            let here : at ≡ done + k = ⊎_elim (λ (past : done + k < at). absurd (true≢false (sym (waits-there ∙ waits) ∙ met.next.first (done + k) (omega arith) past))) (λ (upto : at ≤ done + k). omega arith) (cases_lt (done + k) at) in
+        waits-never : (at : ℕ) → done_now ≤ at → IsMet system start steps waits_from keys done following.mark text.items at →
+            ((look_of next).waiting ≡ false) ⊎ (HasShown text.items left → ⊥) → waits_from ≤ done_now → (look_of next).waiting ≡ true → ⊥
+        waits-never at late met other counted waits =
+            let low = idled.low in
+            let here : at ≡ done_now = ⊎_elim (λ (past : done_now < at). absurd (true≢false (sym (waits-there ∙ waits) ∙ met.next.first done_now (omega arith) past))) (λ (upto : at ≤ done_now). omega arith) (cases_lt done_now at) in
             let P : ℕ → Type 0 = λ n. HasShown text.items (drop following.mark (screen_at system start keys n)) in
             let found = shown-here (looks_back (Wait text ∷ others)) refl (subst P here met.shown) in
             ⊎_elim (λ still. true≢false (sym waits ∙ still)) (λ lacks. lacks found) other
@@ -304,19 +312,19 @@ module _ (system : Disk) (start : MachineState) (steps most : ℕ) (cues : List 
       unmet-slices : (HasShown needle hay → ⊥) → HasShown text.items left → ⊥
       unmet-slices lacks found = lacks (subst (λ xs. HasShown needle xs) (sym is_left) (subst (λ xs. HasShown xs left) (sym is_text) found))
 
-      pub follow-found : done + k < steps → ((look_of next).waiting ≡ true) × HasShown needle hay →
-          IsFollowing system start steps most cues next before written_then unrecorded record_now keys (done + k) others left
+      pub follow-found : done_now < steps → ((look_of next).waiting ≡ true) × HasShown needle hay →
+          IsFollowing system start steps waits_from most cues next before written_then unrecorded record_now keys (done_now) others left
       follow-found within met = follow-met within met.0 (met-slices met.1)
 
-      pub unfound-cued : ((look_of next).waiting ≡ false) ⊎ (HasShown needle hay → ⊥) → IsCued system start steps cues keys
+      pub unfound-cued : ((look_of next).waiting ≡ false) ⊎ (HasShown needle hay → ⊥) → IsCued system start steps waits_from cues keys
       unfound-cued why = following.cued keys (inr (never-met (inr (⊎_elim (λ still. inl still) (λ lacks. inr (unmet-slices lacks)) why)), refl))
 
-    pub past-cued : steps ≤ done + k → IsCued system start steps cues keys
+    pub past-cued : steps ≤ done_now → IsCued system start steps waits_from cues keys
     past-cued past = following.cued keys (inr (never-met (inl past), refl))
 
 -- behind the last cue
-pub follow-end : (system : Disk) (start : MachineState) (steps most : ℕ) (cues : List Cue) (now : MachineState) (before written unrecorded record_now : Option (List ℕ))
-    (keys : List Key) (done : ℕ) (rest : List Cue) (shown : List ℕ) → rest ≡ [] → IsFollowing system start steps most cues now before written unrecorded record_now keys done rest shown → IsCued system start steps cues keys
-follow-end system start steps most cues now before written unrecorded record_now keys done rest shown none following =
-    let P : List Cue → Type 0 = λ r. IsCuedFrom system start steps keys done following.mark r keys in
+pub follow-end : (system : Disk) (start : MachineState) (steps waits_from most : ℕ) (cues : List Cue) (now : MachineState) (before written unrecorded record_now : Option (List ℕ))
+    (keys : List Key) (done : ℕ) (rest : List Cue) (shown : List ℕ) → rest ≡ [] → IsFollowing system start steps waits_from most cues now before written unrecorded record_now keys done rest shown → IsCued system start steps waits_from cues keys
+follow-end system start steps waits_from most cues now before written unrecorded record_now keys done rest shown none following =
+    let P : List Cue → Type 0 = λ r. IsCuedFrom system start steps waits_from keys done following.mark r keys in
     following.cued keys (subst P (sym none) refl)

@@ -32,18 +32,18 @@ runs-before system start steps n before later order fits runs = by_test (runs_at
         let last : is_running (alone system all steps start).ended ≡ false = subst P at behind in
         absurd (true≢false (sym runs ∙ ap (λ ps. is_running (alone system ps steps start).ended) (presses-append before later) ∙ last))
 
-plain-from : (system : Disk) (start : MachineState) (steps last n mark : ℕ) (before keys given : List Key) → IsInOrder n keys → AreBy last keys → last < steps → runs_at system start (before ++ keys) steps ≡ true →
-    IsCuedFrom system start steps before n mark (map Timed keys) given → given ≡ before ++ keys
-plain-from system start steps last n mark before [] given order by fits runs is = is ∙ sym (append-nil before)
-plain-from system start steps last n mark before (k ∷ keys) given order by fits runs (inl come) =
+plain-from : (system : Disk) (start : MachineState) (steps waits_from last n mark : ℕ) (before keys given : List Key) → IsInOrder n keys → AreBy last keys → last < steps → runs_at system start (before ++ keys) steps ≡ true →
+    IsCuedFrom system start steps waits_from before n mark (map Timed keys) given → given ≡ before ++ keys
+plain-from system start steps waits_from last n mark before [] given order by fits runs is = is ∙ sym (append-nil before)
+plain-from system start steps waits_from last n mark before (k ∷ keys) given order by fits runs (inl come) =
     let low : n ≤ k.count = order.0 in
     let at : max n k.count ≡ k.count = omega arith in
-    let P : ℕ → Type 0 = λ m. IsCuedFrom system start steps (before ++ (let key : Key = record { count = m; byte = k.byte } in key) ∷ []) m (length (screen_at system start before m)) (map Timed keys) given in
+    let P : ℕ → Type 0 = λ m. IsCuedFrom system start steps waits_from (before ++ (let key : Key = record { count = m; byte = k.byte } in key) ∷ []) m (length (screen_at system start before m)) (map Timed keys) given in
     let joined : (before ++ k ∷ []) ++ keys ≡ before ++ k ∷ keys = append_assoc before (k ∷ []) keys in
-    plain-from system start steps last k.count (length (screen_at system start before k.count)) (before ++ k ∷ []) keys given order.1 by.1 fits
+    plain-from system start steps waits_from last k.count (length (screen_at system start before k.count)) (before ++ k ∷ []) keys given order.1 by.1 fits
     (ap (λ ks. runs_at system start ks steps) joined ∙ runs) (subst P at come.1)
     ∙ joined
-plain-from system start steps last n mark before (k ∷ keys) given order by fits runs (inr never) =
+plain-from system start steps waits_from last n mark before (k ∷ keys) given order by fits runs (inr never) =
     let low : n ≤ k.count = order.0 in
     let high : k.count ≤ last = by.0 in
     let at : max n k.count ≡ k.count = omega arith in
@@ -51,4 +51,4 @@ plain-from system start steps last n mark before (k ∷ keys) given order by fit
     absurd (never.0 (subst (λ m. Comes system start steps before m) (sym at) comes))
 
 pub plain-cues : PlainCuesGiveTheirKeys
-plain-cues system start steps last keys given order by fits runs is = plain-from system start steps last 0 0 [] keys given order by fits runs is
+plain-cues system start steps waits_from last keys given order by fits runs is = plain-from system start steps waits_from last 0 0 [] keys given order by fits runs is

@@ -19,8 +19,8 @@ const SHOWN: [&[u8]; 2] = [b"\r\nA>DIR\r\r\nNO FILE\r\nA>", b"\r\nA>"];
 
 /// Counts the bytes that it is given.
 #[derive(Drop)]
-struct Counter {
-    count: usize,
+pub struct Counter {
+    pub count: usize,
 }
 
 impl Write for Counter {
@@ -35,7 +35,7 @@ impl Write for Counter {
 }
 
 /// A program that prints a letter, with a tail.
-fn start(alloc: Global) -> Result<Start, AllocError> {
+pub fn start(alloc: Global) -> Result<Start, AllocError> {
     let mut drives = Vec::new(alloc);
     drives.push(Image::blank(alloc, Format::Ibm3740)?)?;
     Ok(Start {

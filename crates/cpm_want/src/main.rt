@@ -10,6 +10,7 @@ mod hosts;
 mod machines;
 mod stores;
 mod texts;
+mod waiting;
 
 use std::alloc::{AllocError, Global};
 use std::env;
@@ -59,7 +60,7 @@ impl Outcome {
 }
 
 /// The calls, as they are named on the command line.
-const NAMES: [&str; 39] = [
+const NAMES: [&str; 44] = [
     "command",
     "FlatMemory::new",
     "FrameStore::new",
@@ -99,6 +100,11 @@ const NAMES: [&str; 39] = [
     "run_asm",
     "run_debug",
     "run_list",
+    "cues_of",
+    "forked_cues_of",
+    "run_waiting",
+    "rehearse_session",
+    "run_asm_listed",
 ];
 
 /// Makes the call of this name, if there is one.
@@ -139,6 +145,11 @@ fn make(alloc: Global, name: &str) -> Result<Outcome, AllocError> {
         "run_asm" => Ok(commands::asm(alloc)),
         "run_debug" => commands::debug(alloc),
         "run_list" => Ok(commands::list()),
+        "cues_of" => Ok(waiting::cues(alloc)),
+        "forked_cues_of" => Ok(waiting::forked_cues(alloc)),
+        "run_waiting" => waiting::com(alloc),
+        "rehearse_session" => waiting::session(alloc),
+        "run_asm_listed" => Ok(waiting::listed_source(alloc)),
         _ => Ok(Outcome::Wrong),
     }
 }

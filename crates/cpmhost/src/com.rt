@@ -34,6 +34,8 @@ pub fn com(
     for out in &task.outs {
         check_file(rt, outputs, out)?;
     }
+    // (before a file is emptied in which keys are recorded)
+    start.check()?;
     let (ran, waits) = if task.is_live {
         (play_keyboard(rt, task, start, terminals)?, false)
     } else {
@@ -96,6 +98,7 @@ fn play_waiting(
     let cues = cues_of(rt.alloc(), script)?;
     let cued = Cued {
         cues: cues.as_slice(),
+        waits_from: 0,
         stops_idle: task.stops_idle,
     };
     let mut record = record_in(rt, task.record)?;

@@ -1,15 +1,16 @@
-//! Sessions of a run that are played by themselves before: those whose scripts wait for them, and where sessions are to stop idle all that are not forked. Since a session
+//! Sessions of a run that are played by themselves before: those whose scripts wait for them, and where sessions are to stop idle all. Since a session
 //! does among others what it does alone, it then gets the keys that came as its script, and its steps.
 
-ghost use Rattle.std.specs.Prelude.{◌<◌, length};
+ghost use Rattle.std.specs.Prelude.{◌<◌, IfOk, IfSome, length};
+ghost use Rattle.cpm_host.specs.Cued.{AreFit};
 
 use crate::disk::read_image;
 use crate::files::read_file;
 use crate::refused::Refused;
 use cpm_geom::Image;
 use cpm_host::{
-    Config, Cued, End, Opening, Origin, Script, Session, SessionStart, Typed, cues_of, key_line,
-    rehearse_session,
+    Config, Cue, Cued, End, Opening, Origin, Script, Session, SessionStart, Typed, cues_of,
+    forked_cues_of, key_line, rehearse_session,
 };
 use std::alloc::AllocError;
 use std::rt::Files;
@@ -65,18 +66,20 @@ impl Rehearsals {
         self.all.iter().find(|one| one.place == place)
     }
 
-    /// Notes what a session was played by, and gives the name of its script.
+    /// Notes what a session was played by, and gives the name of its script, which has the keys behind so many: those that its parent had before
+    /// are no part of it.
     pub fn add(
         &mut self,
         rt: &impl AllocGlobal,
         place: usize,
         typed: Typed,
+        before: usize,
         is_idle: bool,
     ) -> Result<String, AllocError> {
         let name = format!(in rt.alloc(); "\0{place}")?;
         let again = String::from_str(rt.alloc(), name.as_str())?;
         let mut script = Vec::new(rt.alloc());
-        for key in &typed.keys {
+        for key in typed.keys.iter().skip(before) {
             if let Some(line) = key_line(*key) {
                 script.extend_from_slice(line.as_bytes())?;
             }
@@ -106,7 +109,18 @@ pub fn rehearse_all(
     Ok(())
 }
 
-/// Plays the session at a place by itself, if that is to be and it is not forked.
+/// What a session is played by before the run.
+#[derive(Drop)]
+struct Part {
+    opening: Opening,
+    cues: Vec<Cue>,
+    /// How many of them are the keys that its parent had before it was forked.
+    before: usize,
+    /// After how many steps it was forked; 0 where it is opened.
+    forked_at: u64,
+}
+
+/// Plays the session at a place by itself, if that is to be.
 fn rehearse_at(
     rt: &(impl Files + AllocGlobal),
     config: &mut Config,
@@ -117,30 +131,36 @@ fn rehearse_at(
     requires { place < length config.old.sessions.items }
 {
     let session = &config.sessions[place];
-    let text = script_of(rt, session)?;
+    let text = script_of(rt, all, session)?;
     if !stops_idle && !waits_in(text.as_slice()) {
         return Ok(());
     }
-    let Some(opening) = opening_of(rt, session)? else {
+    let Some(part) = part_of(rt, config, all, session, text.as_slice())? else {
         return Ok(());
     };
     let name = session.name.as_str();
     let steps = session.steps;
+    let Part {
+        opening,
+        cues,
+        before,
+        forked_at,
+    } = part;
+    let cued = Cued {
+        cues: cues.as_slice(),
+        waits_from: forked_at,
+        stops_idle,
+    };
+    let system = read_image(rt, config.system.as_str())?;
     let start = SessionStart {
         name,
         opening,
         steps,
     };
-    let typed = rehearse(
-        rt,
-        config,
-        start,
-        script_with(session, text.as_slice()),
-        stops_idle,
-    )?;
+    let typed = rehearse_session(rt.alloc(), &system, start, cued)?;
     let is_idle = typed.ran.ending.ended == End::Running && typed.steps < steps;
-    let played = typed.steps.max(last_fork(config, name));
-    let script = all.add(rt, place, typed, is_idle)?;
+    let played = typed.steps.max(forked_at).max(last_fork(config, name));
+    let script = all.add(rt, place, typed, before, is_idle)?;
     let session = &mut config.sessions[place];
     session.keys = Some(script);
     if stops_idle {
@@ -149,21 +169,67 @@ fn rehearse_at(
     Ok(())
 }
 
-/// Plays a session by itself by a script that may wait.
-fn rehearse(
+/// What a session of this script is played by; none where it is forked from what it can't be, which the run then refuses.
+fn part_of(
     rt: &(impl Files + AllocGlobal),
     config: &Config,
-    start: SessionStart<'_>,
-    script: Script<'_>,
-    stops_idle: bool,
-) -> Result<Typed, Refused> {
-    let cues = cues_of(rt.alloc(), script)?;
-    let system = read_image(rt, config.system.as_str())?;
-    let cued = Cued {
-        cues: cues.as_slice(),
-        stops_idle,
+    all: &Rehearsals,
+    session: &Session,
+    text: &[u8],
+) -> Result<Option<Part>, Refused>
+    ensures { IfOk result (λ part. IfSome part (λ p. AreFit p.cues.items)) }
+{
+    let script = script_with(session, text);
+    let Origin::Forked { parent, at } = &session.origin else {
+        return opened_part(rt, session, script);
     };
-    Ok(rehearse_session(rt.alloc(), &system, start, cued)?)
+    let Some(place) = place_of(config, parent.as_str()) else {
+        return Ok(None);
+    };
+    forked_part(rt, all, &config.sessions[place], *at, script)
+}
+
+/// What a session is played by that is opened.
+fn opened_part(
+    rt: &(impl Files + AllocGlobal),
+    session: &Session,
+    script: Script<'_>,
+) -> Result<Option<Part>, Refused>
+    ensures { IfOk result (λ part. IfSome part (λ p. AreFit p.cues.items)) }
+{
+    let Some(opening) = opening_of(rt, session)? else {
+        return Ok(None);
+    };
+    Ok(Some(Part {
+        opening,
+        cues: cues_of(rt.alloc(), script)?,
+        before: 0,
+        forked_at: 0,
+    }))
+}
+
+/// What a session is played by that is forked after so many steps.
+fn forked_part(
+    rt: &(impl Files + AllocGlobal),
+    all: &Rehearsals,
+    parent: &Session,
+    at: u64,
+    script: Script<'_>,
+) -> Result<Option<Part>, Refused>
+    ensures { IfOk result (λ part. IfSome part (λ p. AreFit p.cues.items)) }
+{
+    let Some(opening) = opening_of(rt, parent)? else {
+        return Ok(None);
+    };
+    let text = script_of(rt, all, parent)?;
+    let had = script_with(parent, text.as_slice());
+    let forked = forked_cues_of(rt.alloc(), had, at, script)?;
+    Ok(Some(Part {
+        opening,
+        cues: forked.cues,
+        before: forked.before,
+        forked_at: at,
+    }))
 }
 
 /// Whether a line of a script's text begins as one that waits.
@@ -173,10 +239,21 @@ pub fn waits_in(text: &[u8]) -> bool {
 }
 
 /// The text of a session's script, which is empty where it has none.
-fn script_of(rt: &(impl Files + AllocGlobal), session: &Session) -> Result<Vec<u8>, Refused> {
-    match &session.keys {
-        Some(name) => Ok(read_file(rt, name.as_str())?),
-        None => Ok(Vec::new(rt.alloc())),
+fn script_of(
+    rt: &(impl Files + AllocGlobal),
+    all: &Rehearsals,
+    session: &Session,
+) -> Result<Vec<u8>, Refused> {
+    let Some(name) = &session.keys else {
+        return Ok(Vec::new(rt.alloc()));
+    };
+    match all.script_named(name.as_str()) {
+        Some(script) => {
+            let mut text = Vec::new(rt.alloc());
+            text.extend_from_slice(script)?;
+            Ok(text)
+        }
+        None => Ok(read_file(rt, name.as_str())?),
     }
 }
 
@@ -187,6 +264,16 @@ fn script_with<'a>(session: &'a Session, text: &'a [u8]) -> Script<'a> {
         None => "",
     };
     Script { name, text }
+}
+
+/// Where the session of a name stands.
+pub fn place_of(config: &Config, name: &str) -> Option<usize>
+    ensures { IfSome result (λ place. place < length config.now.sessions.items) }
+{
+    config
+        .sessions
+        .iter()
+        .position(|session| session.name.as_str() == name)
 }
 
 /// What a session is opened with; none where it is forked.

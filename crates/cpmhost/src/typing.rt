@@ -1,11 +1,9 @@
 //! Keys that are typed on standard input, and where they are recorded.
 
-ghost use Rattle.std.specs.Prelude.{◌<◌, IfSome, length};
-
 use crate::disk::read_image;
 use crate::files::{read_file, unwritable};
 use crate::refused::Refused;
-use crate::rehearse::{Rehearsals, last_fork, opening_of};
+use crate::rehearse::{Rehearsals, last_fork, opening_of, place_of};
 use crate::screen::Screen;
 use cpm_geom::Image;
 use cpm_host::{Config, HostError, MOST_SCRIPT, SessionStart, Typed, shown, type_session};
@@ -97,21 +95,11 @@ pub fn type_in(
     };
     let typed = typed_by(rt, &system, start, record, is_screen)?;
     let steps = typed.steps.max(last_fork(config, name));
-    let script = all.add(rt, place, typed, false)?;
+    let script = all.add(rt, place, typed, 0, false)?;
     let session = &mut config.sessions[place];
     session.keys = Some(script);
     session.steps = steps;
     Ok(())
-}
-
-/// Where the session of a name stands.
-fn place_of(config: &Config, name: &str) -> Option<usize>
-    ensures { IfSome result (λ place. place < length config.now.sessions.items) }
-{
-    config
-        .sessions
-        .iter()
-        .position(|session| session.name.as_str() == name)
 }
 
 /// Plays a session by itself, by the keys of standard input.

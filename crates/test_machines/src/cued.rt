@@ -1,13 +1,13 @@
 //! Machines that are played by scripts that may wait: when their keys come, where they end, and that their record plays them again.
 
+use crate::live::replays;
 use crate::run::{blank, machine_of, opening_of};
 use crate::same::same;
 use cpm_flags::Cpu;
 use cpm_script::laws::cues_in_order;
-use cpm_script::{read_cues, read_keys};
+use cpm_script::read_cues;
 use cpm_slots::{End, Machine};
-use cpm_turns::laws::scripts_in_order;
-use cpm_turns::{Unwatched, play_cues, play_machine};
+use cpm_turns::{Cued, play_cues};
 use std::alloc::Global;
 use std::process::Abort;
 use std::test::Fail;
@@ -23,6 +23,7 @@ const NAME: &[u8] = &[
 #[derive(Drop)]
 struct Row {
     script: &'static [u8],
+    waits_from: u64,
     stops_idle: bool,
     shown: &'static [u8],
     recorded: &'static [u8],
@@ -30,10 +31,18 @@ struct Row {
     ended: End,
 }
 
+impl Row {
+    /// The same where waits count from a step on.
+    fn from(self, waits_from: u64) -> Row {
+        Row { waits_from, ..self }
+    }
+}
+
 /// A row of a script by which the program ends.
 fn whole(script: &'static [u8], recorded: &'static [u8], executed: u64) -> Row {
     Row {
         script,
+        waits_from: 0,
         stops_idle: true,
         shown: b"NAME? b\rb",
         recorded,
@@ -52,6 +61,7 @@ fn waits(
 ) -> Row {
     Row {
         script,
+        waits_from: 0,
         stops_idle,
         shown,
         recorded,
@@ -91,31 +101,22 @@ fn rows() -> [Row; 11] {
     ]
 }
 
-/// The record plays the session again, which then is as it was.
-fn replays(
-    rt: &impl Abort,
-    alloc: Global,
-    record: &[u8],
-    steps: u64,
-    shown: &[u8],
-    played: &Machine,
-) -> Result<(), Fail> {
-    let system = blank(alloc)?;
-    let mut machine = machine_of(alloc, Cpu::I8080, NAME)?;
-    let keys = read_keys(alloc, record)?;
-    scripts_in_order();
-    let mut out = Vec::new(alloc);
-    play_machine(
-        &system,
-        &mut machine,
-        keys.as_slice(),
-        steps,
-        &mut out,
-        &mut Unwatched,
-    )?;
-    same(rt, out.as_slice(), shown);
-    same(rt, machine.look(), played.look());
-    Ok(())
+/// The scripts of sessions whose waits count from a step on, and what comes of each.
+fn later_rows() -> [Row; 7] {
+    [
+        // all keys behind one wait, and behind a text that it showed before
+        whole(b"wait b^M\n", b"20 b\n20 ^M\n", 30).from(20),
+        whole(b"expect \"NAME? \" b^M\n", b"20 b\n20 ^M\n", 30).from(20),
+        // a key before, and then a wait
+        whole(b"16 b\nwait ^M\n", b"16 b\n20 ^M\n", 29).from(20),
+        // the same where it waits later anyway
+        whole(b"wait b^M\n", b"15 b\n15 ^M\n", 25).from(15),
+        // it ends where it waits, but not before
+        waits(b"", true, b"NAME? ", b"", 20).from(20),
+        waits(b"wait b\n", true, b"NAME? b", b"20 b\n", 21).from(20),
+        // no wait counts
+        waits(b"wait b\n", true, b"NAME? ", b"", 1000).from(2000),
+    ]
 }
 
 /// Fails unless the script plays the program so, and its record plays it again.
@@ -124,6 +125,11 @@ fn plays(rt: &impl Abort, alloc: Global, row: &Row) -> Result<(), Fail> {
     let mut machine = machine_of(alloc, Cpu::I8080, NAME)?;
     let cues = read_cues(alloc, row.script)?;
     cues_in_order();
+    let cued = Cued {
+        cues: cues.as_slice(),
+        waits_from: row.waits_from,
+        stops_idle: row.stops_idle,
+    };
     let mut out = Vec::new(alloc);
     let mut record = Vec::new(alloc);
     let live = play_cues(
@@ -131,8 +137,7 @@ fn plays(rt: &impl Abort, alloc: Global, row: &Row) -> Result<(), Fail> {
         &system,
         &mut machine,
         1000,
-        cues.as_slice(),
-        row.stops_idle,
+        cued,
         &mut out,
         &mut record,
     )?;
@@ -141,12 +146,20 @@ fn plays(rt: &impl Abort, alloc: Global, row: &Row) -> Result<(), Fail> {
     same(rt, live.steps, row.executed);
     same(rt, machine.look().ended, row.ended);
     let record = record.as_slice();
-    replays(rt, alloc, record, live.steps, row.shown, &machine)
+    replays(rt, alloc, NAME, record, live.steps, row.shown, &machine)
 }
 
 #[test]
 fn plays_scripts_that_wait(rt: HostRuntime) -> Result<(), Fail> {
     for row in &rows() {
+        plays(&rt, rt.alloc(), row)?;
+    }
+    Ok(())
+}
+
+#[test]
+fn counts_waits_from_a_step_on(rt: HostRuntime) -> Result<(), Fail> {
+    for row in &later_rows() {
         plays(&rt, rt.alloc(), row)?;
     }
     Ok(())
@@ -159,6 +172,11 @@ fn stops_at_the_prompt(rt: HostRuntime) -> Result<(), Fail> {
     let Ok(mut machine) = Machine::new(rt.alloc(), opening) else {
         panic!(rt; "a machine is refused");
     };
+    let cued = Cued {
+        cues: &[],
+        waits_from: 0,
+        stops_idle: true,
+    };
     let mut out = Vec::new(rt.alloc());
     let mut record = Vec::new(rt.alloc());
     let live = play_cues(
@@ -166,8 +184,7 @@ fn stops_at_the_prompt(rt: HostRuntime) -> Result<(), Fail> {
         &system,
         &mut machine,
         1_000_000,
-        &[],
-        true,
+        cued,
         &mut out,
         &mut record,
     )?;

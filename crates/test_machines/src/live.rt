@@ -76,15 +76,15 @@ const fn plain(
     }
 }
 
-/// The record plays the session again, which then is as the live one.
-fn replays(
+/// The record plays the session again, which then is as it was.
+pub(crate) fn replays(
     rt: &impl Abort,
     alloc: Global,
     program: &[u8],
     record: &[u8],
     steps: u64,
     shown: &[u8],
-    live: &Machine,
+    played: &Machine,
 ) -> Result<(), Fail> {
     let system = blank(alloc)?;
     let mut machine = machine_of(alloc, Cpu::I8080, program)?;
@@ -100,9 +100,9 @@ fn replays(
         &mut Unwatched,
     )?;
     same(rt, out.as_slice(), shown);
-    same(rt, machine.look(), live.look());
+    same(rt, machine.look(), played.look());
     for address in 0..=0xFFFFu16 {
-        same(rt, machine.peek(address), live.peek(address));
+        same(rt, machine.peek(address), played.peek(address));
     }
     Ok(())
 }

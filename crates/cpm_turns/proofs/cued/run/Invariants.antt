@@ -1,5 +1,6 @@
-use Rattle.std.proofs.Common.{◌-◌, ◌≤◌}
-use Rattle.cpm_turns.specs.Cued.{HasRun}
+use Rattle.std.proofs.Common.{◌≡◌, ◌++◌, ◌-◌, ◌≤◌, true}
+use Rattle.cpm_slots.specs.Step.{after}
+use Rattle.cpm_turns.specs.Cued.{HasRun, IsBusyFor}
 use Rattle.cpm_turns.specs.Playing.{IsQuiet}
 use Rattle.cpm_turns.proofs.cued.run.Given as goal
 
@@ -8,6 +9,8 @@ invariant-loop-executed g l = record {
   within : l.executed ≤ l.steps;
   run : HasRun l.system l.executed l.fn.machine l.machine (g.W.Write.contents l.fn.out) (g.W.Write.contents l.out);
   quiet : IsQuiet l.machine;
+  busy : l.to_wait ≡ true → IsBusyFor l.system l.executed l.fn.machine;
+  kept : l.keeps ≡ true → l.kept.items ≡ l.fn.kept.items ++ (after l.system l.executed l.fn.machine).cpm.console.screen;
 }
 
 abbrev pub decreases-loop-executed : goal.decreases-loop-executed

@@ -1,0 +1,101 @@
+//! Scripts that wait, the machines that are played by them, and a source with its listing.
+
+use crate::Outcome;
+use crate::commands::{Counter, start};
+use crate::texts::{KEYS, SOURCE};
+use cpm_flags::Cpu;
+use cpm_geom::{Format, Image};
+use cpm_host::{
+    Cued, HostError, Opening, Script, SessionStart, cues_of, forked_cues_of, rehearse_session,
+    run_asm_listed, run_waiting,
+};
+use std::alloc::{AllocError, Global};
+
+/// A line of the command processor, and a key once its prompt is shown again.
+const WAITS: Script<'static> = Script {
+    name: "waits.keys",
+    text: b"wait DIR^M\nexpect \"A>\" B\n",
+};
+
+/// A key once a text is shown that the program doesn't show.
+const EXPECTS: Script<'static> = Script {
+    name: "expects.keys",
+    text: b"expect \"B\" C\n",
+};
+
+pub fn cues(alloc: Global) -> Outcome {
+    match cues_of(alloc, WAITS) {
+        Ok(cues) => Outcome::made_if(cues.len() == 7),
+        Err(HostError::OutOfMemory) => Outcome::Refused,
+        Err(_) => Outcome::Wrong,
+    }
+}
+
+pub fn forked_cues(alloc: Global) -> Outcome {
+    let parent = Script {
+        name: "one.keys",
+        text: KEYS,
+    };
+    match forked_cues_of(alloc, parent, 3, WAITS) {
+        Ok(forked) => Outcome::made_if(forked.cues.len() == 11 && forked.before == 4),
+        Err(HostError::OutOfMemory) => Outcome::Refused,
+        Err(_) => Outcome::Wrong,
+    }
+}
+
+pub fn com(alloc: Global) -> Result<Outcome, AllocError> {
+    let start = start(alloc)?;
+    let Ok(cues) = cues_of(alloc, EXPECTS) else {
+        return Err(AllocError);
+    };
+    let cued = Cued {
+        cues: cues.as_slice(),
+        waits_from: 0,
+        stops_idle: true,
+    };
+    let mut out = Counter { count: 0 };
+    let mut record = Counter { count: 0 };
+    Ok(
+        match run_waiting(alloc, start, 100, cued, &mut out, &mut record) {
+            Ok(typed) if typed.ran.ending.count == 7 && out.count == 1 => Outcome::Made,
+            Err(HostError::OutOfMemory) => Outcome::refused_if(record.count == 0),
+            _ => Outcome::Wrong,
+        },
+    )
+}
+
+pub fn session(alloc: Global) -> Result<Outcome, AllocError> {
+    let system = Image::blank(alloc, Format::Ibm3740)?;
+    let mut drives = Vec::new(alloc);
+    drives.push(Image::blank(alloc, Format::Ibm3740)?)?;
+    let Ok(cues) = cues_of(alloc, WAITS) else {
+        return Err(AllocError);
+    };
+    let cued = Cued {
+        cues: cues.as_slice(),
+        waits_from: 0,
+        stops_idle: true,
+    };
+    let start = SessionStart {
+        name: "one",
+        opening: Opening {
+            cpu: Cpu::I8080,
+            quota: 16,
+            drives,
+        },
+        steps: 1000,
+    };
+    Ok(match rehearse_session(alloc, &system, start, cued) {
+        Ok(typed) => Outcome::made_if(typed.keys.len() == 5 && typed.steps < 1000),
+        Err(HostError::OutOfMemory) => Outcome::Refused,
+        Err(_) => Outcome::Wrong,
+    })
+}
+
+pub fn listed_source(alloc: Global) -> Outcome {
+    match run_asm_listed(alloc, SOURCE) {
+        Ok(_) => Outcome::Made,
+        Err(HostError::OutOfMemory) => Outcome::Refused,
+        Err(_) => Outcome::Wrong,
+    }
+}
