@@ -31,3 +31,5 @@ mod same;
 mod scratch;
 #[cfg(test)]
 mod started;
+#[cfg(test)]
+mod waiting;

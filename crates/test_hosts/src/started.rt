@@ -59,7 +59,7 @@ NEW:    DS   36
 ";
 
 /// Shows what is typed, up to a return.
-const ECHO: &str = "NEXT:   MVI  C,1
+pub const ECHO: &str = "NEXT:   MVI  C,1
         CALL 5
         CPI  13
         JNZ  NEXT
@@ -67,7 +67,7 @@ const ECHO: &str = "NEXT:   MVI  C,1
 ";
 
 /// What a program runs with that has this source.
-fn start(rt: &(impl Abort + AllocGlobal), source: &str) -> Start {
+pub fn start(rt: &(impl Abort + AllocGlobal), source: &str) -> Start {
     let program = assemble(rt.alloc(), source.as_bytes()).expect(rt, "a good source");
     plain(rt, Cpu::I8080, &program)
 }
