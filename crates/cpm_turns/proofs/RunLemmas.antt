@@ -1,5 +1,5 @@
 -- Steps that are executed in turns, whose output is taken after each, and those up to a wait.
-use Rattle.std.proofs.Common.{◌≡◌, ℕ, zero, suc, ◌+◌, ◌-◌, ◌<◌, ◌≤◌, ◌&&◌, nat_le, not, Bool, true, false, ◌⊎◌, inl, inr, ⊎_elim, Option, Some, None, is_some, List, [], ◌∷◌, ◌++◌, length, refl, sym, ap, ap₂, ◌∙◌, subst, arith, append-nil}
+use Rattle.std.proofs.Common.{◌≡◌, ℕ, zero, suc, ◌+◌, ◌-◌, ◌<◌, ◌≤◌, ◌&&◌, nat_le, not, min, Bool, true, false, true≢false, ◌⊎◌, inl, inr, ⊎_elim, Option, Some, None, is_some, List, [], ◌∷◌, ◌++◌, length, refl, sym, ap, ap₂, ◌∙◌, subst, arith, append-nil}
 use Rattle.std.proofs.lemmas.List.{append_assoc}
 use Rattle.std.proofs.lemmas.Bool.{cases_lt}
 use Rattle.std.specs.Io.KnownBytes.{Appends}
@@ -14,12 +14,13 @@ use Rattle.cpm_slots.specs.Step.{after, can_step, is_running}
 use Rattle.cpm_slots.specs.ToWait.{can_work, executed_to_wait}
 use Rattle.cpm_slots.proofs.AloneLaws.{after-behind}
 use Rattle.cpm_slots.proofs.GrantLaws.{after-add, longest-is}
-use Rattle.cpm_turns.specs.Cued.{HasRun, HasShown, IsBusyFor, IsRunCut, IsTaken, IsUntaken}
+use Rattle.cpm_turns.specs.Cued.{HasIdled, HasRun, HasShown, HasStopped, IsBusyFor, IsRunCut, IsTaken, IsUntaken}
 use Rattle.cpm_turns.specs.declared.live.LiveError.{LiveError}
 use Rattle.cpm_turns.specs.declared.live.LiveError.TheVariants.{Unreadable, Unwritable, Unrecorded, OutOfMemory}
 use Rattle.cpm_turns.specs.Pacing.{without_list, without_text}
 use Rattle.cpm_turns.specs.Live.{IsUnwritable}
 use Rattle.cpm_turns.specs.Playing.{HasText, IsQuiet}
+use Rattle.cpm_turns.proofs.AloneLemmas.{after-ended}
 use Rattle.cpm_turns.proofs.WaitLemmas.{waits-output}
 use Rattle.cpm_turns.proofs.TextLemmas.{appends_more, appends_none, both_empty, keeps_all}
 
@@ -179,3 +180,84 @@ busy-granted system n k s is i below =
     go true b false e = refl
     go true true true e = absurd (let bad : ⊥ = cc in bad)
     go true false true e = absurd (let bad : ⊥ = cc in bad)
+
+-- ---- a turn up to the end of the steps, or to a wait
+
+-- what a turn of at most so many steps did, which goes no further than a wait if so asked
+pub record HasTurned (to_wait : Bool) (system : Disk) (most k : ℕ) (old now : MachineState) : Type 0 where
+  pub within : k ≤ most
+  pub state : now ≡ after system k old
+  pub busy : to_wait ≡ true → IsBusyFor system k old
+  pub stopped : IsQuiet old → k ≡ 0 → (is_running now.ended ≡ false) ⊎ ((to_wait ≡ true) × ((look_of now).waiting ≡ true))
+
+pub turned-to-wait : (to_wait : Bool) (system : Disk) (most n k : ℕ) (old now : MachineState) → to_wait ≡ true → 0 < n → n ≤ most → k ≤ n → k ≡ executed_to_wait system n old → now ≡ after system k old → HasTurned to_wait system most k old now
+turned-to-wait to_wait system most n k old now waits some fits within is at = record {
+  within = omega arith;
+  state = at;
+  busy = λ _. busy-granted system n k old is;
+  stopped = λ quiet none. ⊎_elim (λ ended. inl ended) (λ there. inr (waits, there)) (stopped-waits system n k old now quiet some is none at);
+}
+
+pub turned-on : (to_wait : Bool) (system : Disk) (most n k : ℕ) (old now : MachineState) → to_wait ≡ false → 0 < n → n ≤ most → k ≤ n → k ≡ executed system n old → now ≡ after system k old → HasTurned to_wait system most k old now
+turned-on to_wait system most n k old now not some fits within is at = record {
+  within = omega arith;
+  state = at;
+  busy = λ waits. absurd (true≢false (sym waits ∙ not));
+  stopped = λ quiet none. inl (stopped-ended system n k old now quiet some is none at);
+}
+
+-- a run whose last turn makes no step
+pub run-stopped : (to_wait : Bool) (system : Disk) (steps k : ℕ) (old now : MachineState) → (to_wait ≡ true → IsBusyFor system k old) →
+    (is_running now.ended ≡ false) ⊎ ((to_wait ≡ true) × ((look_of now).waiting ≡ true)) → HasStopped to_wait system steps k old now
+run-stopped false system steps k old now busy (inl ended) = inr ended
+run-stopped false system steps k old now busy (inr there) = absurd (true≢false (sym there.0))
+run-stopped true system steps k old now busy (inl ended) = (busy refl, inr (inl ended))
+run-stopped true system steps k old now busy (inr there) = (busy refl, inr (inr there.1))
+
+-- or that makes all steps
+pub run-all : (to_wait : Bool) (system : Disk) (steps k : ℕ) (old now : MachineState) → (to_wait ≡ true → IsBusyFor system k old) → k ≡ steps → HasStopped to_wait system steps k old now
+run-all false system steps k old now busy all = inl all
+run-all true system steps k old now busy all = (busy refl, inl all)
+
+-- ---- a pause, and then steps up to a wait
+
+module _ (system : Disk) (steps waits_from done pause k j : ℕ) (old mid next : MachineState) (before middle written : Option (List ℕ))
+    (within_steps : done ≤ steps) (paused : pause ≡ min waits_from steps - done) (fits : k ≤ pause) (run : HasRun system k old mid before middle) where
+  pub pause-cut : (e : LiveError) → IsRunCut system (steps - (done + k)) mid next middle written e → IsRunCut system (steps - done) old next before written e
+  pause-cut e cut = run-cut system k old mid before middle run (steps - done) cut.0 (after system cut.0 mid) next written e (let less = cut.1 in omega arith) refl cut.2
+
+  module _ (stopped : HasStopped false system pause k old mid) (fits_then : j ≤ steps - (done + k)) (run_then : HasRun system j mid next middle written)
+      (stopped_then : HasStopped true system (steps - (done + k)) j mid next) where
+    together : (done + k + j) - done ≡ k + j
+    together = omega arith
+
+    pub pause-idled : HasIdled system steps waits_from done (done + k + j) old next before written
+    pause-idled = record {
+      low = omega arith;
+      run =
+          let P : ℕ → Type 0 = λ n. HasRun system n old next before written in
+          subst P (sym together) (run-more system k old mid before middle run j (after system j mid) next written refl run_then);
+      busy = λ i low high.
+          let at : k + (i - done - k) ≡ i - done = omega arith in
+          let P : ℕ → Type 0 = λ n. (look_of (after system n old)).waiting ≡ false in
+          let far : MachineState = after system k old in
+          subst P at (ap (λ (s : MachineState). (look_of s).waiting) (run-on system k old mid before middle run (i - done - k))
+          ∙ waits-behind far.cpm.console.screen far.cpm.console.printer (after system (i - done - k) mid) ∙ stopped_then.0 (i - done - k) (omega arith));
+      why = ⊎_elim (λ (all : j ≡ steps - (done + k)). inl (omega arith))
+          (λ rest. ⊎_elim (λ ended. inr (inl ended)) waits rest) stopped_then.1;
+    }
+      where
+        ended_then : is_running mid.ended ≡ false → is_running next.ended ≡ false
+        ended_then ended = ap (λ (s : MachineState). is_running s.ended) run_then.state ∙ after-ended system j mid ended
+
+        waits : (look_of next).waiting ≡ true →
+            (done + k + j ≡ steps) ⊎ ((is_running next.ended ≡ false) ⊎ ((waits_from ≤ done + k + j) × ((look_of next).waiting ≡ true)))
+        waits there = ⊎_elim (λ (all : k ≡ pause).
+            ⊎_elim (λ (past : steps < waits_from). inl (omega arith)) (λ (counts : waits_from ≤ steps). inr (inr (omega arith, there))) (cases_lt steps waits_from))
+            (λ ended. inr (inl (ended_then ended))) stopped
+
+    pub pause-kept : (start kept more : List ℕ) → kept ≡ start ++ (after system k old).cpm.console.screen → more ≡ kept ++ (after system j mid).cpm.console.screen →
+        more ≡ start ++ (after system ((done + k + j) - done) old).cpm.console.screen
+    pause-kept start kept more had is =
+        let P : ℕ → Type 0 = λ n. more ≡ start ++ (after system n old).cpm.console.screen in
+        subst P (sym together) (kept-more system k old mid before middle run j (after system j mid) start kept more refl had is)

@@ -236,8 +236,8 @@ fn follow<W: Write, S: Write>(
     record: &mut S,
 ) -> Result<Live, LiveError>
     requires fresh { IsFresh machine.old }
-    requires ascii { AreAscii cued.entry.cues.now }
-    requires few { key_count cued.entry.cues.now ≤ 4096 }
+    requires ascii { AreAscii cued.cues.now }
+    requires few { key_count cued.cues.now ≤ 4096 }
     ensures going { IfOk result (λ live. IsGoing system.now steps (key_count cued.entry.cues.now) machine.old machine.new (W.contents out.old) (W.contents out.new)
         (S.contents record.old) (S.contents record.new) live.keys.items live.steps) }
     ensures keys { IfOk result (λ live. IsCued system.now machine.old steps cued.entry.waits_from cued.entry.cues.now live.keys.items) }
@@ -296,8 +296,8 @@ pub fn play_cues<W: Write, S: Write>(
     record: &mut S,
 ) -> Result<Live, LiveError>
     requires fresh { IsFresh machine.old }
-    requires ascii { AreAscii cued.entry.cues.now }
-    requires few { key_count cued.entry.cues.now ≤ 4096 }
+    requires ascii { AreAscii cued.cues.now }
+    requires few { key_count cued.cues.now ≤ 4096 }
     ensures within { IfOk result (λ live. live.steps ≤ steps) }
     ensures keys { IfOk result (λ live. IsCued system.now machine.old steps cued.entry.waits_from cued.entry.cues.now live.keys.items) }
     ensures given { IfOk result (λ live. AreGiven (key_count cued.entry.cues.now) live.steps live.keys.items) }
