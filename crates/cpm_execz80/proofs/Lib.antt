@@ -4,5 +4,6 @@ pub mod BitsAt
 pub mod FewStores
 pub mod IndexStep
 pub mod PlainRows
+pub mod Prefixed
 pub mod Settled
 pub mod ShiftRows
