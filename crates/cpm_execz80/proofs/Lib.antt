@@ -2,7 +2,8 @@ pub mod Apart
 pub mod BitLemmas
 pub mod BitsAt
 pub mod FewStores
-pub mod IndexStep
 pub mod PlainRows
+pub mod Prefixed
+pub mod Replaced
 pub mod Settled
 pub mod ShiftRows

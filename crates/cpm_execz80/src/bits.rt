@@ -11,7 +11,7 @@ use cpm_memory::Memory;
 
 /// A byte shifted or rotated.
 #[inline(always)]
-fn shift_byte(shift: Shift, carry: bool, byte: u8) -> u8
+pub(crate) fn shift_byte(shift: Shift, carry: bool, byte: u8) -> u8
     ensures { result ≡ shifted shift carry byte }
 {
     let left = (byte & 0x7f) << 1;
@@ -29,7 +29,7 @@ fn shift_byte(shift: Shift, carry: bool, byte: u8) -> u8
 
 /// The bit that falls out.
 #[inline(always)]
-fn falls_out(shift: Shift, byte: u8) -> bool
+pub(crate) fn falls_out(shift: Shift, byte: u8) -> bool
     ensures { result ≡ shifted_out shift byte }
 {
     match shift {
@@ -43,7 +43,7 @@ fn falls_out(shift: Shift, byte: u8) -> bool
 
 /// Whether a bit of a byte is set.
 #[inline(always)]
-fn has_bit(byte: u8, bit: u8) -> bool
+pub(crate) fn has_bit(byte: u8, bit: u8) -> bool
     ensures { result ≡ has_bit_at byte bit }
 {
     byte.wrapping_shr(u32::from(bit)) & 0x01 == 1
@@ -51,7 +51,7 @@ fn has_bit(byte: u8, bit: u8) -> bool
 
 /// A byte with a bit set.
 #[inline(always)]
-fn with_bit(byte: u8, bit: u8) -> u8
+pub(crate) fn with_bit(byte: u8, bit: u8) -> u8
     ensures { result ≡ bit_or byte (bit_mask bit) }
 {
     byte | 1u8.wrapping_shl(u32::from(bit))
@@ -59,7 +59,7 @@ fn with_bit(byte: u8, bit: u8) -> u8
 
 /// A byte with a bit cleared.
 #[inline(always)]
-fn without_bit(byte: u8, bit: u8) -> u8
+pub(crate) fn without_bit(byte: u8, bit: u8) -> u8
     ensures { result ≡ cleared byte bit }
 {
     byte & !1u8.wrapping_shl(u32::from(bit))
