@@ -1,13 +1,10 @@
 -- A session that is played by a script that may wait: one more cue, and where it ends.
-use Rattle.std.proofs.Common.{◌≡◌, ℕ, suc, ◌+◌, ◌-◌, ◌^◌, ◌<◌, ◌≤◌, ◌==◌, ◌||◌, max, not, Bool, true, false, true≢false, ◌⊎◌, inl, inr, ⊎_elim, Option, List, [], ◌∷◌, ◌++◌, length, drop, refl, sym, ap, ◌∙◌, subst, arith}
-use Rattle.std.proofs.lemmas.Bool.{cases_eq, cases_lt}
+use Rattle.std.proofs.Common.{◌≡◌, ℕ, ◌+◌, ◌-◌, ◌<◌, ◌≤◌, max, Bool, true, false, true≢false, ◌⊎◌, inl, inr, ⊎_elim, Option, List, [], ◌∷◌, ◌++◌, length, refl, sym, ap, ◌∙◌, subst, arith}
+use Rattle.std.proofs.lemmas.Bool.{cases_lt}
 use Rattle.std.proofs.lemmas.Bool.Decides.{nat_tests}
-use Rattle.std.proofs.lemmas.List.{drop-append-le, drop_all, length_push, length-append, nil_from_length}
 use Rattle.std.specs.Io.KnownBytes.{Appends}
-use Rattle.memchr.specs.Find.{OccursAt}
 use Rattle.cpm_geom.specs.Disk.{Disk}
-use Rattle.cpm_script.specs.Recording.{key_line, recorded}
-use Rattle.cpm_script.specs.declared.cue.Cue.{Cue}
+use Rattle.cpm_script.specs.Recording.{key_line}
 use Rattle.cpm_script.specs.declared.script.Key.{Key}
 use Rattle.cpm_slots.specs.Alone.{alone}
 use Rattle.cpm_slots.specs.Calls.{state_behind}
@@ -18,19 +15,19 @@ use Rattle.cpm_slots.specs.declared.reply.End.TheVariants.{Running, Halted, Ille
 use Rattle.cpm_slots.specs.declared.reply.Look.{Look}
 use Rattle.cpm_slots.specs.Step.{after, is_running}
 use Rattle.cpm_slots.proofs.AloneLaws.{after-behind}
-use Rattle.cpm_slots.proofs.GrantLaws.{after-add}
-use Rattle.cpm_slots.proofs.PressLaws.{alone-add, alone-pressed}
-use Rattle.cpm_turns.specs.Cued.{Comes, HasEndedCued, HasIdled, HasMissed, HasNoWait, HasPressed, HasRun, HasShown, HasStopped, IsBusyFor, IsCutOff, IsMet, IsPressCut, IsRunCut, IsUntaken, last_count, runs_at, screen_at, waits_at}
-use Rattle.cpm_turns.specs.Live.{AreBy, HasGone, IsGoing}
+use Rattle.cpm_slots.proofs.PressLaws.{alone-add}
+use Rattle.cpm_turns.specs.Cued.{HasEndedCued, HasIdled, HasMissed, HasNoWait, HasPressed, HasRun, HasStopped, IsCutOff, IsPressCut, IsRunCut, last_count, runs_at, screen_at, waits_at}
+use Rattle.cpm_turns.specs.Live.{IsGoing}
 use Rattle.cpm_turns.specs.declared.live.LiveError.{LiveError}
 use Rattle.cpm_turns.specs.declared.live.LiveError.TheVariants.{Unreadable, Unwritable, Unrecorded, OutOfMemory}
-use Rattle.cpm_turns.specs.Playing.{presses_of, alone_by, HasText}
-use Rattle.cpm_turns.proofs.AloneLemmas.{after-ended, after-pending, presses-more}
-use Rattle.cpm_turns.proofs.GoingLemmas.{going-come, going-key, going-screen, going-text, going-turn, none-after}
-use Rattle.cpm_turns.proofs.RunLemmas.{bare, ended-waits, quiet-taken, waits-bare, waits-behind}
+use Rattle.cpm_turns.specs.Playing.{presses_of, alone_by}
+use Rattle.cpm_turns.proofs.AloneLemmas.{after-ended, after-pending}
+use Rattle.cpm_turns.proofs.GoingLemmas.{going-come, going-screen, going-text, going-turn, none-after}
+use Rattle.cpm_turns.proofs.RunLemmas.{waits-bare, waits-behind}
 
 -- ---- keys
 
+-- the last key is the one that comes last
 pub last-more : (n : ℕ) (keys : List Key) (k : Key) → last_count n (keys ++ k ∷ []) ≡ k.count
 last-more n [] k = refl
 last-more n (x ∷ xs) k = last-more x.count xs k
@@ -84,7 +81,7 @@ module _ (system : Disk) (k : ℕ) (old now : MachineState) (before written : Op
 
 -- ---- the machine run alone, from where the session is
 
-module _ (system : Disk) (steps most : ℕ) (start now : MachineState) (before written unrecorded record_now : Option (List ℕ)) (keys : List Key) (done : ℕ)
+module _ {system : Disk} {steps most : ℕ} {start now : MachineState} {before written unrecorded record_now : Option (List ℕ)} {keys : List Key} {done : ℕ}
     (going : IsGoing system steps most start now before written unrecorded record_now keys done) where
   pub going-state : (i : ℕ) → alone_by system keys (done + i) start ≡ state_behind going.console going.list (after system i now)
   going-state i =
@@ -132,46 +129,63 @@ module _ (system : Disk) (steps most : ℕ) (start now : MachineState) (before w
   run-ended : (k : ℕ) (next : MachineState) (written_then : Option (List ℕ)) → HasRun system k now next written written_then → is_running now.ended ≡ false → is_running next.ended ≡ false
   run-ended k next written_then run ended = ap (λ (s : MachineState). is_running s.ended) run.state ∙ after-ended system k now ended
 
-  pub run-waits : (k : ℕ) (next : MachineState) (written_then : Option (List ℕ)) → HasRun system k now next written written_then → waits_at system start keys (done + k) ≡ (look_of next).waiting
+  run-waits : (k : ℕ) (next : MachineState) (written_then : Option (List ℕ)) → HasRun system k now next written written_then → waits_at system start keys (done + k) ≡ (look_of next).waiting
   run-waits k next written_then run =
       going-waits k ∙ sym (waits-bare (after system k now)) ∙ sym (ap (λ (s : MachineState). (look_of s).waiting) run.state)
 
-  pub run-ends : (waits_from k : ℕ) (next : MachineState) → HasStopped false system (steps - done) k now next → HasEndedCued system start steps waits_from false keys (done + k) next
-  run-ends waits_from k next (inl all) = let within = going.within in inl (omega arith)
-  run-ends waits_from k next (inr ended) = inr ended
-
   -- steps up to a wait that counts
-  module _ (waits_from done_now : ℕ) (next : MachineState) (written_then : Option (List ℕ)) (idled : HasIdled system steps waits_from done done_now now next written written_then) where
+  module _ {waits_from done_now : ℕ} {next : MachineState} {written_then : Option (List ℕ)} (idled : HasIdled system steps waits_from done done_now now next written written_then) where
     past : done + (done_now - done) ≡ done_now
     past = let low = idled.low in omega arith
 
-    pub idle-going : done_now ≤ steps → IsGoing system steps most start next before written_then unrecorded record_now keys done_now
-    idle-going within =
+    -- the session goes on, with the same keys
+    pub idle-going : (more : List Key) → more ≡ keys → done_now ≤ steps → IsGoing system steps most start next before written_then unrecorded record_now more done_now
+    idle-going more same within =
         let P : ℕ → Type 0 = λ n. IsGoing system steps most start next before written_then unrecorded record_now keys n in
-        subst P past (going-run (done_now - done) next written_then (omega arith) idled.run)
+        let went : IsGoing system steps most start next before written_then unrecorded record_now keys done_now =
+        subst P past (going-run (done_now - done) next written_then (omega arith) idled.run) in
+        subst (λ ks. IsGoing system steps most start next before written_then unrecorded record_now ks done_now) (sym same) went
 
+    -- what it has shown then
     pub idle-shows : screen_at system start keys done_now ≡ screen_at system start keys done ++ (after system (done_now - done) now).cpm.console.screen
     idle-shows =
         let P : ℕ → Type 0 = λ n. screen_at system start keys n ≡ screen_at system start keys done ++ (after system (done_now - done) now).cpm.console.screen in
         subst P past (going-shows (done_now - done))
 
+    -- whether it waits there
     pub idle-waits : waits_at system start keys done_now ≡ (look_of next).waiting
     idle-waits =
         let P : ℕ → Type 0 = λ n. waits_at system start keys n ≡ (look_of next).waiting in
         subst P past (run-waits (done_now - done) next written_then idled.run)
 
+    -- where waits count it does not wait before
     pub idle-none : HasNoWait system start keys (max waits_from done) done_now
     idle-none i low high =
         let at : done + (i - done) ≡ i = omega arith in
         let P : ℕ → Type 0 = λ n. waits_at system start keys n ≡ false in
         subst P at (going-waits (i - done) ∙ idled.busy i low high)
 
+    -- nor behind an earlier key, if it did not so far
     pub idle-busy : (last : ℕ) → HasNoWait system start keys (max waits_from last) done → HasNoWait system start keys (max waits_from last) done_now
     idle-busy last first i low high = ⊎_elim (λ less. first i low less) (λ later. idle-none i (omega arith) high) (cases_lt i done)
 
-    pub idle-ends : (is_running now.ended ≡ false) ⊎ HasNoWait system start keys (max waits_from (last_count 0 keys)) done → HasEndedCued system start steps waits_from true keys done_now next
-    idle-ends (inl ended) = inl (run-ended (done_now - done) next written_then idled.run ended)
-    idle-ends (inr busy) =
-        let none = idle-busy (last_count 0 keys) busy in
-        ⊎_elim (λ (all : done_now ≡ steps). inr (none, inl all))
-        (λ rest. ⊎_elim (λ ended. inl ended) (λ waits. inr (none, inr (waits.0, idle-waits ∙ waits.1))) rest) idled.why
+    -- where it ends, if waits count from the same step on for as long as it stops where it is idle, and else from the last one on
+    pub idle-ends : (counted : ℕ) (stops : Bool) (more : List Key) → more ≡ keys → ((stops ≡ true) × (waits_from ≡ counted)) ⊎ ((stops ≡ false) × (waits_from ≡ steps)) → done_now ≤ steps →
+        (is_running now.ended ≡ false) ⊎ HasNoWait system start keys (max counted (last_count 0 keys)) done → HasEndedCued system start steps counted stops more done_now next
+    idle-ends counted stops more same (inl stop) within busy =
+        let P : List Key → Type 0 = λ ks. HasEndedCued system start steps counted stops ks done_now next in
+        let Q : Bool → Type 0 = λ b. HasEndedCued system start steps counted b keys done_now next in
+        subst P (sym same) (subst Q (sym stop.0) (⊎_elim (λ ended. inl (run-ended (done_now - done) next written_then idled.run ended)) (λ none. stopped-idle counted stop.1 none) busy))
+      where
+        stopped-idle : (counted : ℕ) → waits_from ≡ counted → HasNoWait system start keys (max counted (last_count 0 keys)) done → HasEndedCued system start steps counted true keys done_now next
+        stopped-idle counted at none =
+            let R : ℕ → Type 0 = λ n. HasNoWait system start keys (max n (last_count 0 keys)) done in
+            let S : ℕ → Type 0 = λ n. HasNoWait system start keys (max n (last_count 0 keys)) done_now in
+            let busy : HasNoWait system start keys (max counted (last_count 0 keys)) done_now = subst S at (idle-busy (last_count 0 keys) (subst R (sym at) none)) in
+            ⊎_elim (λ (all : done_now ≡ steps). inr (busy, inl all))
+            (λ rest. ⊎_elim (λ ended. inl ended) (λ waits. let from = waits.0 in inr (busy, inr ((let least : counted ≤ done_now = omega arith in least), idle-waits ∙ waits.1))) rest) idled.why
+    idle-ends counted stops more same (inr goes) within busy =
+        let Q : Bool → Type 0 = λ b. HasEndedCued system start steps counted b more done_now next in
+        let last = goes.1 in
+        subst Q (sym goes.0) (⊎_elim (λ (all : done_now ≡ steps). inl all)
+        (λ rest. ⊎_elim (λ ended. inr ended) (λ waits. let from = waits.0 in inl (omega arith)) rest) idled.why)

@@ -4,7 +4,6 @@ use Rattle.std.proofs.lemmas.Bool.{cases_lt}
 use Rattle.std.proofs.lemmas.Bool.Decides.{nat_tests}
 use Rattle.std.proofs.lemmas.List.{drop-append-le, drop_all, length_push, length-append, nil_from_length}
 use Rattle.std.specs.declared.alloc.Global.{Global}
-use Rattle.memchr.specs.Find.{OccursAt}
 use Rattle.cpm_geom.specs.Disk.{Disk}
 use Rattle.cpm_script.specs.declared.cue.Cue.{Cue}
 use Rattle.cpm_script.specs.declared.cue.Cue.TheVariants.{Key as Timed, Wait, Press}
@@ -17,7 +16,7 @@ use Rattle.cpm_slots.proofs.GrantLaws.{after-add}
 use Rattle.cpm_slots.proofs.PressLaws.{alone-pressed}
 use Rattle.cpm_turns.specs.Cued.{AreAscii, Comes, HasIdled, HasMissed, HasNoWait, HasPressed, HasShown, IsCued, IsCuedFrom, IsMet, key_count, last_count, looks_back, runs_at, screen_at, waits_at}
 use Rattle.cpm_turns.specs.Live.{IsGoing}
-use Rattle.cpm_turns.specs.Playing.{presses_of, alone_by, IsFresh}
+use Rattle.cpm_turns.specs.Playing.{presses_of, IsFresh}
 use Rattle.cpm_turns.proofs.AloneLemmas.{after-ended, after-pending, presses-more}
 use Rattle.cpm_turns.proofs.CuedLemmas.{going-run, going-runs, going-waits, idle-busy, idle-going, idle-none, idle-shows, idle-waits, last-more}
 use Rattle.cpm_turns.proofs.GoingLemmas.{going-key, going-start}
@@ -84,6 +83,10 @@ follow-start system start steps waits_from cues written record_now keys shown fr
       pending = let bare : length start.cpm.console.keys ≡ 0 = ap length fresh.keys in omega arith;
     })
 
+-- this cue is a key at this count, where the one before it counts from another on
+abbrev pub IsKeyAt : Cue → (done count byte : ℕ) → Type 0
+IsKeyAt x done count byte = ((k : Key) × (x ≡ Timed k) × (count ≡ max done k.count) × (byte ≡ k.byte)) ⊎ ((x ≡ Press byte) × (count ≡ done))
+
 -- What a key of the script at this count makes of the keys that come behind it.
 pub record IsKeyCue (system : Disk) (start : MachineState) (steps waits_from most : ℕ) (cues : List Cue) (keys : List Key) (done : ℕ) (key : Key) (others : List Cue) : Type 0 where
   pub later : done ≤ key.count
@@ -94,27 +97,39 @@ pub record IsKeyCue (system : Disk) (start : MachineState) (steps waits_from mos
       (Comes system start steps keys key.count × IsCuedFrom system start steps waits_from (keys ++ key ∷ []) key.count (length (screen_at system start keys key.count)) others ks)
       ⊎ ((Comes system start steps keys key.count → ⊥) × (ks ≡ keys)) → IsCued system start steps waits_from cues ks
 
-module _ (system : Disk) (start : MachineState) (steps waits_from most : ℕ) (cues : List Cue) (now : MachineState) (before written unrecorded record_now : Option (List ℕ))
-    (keys : List Key) (done : ℕ) (shown : List ℕ) where
+module _ {system : Disk} {start : MachineState} {steps waits_from most : ℕ} {cues : List Cue} {now : MachineState} {before written unrecorded record_now : Option (List ℕ)}
+    {keys : List Key} {done : ℕ} {shown : List ℕ} where
   -- the next cue is this one
-  pub at-cue : (x y : Cue) (rest others : List Cue) → rest ≡ x ∷ others → x ≡ y → IsFollowing system start steps waits_from most cues now before written unrecorded record_now keys done rest shown →
+  at-cue : (x y : Cue) (rest others : List Cue) → rest ≡ x ∷ others → x ≡ y → IsFollowing system start steps waits_from most cues now before written unrecorded record_now keys done rest shown →
       IsFollowing system start steps waits_from most cues now before written unrecorded record_now keys done (y ∷ others) shown
   at-cue x y rest others first is f =
       let P : List Cue → Type 0 = λ r. IsFollowing system start steps waits_from most cues now before written unrecorded record_now keys done r shown in
       subst P (first ∙ ap (λ c. c ∷ others) is) f
 
-  pub cue-timed : (k : Key) (count : ℕ) (others : List Cue) → count ≡ max done k.count → IsFollowing system start steps waits_from most cues now before written unrecorded record_now keys done (Timed k ∷ others) shown →
-      IsKeyCue system start steps waits_from most cues keys done (record { count = count; byte = k.byte }) others
-  cue-timed k count others at f =
-      let P : ℕ → Type 0 = λ n. IsKeyCue system start steps waits_from most cues keys done (record { count = n; byte = k.byte }) others in
-      subst P (sym at) (record { later = omega arith; ascii = f.ascii.0; others_ascii = f.ascii.1; room = f.room; cued = f.cued })
+  -- a wait, behind the same keys
+  pub at-wait : (x : Cue) (text : Vec ℕ Global) (rest others : List Cue) (more : List Key) → rest ≡ x ∷ others → x ≡ Wait text → more ≡ keys →
+      IsFollowing system start steps waits_from most cues now before written unrecorded record_now keys done rest shown →
+      IsFollowing system start steps waits_from most cues now before written unrecorded record_now more done (Wait text ∷ others) shown
+  at-wait x text rest others more first is same f =
+      subst (λ ks. IsFollowing system start steps waits_from most cues now before written unrecorded record_now ks done (Wait text ∷ others) shown) (sym same) (at-cue x (Wait text) rest others first is f)
 
-  pub cue-press : (b : ℕ) (others : List Cue) → IsFollowing system start steps waits_from most cues now before written unrecorded record_now keys done (Press b ∷ others) shown →
-      IsKeyCue system start steps waits_from most cues keys done (record { count = done; byte = b }) others
-  cue-press b others f = record { later = omega arith; ascii = f.ascii.0; others_ascii = f.ascii.1; room = f.room; cued = f.cued }
+  -- a key
+  pub at-key : (x : Cue) (rest others : List Cue) (count byte : ℕ) → rest ≡ x ∷ others → IsKeyAt x done count byte →
+      IsFollowing system start steps waits_from most cues now before written unrecorded record_now keys done rest shown →
+      IsKeyCue system start steps waits_from most cues keys done (record { count = count; byte = byte }) others
+  at-key x rest others count byte first (inl timed) following =
+      let k : Key = timed.0 in
+      let f = at-cue x (Timed k) rest others first timed.1 following in
+      let P : ℕ → Type 0 = λ n. IsKeyCue system start steps waits_from most cues keys done (record { count = n; byte = byte }) others in
+      let Q : ℕ → Type 0 = λ b. IsKeyCue system start steps waits_from most cues keys done (record { count = max done k.count; byte = b }) others in
+      subst P (sym timed.2) (subst Q (sym timed.3) (record { later = omega arith; ascii = f.ascii.0; others_ascii = f.ascii.1; room = f.room; cued = f.cued }))
+  at-key x rest others count byte first (inr press) following =
+      let f = at-cue x (Press byte) rest others first press.0 following in
+      let P : ℕ → Type 0 = λ n. IsKeyCue system start steps waits_from most cues keys done (record { count = n; byte = byte }) others in
+      subst P (sym press.1) (record { later = omega arith; ascii = f.ascii.0; others_ascii = f.ascii.1; room = f.room; cued = f.cued })
 
-  module _ (rest : List Cue) (following : IsFollowing system start steps waits_from most cues now before written unrecorded record_now keys done rest shown)
-      (key : Key) (others : List Cue) (cue : IsKeyCue system start steps waits_from most cues keys done key others) where
+  module _ {rest : List Cue} (following : IsFollowing system start steps waits_from most cues now before written unrecorded record_now keys done rest shown)
+      {key : Key} {others : List Cue} (cue : IsKeyCue system start steps waits_from most cues keys done key others) where
     pub takes-cue : most ≤ 4096 → takes_key now ≡ true
     takes-cue few =
         let pending = following.pending in
@@ -134,13 +149,13 @@ module _ (system : Disk) (start : MachineState) (steps waits_from most : ℕ) (c
         let reached : MachineState = bare (after system k now) in
         let P : ℕ → Type 0 = λ n. IsGoing system steps most start reached before written_then unrecorded record_now keys n in
         let went : IsGoing system steps most start reached before written_then unrecorded record_now keys key.count =
-        subst P there (going-run system steps most start now before written unrecorded record_now keys done going k reached written_then (omega arith) (record { state = refl; text = pressed.text })) in
+        subst P there (going-run going k reached written_then (omega arith) (record { state = refl; text = pressed.text })) in
         let count_room = cue.room in
         let same = screen-pressed system start keys more key is in
         let mark : ℕ = length (screen_at system start keys key.count) in
         let marks : length (screen_at system start more key.count) ≡ mark = ap length same in
         let runs : Comes system start steps keys key.count =
-        (within, subst (λ n. runs_at system start keys n ≡ true) there (going-runs system steps most start now before written unrecorded record_now keys done going k ∙ pressed.runs)) in
+        (within, subst (λ n. runs_at system start keys n ≡ true) there (going-runs going k ∙ pressed.runs)) in
         let longer : length more ≡ length keys + 1 = ap length is ∙ length_push keys key in
         let Q : ℕ → Type 0 = λ n. IsFollowing system start steps waits_from most cues next before written_then unrecorded record_then more n others left in
         subst Q (sym at) (record {
@@ -161,7 +176,7 @@ module _ (system : Disk) (start : MachineState) (steps waits_from most : ℕ) (c
         })
 
     -- a key that does not
-    module _ (next : MachineState) (written_then record_then : Option (List ℕ)) (more : List Key) (done_now : ℕ) (missed : HasMissed system key steps done done_now now next written written_then)
+    module _ {next : MachineState} {written_then record_then : Option (List ℕ)} {more : List Key} {done_now : ℕ} (missed : HasMissed system key steps done done_now now next written written_then)
         (still : (more ≡ keys) × (record_then ≡ record_now)) where
       never : Comes system start steps keys key.count → ⊥
       never comes = ⊎_elim (λ past. let far = past.0 in let near = comes.0 in omega arith)
@@ -176,7 +191,7 @@ module _ (system : Disk) (start : MachineState) (steps waits_from most : ℕ) (c
           ap (λ (s : MachineState). is_running s.ended) (after-add system k j now) ∙ after-ended system j (after system k now) stopped in
           let P : ℕ → Type 0 = λ n. runs_at system start keys n ≡ false in
           let off : runs_at system start keys key.count ≡ false =
-          subst P there (going-runs system steps most start now before written unrecorded record_now keys done following.going (k + j) ∙ last) in
+          subst P there (going-runs following.going (k + j) ∙ last) in
           true≢false (sym comes.1 ∙ off)) missed.why
 
       within-missed : done_now - done ≤ steps - done
@@ -189,7 +204,7 @@ module _ (system : Disk) (start : MachineState) (steps waits_from most : ℕ) (c
           let there : done + (done_now - done) ≡ done_now = omega arith in
           let P : ℕ → Type 0 = λ n. IsGoing system steps most start next before written_then unrecorded record_now keys n in
           let went : IsGoing system steps most start next before written_then unrecorded record_now keys done_now =
-          subst P there (going-run system steps most start now before written unrecorded record_now keys done following.going (done_now - done) next written_then within-missed missed.run) in
+          subst P there (going-run following.going (done_now - done) next written_then within-missed missed.run) in
           subst (λ r. IsGoing system steps most start next before written_then unrecorded r more done_now) (sym still.1)
           (subst (λ ks. IsGoing system steps most start next before written_then unrecorded record_now ks done_now) (sym still.0) went)
 
@@ -202,24 +217,24 @@ module _ (system : Disk) (start : MachineState) (steps waits_from most : ℕ) (c
   -- ---- waits
 
   -- steps up to a wait that counts, whose text was kept if it is looked for
-  module _ (text : Vec ℕ Global) (others : List Cue) (following : IsFollowing system start steps waits_from most cues now before written unrecorded record_now keys done (Wait text ∷ others) shown)
-      (done_now : ℕ) (next : MachineState) (written_then : Option (List ℕ)) (left : List ℕ) (within_steps : done_now ≤ steps)
+  module _ {text : Vec ℕ Global} {others : List Cue} (following : IsFollowing system start steps waits_from most cues now before written unrecorded record_now keys done (Wait text ∷ others) shown)
+      {done_now : ℕ} {next : MachineState} {written_then : Option (List ℕ)} (left : List ℕ) (within_steps : done_now ≤ steps)
       (idled : HasIdled system steps waits_from done done_now now next written written_then)
       (kept : looks_back (Wait text ∷ others) ≡ true → left ≡ shown ++ (after system (done_now - done) now).cpm.console.screen) where
     pub wait-going : IsGoing system steps most start next before written_then unrecorded record_now keys done_now
-    wait-going = idle-going system steps most start now before written unrecorded record_now keys done following.going waits_from done_now next written_then idled within_steps
+    wait-going = idle-going following.going idled keys refl within_steps
 
     none-before : HasNoWait system start keys (max waits_from done) done_now
-    none-before = idle-none system steps most start now before written unrecorded record_now keys done following.going waits_from done_now next written_then idled
+    none-before = idle-none following.going idled
 
     pub wait-busy : HasNoWait system start keys (max waits_from (last_count 0 keys)) done_now
-    wait-busy = idle-busy system steps most start now before written unrecorded record_now keys done following.going waits_from done_now next written_then idled (last_count 0 keys) following.busy
+    wait-busy = idle-busy following.going idled (last_count 0 keys) following.busy
 
     waits-there : waits_at system start keys done_now ≡ (look_of next).waiting
-    waits-there = idle-waits system steps most start now before written unrecorded record_now keys done following.going waits_from done_now next written_then idled
+    waits-there = idle-waits following.going idled
 
     grows : screen_at system start keys done_now ≡ screen_at system start keys done ++ (after system (done_now - done) now).cpm.console.screen
-    grows = idle-shows system steps most start now before written unrecorded record_now keys done following.going waits_from done_now next written_then idled
+    grows = idle-shows following.going idled
 
     seen : looks_back (Wait text ∷ others) ≡ true → left ≡ drop following.mark (screen_at system start keys done_now)
     seen looks =
@@ -292,7 +307,7 @@ module _ (system : Disk) (start : MachineState) (steps waits_from most : ℕ) (c
             ap (λ (s : MachineState). is_running s.ended) (after-add system k j now) ∙ after-ended system j (after system k now) halted in
             let P : ℕ → Type 0 = λ n. waits_at system start keys n ≡ false in
             let quiet : waits_at system start keys at ≡ false =
-            subst P there (going-waits system steps most start now before written unrecorded record_now keys done following.going (k + j) ∙ ended-waits (after system (k + j) now) last) in
+            subst P there (going-waits following.going (k + j) ∙ ended-waits (after system (k + j) now) last) in
             true≢false (sym met.next.waits ∙ quiet)
 
         waits-never : (at : ℕ) → done_now ≤ at → IsMet system start steps waits_from keys done following.mark text.items at →
@@ -323,8 +338,8 @@ module _ (system : Disk) (start : MachineState) (steps waits_from most : ℕ) (c
     past-cued past = following.cued keys (inr (never-met (inl past), refl))
 
 -- behind the last cue
-pub follow-end : (system : Disk) (start : MachineState) (steps waits_from most : ℕ) (cues : List Cue) (now : MachineState) (before written unrecorded record_now : Option (List ℕ))
-    (keys : List Key) (done : ℕ) (rest : List Cue) (shown : List ℕ) → rest ≡ [] → IsFollowing system start steps waits_from most cues now before written unrecorded record_now keys done rest shown → IsCued system start steps waits_from cues keys
-follow-end system start steps waits_from most cues now before written unrecorded record_now keys done rest shown none following =
+pub follow-end : {system : Disk} {start : MachineState} {steps waits_from most : ℕ} {cues : List Cue} {now : MachineState} {before written unrecorded record_now : Option (List ℕ)}
+    {keys : List Key} {done : ℕ} {rest : List Cue} {shown : List ℕ} → rest ≡ [] → IsFollowing system start steps waits_from most cues now before written unrecorded record_now keys done rest shown → IsCued system start steps waits_from cues keys
+follow-end {system} {start} {steps} {waits_from} {most} {cues} {now} {before} {written} {unrecorded} {record_now} {keys} {done} {rest} {shown} none following =
     let P : List Cue → Type 0 = λ r. IsCuedFrom system start steps waits_from keys done following.mark r keys in
     following.cued keys (subst P (sym none) refl)

@@ -4,7 +4,7 @@ use Rattle.std.proofs.lemmas.List.{append_assoc}
 use Rattle.cpm_geom.specs.Disk.{Disk}
 use Rattle.cpm_script.specs.declared.cue.Cue.TheVariants.{Key as Timed}
 use Rattle.cpm_script.specs.declared.script.Key.{Key}
-use Rattle.cpm_slots.specs.Alone.{due, alone}
+use Rattle.cpm_slots.specs.Alone.{alone}
 use Rattle.cpm_slots.specs.MachineState.{MachineState}
 use Rattle.cpm_slots.specs.Step.{is_running}
 use Rattle.cpm_turns.specs.Cued.{Comes, IsCuedFrom, runs_at, screen_at}

@@ -1,5 +1,5 @@
 -- Steps that are executed in turns, whose output is taken after each, and those up to a wait.
-use Rattle.std.proofs.Common.{◌≡◌, ℕ, zero, suc, ◌+◌, ◌-◌, ◌<◌, ◌≤◌, ◌&&◌, nat_le, not, min, Bool, true, false, true≢false, ◌⊎◌, inl, inr, ⊎_elim, Option, Some, None, is_some, List, [], ◌∷◌, ◌++◌, length, refl, sym, ap, ap₂, ◌∙◌, subst, arith, append-nil}
+use Rattle.std.proofs.Common.{◌≡◌, ℕ, ◌+◌, ◌-◌, ◌<◌, ◌≤◌, ◌&&◌, nat_le, not, min, Bool, true, false, true≢false, ◌⊎◌, inl, inr, ⊎_elim, Option, Some, None, is_some, List, [], ◌++◌, length, refl, sym, ap, ap₂, ◌∙◌, subst, arith, append-nil}
 use Rattle.std.proofs.lemmas.List.{append_assoc}
 use Rattle.std.proofs.lemmas.Bool.{cases_lt}
 use Rattle.std.specs.Io.KnownBytes.{Appends}
@@ -190,21 +190,30 @@ pub record HasTurned (to_wait : Bool) (system : Disk) (most k : ℕ) (old now : 
   pub busy : to_wait ≡ true → IsBusyFor system k old
   pub stopped : IsQuiet old → k ≡ 0 → (is_running now.ended ≡ false) ⊎ ((to_wait ≡ true) × ((look_of now).waiting ≡ true))
 
-pub turned-to-wait : (to_wait : Bool) (system : Disk) (most n k : ℕ) (old now : MachineState) → to_wait ≡ true → 0 < n → n ≤ most → k ≤ n → k ≡ executed_to_wait system n old → now ≡ after system k old → HasTurned to_wait system most k old now
-turned-to-wait to_wait system most n k old now waits some fits within is at = record {
-  within = omega arith;
-  state = at;
-  busy = λ _. busy-granted system n k old is;
-  stopped = λ quiet none. ⊎_elim (λ ended. inl ended) (λ there. inr (waits, there)) (stopped-waits system n k old now quiet some is none at);
-}
+-- a grant up to a wait is such a turn
+pub turned-to-wait : (to_wait : Bool) (system : Disk) (most n k r : ℕ) (old now there : MachineState) → k ≡ r → now ≡ there → to_wait ≡ true → 0 < n → n ≤ most → r ≤ n → r ≡ executed_to_wait system n old → there ≡ after system r old →
+    HasTurned to_wait system most k old now
+turned-to-wait to_wait system most n k r old now there count state waits some fits within is at =
+    let done : k ≡ executed_to_wait system n old = count ∙ is in
+    let reached : now ≡ after system k old = state ∙ at ∙ ap (λ m. after system m old) (sym count) in
+    record {
+      within = omega arith;
+      state = reached;
+      busy = λ _. busy-granted system n k old done;
+      stopped = λ quiet none. ⊎_elim (λ ended. inl ended) (λ waiting. inr (waits, waiting)) (stopped-waits system n k old now quiet some done none reached);
+    }
 
-pub turned-on : (to_wait : Bool) (system : Disk) (most n k : ℕ) (old now : MachineState) → to_wait ≡ false → 0 < n → n ≤ most → k ≤ n → k ≡ executed system n old → now ≡ after system k old → HasTurned to_wait system most k old now
-turned-on to_wait system most n k old now not some fits within is at = record {
-  within = omega arith;
-  state = at;
-  busy = λ waits. absurd (true≢false (sym waits ∙ not));
-  stopped = λ quiet none. inl (stopped-ended system n k old now quiet some is none at);
-}
+-- a grant that waits do not stop is one where it is not asked to stop
+pub turned-on : (to_wait : Bool) (system : Disk) (most n k r : ℕ) (old now there : MachineState) → k ≡ r → now ≡ there → to_wait ≡ false → 0 < n → n ≤ most → r ≤ n → r ≡ executed system n old → there ≡ after system r old →
+    HasTurned to_wait system most k old now
+turned-on to_wait system most n k r old now there count state not some fits within is at =
+    let reached : now ≡ after system k old = state ∙ at ∙ ap (λ m. after system m old) (sym count) in
+    record {
+      within = omega arith;
+      state = reached;
+      busy = λ waits. absurd (true≢false (sym waits ∙ not));
+      stopped = λ quiet none. inl (stopped-ended system n k old now quiet some (count ∙ is) none reached);
+    }
 
 -- a run whose last turn makes no step
 pub run-stopped : (to_wait : Bool) (system : Disk) (steps k : ℕ) (old now : MachineState) → (to_wait ≡ true → IsBusyFor system k old) →
@@ -223,6 +232,7 @@ run-all true system steps k old now busy all = (busy refl, inl all)
 
 module _ (system : Disk) (steps waits_from done pause k j : ℕ) (old mid next : MachineState) (before middle written : Option (List ℕ))
     (within_steps : done ≤ steps) (paused : pause ≡ min waits_from steps - done) (fits : k ≤ pause) (run : HasRun system k old mid before middle) where
+  -- where the steps behind the pause are cut short
   pub pause-cut : (e : LiveError) → IsRunCut system (steps - (done + k)) mid next middle written e → IsRunCut system (steps - done) old next before written e
   pause-cut e cut = run-cut system k old mid before middle run (steps - done) cut.0 (after system cut.0 mid) next written e (let less = cut.1 in omega arith) refl cut.2
 
@@ -231,6 +241,7 @@ module _ (system : Disk) (steps waits_from done pause k j : ℕ) (old mid next :
     together : (done + k + j) - done ≡ k + j
     together = omega arith
 
+    -- both together are the steps up to a wait that counts
     pub pause-idled : HasIdled system steps waits_from done (done + k + j) old next before written
     pause-idled = record {
       low = omega arith;
@@ -256,6 +267,7 @@ module _ (system : Disk) (steps waits_from done pause k j : ℕ) (old mid next :
             ⊎_elim (λ (past : steps < waits_from). inl (omega arith)) (λ (counts : waits_from ≤ steps). inr (inr (omega arith, there))) (cases_lt steps waits_from))
             (λ ended. inr (inl (ended_then ended))) stopped
 
+    -- and what is kept is what both showed
     pub pause-kept : (start kept more : List ℕ) → kept ≡ start ++ (after system k old).cpm.console.screen → more ≡ kept ++ (after system j mid).cpm.console.screen →
         more ≡ start ++ (after system ((done + k + j) - done) old).cpm.console.screen
     pause-kept start kept more had is =

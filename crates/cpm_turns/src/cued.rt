@@ -310,20 +310,20 @@ pub fn play_cues<W: Write, S: Write>(
         (S.contents record.old) (S.contents record.new)) }
 {
     let mut live = follow(alloc, system, machine, steps, cued, out, record)?;
-    let mut unkept = Vec::new(alloc);
-    if cued.stops_idle {
-        live.idle(
-            system,
-            machine,
-            steps,
-            cued.waits_from,
-            false,
-            &mut unkept,
-            out,
-        )?;
+    // One that does not stop where it is idle runs on as if waits counted from its end on.
+    let waits_from = if cued.stops_idle {
+        cued.waits_from
     } else {
-        let left = steps - live.steps;
-        live.steps += run(system, machine, left, false, false, &mut unkept, out)?;
-    }
+        steps
+    };
+    live.idle(
+        system,
+        machine,
+        steps,
+        waits_from,
+        false,
+        &mut Vec::new(alloc),
+        out,
+    )?;
     Ok(live)
 }

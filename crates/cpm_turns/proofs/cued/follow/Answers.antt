@@ -1,210 +1,143 @@
-use Rattle.std.proofs.Common.{rules, ◌≡◌, ◌-◌, ◌<◌, ◌≤◌, max, ◌++◌, ◌∷◌, [], ◌⊎◌, true, false, IfErr, IfOk, OnErr, OnOk, ℕ, ◌+◌, ◌*◌, length, ◌/◌, ◌%◌, Bool, nat_eq, nat_lt, List, slice_index_or, slice_set, bit_and, bit_or, Fits, w8, w32, w64, Bor, MutBor}
-use Rattle.std.specs.Io.KnownBytes.{Appends}
-use Rattle.cpm_script.specs.Recording.{recorded}
-use Rattle.cpm_slots.specs.Serve.{look_of, takes_key}
-use Rattle.cpm_slots.specs.Step.{after, is_running}
-use Rattle.cpm_turns.specs.Cued.{AreAscii, HasEndedCued, HasIdled, HasMissed, HasNoWait, HasPressed, HasRun, HasShown, HasStopped, IsCued, IsCutOff, IsPressCut, IsRunCut, IsTaken, IsUntaken, key_count, last_count, looks_back}
-use Rattle.cpm_turns.specs.Live.{AreGiven, IsGoing}
-use Rattle.cpm_turns.specs.Pacing.{without_text}
-use Rattle.cpm_turns.specs.Playing.{EndsAs, HasText, IsFresh, IsQuiet, alone_by}
+use Rattle.std.proofs.Common.{◌≡◌, ◌∷◌, ◌∙◌, ap, inl, inr, arith, sym}
+use Rattle.std.proofs.lemmas.List.{nil_from_length}
+use Rattle.std.proofs.lemmas.Result.{err_from_is_err_and}
+use Rattle.cpm_script.specs.declared.cue.Cue.TheVariants.{Wait, Press}
+use Rattle.cpm_turns.specs.Cued.{looks_back}
+use Rattle.cpm_turns.proofs.CuedLemmas.{going-cut, going-press-cut}
+use Rattle.cpm_turns.proofs.FollowLemmas.{at-key, at-wait, follow-end, follow-found, follow-pressed, follow-start, missed-busy, missed-cued, missed-going, past-cued, takes-cue, unfound-cued, wait-busy, wait-going}
+use Rattle.cpm_turns.proofs.cued.follow.Goals.{in-Key, in-Press, else-live-steps-via-then-live-steps+else-has_met, else-live-steps-via-else-live-steps}
 use Rattle.cpm_turns.proofs.cued.follow.Goals as goal
 
--- src/cued.rt:250:15
-pub new-requires : goal.new-requires
-new-requires g c κs = ?
-
--- src/cued.rt:253:21
-pub new-shown-requires : goal.new-shown-requires
-new-shown-requires g c κs = ?
-
--- src/cued.rt:255:5
 pub loop-cue-init : goal.loop-cue-init
-loop-cue-init g c = ?
+loop-cue-init g c =
+    follow-start c.args.system.now c.args.machine.now c.args.steps c.args.cued.waits_from c.args.cued.cues.now (g.W.Write.contents c.args.out.now) (g.S.Write.contents c.args.record.now) c.new.result.items c.new-shown.result.items
+    c.requires.fresh c.requires.ascii c.new.ensures.items c.new-shown.ensures.items
 
--- src/cued.rt:255:36
-pub split_first-requires : goal.split_first-requires
-split_first-requires g c κs = ?
-
--- src/cued.rt:256:13
-pub looks_back-keeps-requires : goal.looks_back-keeps-requires
-looks_back-keeps-requires g c = ?
-
--- src/cued.rt:259:31
-pub max-requires : goal.max-requires
-max-requires g c = ?
-
--- src/cued.rt:262:17
-pub idle-requires-clause-quiet : goal.idle-requires-clause-quiet
-idle-requires-clause-quiet g c = ?
-
--- src/cued.rt:262:17
-pub idle-requires-clause-within : goal.idle-requires-clause-within
-idle-requires-clause-within g c = ?
-
--- src/cued.rt:262:17
-pub branch-idle-requires : goal.branch-idle-requires
-branch-idle-requires g c κs = ?
-
--- src/cued.rt:262:17
-pub from_residual-requires : goal.from_residual-requires
-from_residual-requires g c κs = ?
-
--- src/cued.rt:253:9
-pub drop-shown-requires : goal.drop-shown-requires
-drop-shown-requires g c κs = ?
-
--- src/cued.rt:249:9
-pub drop-live-requires : goal.drop-live-requires
-drop-live-requires g c κs = ?
-
--- src/cued.rt:262:17
-pub returns-in_err-idle-in-Wait-clause-going : goal.returns-in_err-idle-in-Wait-clause-going
-returns-in_err-idle-in-Wait-clause-going g c = ?
-
--- src/cued.rt:262:17
-pub returns-in_err-idle-in-Wait-clause-keys : goal.returns-in_err-idle-in-Wait-clause-keys
-returns-in_err-idle-in-Wait-clause-keys g c = ?
-
--- src/cued.rt:262:17
-pub returns-in_err-idle-in-Wait-clause-busy : goal.returns-in_err-idle-in-Wait-clause-busy
-returns-in_err-idle-in-Wait-clause-busy g c = ?
-
--- src/cued.rt:262:17
-pub returns-in_err-idle-in-Wait-clause-refused : goal.returns-in_err-idle-in-Wait-clause-refused
-returns-in_err-idle-in-Wait-clause-refused g c = ?
-
--- src/cued.rt:271:59
-pub as_slice-requires : goal.as_slice-requires
-as_slice-requires g c κs = ?
-
--- src/cued.rt:271:76
-pub as_slice-requires-then-live-steps : goal.as_slice-requires-then-live-steps
-as_slice-requires-then-live-steps g c κs = ?
-
--- src/cued.rt:271:42
-pub has_met-requires : goal.has_met-requires
-has_met-requires g c = ?
-
--- src/cued.rt:255:5
-pub loop-cue-smaller-then-has_met : goal.loop-cue-smaller-then-has_met
-loop-cue-smaller-then-has_met g c = ?
-
--- src/cued.rt:255:5
-pub loop-cue-preserved-then-has_met : goal.loop-cue-preserved-then-has_met
-loop-cue-preserved-then-has_met g c = ?
-
--- src/cued.rt:253:9
-pub drop-shown-requires-in-Wait : goal.drop-shown-requires-in-Wait
-drop-shown-requires-in-Wait g c κs = ?
-
--- src/cued.rt:274:17
-pub returns-in-Wait-clause-going : goal.returns-in-Wait-clause-going
-returns-in-Wait-clause-going g c = ?
-
--- src/cued.rt:274:17
-pub returns-in-Wait-clause-keys : goal.returns-in-Wait-clause-keys
-returns-in-Wait-clause-keys g c = ?
-
--- src/cued.rt:274:17
-pub returns-in-Wait-clause-busy : goal.returns-in-Wait-clause-busy
-returns-in-Wait-clause-busy g c = ?
-
--- src/cued.rt:274:17
-pub returns-in-Wait-clause-refused : goal.returns-in-Wait-clause-refused
-returns-in-Wait-clause-refused g c = ?
-
--- src/cued.rt:278:13
 pub press-requires-clause-ascii : goal.press-requires-clause-ascii
-press-requires-clause-ascii g c = ?
+press-requires-clause-ascii g c =
+    let cue = at-key c.in-Some.cue.now c.loop-cue.rest.now c.in-Some.after.now c.match-cue.count.0 c.match-cue.count.1 c.in-Some.ensures.cases.0
+    (elim c.match-cue.branch [
+      | in-Key w ↦ inl (w.in-Key.key, w.in-Key.is, ap (λ p. p.0) w.count-is ∙ w.max.ensures, ap (λ p. p.1) w.count-is)
+      | in-Press w ↦ inr (w.in-Press.is ∙ sym (ap (λ p. Press p.1) w.count-is), ap (λ p. p.0) w.count-is)
+    ]) c.loop-cue.invariant in
+    cue.ascii
 
--- src/cued.rt:278:13
 pub press-requires-clause-later : goal.press-requires-clause-later
-press-requires-clause-later g c = ?
+press-requires-clause-later g c =
+    let cue = at-key c.in-Some.cue.now c.loop-cue.rest.now c.in-Some.after.now c.match-cue.count.0 c.match-cue.count.1 c.in-Some.ensures.cases.0
+    (elim c.match-cue.branch [
+      | in-Key w ↦ inl (w.in-Key.key, w.in-Key.is, ap (λ p. p.0) w.count-is ∙ w.max.ensures, ap (λ p. p.1) w.count-is)
+      | in-Press w ↦ inr (w.in-Press.is ∙ sym (ap (λ p. Press p.1) w.count-is), ap (λ p. p.0) w.count-is)
+    ]) c.loop-cue.invariant in
+    cue.later
 
--- src/cued.rt:278:13
 pub press-requires-clause-quiet : goal.press-requires-clause-quiet
-press-requires-clause-quiet g c = ?
+press-requires-clause-quiet g c =
+    c.loop-cue.invariant.going.quiet
 
--- src/cued.rt:278:13
 pub press-requires-clause-room : goal.press-requires-clause-room
-press-requires-clause-room g c = ?
+press-requires-clause-room g c =
+    let cue = at-key c.in-Some.cue.now c.loop-cue.rest.now c.in-Some.after.now c.match-cue.count.0 c.match-cue.count.1 c.in-Some.ensures.cases.0
+    (elim c.match-cue.branch [
+      | in-Key w ↦ inl (w.in-Key.key, w.in-Key.is, ap (λ p. p.0) w.count-is ∙ w.max.ensures, ap (λ p. p.1) w.count-is)
+      | in-Press w ↦ inr (w.in-Press.is ∙ sym (ap (λ p. Press p.1) w.count-is), ap (λ p. p.0) w.count-is)
+    ]) c.loop-cue.invariant in
+    takes-cue c.loop-cue.invariant cue c.requires.few
 
--- src/cued.rt:278:13
-pub branch-press-requires : goal.branch-press-requires
-branch-press-requires g c κs = ?
-
--- src/cued.rt:278:13
-pub from_residual-requires-in_err-press : goal.from_residual-requires-in_err-press
-from_residual-requires-in_err-press g c κs = ?
-
--- src/cued.rt:253:9
-pub drop-shown-requires-in_err-press : goal.drop-shown-requires-in_err-press
-drop-shown-requires-in_err-press g c κs = ?
-
--- src/cued.rt:249:9
-pub drop-live-requires-in_err-press : goal.drop-live-requires-in_err-press
-drop-live-requires-in_err-press g c κs = ?
-
--- src/cued.rt:278:13
-pub returns-in_err-press-clause-going : goal.returns-in_err-press-clause-going
-returns-in_err-press-clause-going g c = ?
-
--- src/cued.rt:278:13
-pub returns-in_err-press-clause-keys : goal.returns-in_err-press-clause-keys
-returns-in_err-press-clause-keys g c = ?
-
--- src/cued.rt:278:13
-pub returns-in_err-press-clause-busy : goal.returns-in_err-press-clause-busy
-returns-in_err-press-clause-busy g c = ?
-
--- src/cued.rt:278:13
-pub returns-in_err-press-clause-refused : goal.returns-in_err-press-clause-refused
-returns-in_err-press-clause-refused g c = ?
-
--- src/cued.rt:253:9
-pub drop-shown-requires-then-not-branch : goal.drop-shown-requires-then-not-branch
-drop-shown-requires-then-not-branch g c κs = ?
-
--- src/cued.rt:279:13
-pub returns-then-not-branch-clause-going : goal.returns-then-not-branch-clause-going
-returns-then-not-branch-clause-going g c = ?
-
--- src/cued.rt:279:13
-pub returns-then-not-branch-clause-keys : goal.returns-then-not-branch-clause-keys
-returns-then-not-branch-clause-keys g c = ?
-
--- src/cued.rt:279:13
-pub returns-then-not-branch-clause-busy : goal.returns-then-not-branch-clause-busy
-returns-then-not-branch-clause-busy g c = ?
-
--- src/cued.rt:279:13
-pub returns-then-not-branch-clause-refused : goal.returns-then-not-branch-clause-refused
-returns-then-not-branch-clause-refused g c = ?
-
--- src/cued.rt:255:5
-pub loop-cue-smaller : goal.loop-cue-smaller
-loop-cue-smaller g c = ?
-
--- src/cued.rt:255:5
 pub loop-cue-preserved : goal.loop-cue-preserved
-loop-cue-preserved g c = ?
+loop-cue-preserved g c =
+    let cue = at-key c.in-Some.cue.now c.loop-cue.rest.now c.in-Some.after.now c.match-cue.count.0 c.match-cue.count.1 c.in-Some.ensures.cases.0
+    (elim c.match-cue.branch [
+      | in-Key w ↦ inl (w.in-Key.key, w.in-Key.is, ap (λ p. p.0) w.count-is ∙ w.max.ensures, ap (λ p. p.1) w.count-is)
+      | in-Press w ↦ inr (w.in-Press.is ∙ sym (ap (λ p. Press p.1) w.count-is), ap (λ p. p.0) w.count-is)
+    ]) c.loop-cue.invariant in
+    let came = c.in_ok-press.ensures.count c.if-not-branch.false in
+    follow-pressed c.loop-cue.invariant cue c.press.new.machine (g.W.Write.contents c.press.new.out) (g.S.Write.contents c.press.new.record) c.press.new.self.keys.items c.press.new.self.steps c.press.new.shown.items
+    came.0 (let most = c.ranges.steps.fits in omega arith) came.1 (c.in_ok-press.ensures.pressed c.if-not-branch.false) (c.in_ok-press.ensures.keys c.if-not-branch.false) (c.in_ok-press.ensures.forgotten c.if-not-branch.false)
 
--- src/cued.rt:253:9
-pub drop-shown-requires-2 : goal.drop-shown-requires-2
-drop-shown-requires-2 g c κs = ?
+pub returns-then-not-branch-clause-going : goal.returns-then-not-branch-clause-going
+returns-then-not-branch-clause-going g c =
+    let cue = at-key c.in-Some.cue.now c.loop-cue.rest.now c.in-Some.after.now c.match-cue.count.0 c.match-cue.count.1 c.in-Some.ensures.cases.0
+    (elim c.match-cue.branch [
+      | in-Key w ↦ inl (w.in-Key.key, w.in-Key.is, ap (λ p. p.0) w.count-is ∙ w.max.ensures, ap (λ p. p.1) w.count-is)
+      | in-Press w ↦ inr (w.in-Press.is ∙ sym (ap (λ p. Press p.1) w.count-is), ap (λ p. p.0) w.count-is)
+    ]) c.loop-cue.invariant in
+    missed-going c.loop-cue.invariant cue (c.in_ok-press.ensures.missed c.if-not-branch.true) (c.in_ok-press.ensures.still c.if-not-branch.true)
 
--- src/cued.rt:229:1
+pub returns-then-not-branch-clause-keys : goal.returns-then-not-branch-clause-keys
+returns-then-not-branch-clause-keys g c =
+    let cue = at-key c.in-Some.cue.now c.loop-cue.rest.now c.in-Some.after.now c.match-cue.count.0 c.match-cue.count.1 c.in-Some.ensures.cases.0
+    (elim c.match-cue.branch [
+      | in-Key w ↦ inl (w.in-Key.key, w.in-Key.is, ap (λ p. p.0) w.count-is ∙ w.max.ensures, ap (λ p. p.1) w.count-is)
+      | in-Press w ↦ inr (w.in-Press.is ∙ sym (ap (λ p. Press p.1) w.count-is), ap (λ p. p.0) w.count-is)
+    ]) c.loop-cue.invariant in
+    missed-cued c.loop-cue.invariant cue (c.in_ok-press.ensures.missed c.if-not-branch.true) (c.in_ok-press.ensures.still c.if-not-branch.true)
+
+pub returns-then-not-branch-clause-busy : goal.returns-then-not-branch-clause-busy
+returns-then-not-branch-clause-busy g c =
+    let cue = at-key c.in-Some.cue.now c.loop-cue.rest.now c.in-Some.after.now c.match-cue.count.0 c.match-cue.count.1 c.in-Some.ensures.cases.0
+    (elim c.match-cue.branch [
+      | in-Key w ↦ inl (w.in-Key.key, w.in-Key.is, ap (λ p. p.0) w.count-is ∙ w.max.ensures, ap (λ p. p.1) w.count-is)
+      | in-Press w ↦ inr (w.in-Press.is ∙ sym (ap (λ p. Press p.1) w.count-is), ap (λ p. p.0) w.count-is)
+    ]) c.loop-cue.invariant in
+    missed-busy c.loop-cue.invariant cue (c.in_ok-press.ensures.missed c.if-not-branch.true) (c.in_ok-press.ensures.still c.if-not-branch.true)
+
+pub returns-in_err-press-clause-refused : goal.returns-in_err-press-clause-refused
+returns-in_err-press-clause-refused g c =
+    let p = err_from_is_err_and c.from_residual-in_err-press.result c.from_residual-in_err-press.ensures.1 in
+    rw (p.1, p.2) (going-press-cut c.loop-cue.invariant.going c.press.new.machine (g.W.Write.contents c.press.new.out) (g.S.Write.contents c.press.new.record) c.in_err-press.field-0.0 c.in_err-press.ensures.refused)
+
+pub idle-requires-clause-quiet : goal.idle-requires-clause-quiet
+idle-requires-clause-quiet g c =
+    c.loop-cue.invariant.going.quiet
+
+pub idle-requires-clause-within : goal.idle-requires-clause-within
+idle-requires-clause-within g c =
+    c.loop-cue.invariant.going.within
+
+pub returns-in_err-idle-in-Wait-clause-refused : goal.returns-in_err-idle-in-Wait-clause-refused
+returns-in_err-idle-in-Wait-clause-refused g c =
+    let p = err_from_is_err_and c.from_residual.result c.from_residual.ensures.1 in
+    rw (p.1, p.2) (going-cut c.loop-cue.invariant.going c.idle.new.machine (g.W.Write.contents c.idle.new.out) c.in_err-idle-in-Wait.field-0.0 c.in_err-idle-in-Wait.ensures.refused)
+
+pub loop-cue-preserved-then-has_met : goal.loop-cue-preserved-then-has_met
+loop-cue-preserved-then-has_met g c =
+    let next : c.loop-cue.rest.now ≡ Wait c.in-Wait.text ∷ c.in-Some.after.now = c.in-Some.ensures.cases.0 ∙ ap (λ x. x ∷ c.in-Some.after.now) c.in-Wait.is in
+    let following = at-wait c.in-Some.cue.now c.in-Wait.text c.loop-cue.rest.now c.in-Some.after.now c.idle.new.self.keys.items c.in-Some.ensures.cases.0 c.in-Wait.is c.idle.ensures.still c.loop-cue.invariant in
+    follow-found following c.idle.new.shown.items c.in_ok-idle-in-Wait.ensures.within c.in_ok-idle-in-Wait.ensures.idled (λ looks. c.in_ok-idle-in-Wait.ensures.kept (c.looks_back-keeps.ensures ∙ ap looks_back next ∙ looks))
+    c.as_slice.result.now c.as_slice-then-live-steps.result.now c.as_slice.ensures.value c.as_slice-then-live-steps.ensures.value c.if-live-steps.true (c.has_met.ensures.met c.if-has_met.true)
+
+pub returns-in-Wait-clause-going : goal.returns-in-Wait-clause-going
+returns-in-Wait-clause-going g c =
+    let next : c.loop-cue.rest.now ≡ Wait c.in-Wait.text ∷ c.in-Some.after.now = c.in-Some.ensures.cases.0 ∙ ap (λ x. x ∷ c.in-Some.after.now) c.in-Wait.is in
+    let following = at-wait c.in-Some.cue.now c.in-Wait.text c.loop-cue.rest.now c.in-Some.after.now c.idle.new.self.keys.items c.in-Some.ensures.cases.0 c.in-Wait.is c.idle.ensures.still c.loop-cue.invariant in
+    wait-going following c.idle.new.shown.items c.in_ok-idle-in-Wait.ensures.within c.in_ok-idle-in-Wait.ensures.idled (λ looks. c.in_ok-idle-in-Wait.ensures.kept (c.looks_back-keeps.ensures ∙ ap looks_back next ∙ looks))
+
+pub returns-in-Wait-clause-keys : goal.returns-in-Wait-clause-keys
+returns-in-Wait-clause-keys g c =
+    let next : c.loop-cue.rest.now ≡ Wait c.in-Wait.text ∷ c.in-Some.after.now = c.in-Some.ensures.cases.0 ∙ ap (λ x. x ∷ c.in-Some.after.now) c.in-Wait.is in
+    let following = at-wait c.in-Some.cue.now c.in-Wait.text c.loop-cue.rest.now c.in-Some.after.now c.idle.new.self.keys.items c.in-Some.ensures.cases.0 c.in-Wait.is c.idle.ensures.still c.loop-cue.invariant in
+    elim c.else-live-steps.branch [
+      | else-live-steps-via-then-live-steps+else-has_met w ↦
+          unfound-cued following c.idle.new.shown.items c.in_ok-idle-in-Wait.ensures.within c.in_ok-idle-in-Wait.ensures.idled (λ looks. c.in_ok-idle-in-Wait.ensures.kept (c.looks_back-keeps.ensures ∙ ap looks_back next ∙ looks))
+          w.as_slice.result.now w.as_slice-then-live-steps.result.now w.as_slice.ensures.value w.as_slice-then-live-steps.ensures.value (w.has_met.ensures.unmet w.if-has_met.false)
+      | else-live-steps-via-else-live-steps w ↦ past-cued following c.idle.new.shown.items c.in_ok-idle-in-Wait.ensures.within c.in_ok-idle-in-Wait.ensures.idled (λ looks. c.in_ok-idle-in-Wait.ensures.kept (c.looks_back-keeps.ensures ∙ ap looks_back next ∙ looks)) w.if-live-steps.false
+    ]
+
+pub returns-in-Wait-clause-busy : goal.returns-in-Wait-clause-busy
+returns-in-Wait-clause-busy g c =
+    let next : c.loop-cue.rest.now ≡ Wait c.in-Wait.text ∷ c.in-Some.after.now = c.in-Some.ensures.cases.0 ∙ ap (λ x. x ∷ c.in-Some.after.now) c.in-Wait.is in
+    let following = at-wait c.in-Some.cue.now c.in-Wait.text c.loop-cue.rest.now c.in-Some.after.now c.idle.new.self.keys.items c.in-Some.ensures.cases.0 c.in-Wait.is c.idle.ensures.still c.loop-cue.invariant in
+    inr (wait-busy following c.idle.new.shown.items c.in_ok-idle-in-Wait.ensures.within c.in_ok-idle-in-Wait.ensures.idled (λ looks. c.in_ok-idle-in-Wait.ensures.kept (c.looks_back-keeps.ensures ∙ ap looks_back next ∙ looks)))
+
 pub returns-clause-going : goal.returns-clause-going
-returns-clause-going g c = ?
+returns-clause-going g c =
+    c.loop-cue.invariant.going
 
--- src/cued.rt:229:1
 pub returns-clause-keys : goal.returns-clause-keys
-returns-clause-keys g c = ?
+returns-clause-keys g c =
+    follow-end (nil_from_length c.loop-cue.rest.now c.in_default.ensures.cases) c.loop-cue.invariant
 
--- src/cued.rt:229:1
 pub returns-clause-busy : goal.returns-clause-busy
-returns-clause-busy g c = ?
-
--- src/cued.rt:229:1
-pub returns-clause-refused : goal.returns-clause-refused
-returns-clause-refused g c = ?
+returns-clause-busy g c =
+    inr c.loop-cue.invariant.busy
