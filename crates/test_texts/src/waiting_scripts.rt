@@ -7,18 +7,22 @@ use cpm_script::{
 use std::process::Abort;
 
 /// A cue, with its text as a slice.
-#[derive(Clone, Copy, Debug, PartialEq, Eq)]
+#[derive(Clone, Copy, Debug)]
 enum Row<'a> {
     Key(u64, u8),
     Wait(&'a [u8]),
     Press(u8),
 }
 
-fn row_of(cue: &Cue) -> Row<'_> {
-    match cue {
-        Cue::Key(key) => Row::Key(key.count, key.byte),
-        Cue::Wait(text) => Row::Wait(text.as_slice()),
-        Cue::Press(byte) => Row::Press(*byte),
+impl Row<'_> {
+    /// Whether a cue is this one.
+    fn is(&self, cue: &Cue) -> bool {
+        match (self, cue) {
+            (Row::Key(count, byte), Cue::Key(key)) => *count == key.count && *byte == key.byte,
+            (Row::Wait(text), Cue::Wait(found)) => *text == found.as_slice(),
+            (Row::Press(byte), Cue::Press(found)) => byte == found,
+            _ => false,
+        }
     }
 }
 
@@ -30,11 +34,10 @@ fn cues_of(rt: &(impl Abort + AllocGlobal), text: &[u8]) -> Vec<Cue> {
 /// Fails unless the script says this.
 fn check_cues(rt: &(impl Abort + AllocGlobal), text: &[u8], wanted: &[Row<'_>]) {
     let cues = cues_of(rt, text);
-    let mut found = Vec::new(rt.alloc());
-    for cue in &cues {
-        found.push(row_of(cue)).expect(rt, "memory");
+    same_at(rt, text, cues.len(), wanted.len());
+    for (row, cue) in wanted.iter().zip(&cues) {
+        assert!(rt; row.is(cue), "{cue:?} and not {row:?}");
     }
-    same(rt, found.as_slice(), wanted);
 }
 
 /// The refusal of a script.
