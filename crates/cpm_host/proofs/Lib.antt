@@ -1,6 +1,7 @@
 pub mod AsmLemmas
 pub mod AsmListingLemmas
 pub mod AtPcLemmas
+pub mod CuedLemmas
 pub mod FinishLemmas
 pub mod InputLemmas
 pub mod ListLemmas

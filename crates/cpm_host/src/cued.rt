@@ -3,7 +3,8 @@
 ghost use Rattle.std.specs.Prelude.{◌≡◌, ◌++◌, IfErr, IfOk, Ok, map};
 ghost use Rattle.cpm_geom.specs.Disk.{blank_disk};
 ghost use Rattle.cpm_geom.specs.declared.format.Format.TheVariants.{Ibm3740};
-ghost use Rattle.cpm_script.specs.Cues.{Counted, all_said, cues};
+ghost use Rattle.cpm_script.specs.Cues.{all_said, cues};
+ghost use Rattle.cpm_script.specs.declared.cue.Cue.TheVariants.{Key as Timed};
 ghost use Rattle.cpm_turns.specs.Playing.{IsFresh};
 ghost use Rattle.cpm_host.specs.Com.{given, machine_of};
 ghost use Rattle.cpm_host.specs.Cued.{AreFit, AreForked, IsCueRefusal, IsCutCued, IsForkedRefusal, IsPlayedCued, IsRehearsalRefusal, IsRehearsed, IsWaitingRefusal};
@@ -45,14 +46,18 @@ pub fn cues_of(alloc: Global, script: Script<'_>) -> Result<Vec<Cue>, HostError>
     }
 }
 
-/// These keys as cues, with others behind them.
-fn behind_keys(alloc: Global, keys: &[Key], mut others: Vec<Cue>) -> Result<Vec<Cue>, AllocError>
-    ensures { IfOk result (λ v. all_said v ≡ map Counted keys.now ++ all_said others) }
+/// Keys as cues.
+fn as_cues(alloc: Global, keys: &[Key]) -> Result<Vec<Cue>, AllocError>
+    ensures { IfOk result (λ v. v.items ≡ map Timed keys.now) }
 {
-    let mut cues = Vec::new(alloc);
-    for key in keys {
-        cues.push(Cue::Key(*key))?;
-    }
+    keys.iter().map(|key| Cue::Key(*key)).collect(alloc)
+}
+
+/// Keys as cues, with others behind them.
+fn behind_keys(alloc: Global, keys: &[Key], mut others: Vec<Cue>) -> Result<Vec<Cue>, AllocError>
+    ensures { IfOk result (λ v. v.items ≡ map Timed keys.now ++ others.items) }
+{
+    let mut cues = as_cues(alloc, keys)?;
     cues.append(&mut others)?;
     Ok(cues)
 }
