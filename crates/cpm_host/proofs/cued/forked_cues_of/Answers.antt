@@ -29,7 +29,7 @@ pub returns-in-Ok-clause-fit : goal.returns-in-Ok-clause-fit
 returns-in-Ok-clause-fit c =
     let first : c.in_ok-first.first.items ≡ keys_before c.args.at c.in_ok-keys.keys.items = c.in_ok-first.ensures ∙ ap (keys_before c.args.at) c.as_slice.ensures.value in
     let read : forked_cues c.args.at (length (keys_before c.args.at c.in_ok-keys.keys.items)) c.args.script.text.now ≡ Ok (all_said c.in-Ok.own) =
-        subst (λ n. forked_cues c.args.at n c.args.script.text.now ≡ Ok (all_said c.in-Ok.own)) (c.len-before.ensures ∙ c.in_ok-first.first.ok.0 ∙ ap length first) c.in-Ok.ensures.read in
+    subst (λ n. forked_cues c.args.at n c.args.script.text.now ≡ Ok (all_said c.in-Ok.own)) (c.len-before.ensures ∙ c.in_ok-first.first.ok.0 ∙ ap length first) c.in-Ok.ensures.read in
     forked-fit c.plain_scripts.ensures c.cues_in_order.ensures c.forked_cues_in_order.ensures c.args.parent.text.now c.args.script.text.now c.args.at c.in_ok-keys.keys.items c.in_ok-keys.ensures.keys
     c.in-Ok.own c.in_ok-behind_keys-in-Ok.field-0 read
     (c.in_ok-behind_keys-in-Ok.ensures ∙ ap (λ ks. map Timed ks ++ c.in-Ok.own.items) (c.as_slice-in-Ok.ensures.value ∙ first))
