@@ -120,7 +120,19 @@ struct Part {
     forked_at: u64,
 }
 
-/// Plays the session at a place by itself, if that is to be.
+/// What a session came to that was played before the run.
+#[derive(Drop)]
+struct Played {
+    typed: Typed,
+    /// How many of its keys its parent had before it was forked.
+    before: usize,
+    /// Whether it ended where it waits and no key comes.
+    is_idle: bool,
+    /// The steps that it then has where sessions are to stop idle.
+    steps: u64,
+}
+
+/// Plays the session at a place by itself, if that is to be, and gives it the keys that came as its script.
 fn rehearse_at(
     rt: &(impl Files + AllocGlobal),
     config: &mut Config,
@@ -130,16 +142,42 @@ fn rehearse_at(
 ) -> Result<(), Refused>
     requires { place < length config.old.sessions.items }
 {
+    let Some(played) = rehearse(rt, config, place, all, stops_idle)? else {
+        return Ok(());
+    };
+    let Played {
+        typed,
+        before,
+        is_idle,
+        steps,
+    } = played;
+    let script = all.add(rt, place, typed, before, is_idle)?;
+    let session = &mut config.sessions[place];
+    session.keys = Some(script);
+    if stops_idle {
+        session.steps = steps;
+    }
+    Ok(())
+}
+
+/// Plays the session at a place by itself, if that is to be.
+fn rehearse(
+    rt: &(impl Files + AllocGlobal),
+    config: &Config,
+    place: usize,
+    all: &Rehearsals,
+    stops_idle: bool,
+) -> Result<Option<Played>, Refused>
+    requires { place < length config.now.sessions.items }
+{
     let session = &config.sessions[place];
     let text = script_of(rt, all, session)?;
     if !stops_idle && !waits_in(text.as_slice()) {
-        return Ok(());
+        return Ok(None);
     }
     let Some(part) = part_of(rt, config, all, session, text.as_slice())? else {
-        return Ok(());
+        return Ok(None);
     };
-    let name = session.name.as_str();
-    let steps = session.steps;
     let Part {
         opening,
         cues,
@@ -152,21 +190,21 @@ fn rehearse_at(
         stops_idle,
     };
     let system = read_image(rt, config.system.as_str())?;
+    let name = session.name.as_str();
     let start = SessionStart {
         name,
         opening,
-        steps,
+        steps: session.steps,
     };
     let typed = rehearse_session(rt.alloc(), &system, start, cued)?;
-    let is_idle = typed.ran.ending.ended == End::Running && typed.steps < steps;
-    let played = typed.steps.max(forked_at).max(last_fork(config, name));
-    let script = all.add(rt, place, typed, before, is_idle)?;
-    let session = &mut config.sessions[place];
-    session.keys = Some(script);
-    if stops_idle {
-        session.steps = played;
-    }
-    Ok(())
+    let is_idle = typed.ran.ending.ended == End::Running && typed.steps < session.steps;
+    let steps = typed.steps.max(forked_at).max(last_fork(config, name));
+    Ok(Some(Played {
+        typed,
+        before,
+        is_idle,
+        steps,
+    }))
 }
 
 /// What a session of this script is played by; none where it is forked from what it can't be, which the run then refuses.
