@@ -121,8 +121,10 @@ def send(process, number):
 class Cluster:
     """The daemons, whose files are all in one folder; used by `with`."""
 
-    def __init__(self, room):
+    def __init__(self, room, processors=1):
         self.room = room
+        # how many a node has
+        self.processors = processors
         self.environment = {**os.environ, "PATH": PATH, "SLURM_CONF": f"{room}/slurm.conf"}
         self.daemons = {}
 
@@ -135,6 +137,7 @@ class Cluster:
             config = file.read()
         for word, value in values.items():
             config = config.replace(f"@{word}@", value)
+        config = config.replace(" CPUs=1\n", f" CPUs={self.processors}\n")
         with open(f"{self.room}/slurm.conf", "w", encoding="ascii") as file:
             file.write(config)
         with open(os.open(f"{self.room}/munge.key", os.O_WRONLY | os.O_CREAT, 0o600), "wb") as file:
