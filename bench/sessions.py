@@ -11,7 +11,12 @@ FIRST_BLOCK = 2
 
 
 def build(to):
-    """Has rt prove and build cpm_bench, where that is to do, and copies its program to this path. Whether it is there."""
+    """Copies the program of cpm_bench to this path: the one that the variable CPM_BENCH names, or else what rt proves and builds, where that is to
+    do. Whether it is there."""
+    named = os.environ.get("CPM_BENCH")
+    if named:
+        shutil.copy2(named, to)
+        return True
     if not shutil.which("rt"):
         return False
     ran = subprocess.run(["rt", "run", "--", "machine", "8080", "data/loop.com", "1000"], cwd=CRATE, stdin=subprocess.DEVNULL, capture_output=True)
