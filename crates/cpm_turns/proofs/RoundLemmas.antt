@@ -1,7 +1,8 @@
 -- A round of turns, step by step.
-use Rattle.std.proofs.Common.{◌≡◌, ◌≢◌, ℕ, ◌+◌, ◌-◌, ◌<◌, ◌≤◌, min, nat_le, ◌==◌, ◌||◌, Bool, true, false, Some, ◌⊎◌, inl, inr, ⊎_elim, List, length, take, set, refl, sym, ap, ◌∙◌, subst, arith, slice_get, length-set}
+use Rattle.std.proofs.Common.{◌≡◌, ◌≢◌, ℕ, zero, suc, [], ◌∷◌, ◌+◌, ◌-◌, ◌<◌, ◌≤◌, min, nat_le, ◌==◌, ◌||◌, Bool, true, false, Some, ◌⊎◌, inl, inr, ⊎_elim, List, length, take, set, refl, sym, ap, ◌∙◌, subst, arith, slice_get, length-set}
 use Rattle.std.proofs.lemmas.Bool.Decides.{nat_tests}
-use Rattle.std.proofs.lemmas.Bool.{cases_lt}
+use Rattle.std.proofs.lemmas.Bool.{cases_lt, or_parts, true≢false}
+use Rattle.std.proofs.lemmas.Option.{none-some, same_Some}
 use Rattle.cpm_sessions.specs.Host.{Host, slot_at}
 use Rattle.cpm_slots.specs.MachineState.{MachineState}
 use Rattle.cpm_turns.specs.declared.player.Fork.{Fork}
@@ -9,7 +10,7 @@ use Rattle.cpm_turns.specs.declared.player.Player.{Player}
 use Rattle.cpm_turns.specs.declared.player.Player.TheVariants.{Playing, Waiting}
 use Rattle.cpm_turns.specs.declared.scripted_slot.ScriptedSlot.{ScriptedSlot}
 use Rattle.cpm_turns.specs.ScriptedSlots.{AreDifferent, IsNone, IsResting, Moves, keys_of, steps_of}
-use Rattle.cpm_turns.specs.Players.{AllBefore, AllReady, ChangesAt, HasCome, IsFar, IsGoing, IsWaiting, KeepsPlaying, LeavesFewer, NoneIsDue, StandsAs, ids_of, is_due, is_fork, left_in_player, left_of, pages_of}
+use Rattle.cpm_turns.specs.Players.{AllBefore, AllReady, ChangesAt, HasCome, IsFar, IsGoing, IsWaiting, KeepsPlaying, LeavesFewer, NoneIsDue, StandsAs, has_fork, ids_of, is_due, is_fork, left_in_player, left_of, pages_of, waits}
 use Rattle.cpm_turns.proofs.PlaceLemmas.{at-other, at-set, same-at, sum-none, sum-set, within-at}
 use Rattle.cpm_turns.proofs.PlayerLemmas.{apart-at, going-in, given-at, ids-kept, none-at, playing-waiting, same-playing}
 
@@ -49,6 +50,23 @@ pub far-all : (parent steps place : ℕ) (players : List Player) → length play
 far-all parent steps place players all far k fork slot waits mine plays =
     let within = within-at players k (Waiting fork) waits in
     far k (omega (arith, all, within)) fork slot waits mine plays
+
+-- where no session is to be forked, none is due, and none comes to be by a turn
+no-fork-at : (players : List Player) (place : ℕ) (p : Player) → has_fork players ≡ false → slice_get players place ≡ Some p → waits p ≡ false
+no-fork-at [] place p none at = absurd (none-some p at)
+no-fork-at (x ∷ xs) zero p none at = ap waits (sym (same_Some x p at)) ∙ (or_parts (waits x) (has_fork xs) none).0
+no-fork-at (x ∷ xs) (suc place) p none at = no-fork-at xs place p (or_parts (waits x) (has_fork xs) none).1 at
+
+pub far-none : (parent steps : ℕ) (players : List Player) → has_fork players ≡ false → NoneIsDue parent steps players
+far-none parent steps players none place fork slot there mine plays =
+    absurd (true≢false (no-fork-at players place (Waiting fork) none there))
+
+pub none-set : (players : List Player) (place : ℕ) (slot : ScriptedSlot) → has_fork players ≡ false → has_fork (set players place (Playing slot)) ≡ false
+none-set [] place slot none = refl
+none-set (x ∷ xs) zero slot none = (or_parts (waits x) (has_fork xs) none).1
+none-set (x ∷ xs) (suc place) slot none =
+    let parts = or_parts (waits x) (has_fork xs) none in
+    ap (λ b. b || has_fork (set xs place (Playing slot))) parts.0 ∙ none-set xs place slot parts.1
 
 -- ---- a turn
 

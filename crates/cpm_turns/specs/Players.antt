@@ -193,6 +193,14 @@ pub record HasCome (old new : Host) (players now : List Player) : Type 0 where
   pub numbers : new.openings + forks_of now ≡ old.openings + forks_of players
   pub pages : quotas_of new.slots + sum_by (pages_of old.slots players) now ≡ quotas_of old.slots + fork_pages old.slots players
 
+-- a session is still to be forked
+abbrev pub waits : Player → Bool
+waits (Playing slot) = false
+waits (Waiting fork) = true
+
+abbrev pub has_fork : List Player → Bool
+has_fork players = list_any waits players
+
 -- The session at a place, if it waits to be forked from that at another place, is not to be forked now; that one may execute so many steps before.
 abbrev pub IsFar : (parent steps : ℕ) → List Player → (place : ℕ) → Type 0
 IsFar parent steps players place = (fork : Fork) (slot : ScriptedSlot) → slice_get players place ≡ Some (Waiting fork) → fork.parent ≡ parent → slice_get players parent ≡ Some (Playing slot) →

@@ -1,9 +1,9 @@
 //! Forks of sessions that are played.
 
-ghost use Rattle.std.specs.Prelude.{◌≡◌, ◌≤◌, ◌<◌, ◌⊎◌, List, OnOk, IfOk, IfErr, length, slice_get, Some};
+ghost use Rattle.std.specs.Prelude.{◌≡◌, ◌≤◌, ◌<◌, ◌⊎◌, List, OnOk, IfOk, IfErr, length, slice_get, Some, false};
 ghost use Rattle.cpm_sessions.specs.Host.{Host as HostValue, fork_fault, slot_at};
 ghost use Rattle.cpm_turns.specs.declared.player.Player.{Player as PlayerValue};
-ghost use Rattle.cpm_turns.specs.Players.{AllReady, ChangesAt, HasCome, IsFar, IsForkedFrom, IsPlayRefusal, KeepsPlaying, LeavesFewer, NoneIsDue, is_due, play_error};
+ghost use Rattle.cpm_turns.specs.Players.{AllReady, ChangesAt, HasCome, IsFar, IsForkedFrom, IsPlayRefusal, KeepsPlaying, LeavesFewer, NoneIsDue, has_fork, is_due, play_error};
 
 use crate::error::PlayError;
 use crate::player::{Fork, Player};
@@ -84,7 +84,7 @@ fn fork_at(
 
 /// Forks the sessions that are to be forked now from the one at a place, and says how many steps that one may execute before the next is: at least one,
 /// and at most so many.
-pub(crate) fn fork_due(
+fn fork_due(
     alloc: Global,
     host: &mut Host,
     players: &mut [Player],
@@ -105,4 +105,40 @@ pub(crate) fn fork_due(
         steps = steps.min(fork_at(alloc, host, players, parent, place)?);
     }
     Ok(steps)
+}
+
+/// Whether a session is still to be forked.
+pub(crate) fn has_fork(players: &[Player]) -> bool
+    ensures { result ≡ has_fork players.now }
+{
+    players.iter().any(|player| match player {
+        Player::Playing(_) => false,
+        Player::Waiting(_) => true,
+    })
+}
+
+/// The same as `fork_due`, where it is known whether a session may be still to be forked: if none is, nothing is looked at.
+pub(crate) fn fork_if_due(
+    alloc: Global,
+    host: &mut Host,
+    players: &mut [Player],
+    parent: usize,
+    quantum: u64,
+    may_fork: bool,
+) -> Result<u64, PlayError>
+    requires quantum { 1 ≤ quantum }
+    requires within { parent < length players.old }
+    requires none { may_fork ≡ false → has_fork players.old ≡ false }
+    ensures come { OnOk result ((old : HostValue) (given : List PlayerValue) → AllReady old.slots given → HasCome old host.old.host given players.old → HasCome old host.new.host given players.new) }
+    ensures keeps { OnOk result (KeepsPlaying players.old players.new) }
+    ensures far { IfOk result (λ steps. NoneIsDue parent steps players.new) }
+    ensures steps { IfOk result (λ steps. (1 ≤ steps) × (steps ≤ quantum)) }
+    ensures left { OnOk result (LeavesFewer players.old players.new) }
+    ensures none { OnOk result (may_fork ≡ false → has_fork players.new ≡ false) }
+    ensures refused { IfErr result (λ e. (old : HostValue) (given : List PlayerValue) → AllReady old.slots given → HasCome old host.old.host given players.old → IsPlayRefusal old given e) }
+{
+    if !may_fork {
+        return Ok(quantum);
+    }
+    fork_due(alloc, host, players, parent, quantum)
 }

@@ -6,7 +6,7 @@ ghost use Rattle.cpm_turns.specs.declared.player.Player.{Player as PlayerValue};
 ghost use Rattle.cpm_turns.specs.Players.{AllDiffer, AllPlayed, AllReady, HasCome, HasRoomFor, IsPlayRefusal, LeavesRest, fork_pages, forks_of, goes_on, ids_of, left_of};
 
 use crate::error::PlayError;
-use crate::forks::fork_due;
+use crate::forks::{fork_if_due, has_fork};
 use crate::player::Player;
 use crate::progress::{Watcher, progress_of};
 use crate::turn::turn;
@@ -61,9 +61,10 @@ fn round(
     ensures left { OnOk result ((old : HostValue) (given : List PlayerValue) → AllReady old.slots given → HasCome old host.old.host given players.old → 0 < left_of players.old → left_of players.new < left_of players.old) }
     ensures refused { IfErr result (λ e. (old : HostValue) (given : List PlayerValue) → AllReady old.slots given → HasCome old host.old.host given players.old → IsPlayRefusal old given e) }
 {
+    let may_fork = has_fork(players);
     for place in 0..players.len() {
         let most = most_steps(host, &players[place], asks, quantum);
-        let steps = fork_due(alloc, host, players, place, most)?;
+        let steps = fork_if_due(alloc, host, players, place, most, may_fork)?;
         if let Player::Playing(slot) = &mut players[place] {
             turn(host, slot, steps)?;
         }

@@ -6,8 +6,8 @@ use Rattle.cpm_sessions.specs.Host.{Host}
 use Rattle.cpm_sessions.specs.HostWithStore.{HostWithStore}
 use Rattle.cpm_turns.specs.declared.player.Player.{Player}
 use Rattle.cpm_turns.specs.declared.player.Player.TheVariants.{Playing}
-use Rattle.cpm_turns.specs.Players.{HasCome}
-use Rattle.cpm_turns.proofs.RoundLemmas.{IsLeft, IsTurn, come-turn, left-round, left-turn, left-waits}
+use Rattle.cpm_turns.specs.Players.{HasCome, has_fork}
+use Rattle.cpm_turns.proofs.RoundLemmas.{IsLeft, IsTurn, come-turn, left-round, left-turn, left-waits, none-set}
 use Rattle.cpm_turns.proofs.rounds.round.Goals as goal
 use Rattle.cpm_turns.proofs.rounds.round.Goals.{in-Playing+in_ok-turn, in_default}
 
@@ -16,6 +16,7 @@ loop-place-init c = record {
   come = λ old given ready come. come;
   long = refl;
   left = inr (refl, λ k less. absurd (let no : ⊥ = omega (arith, less) in no));
+  none = λ no. sym c.has_fork-may_fork.ensures ∙ no;
 }
 
 pub returns-in_err-steps-clause-refused : goal.returns-in_err-steps-clause-refused
@@ -28,7 +29,7 @@ loop-place-preserved c =
     let i = c.loop-place.invariant in
     let k = c.in_ok-steps.ensures in
     let steps = c.in_ok-steps.steps in
-    let players = c.fork_due.new.players in
+    let players = c.fork_if_due.new.players in
     let place = c.loop-place.place in
     let test = c.loop-place-test.true in
     let long = i.long in
@@ -44,7 +45,7 @@ loop-place-preserved c =
           let host = ap (λ (h : HostWithStore). h.host) w.host-is in
           record {
             come = λ old given ready come.
-                let t : IsTurn old c.fork_due.new.host.host w.turn.new.host.host given players place steps slot next = record {
+                let t : IsTurn old c.fork_if_due.new.host.host w.turn.new.host.host given players place steps slot next = record {
                   ready = ready;
                   come = k.come old given ready (subst (λ (h : HostWithStore). HasCome old h.host given c.loop-place.players) (sym c.most_steps-most.ensures.unchanged) (i.come old given ready come));
                   plays = plays;
@@ -55,10 +56,11 @@ loop-place-preserved c =
                   far = k.far;
                 } in
                 subst (λ (h : Host). HasCome old h given c.match-players-place.players) (sym host)
-                (subst (λ (ps : List Player). HasCome old w.turn.new.host.host given ps) (sym after) (come-turn old c.fork_due.new.host.host w.turn.new.host.host given players place steps slot next t));
+                (subst (λ (ps : List Player). HasCome old w.turn.new.host.host given ps) (sym after) (come-turn old c.fork_if_due.new.host.host w.turn.new.host.host given players place steps slot next t));
             long = ap length after ∙ length-set players place (Playing next) ∙ kept ∙ long;
             left = subst (λ (ps : List Player). IsLeft c.args.players.now ps (place + 1)) (sym after)
                 (left-turn c.args.players.now c.loop-place.players players place steps slot next i.left k.left k.far plays turned.left);
+            none = λ no. ap has_fork after ∙ none-set players place next (k.none no);
           }
       | in_default w ↦
           let after : c.match-players-place.players ≡ players = w.players-is ∙ set-get_or players place c.index-players-place-in-loop-place.result in
@@ -66,11 +68,12 @@ loop-place-preserved c =
           record {
             come = λ old given ready come.
                 subst (λ (h : Host). HasCome old h given c.match-players-place.players) (sym host)
-                (subst (λ (ps : List Player). HasCome old c.fork_due.new.host.host given ps) (sym after) (k.come old given ready (subst (λ (h : HostWithStore). HasCome old h.host given c.loop-place.players) (sym c.most_steps-most.ensures.unchanged) (i.come old given ready come))));
+                (subst (λ (ps : List Player). HasCome old c.fork_if_due.new.host.host given ps) (sym after) (k.come old given ready (subst (λ (h : HostWithStore). HasCome old h.host given c.loop-place.players) (sym c.most_steps-most.ensures.unchanged) (i.come old given ready come))));
             long = ap length after ∙ kept ∙ long;
             left = subst (λ (ps : List Player). IsLeft c.args.players.now ps (place + 1)) (sym after)
                 (left-waits c.args.players.now c.loop-place.players players place i.left k.left
                 (λ slot at. w.in_default.not-Playing slot (get_or_from_slice_get players place (Playing slot) c.index-players-place-in-loop-place.result at)));
+            none = λ no. ap has_fork after ∙ k.none no;
           }
     ]
 

@@ -1,7 +1,7 @@
-use Rattle.std.proofs.Common.{◌≡◌, List, length}
+use Rattle.std.proofs.Common.{◌≡◌, List, false, length}
 use Rattle.cpm_sessions.specs.Host.{Host}
 use Rattle.cpm_turns.specs.declared.player.Player.{Player}
-use Rattle.cpm_turns.specs.Players.{AllReady, HasCome}
+use Rattle.cpm_turns.specs.Players.{AllReady, HasCome, has_fork}
 use Rattle.cpm_turns.proofs.RoundLemmas.{IsLeft}
 use Rattle.cpm_turns.proofs.rounds.round.Given as goal
 
@@ -10,4 +10,5 @@ invariant-loop-place l = record {
   come : (old : Host) (given : List Player) → AllReady old.slots given → HasCome old l.fn.host.host given l.fn.players → HasCome old l.host.host given l.players;
   long : length l.players ≡ length l.fn.players;
   left : IsLeft l.fn.players l.players l.place;
+  none : l.may_fork ≡ false → has_fork l.players ≡ false;
 }
