@@ -2,7 +2,7 @@
 use Rattle.std.proofs.Common.{◌≡◌, ◌≢◌, ◌⊎◌, ℕ, ◌<◌, ◌≤◌, Bool, true, false, ◌&&◌, ◌++◌, eqb, List, Some, Ok, length, sym, subst, refl, ap, ◌∙◌, inl, inr, arith, Option, Result}
 use Rattle.std.specs.List.{list_any}
 use Rattle.std.proofs.lemmas.List.Sums.{position_or_len_is}
-use Rattle.std.proofs.lemmas.Bool.{false≢true, cases_lt, lt-ltb, false_from_ne_true}
+use Rattle.std.proofs.lemmas.Bool.{false≢true, lt-ltb, false_from_ne_true}
 use Rattle.cpm_geom.specs.declared.dpb.Dpb.{Dpb}
 use Rattle.cpm_geom.specs.declared.format.Format.{Format}
 use Rattle.cpm_geom.specs.Geometry.{dpb_of}
@@ -23,11 +23,11 @@ use Rattle.cpm_drive.specs.Laws.{HasBytes}
 use Rattle.cpm_drive.proofs.DiskLemmas.{disk_is_volume}
 use Rattle.cpm_drive.proofs.DiskReach.{calls_reach}
 use Rattle.cpm_shelf.specs.Shelf.{record_on, system_sectors, IsSoundDisk}
-use Rattle.cpm_shelf.specs.Taken.{kept_name, IsFreeName, IsThere, IsRenamable, IsRenamed}
+use Rattle.cpm_shelf.specs.Taken.{fresh_volume, IsLeftBy, kept_name, IsFreeName, IsThere, IsRenamable, IsRenamed}
 use Rattle.cpm_shelf.proofs.FreeLemmas.{login_length}
 use Rattle.cpm_shelf.proofs.SystemLemmas.{system_after}
 use Rattle.cpm_shelf.proofs.DiskLemmas.{HasVolume, has_volume}
-use Rattle.cpm_shelf.proofs.RemovingLemmas.{fresh_drive, writable, sound_again, user_of, first_there, none_there, Answered}
+use Rattle.cpm_shelf.proofs.RemovingLemmas.{fresh_drive, writable, sound_again, user_of, first_there, first_below, Answered}
 use Rattle.cpm_shelf.proofs.RenamingLemmas as entries
 
 pub first_named_is : (es : List Entry) (user : ℕ) (name : List ℕ) (i : ℕ) → i ≤ length es → ((k : ℕ) → k < i → is_named user name (entry_at es k) ≡ false) → (i < length es → is_named user name (entry_at es i) ≡ true) → first_named es user name ≡ i
@@ -39,14 +39,6 @@ pub named_same : (user : ℕ) (a b : List ℕ) (e : Entry) → has_wildcard a �
 unfolding is_named
 named_same user a b e pa pb h =
     ap (λ (t : Bool). eqb e.user user && t) (name_matches_plain a e.extent.name pa ∙ (same_name_as a b e.extent.name h ∙ sym (name_matches_plain b e.extent.name pb)))
-
--- an entry of the name is there: the first
-pub first_below : (es : List Entry) (user : ℕ) (name : List ℕ) (i : ℕ) → user ≢ deleted → is_named user name (entry_at es i) ≡ true → first_named es user name < length es
-first_below es user name i live h =
-    elim (cases_lt (first_named es user name) (length es)) [
-      | inl lt ↦ lt
-      | inr ge ↦ absurd (false≢true (sym (none_there es user name live ge i) ∙ h))
-    ]
 
 -- ---- the answer of the call
 module _ (drive : Drive) (user : ℕ) (name kept : List ℕ) where
@@ -177,6 +169,10 @@ module _ (image : Disk) (user : ℕ) (name new_name kept : List ℕ) (small : us
   unfolding now
   system place h = system_after (fresh_drive image) (volume_now (fresh_drive image) user name kept) place refl h
 
+  left : IsLeftBy (rename_files (fresh_volume image) user name (kept_name image user name new_name)) image now.image
+  unfolding now drive_after
+  left = rw (sym kept_is, answer_is (fresh_drive image) user name kept there unprotected) refl
+
   pub is_renamed : IsRenamed image user name new_name now.image
   unfolding es'
   is_renamed = record {
@@ -184,6 +180,7 @@ module _ (image : Disk) (user : ℕ) (name new_name kept : List ℕ) (small : us
     there_before = there_before;
     free = free;
     unprotected = unprotected;
+    call = left;
     there = is_there;
     attributes = λ i h. ap (λ (e : Entry). e.extent.name) (entry_now i) ∙ (entries.kept_after (dpb_of image.format) (entries_of image) user name kept live plain kept_plain free_kept i (sym (named_now i) ∙ h) ∙ kept_is);
     file = λ m. same_record user user name new_name m live (file_block_same (dpb_of image.format) es' user new_name kept m like_new ∙ entries.own_file (dpb_of image.format) (entries_of image) user name kept live plain kept_plain free_kept m);

@@ -1,5 +1,6 @@
 -- The list of a disk's files.
 use Rattle.std.specs.Prelude.{◌≡◌, ℕ, ◌<◌, Bool, true, List, [], Err, length, slice_index_or}
+use Rattle.std.specs.List.{position_or_len}
 use Rattle.cpm_geom.specs.Geometry.{dpb_of}
 use Rattle.cpm_geom.specs.Disk.{Disk}
 use Rattle.cpm_files.specs.declared.extent.Entry.{Entry}
@@ -24,21 +25,26 @@ lists e file = is_of_file file.user file.name e
 abbrev pub file_at : List Listed → ℕ → Listed
 file_at files k = slice_index_or files k (record { user = deleted; name = []; records = 0 })
 
--- An entry of the file has its name with these attributes, and it has so many records. (own)
+-- the index of a file's first entry; the number of entries where it has none (own)
+abbrev pub first_listed : Disk → Listed → ℕ
+first_listed disk file = position_or_len (λ e. lists e file) (entries_of disk)
+
+-- The file is there, its name has the attributes of its first entry, and it has so many records. (own)
 pub record IsListedFile (disk : Disk) (file : Listed) : Type 0 where
-  pub entry : ℕ
-  pub used : InUse (entries_of disk) entry
-  pub user_is : file.user ≡ (entry_on disk entry).user
-  pub name_is : file.name ≡ (entry_on disk entry).extent.name
+  pub used : InUse (entries_of disk) (first_listed disk file)
+  pub user_is : file.user ≡ (entry_on disk (first_listed disk file)).user
+  pub name_is : file.name ≡ (entry_on disk (first_listed disk file)).extent.name
   pub records : HasRecords disk file.user file.name file.records
 
--- Each file of the list is on the disk, and each entry in use before an index is of exactly one of them. (own)
+-- Each file of the list is on the disk, with its first entry before an index, and they are in the order of these; each entry in use before the index is of exactly one of them. (own)
 pub record AreListed (disk : Disk) (index : ℕ) (files : List Listed) : Type 0 where
   pub each : (k : ℕ) → k < length files → IsListedFile disk (file_at files k)
+  pub before : (k : ℕ) → k < length files → first_listed disk (file_at files k) < index
+  pub order : (j k : ℕ) → j < k → k < length files → first_listed disk (file_at files j) < first_listed disk (file_at files k)
   pub found : (i : ℕ) → i < index → InUse (entries_of disk) i → (k : ℕ) × (k < length files) × (lists (entry_on disk i) (file_at files k) ≡ true)
   pub once : (e : Entry) (j k : ℕ) → j < length files → k < length files → lists e (file_at files j) ≡ true → lists e (file_at files k) ≡ true → j ≡ k
 
--- The list of a sound disk: all its files, each once, and how many blocks are free. (own)
+-- The list of a sound disk: all its files, each once, in the order of their first entries; and how many blocks are free. (own)
 pub record IsListed (disk : Disk) (shelf : Shelf) : Type 0 where
   pub sound : IsSoundDisk disk
   pub files : AreListed disk (length (entries_of disk)) shelf.files.items

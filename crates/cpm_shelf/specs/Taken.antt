@@ -4,10 +4,12 @@ use Rattle.std.specs.List.{list_any}
 use Rattle.cpm_geom.specs.Geometry.{dpb_of}
 use Rattle.cpm_geom.specs.Disk.{Disk, sector_at}
 use Rattle.cpm_files.specs.declared.extent.Entry.{Entry}
-use Rattle.cpm_files.specs.Files.{deleted, same_name, InUse}
-use Rattle.cpm_files.specs.Names.{is_named, first_named, protects, with_attributes}
+use Rattle.cpm_files.specs.Files.{deleted, same_name, InUse, Volume}
+use Rattle.cpm_files.specs.Names.{is_named, first_named, protects, with_attributes, Named, none_named, file_read_only, named, erase_files, rename_files}
 use Rattle.cpm_directory.specs.Directory.{entries_of}
+use Rattle.cpm_directory.specs.Login.{reserved_at_login}
 use Rattle.cpm_directory.specs.WellFormed.{IsChecked}
+use Rattle.cpm_drive.specs.Drive.{volume_of, after_writes}
 use Rattle.cpm_shelf.specs.Shelf.{record_on, entry_on, system_sectors, IsSoundDisk, KeepsOthers}
 use Rattle.cpm_shelf.specs.declared.refusal.Refusal.{Refusal}
 use Rattle.cpm_shelf.specs.declared.refusal.Refusal.TheVariants.{ReadOnly, DirectoryFull, DiskFull, NoFile, Exists}
@@ -59,11 +61,27 @@ IsGetRefusal disk user name (Damaged fault) = IsChecked (dpb_of disk.format) (en
 IsGetRefusal disk user name (Refused refusal) = IsSoundDisk disk × IsGetReason disk user name refusal
 IsGetRefusal disk user name OutOfMemory = IsSoundDisk disk × IsThere disk user name
 
--- A disk once a file was taken from it: there is no such file, each other is as it was, and no entry has a fault. (own)
+-- ---- what a call of the BDOS leaves
+
+-- the volume of a disk whose drive is just logged in (own)
+abbrev pub fresh_volume : Disk → Volume
+fresh_volume disk = volume_of disk (reserved_at_login (dpb_of disk.format) (entries_of disk))
+
+-- The call is done, and the new disk is the old one with what it writes, and nothing else. (own)
+abbrev pub IsLeftBy : Named → Disk → Disk → Type 0
+IsLeftBy none_named old new = ⊥
+IsLeftBy file_read_only old new = ⊥
+IsLeftBy (named first v) old new = new ≡ after_writes v.written old
+
+-- ---- a file that is removed
+
+-- A disk once a file was taken from it: it is what the call leaves; there is no such file, each other is as it was, and no entry has a fault. (own)
+-- The call: CP/M 2.2 Operating System Manual, section 5.2, DELETE FILE
 pub record IsRemoved (old : Disk) (user : ℕ) (name : List ℕ) (new : Disk) : Type 0 where
   pub sound_before : IsSoundDisk old
   pub there : IsThere old user name
   pub unprotected : list_any (protects user name) (entries_of old) ≡ false
+  pub call : IsLeftBy (erase_files (dpb_of old.format) (fresh_volume old) user name) old new
   pub absent : IsAbsent new user name
   pub others : KeepsOthers user name old new
   pub sound : IsSoundDisk new
@@ -100,12 +118,14 @@ kept_name disk user name new_name = with_attributes new_name (first_entry disk u
 abbrev pub IsFreeName : Disk → ℕ → List ℕ → List ℕ → Type 0
 IsFreeName disk user name new_name = (same_name name new_name ≡ true) ⊎ IsAbsent disk user new_name
 
--- A disk once a file got another name of its user: the file has it, with the attributes of its first entry, and record for record what it had; each other is as it was, and so is the system; no entry has a fault. (own)
+-- A disk once a file got another name of its user: it is what the call leaves; the file has the name, with the attributes of its first entry, and record for record what it had; each other is as it was, and so is the system; no entry has a fault. (own)
+-- The call: CP/M 2.2 Operating System Manual, section 5.2, RENAME FILE
 pub record IsRenamed (old : Disk) (user : ℕ) (name new_name : List ℕ) (new : Disk) : Type 0 where
   pub sound_before : IsSoundDisk old
   pub there_before : IsThere old user name
   pub free : IsFreeName old user name new_name
   pub unprotected : list_any (protects user name) (entries_of old) ≡ false
+  pub call : IsLeftBy (rename_files (fresh_volume old) user name (kept_name old user name new_name)) old new
   pub there : IsThere new user new_name
   pub attributes : (i : ℕ) → is_named user new_name (entry_on new i) ≡ true → (entry_on new i).extent.name ≡ kept_name old user name new_name
   pub file : (m : ℕ) → record_on new user new_name m ≡ record_on old user name m

@@ -16,8 +16,8 @@ use cpm_drive::Drive;
 use cpm_geom::Image;
 use std::alloc::Global;
 
-/// The disk without a file. The image is only looked at. Refused where the disk is damaged, where it has no such file and
-/// where an entry of the file is read-only, and where nothing is against it for want of memory.
+/// The disk without a file, exactly as DELETE FILE leaves it. The image is only looked at. Refused where the disk is damaged,
+/// where it has no such file and where an entry of the file is read-only, and where nothing is against it for want of memory.
 pub fn remove(alloc: Global, image: &Image, file: &FileName) -> Result<Image, ShelfError>
     ensures { MatchResult result
         (λ new. IsRemoved image.now file.now.user file.now.name new)

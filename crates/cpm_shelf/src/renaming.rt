@@ -21,10 +21,10 @@ use cpm_drive::Drive;
 use cpm_geom::Image;
 use std::alloc::Global;
 
-/// The disk with a file under another name of its user. The file keeps its attributes, those of its first entry; the new
-/// name's count for nothing. The image is only looked at. Refused, in this order, where the disk is damaged, where it has no
-/// such file, where another has the new name and where an entry of the file is read-only, and where nothing is against it for
-/// want of memory.
+/// The disk with a file under another name of its user, exactly as RENAME FILE leaves it. The file keeps its attributes, those
+/// of its first entry; the new name's count for nothing. The image is only looked at. Refused, in this order, where the disk is
+/// damaged, where it has no such file, where another has the new name and where an entry of the file is read-only, and where
+/// nothing is against it for want of memory.
 pub fn rename(
     alloc: Global,
     image: &Image,

@@ -6,8 +6,8 @@ use Rattle.cpm_files.specs.Names.{first_named}
 use Rattle.cpm_directory.specs.Directory.{entries_of}
 use Rattle.cpm_drive.specs.declared.drive.Drive.{Drive}
 use Rattle.cpm_shelf.specs.Taken.{kept_name, IsRenamed}
-use Rattle.cpm_shelf.proofs.RemovingLemmas.{fresh}
-use Rattle.cpm_shelf.proofs.RenamedLemmas.{first_below, fresh_answer, renamed_by}
+use Rattle.cpm_shelf.proofs.RemovingLemmas.{fresh, first_below}
+use Rattle.cpm_shelf.proofs.RenamedLemmas.{fresh_answer, renamed_by}
 use Rattle.cpm_shelf.proofs.renaming.renamed.Goals as goal
 
 must_be_some : {A : Type 0} (r : Option A) (P : Type 0) (Q : A → Type 0) → MatchOption r P Q → (P → ⊥) → IsSome r
