@@ -2,3 +2,4 @@ pub mod DamageLemmas
 pub mod NameLemmas
 pub mod MatchLemmas
 pub mod ListingLemmas
+pub mod OrderLemmas

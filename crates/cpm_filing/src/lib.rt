@@ -6,6 +6,7 @@ pub mod damage;
 pub mod error;
 pub mod filing;
 pub mod host_names;
+pub mod laws;
 mod lines;
 pub mod listing;
 pub mod matching;
