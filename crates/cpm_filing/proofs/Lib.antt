@@ -3,3 +3,4 @@ pub mod NameLemmas
 pub mod MatchLemmas
 pub mod ListingLemmas
 pub mod OrderLemmas
+pub mod SpelledLemmas
