@@ -4,3 +4,4 @@ pub mod MatchLemmas
 pub mod ListingLemmas
 pub mod OrderLemmas
 pub mod SpelledLemmas
+pub mod RoundLemmas

@@ -112,8 +112,8 @@ free_line format free = decimal free ++ codes " of " ++ decimal ((dpb_of format)
 abbrev pub list_text : Format → Option ℕ → Shelf → List ℕ
 list_text format user shelf = lines_of user (in_order shelf.files.items) ++ free_line format shelf.free_blocks
 
--- why a list is not written
-abbrev pub IsWriteRefusal : FilingError → Type 0
-IsWriteRefusal (OutputUnwritable reason) = ⊤
-IsWriteRefusal OutOfMemory = ⊤
-IsWriteRefusal _ = ⊥
+-- Why a list is not written: its writer refuses some of it; or memory is refused, and the writer is as it was.
+abbrev pub IsWriteRefusal : {W : Type 0} → FilingError → W → W → Type 0
+IsWriteRefusal {W} (OutputUnwritable reason) old new = ⊤
+IsWriteRefusal {W} OutOfMemory old new = new ≡ old
+IsWriteRefusal {W} _ old new = ⊥

@@ -1,5 +1,6 @@
 //! The laws of lists, of names and of what is put on a disk and taken off it.
 
+ghost use Rattle.cpm_filing.specs.Filing.{RoundLaw};
 ghost use Rattle.cpm_filing.specs.HostNames.{ApartLaw, SpelledLaw};
 ghost use Rattle.cpm_filing.specs.Listing.{OrderLaw};
 
@@ -16,4 +17,10 @@ pub fn names_have_texts()
 /// Two names with one text on the host are the same, but for their attributes.
 pub fn texts_tell_names_apart()
     ensures { ApartLaw }
+{}
+
+/// What is taken off a disk of a file that was put is what it was put with: filled up to whole records, or, of a text without
+/// carriage returns and ends of file, as it was.
+pub fn what_is_put_is_got()
+    ensures { RoundLaw }
 {}
