@@ -20,6 +20,12 @@ pub enum FilingError {
     /// The text gives no file another name.
     #[error("HO1 '{0}' gives no file another name: NEW.TYP=OLD.TYP is wanted")]
     NotPair(Word),
+    /// Two files of the host would be one file of a disk.
+    #[error("HO1 '{word}' would be {file} again, which a file before it is already; give one of them another name: FILE=NAME.TYP")]
+    PutTwice {
+        word: Word,
+        file: NamedFile,
+    },
     /// A file of the host is no image, by its length.
     #[error("HO6 '{image}' has {length} bytes, and the image of a drive has 256256 or 2105344; 'cpmhost disk new' makes a blank one")]
     NotImage {
@@ -78,7 +84,10 @@ impl FilingError {
         ensures { result ≡ status_of self.now }
     {
         match self {
-            FilingError::NotName(_) | FilingError::NotPattern(_) | FilingError::NotPair(_) => 1,
+            FilingError::NotName(_)
+            | FilingError::NotPattern(_)
+            | FilingError::NotPair(_)
+            | FilingError::PutTwice { .. } => 1,
             FilingError::OutputUnwritable(_) => 5,
             FilingError::NotImage { .. }
             | FilingError::Damaged { .. }

@@ -20,4 +20,4 @@ pub use host_names::{host_name, text_of_name};
 pub use listing::{list_files, write_list};
 pub use matching::matching_files;
 pub use names::{name_of, pattern_of};
-pub use words::{base_name, file_name, split_pair};
+pub use words::{base_name, check_new, file_name, split_pair};
