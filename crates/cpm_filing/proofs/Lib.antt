@@ -2,3 +2,6 @@ pub mod DamageLemmas
 pub mod NameLemmas
 pub mod MatchLemmas
 pub mod ListingLemmas
+pub mod OrderLemmas
+pub mod SpelledLemmas
+pub mod RoundLemmas

@@ -1,6 +1,7 @@
 -- One more file of a list, which matches or doesn't.
-use Rattle.std.proofs.Common.{◌≡◌, ◌∙◌, ℕ, ◌+◌, ◌<◌, ◌≤◌, true, false, cond, List, [], ◌∷◌, ◌++◌, length, get_or, drop, map, sym, ap, append_assoc, append-nil}
+use Rattle.std.proofs.Common.{◌≡◌, ◌≢◌, ◌∙◌, ℕ, ◌+◌, ◌<◌, ◌≤◌, true, false, cond, Result, Ok, Err, List, [], ◌∷◌, ◌++◌, length, get_or, drop, map, sym, ap, append_assoc, append-nil, arith, length-append}
 use Rattle.std.specs.List.{filter}
+use Rattle.std.specs.Result.{IfErr}
 use Rattle.std.proofs.lemmas.List.{at_drop_more, at_drop_all, map-append}
 use Rattle.cpm_shelf.specs.declared.listing.Listed.{Listed}
 use Rattle.cpm_filing.specs.Matching.{is_meant, listed, meant}
@@ -49,3 +50,16 @@ pub found_all : (user : ℕ) (pattern : List ℕ) (files : List Listed) (i : ℕ
     → map named found ++ meant user pattern (drop i files) ≡ all → map named found ≡ all
 found_all user pattern files i found all l before =
     sym (append-nil (map named found)) ∙ ap (λ (xs : List NamedFile). map named found ++ xs) (sym (meant_end user pattern files i l)) ∙ before
+
+-- one more that is meant: there is one
+pub found_some : (user : ℕ) (pattern : List ℕ) (files : List Listed) (i : ℕ) (d : Listed) (found : List FileName) (all : List NamedFile) → i < length files
+    → is_meant user pattern (get_or files i d) ≡ true → map named found ++ meant user pattern (drop i files) ≡ all → all ≢ []
+found_some user pattern files i d found all l h before e =
+    let rest = meant user pattern (drop (i + 1) files) in
+    let whole : map named found ++ listed (get_or files i d) ∷ rest ≡ [] =
+    ap (λ (xs : List NamedFile). map named found ++ xs) (sym (meant_yes user pattern files i d l h)) ∙ before ∙ e in
+    absurd (omega (arith, length-append (map named found) (listed (get_or files i d) ∷ rest), ap length whole))
+
+pub whatever_error : {T E : Type 0} (r : Result T E) (Q : Type 0) → Q → IfErr r (λ _. Q)
+whatever_error (Ok value) Q q = tt
+whatever_error (Err error) Q q = q

@@ -15,12 +15,12 @@ use Rattle.cpm_filing.specs.Names.{is_name_character, capital, character_at, sta
 
 -- ---- a character of a name
 
-name_low : (c : ℕ) → is_name_character c ≡ true → c < 128
+pub name_low : (c : ℕ) → is_name_character c ≡ true → c < 128
 unfolding is_name_character
 name_low c h =
     let less : c < 127 = ltb-true c 127 (and_parts (ltb c 127) _ (and_parts (ltb 32 c) _ h).1).0 in omega (arith, less)
 
-right_of : (x y : Bool) → (x && y) ≡ false → x ≡ true → y ≡ false
+pub right_of : (x y : Bool) → (x && y) ≡ false → x ≡ true → y ≡ false
 right_of true y h e = h
 right_of false y h e = absurd (false≢true e)
 
@@ -36,10 +36,10 @@ no_star c h =
 
 -- ---- a part of a name
 
-all_at : (p : ℕ → Bool) (xs : List ℕ) (i : ℕ) → list_all p xs ≡ true → i < length xs → p (get_or xs i 0) ≡ true
+pub all_at : (p : ℕ → Bool) (xs : List ℕ) (i : ℕ) → list_all p xs ≡ true → i < length xs → p (get_or xs i 0) ≡ true
 all_at p xs i h l = true_from_ne_false _ (λ e. true≢false (sym h ∙ list_all_at p xs i 0 l e))
 
-star_behind : (part : List ℕ) → list_all is_name_character part ≡ true → star_of part ≡ length part
+pub star_behind : (part : List ℕ) → list_all is_name_character part ≡ true → star_of part ≡ length part
 star_behind part h =
     position_or_len_is (λ c. eqb c 42) part (length part) 0 (omega arith) (λ k l. no_star (get_or part k 0) (all_at is_name_character part k h l)) (λ l. absurd (omega arith))
 
@@ -59,7 +59,7 @@ plain_at part h place =
 
 -- ---- a whole name, with attributes
 
-bit_low : (is_set : Bool) (c : ℕ) → with_bit is_set c % 128 ≡ c % 128
+pub bit_low : (is_set : Bool) (c : ℕ) → with_bit is_set c % 128 ≡ c % 128
 unfolding with_bit
 bit_low true c = omega arith
 bit_low false c = omega arith

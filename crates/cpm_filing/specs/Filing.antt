@@ -1,13 +1,14 @@
 -- Files that are put on an image and taken off it. All of it is own.
-use Rattle.std.specs.Prelude.{◌≡◌, ◌⊎◌, ℕ, Bool, true, if◌then◌else◌, List, Some, length}
-use Rattle.std.specs.List.{concat}
+use Rattle.std.specs.Prelude.{◌≡◌, ◌⊎◌, ℕ, Bool, true, false, if◌then◌else◌, List, Some, length}
+use Rattle.std.specs.List.{concat, list_any}
 use Rattle.cpm_geom.specs.Disk.{Disk, IsDisk}
 use Rattle.cpm_geom.specs.Geometry.{format_of_length}
 use Rattle.cpm_geom.specs.declared.format.Format.{Format}
 use Rattle.cpm_geom.specs.declared.format.Format.TheVariants.{Ibm3740, Large}
-use Rattle.cpm_shelf.specs.Shelf.{records_for, IsPutRefusal}
+use Rattle.cpm_shelf.specs.Filled.{filled}
+use Rattle.cpm_shelf.specs.Shelf.{records_for, HasFile, IsPutRefusal}
 use Rattle.cpm_shelf.specs.Taken.{IsGot}
-use Rattle.cpm_shelf.specs.Texts.{to_text, from_text}
+use Rattle.cpm_shelf.specs.Texts.{to_text, from_text, is_control}
 use Rattle.cpm_shelf.specs.declared.name.FileName.{FileName}
 use Rattle.cpm_filing.specs.Refusals.{named, IsToldRefusal}
 use Rattle.cpm_filing.specs.declared.error.FilingError.{FilingError}
@@ -42,3 +43,9 @@ pub record IsTaken (disk : Disk) (file : FileName) (is_text : Bool) (bytes : Lis
   pub whole : List ℕ
   pub got : IsGot disk file.user file.name whole
   pub bytes_are : bytes ≡ taken is_text whole
+
+-- own: bytes that a disk has, as a file that was put, are taken off it filled up to whole records, and a text with line feeds alone as it was
+abbrev pub RoundLaw : Type 0
+RoundLaw =
+    (disk : Disk) (file : FileName) (is_text : Bool) (bytes got : List ℕ) → HasFile disk file.user file.name (stored is_text bytes) → IsTaken disk file is_text got
+    → (is_text ≡ false → got ≡ filled bytes) × (is_text ≡ true → list_any is_control bytes ≡ false → got ≡ bytes)

@@ -1,11 +1,11 @@
 -- The names that files of a disk get on the host. All of it is own.
-use Rattle.std.specs.Prelude.{◌≡◌, ℕ, ◌+◌, ◌%◌, Bool, false, not, ◌&&◌, ◌==◌, nat_le, if◌then◌else◌, List, [], ◌∷◌, ◌++◌, Option, Some, None, take, drop, chars}
+use Rattle.std.specs.Prelude.{◌≡◌, ℕ, ◌+◌, ◌%◌, Bool, true, false, not, ◌&&◌, ◌==◌, nat_le, if◌then◌else◌, List, [], ◌∷◌, ◌++◌, Option, Some, None, take, drop, chars}
 use Rattle.std.specs.List.{list_all, list_any}
 use Rattle.cpm_command.specs.Shown.{shown_of}
 use Rattle.cpm_files.specs.Files.{same_name}
 use Rattle.cpm_shelf.specs.declared.name.FileName.{FileName}
 use Rattle.cpm_filing.specs.Listing.{is_blank}
-use Rattle.cpm_filing.specs.Names.{name_of}
+use Rattle.cpm_filing.specs.Names.{marked, name_of}
 use Rattle.cpm_filing.specs.Refusals.{named}
 use Rattle.cpm_filing.specs.declared.error.FilingError.{FilingError}
 use Rattle.cpm_filing.specs.declared.error.FilingError.TheVariants.{NoHostName}
@@ -36,6 +36,18 @@ is_read_as name (Some found) = same_name found name
 -- a text can be the name of a file of the host: it has no slash, and is read as the name again
 unfoldable pub is_host_name : List ℕ → List ℕ → Bool
 is_host_name text name = not (list_any (λ c. c == 0x2F) text) && is_read_as name (name_of text)
+
+-- own: a name that a text without a slash spells has a text on the host, whatever its attributes
+abbrev pub SpelledLaw : Type 0
+SpelledLaw =
+    (text name : List ℕ) (is_read_only is_system : Bool) → name_of text ≡ Some name → list_any (λ c. c == 0x2F) text ≡ false
+    → is_host_name (host_text (marked is_read_only is_system name)) (marked is_read_only is_system name) ≡ true
+
+-- own: two names with one text on the host are the same
+abbrev pub ApartLaw : Type 0
+ApartLaw =
+    (name other : List ℕ) → is_host_name (host_text name) name ≡ true → is_host_name (host_text other) other ≡ true
+    → host_text name ≡ host_text other → same_name name other ≡ true
 
 -- why a file gets no name on the host: its text can't be one
 abbrev pub IsNoHostName : (image : List ℕ) → FileName → FilingError → Type 0

@@ -1,6 +1,7 @@
 -- The list of a disk's files as it is written. All of it is own.
-use Rattle.std.specs.Prelude.{⊤, ◌≡◌, ℕ, ◌-◌, ◌%◌, Bool, true, false, ◌&&◌, ◌||◌, ◌==◌, nat_lt, if◌then◌else◌, List, [], ◌∷◌, ◌++◌, Option, Some, None, length, take, drop, replicate, slice_index, codes, chars, decimal, Err}
+use Rattle.std.specs.Prelude.{⊤, ◌≡◌, ℕ, ◌<◌, ◌-◌, ◌%◌, Bool, true, false, ◌&&◌, ◌||◌, ◌==◌, nat_lt, if◌then◌else◌, List, [], ◌∷◌, ◌++◌, Option, Some, None, length, take, drop, replicate, slice_index, slice_index_or, codes, chars, decimal, Err}
 use Rattle.std.specs.List.{insert, list_all, position_or_len}
+use Rattle.std.specs.List.Sorted.{IsPermutation}
 use Rattle.cpm_command.specs.Shown.{shown_of}
 use Rattle.cpm_directory.specs.Directory.{entries_of}
 use Rattle.cpm_directory.specs.WellFormed.{IsChecked}
@@ -43,6 +44,13 @@ placed_all done (file ∷ files) = placed_all (placed file done) files
 
 abbrev pub in_order : List Listed → List Listed
 in_order files = placed_all [] files
+
+-- own: in order the files are the same, each as often, and none comes before one that stands before it
+abbrev pub OrderLaw : Type 0
+OrderLaw =
+    (files : List Listed) → IsPermutation files (in_order files)
+    × ((j k : ℕ) (d : Listed) → j < k → k < length (in_order files)
+    → comes_before (slice_index_or (in_order files) k d) (slice_index_or (in_order files) j d) ≡ false)
 
 -- ---- a line
 
@@ -104,8 +112,8 @@ free_line format free = decimal free ++ codes " of " ++ decimal ((dpb_of format)
 abbrev pub list_text : Format → Option ℕ → Shelf → List ℕ
 list_text format user shelf = lines_of user (in_order shelf.files.items) ++ free_line format shelf.free_blocks
 
--- why a list is not written
-abbrev pub IsWriteRefusal : FilingError → Type 0
-IsWriteRefusal (OutputUnwritable reason) = ⊤
-IsWriteRefusal OutOfMemory = ⊤
-IsWriteRefusal _ = ⊥
+-- Why a list is not written: its writer refuses some of it; or memory is refused, and the writer is as it was.
+abbrev pub IsWriteRefusal : {W : Type 0} → FilingError → W → W → Type 0
+IsWriteRefusal {W} (OutputUnwritable reason) old new = ⊤
+IsWriteRefusal {W} OutOfMemory old new = new ≡ old
+IsWriteRefusal {W} _ old new = ⊥

@@ -27,11 +27,11 @@ pub record AreMeant (text : List ℕ) (user : ℕ) (files : List Listed) (named 
   pub named_are : named ≡ meant user pattern files
   pub some : named ≢ []
 
--- Why there are none: the text is no pattern; it is one, but no file of the user matches; or there was no memory.
+-- Why there are none: the text is no pattern; it is one, but no file of the user matches; or one does, but there was no memory.
 abbrev pub IsMatchRefusal : (image text : List ℕ) → (user : ℕ) → List Listed → FilingError → Type 0
 IsMatchRefusal image text user files (NotPattern shown) = (shown.bytes ≡ shown_of (chars text)) × (pattern_of text ≡ None)
 IsMatchRefusal image text user files (NoFile shown pattern number) =
     (shown.bytes ≡ shown_of (chars image)) × (pattern.bytes ≡ shown_of (chars text)) × (number ≡ user)
     × ((pattern : List ℕ) × (pattern_of text ≡ Some pattern) × (meant user pattern files ≡ []))
-IsMatchRefusal image text user files OutOfMemory = pattern_of text ≢ None
+IsMatchRefusal image text user files OutOfMemory = (pattern : List ℕ) × (pattern_of text ≡ Some pattern) × (meant user pattern files ≢ [])
 IsMatchRefusal image text user files _ = ⊥

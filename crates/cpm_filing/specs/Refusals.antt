@@ -1,9 +1,11 @@
 -- What is told where nothing is done. All of it is own.
-use Rattle.std.specs.Prelude.{⊤, ◌≡◌, ℕ, List, None, Err, length, chars}
+use Rattle.std.specs.Prelude.{⊤, ◌≡◌, ℕ, Bool, true, ◌&&◌, ◌==◌, List, None, Err, length, chars}
+use Rattle.std.specs.List.{list_any}
 use Rattle.cpm_command.specs.Shown.{shown_of}
 use Rattle.cpm_directory.specs.Directory.{entries_of}
 use Rattle.cpm_directory.specs.WellFormed.{IsChecked}
 use Rattle.cpm_directory.specs.declared.fault.DriveFault.{DriveFault}
+use Rattle.cpm_files.specs.Files.{same_name}
 use Rattle.cpm_geom.specs.Disk.{Disk}
 use Rattle.cpm_geom.specs.Geometry.{dpb_of, format_of_length}
 use Rattle.cpm_shelf.specs.declared.name.FileName.{FileName}
@@ -13,13 +15,14 @@ use Rattle.cpm_filing.specs.Damage.{damage_of}
 use Rattle.cpm_filing.specs.Names.{name_of}
 use Rattle.cpm_filing.specs.declared.damage.NamedFile.{NamedFile}
 use Rattle.cpm_filing.specs.declared.error.FilingError.{FilingError}
-use Rattle.cpm_filing.specs.declared.error.FilingError.TheVariants.{NotName, NotPattern, NotPair, NotImage, Damaged, NoFile, NoHostName, Refused, OutputUnwritable, OutOfMemory}
+use Rattle.cpm_filing.specs.declared.error.FilingError.TheVariants.{NotName, NotPattern, NotPair, PutTwice, NotImage, Damaged, NoFile, NoHostName, Refused, OutputUnwritable, OutOfMemory}
 
 -- the number of the code that the text begins with
 abbrev pub status_of : FilingError → ℕ
 status_of (NotName text) = 1
 status_of (NotPattern text) = 1
 status_of (NotPair text) = 1
+status_of (PutTwice text file) = 1
 status_of (OutputUnwritable reason) = 5
 status_of (NotImage image count) = 6
 status_of (Damaged image damage) = 6
@@ -65,3 +68,13 @@ IsFaultOf disk shelf.OutOfMemory = ⊤
 abbrev pub IsNotName : (text : List ℕ) → FilingError → Type 0
 IsNotName text (NotName shown) = (shown.bytes ≡ shown_of (chars text)) × (name_of text ≡ None)
 IsNotName text _ = ⊥
+
+-- two files are one on a disk: of one user, and of one name in the low seven bits of each character
+abbrev pub is_same_file : FileName → FileName → Bool
+is_same_file file other = (file.user == other.user) && same_name file.name other.name
+
+-- a word would put a file on a disk that one before it is already
+abbrev pub IsPutTwice : (before : List FileName) → FileName → (word : List ℕ) → FilingError → Type 0
+IsPutTwice before file word (PutTwice shown about) =
+    (shown.bytes ≡ shown_of (chars word)) × (about ≡ named file) × (list_any (is_same_file file) before ≡ true)
+IsPutTwice before file word _ = ⊥

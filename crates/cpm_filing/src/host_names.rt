@@ -121,7 +121,7 @@ fn has_slash(text: &[u8]) -> bool
 }
 
 /// Whether two names agree in the low seven bits of each character.
-fn is_same_name(name: &[u8; 11], other: &[u8; 11]) -> bool
+pub(crate) fn is_same_name(name: &[u8; 11], other: &[u8; 11]) -> bool
     ensures { result ≡ same_name name.now other.now }
 {
     all_same(name, other)

@@ -31,7 +31,8 @@ pub fn list_files(alloc: Global, image: &Image, name: &str) -> Result<Shelf, Fil
 }
 
 /// Writes a line for each file of a disk of this format, or of one user, in the order of users and names, and a line that says
-/// how many blocks are free. `OutputUnwritable` has the error of the writer, who may have got the beginning.
+/// how many blocks are free. `OutputUnwritable` has the error of the writer, who may have got the beginning; where memory is
+/// refused the writer gets nothing.
 pub fn write_list<W: Write>(
     alloc: Global,
     format: Format,
@@ -40,7 +41,7 @@ pub fn write_list<W: Write>(
     out: &mut W,
 ) -> Result<(), FilingError>
     ensures text { OnOk result (Appends (W.contents out.old) (W.contents out.new) (list_text format user shelf.now)) }
-    ensures refusal { IfErr result IsWriteRefusal }
+    ensures refusal { IfErr result (λ e. IsWriteRefusal e out.old out.new) }
 {
     let text = match text_of(alloc, format, shelf, user) {
         Ok(text) => text,

@@ -1,6 +1,6 @@
 //! The files of a disk that a pattern names.
 
-ghost use Rattle.std.specs.Prelude.{◌≡◌, ◌<◌, true, false, IfOk, MatchOption, MatchResult, map};
+ghost use Rattle.std.specs.Prelude.{◌≡◌, ◌≢◌, ◌<◌, true, false, IfErr, IfOk, MatchOption, MatchResult, List, [], map};
 ghost use Rattle.std.specs.List.{list_all, zip};
 ghost use Rattle.cpm_files.specs.Files.{has_wildcard, name_matches, wildcard_or_same};
 ghost use Rattle.cpm_filing.specs.Matching.{is_meant, listed, meant, AreMeant, IsMatchRefusal};
@@ -40,7 +40,7 @@ pub fn matching_files(
     }
 }
 
-/// The files of a user that match; refused for want of memory.
+/// The files of a user that match; refused for want of memory, where there is one.
 fn files_of(
     alloc: Global,
     files: &[Listed],
@@ -48,7 +48,8 @@ fn files_of(
     pattern: &[u8; 11],
 ) -> Result<Vec<FileName>, AllocError>
     requires { user < 16 }
-    ensures { IfOk result (λ found. map named found.items ≡ meant user pattern.now files.now) }
+    ensures found { IfOk result (λ found. map named found.items ≡ meant user pattern.now files.now) }
+    ensures some { IfErr result (λ _. meant user pattern.now files.now ≢ []) }
 {
     let mut found = Vec::new(alloc);
     for file in files {

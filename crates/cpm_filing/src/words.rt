@@ -1,12 +1,14 @@
 //! What the words of a command line name.
 
-ghost use Rattle.std.specs.Prelude.{◌≡◌, ◌<◌, ◌==◌, ℕ, List, Some, MatchOption, MatchResult, length};
-ghost use Rattle.std.specs.List.{after_first, before_first, position_or_len};
+ghost use Rattle.std.specs.Prelude.{◌≡◌, ◌<◌, ◌==◌, ℕ, List, Some, true, false, MatchOption, MatchResult, length};
+ghost use Rattle.std.specs.List.{after_first, before_first, list_any, position_or_len};
 ghost use Rattle.cpm_files.specs.Files.{has_wildcard};
 ghost use Rattle.cpm_filing.specs.Names.{marked, name_of, with_bit, IsBaseName};
-ghost use Rattle.cpm_filing.specs.Refusals.{IsNotName};
+ghost use Rattle.cpm_filing.specs.Refusals.{is_same_file, IsNotName, IsPutTwice};
 
+use crate::damage::NamedFile;
 use crate::error::FilingError;
+use crate::host_names::is_same_name;
 use crate::names::name_of;
 use cpm_command::shown;
 use cpm_shelf::FileName;
@@ -72,4 +74,36 @@ fn with_bit(character: u8, is_set: bool) -> u8
     } else {
         character % 128
     }
+}
+
+/// That a file is none of those before it; `PutTwice` where it is one, with the word that names it.
+pub fn check_new(before: &[FileName], file: &FileName, word: &str) -> Result<(), FilingError>
+    ensures { MatchResult result
+        (λ _. list_any (is_same_file file.now) before.now ≡ false)
+        (λ e. IsPutTwice before.now file.now word.now e) }
+{
+    if is_among(before, file) {
+        Err(FilingError::PutTwice {
+            word: shown(word),
+            file: NamedFile {
+                user: file.user(),
+                name: *file.name(),
+            },
+        })
+    } else {
+        Ok(())
+    }
+}
+
+fn is_among(before: &[FileName], file: &FileName) -> bool
+    ensures { result ≡ list_any (is_same_file file.now) before.now }
+{
+    before.iter().any(|other| is_same_file(file, other))
+}
+
+/// Whether two files are one on a disk.
+fn is_same_file(file: &FileName, other: &FileName) -> bool
+    ensures { result ≡ is_same_file file.now other.now }
+{
+    file.user() == other.user() && is_same_name(file.name(), other.name())
 }

@@ -100,18 +100,18 @@ fn files_get_other_names(rt: HostRuntime) {
     same(
         &rt,
         line(&rt, get_file(rt.alloc(), &image, IMAGE, &old, true)).as_str(),
-        "HO6 'work.img', README.TXT of user 0: no such file",
+        "HO6 'work.img', README.TXT of user 0: no such file; 'cpmhost disk list' shows its files",
     );
     same(
         &rt,
         line(&rt, rename_file(rt.alloc(), &image, IMAGE, &old, &new)).as_str(),
-        "HO6 'work.img', README.TXT of user 0: no such file",
+        "HO6 'work.img', README.TXT of user 0: no such file; 'cpmhost disk list' shows its files",
     );
     let image = taken(&rt, put_file(rt.alloc(), &image, IMAGE, &old, false, b""));
     same(
         &rt,
         line(&rt, rename_file(rt.alloc(), &image, IMAGE, &old, &new)).as_str(),
-        "HO6 'work.img', README.TXT of user 0: a file of that name is there",
+        "HO6 'work.img', README.TXT of user 0: a file of that name is there; remove that one first, or choose another name",
     );
 }
 
@@ -123,7 +123,7 @@ fn files_are_removed(rt: HostRuntime) {
     same(
         &rt,
         line(&rt, remove_file(rt.alloc(), &image, IMAGE, &name)).as_str(),
-        "HO6 'work.img', README.TXT of user 0: no such file",
+        "HO6 'work.img', README.TXT of user 0: no such file; 'cpmhost disk list' shows its files",
     );
 }
 
@@ -135,12 +135,12 @@ fn read_only_files_stay(rt: HostRuntime) {
     same(
         &rt,
         line(&rt, put_file(rt.alloc(), &image, IMAGE, &name, false, b"y")).as_str(),
-        "HO6 'work.img', KEPT.COM of user 3: the file is read-only",
+        "HO6 'work.img', KEPT.COM of user 3: the file is read-only; a program in a session can take the attribute away",
     );
     same(
         &rt,
         line(&rt, remove_file(rt.alloc(), &image, IMAGE, &name)).as_str(),
-        "HO6 'work.img', KEPT.COM of user 3: the file is read-only",
+        "HO6 'work.img', KEPT.COM of user 3: the file is read-only; a program in a session can take the attribute away",
     );
 }
 
@@ -156,7 +156,7 @@ fn large_files_are_refused(rt: HostRuntime) {
             put_file(rt.alloc(), &image, IMAGE, &name, false, &bytes),
         )
         .as_str(),
-        "HO6 'work.img', BIG of user 0: the disk is full",
+        "HO6 'work.img', BIG of user 0: the disk is full; remove files, or take a large disk ('cpmhost disk new --large')",
     );
 }
 
@@ -187,7 +187,7 @@ fn patterns_name_files(rt: HostRuntime) {
             matching_files(rt.alloc(), &shelf.files, IMAGE, 1, "*.*"),
         )
         .as_str(),
-        "HO6 'work.img' has no file '*.*' of user 1",
+        "HO6 'work.img' has no file '*.*' of user 1; 'cpmhost disk list' shows its files",
     );
     same(
         &rt,
@@ -211,6 +211,6 @@ fn words_and_images_are_refused(rt: HostRuntime) {
     same(
         &rt,
         line(&rt, image_of(IMAGE, bytes)).as_str(),
-        "HO6 'work.img' has 3 bytes, and the image of a drive has 256256 or 2105344",
+        "HO6 'work.img' has 3 bytes, and the image of a drive has 256256 or 2105344; 'cpmhost disk new' makes a blank one",
     );
 }

@@ -8,4 +8,6 @@ mod lists;
 #[cfg(test)]
 mod names;
 #[cfg(test)]
+mod refused;
+#[cfg(test)]
 mod same;

@@ -3,6 +3,7 @@
 use crate::same::same;
 use cpm_filing::{FilingError, file_name, list_files, new_image, put_file, write_list};
 use cpm_geom::{Format, Image};
+use cpm_shelf::{Listed, Shelf};
 use std::process::Abort;
 
 /// The value; the test fails where there is none.
@@ -55,5 +56,42 @@ fn files_of_one_user_are_listed(rt: HostRuntime) {
         &rt,
         lines(&rt, Some(1)).as_slice(),
         b"user  1  ZERO.TXT         1 record\n238 of 241 blocks are free\n".as_slice(),
+    );
+}
+
+/// Files in no order: two of one name with other attributes, two users, names of which one begins the other.
+const MIXED: [(u8, &[u8; 11]); 6] = [
+    (1, b"B          "),
+    (0, b"BA         "),
+    (1, b"A          "),
+    (0, b"B       \xC1  "),
+    (0, b"A       B  "),
+    (0, b"B       A  "),
+];
+
+#[test]
+fn a_list_in_no_order_is_written_in_order(rt: HostRuntime) {
+    let mut files = Vec::new(rt.alloc());
+    for (user, name) in MIXED {
+        let file = Listed {
+            user,
+            name: *name,
+            records: 1,
+        };
+        files.push(file).expect(&rt, "memory");
+    }
+    let shelf = Shelf {
+        files,
+        free_blocks: 241,
+    };
+    let mut out = Vec::new(rt.alloc());
+    taken(
+        &rt,
+        write_list(rt.alloc(), Format::Ibm3740, &shelf, None, &mut out),
+    );
+    same(
+        &rt,
+        out.as_slice(),
+        b"user  0  A.B              1 record\nuser  0  B.A              1 record, read-only\nuser  0  B.A              1 record\nuser  0  BA               1 record\nuser  1  A                1 record\nuser  1  B                1 record\n241 of 241 blocks are free\n".as_slice(),
     );
 }

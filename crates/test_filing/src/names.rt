@@ -1,7 +1,8 @@
 //! Names and patterns as a person writes them.
 
 use crate::same::same_at;
-use cpm_filing::{base_name, name_of, pattern_of, split_pair, text_of_name};
+use cpm_filing::{base_name, file_name, name_of, pattern_of, split_pair, text_of_name};
+use std::process::Abort;
 
 /// Texts, and the names that they spell.
 const NAMES: [(&str, Option<&[u8; 11]>); 18] = [
@@ -39,15 +40,28 @@ const PATTERNS: [(&str, Option<&[u8; 11]>); 9] = [
 ];
 
 /// Names of files of a disk, and those that the host's files get.
-const TEXTS: [(&[u8; 11], Option<&str>); 7] = [
+const TEXTS: [(&[u8; 11], Option<&str>); 9] = [
     (b"HELLO   COM", Some("hello.com")),
     (b"A          ", Some("a")),
     (b"EIGHTCHRTYP", Some("eightchr.typ")),
     (b"X       \xD4\xD8T", Some("x.txt")),
+    (b"\xC8ELLO   COM", Some("hello.com")),
+    (b"A       \xA0\xA0 ", Some("a")),
     (b"A/B        ", None),
     (b"A B        ", None),
     (b"..         ", None),
 ];
+
+/// Fails unless the file that a text names has the wanted text on the host.
+fn has_text(rt: &impl Abort, text: &str, is_read_only: bool, is_system: bool, wanted: &str) {
+    let Ok(file) = file_name(text, 0, is_read_only, is_system) else {
+        panic!(rt; "no name");
+    };
+    match text_of_name(file.name()) {
+        Some(found) => same_at(rt, (text, is_read_only, is_system), found.as_str(), wanted),
+        None => panic!(rt; "no text"),
+    }
+}
 
 #[test]
 fn host_names_are_made(rt: HostRuntime) {
@@ -58,6 +72,24 @@ fn host_names_are_made(rt: HostRuntime) {
             None => None,
         };
         same_at(&rt, name, found, wanted);
+    }
+}
+
+/// Texts, and the names that the host's files get which are named by them, whatever the attributes.
+const SPELLED: [(&str, &str); 4] = [
+    ("HELLO.COM", "hello.com"),
+    ("a.", "a"),
+    ("Eightchr.t", "eightchr.t"),
+    ("x-1.$$$", "x-1.$$$"),
+];
+
+#[test]
+fn names_with_attributes_have_texts(rt: HostRuntime) {
+    for (text, wanted) in SPELLED {
+        has_text(&rt, text, false, false, wanted);
+        has_text(&rt, text, true, false, wanted);
+        has_text(&rt, text, false, true, wanted);
+        has_text(&rt, text, true, true, wanted);
     }
 }
 

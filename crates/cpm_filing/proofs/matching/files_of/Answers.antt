@@ -1,5 +1,5 @@
 use Rattle.std.proofs.Common.{◌≡◌, ◌<◌, ◌∷◌, [], ◌++◌, length, arith}
-use Rattle.cpm_filing.proofs.MatchLemmas.{found_more, found_same, found_all}
+use Rattle.cpm_filing.proofs.MatchLemmas.{found_more, found_same, found_all, found_some, whatever_error}
 use Rattle.cpm_filing.proofs.matching.files_of.Goals as goal
 use Rattle.cpm_filing.proofs.matching.files_of.Goals.{in-Some+in_ok-push, in_default}
 
@@ -15,5 +15,10 @@ loop-file-preserved c =
           found_same c.args.user c.args.pattern.now c.args.files.now c.loop-file.file-index _ c.loop-file.found.items c.match-file_meant.found.items _ l w.in_default.ensures kept c.loop-file.invariant
     ]
 
-pub returns : goal.returns
-returns c = found_all c.args.user c.args.pattern.now c.args.files.now c.loop-file.file-index c.loop-file.found.items _ (omega arith) c.loop-file.invariant
+pub returns-clause-found : goal.returns-clause-found
+returns-clause-found c = found_all c.args.user c.args.pattern.now c.args.files.now c.loop-file.file-index c.loop-file.found.items _ (omega arith) c.loop-file.invariant
+
+pub returns-in_err-push-clause-some : goal.returns-in_err-push-clause-some
+returns-in_err-push-clause-some c =
+    let l : c.loop-file.file-index < length c.args.files.now = omega arith in
+    whatever_error _ _ (found_some c.args.user c.args.pattern.now c.args.files.now c.loop-file.file-index _ c.loop-file.found.items _ l c.in-Some.ensures.0 c.loop-file.invariant)
