@@ -8,7 +8,7 @@ use crate::output::Outputs;
 use crate::place::check_taken;
 use crate::refused::Refused;
 use cpm_filing::{
-    FilingError, base_name, file_name, get_file, host_name, image_of, list_files, matching_files,
+    FilingError, base_name, check_new, file_name, get_file, host_name, image_of, list_files, matching_files,
     new_image, put_file, remove_file, rename_file, split_pair, write_list,
 };
 use cpm_geom::Image;
@@ -133,11 +133,14 @@ fn put(
     requires { user < 16 }
 {
     let mut image = read_image(rt, name)?;
+    let mut files: Vec<FileName> = Vec::new(rt.alloc());
     for word in words {
         let (path, inside) = split_pair(word).unwrap_or((word, base_name(word)));
         let file = file_name(inside, user, how.is_read_only, how.is_system)?;
+        check_new(&files, &file, word)?;
         let bytes = read_file(rt, path)?;
         image = put_file(rt.alloc(), &image, name, &file, how.is_text, &bytes)?;
+        files.push(file)?;
     }
     write_image(rt, outputs, name, image)
 }
