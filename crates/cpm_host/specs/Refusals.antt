@@ -79,6 +79,7 @@ abbrev pub host_error_of_filing : FilingError → HostError
 host_error_of_filing (filing.NotName text) = DiskRefused (filing.NotName text)
 host_error_of_filing (filing.NotPattern text) = DiskRefused (filing.NotPattern text)
 host_error_of_filing (filing.NotPair text) = DiskRefused (filing.NotPair text)
+host_error_of_filing (filing.PutTwice text file) = DiskRefused (filing.PutTwice text file)
 host_error_of_filing (filing.NotImage image count) = DiskRefused (filing.NotImage image count)
 host_error_of_filing (filing.Damaged image damage) = DiskRefused (filing.Damaged image damage)
 host_error_of_filing (filing.NoFile image pattern user) = DiskRefused (filing.NoFile image pattern user)
