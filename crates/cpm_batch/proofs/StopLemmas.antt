@@ -17,7 +17,7 @@ use Rattle.cpm_store.proofs.LogLemmas.{no_writes_more, ran_more, ran_one}
 use Rattle.cpm_batch.specs.declared.error.ReadError.{ReadError}
 use Rattle.cpm_batch.specs.declared.error.ReadError.TheVariants.{File, OutOfMemory}
 use Rattle.cpm_batch.specs.Inputs.{ForkedScriptIn, ImageIn, IsFileFault, Need, ScriptIn, SessionInput, image_needs, needs_of, script_needs, forked_script_needs}
-use Rattle.cpm_batch.specs.Reads.{AreForkedKeysRead, AreImagesRead, AreInputsRead, AreKeysRead, IsFaultRead, IsImageRead, IsInputRead, IsInputReadOf, IsNeedRead, StopsAmongNeeds, StopsAmongSessions, StopsAtFault, StopsAtSession, StopsReading, name_of}
+use Rattle.cpm_batch.specs.Reads.{AreForkedKeysRead, AreImagesRead, AreInputsRead, AreKeysRead, IsFaultRead, IsImageRead, IsInputRead, IsInputReadOf, IsNeedRead, StopsAmongNeeds, StopsAmongSessions, StopsAtFault, StopsAtSession, StopsReading}
 use Rattle.cpm_batch.proofs.ReadLemmas.{then_more}
 
 -- a read of each of the needs in order, in which it was met
