@@ -76,14 +76,14 @@ impl<'a, R: Eprint> Teller<'a, R> {
                 eprint!(self.rt; "{before}progress {percent}% of {name} by itself{behind}")
             }
             Told::Sessions(config) => {
-                let slowest = match config.sessions.get(progress.slowest) {
-                    Some(session) => session.name.as_str(),
-                    None => "",
-                };
-                eprint!(self.rt;
-                    "{before}progress {percent}%: {} of {} sessions have ended, {slowest} has the most left{behind}",
-                    progress.ended, progress.sessions
-                )
+                let (ended, sessions) = (progress.ended, progress.sessions);
+                match config.sessions.get(progress.slowest) {
+                    Some(slowest) if ended < sessions => eprint!(self.rt;
+                        "{before}progress {percent}%: {ended} of {sessions} sessions have ended, {} has the most left{behind}",
+                        slowest.name
+                    ),
+                    _ => eprint!(self.rt; "{before}progress {percent}%: {ended} of {sessions} sessions have ended{behind}"),
+                }
             }
         };
     }
