@@ -207,6 +207,11 @@ name_of (ImageIn name) = name
 name_of (ScriptIn name) = name
 name_of (ForkedScriptIn name at before) = name
 
+-- the file of this name couldn't be read, as the error says with the name as it is shown
+abbrev pub IsMissed : Text → ReadError → Type 0
+IsMissed name (File shown) = shown.bytes ≡ shown_of (chars name)
+IsMissed name _ = ⊥
+
 -- it doesn't, as the error says, with the file's name as it is shown; any file may be one that can't be read
 abbrev pub IsFault : Option Files → Need → ReadError → Type 0
 IsFault files need (File shown) = shown.bytes ≡ shown_of (chars (name_of need))
