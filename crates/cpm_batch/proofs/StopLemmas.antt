@@ -16,8 +16,8 @@ use Rattle.cpm_store.specs.Log.{Access, AreNoWrites, Missed, RanBy, Then}
 use Rattle.cpm_store.proofs.LogLemmas.{no_writes_more, ran_more, ran_one}
 use Rattle.cpm_batch.specs.declared.error.ReadError.{ReadError}
 use Rattle.cpm_batch.specs.declared.error.ReadError.TheVariants.{File, OutOfMemory}
-use Rattle.cpm_batch.specs.Inputs.{ForkedScriptIn, ImageIn, IsFileFault, Need, ScriptIn, SessionInput, image_needs, needs_of, script_needs, forked_script_needs}
-use Rattle.cpm_batch.specs.Reads.{AreForkedKeysRead, AreImagesRead, AreInputsRead, AreKeysRead, IsFaultRead, IsImageRead, IsInputRead, IsInputReadOf, IsNeedRead, StopsAmongNeeds, StopsAmongSessions, StopsAtFault, StopsAtSession, StopsReading, name_of}
+use Rattle.cpm_batch.specs.Inputs.{ForkedScriptIn, ImageIn, IsMissed, Need, ScriptIn, SessionInput, image_needs, name_of, needs_of, script_needs, forked_script_needs}
+use Rattle.cpm_batch.specs.Reads.{AreForkedKeysRead, AreImagesRead, AreInputsRead, AreKeysRead, IsFaultRead, IsImageRead, IsInputRead, IsInputReadOf, IsNeedRead, StopsAmongNeeds, StopsAmongSessions, StopsAtFault, StopsAtSession, StopsReading}
 use Rattle.cpm_batch.proofs.ReadLemmas.{then_more}
 
 -- a read of each of the needs in order, in which it was met
@@ -98,14 +98,14 @@ inputs_behind before (i ∷ is) rest e xs ys h g =
     )
 
 -- a call that fails is a fault's read, where the error says so
-missed_fault : (n : Need) (e : ReadError) → IsFileFault e → IsFaultRead n e (Missed (name_of n) ∷ [])
-missed_fault n (File name) h = refl
+missed_fault : (n : Need) (e : ReadError) → IsMissed (name_of n) e → IsFaultRead n e (Missed (name_of n) ∷ [])
+missed_fault n (File name) h = (h, refl)
 missed_fault n _ h = absurd h
 
 module _ {S : Type 0} (does : S → Access → S → Type 0) where
   -- ---- one read that is refused
 
-  pub stopped_missed : (n : Need) (e : ReadError) (s t : S) → (e ≡ OutOfMemory) ⊎ IsFileFault e → does s (Missed (name_of n)) t → RanBy does (StopsAmongNeeds (n ∷ []) e) s t
+  pub stopped_missed : (n : Need) (e : ReadError) (s t : S) → (e ≡ OutOfMemory) ⊎ IsMissed (name_of n) e → does s (Missed (name_of n)) t → RanBy does (StopsAmongNeeds (n ∷ []) e) s t
   stopped_missed n e s t h call = (
     Missed (name_of n) ∷ [],
     ⊎_elim (λ m. inl (m, (tt, tt))) (λ f. inr (inl (missed_fault n e f))) h,

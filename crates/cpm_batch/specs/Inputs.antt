@@ -1,7 +1,8 @@
 -- What the sessions of a configuration need, and what is read for them. All of it is own.
-use Rattle.std.specs.Prelude.{⊤, ◌≡◌, ◌⊎◌, ℕ, List, [], ◌∷◌, ◌++◌, length, map, slice_get, Option, Some, None, option_and_then, Ok, Err, String, string_bytes}
+use Rattle.std.specs.Prelude.{⊤, ◌≡◌, ◌⊎◌, ℕ, List, [], ◌∷◌, ◌++◌, length, map, chars, slice_get, Option, Some, None, option_and_then, Ok, Err, String, string_bytes}
 use Rattle.std.specs.List.{concat}
 use Rattle.std.specs.declared.alloc.Global.{Global}
+use Rattle.cpm_command.specs.Shown.{shown_of}
 use Rattle.cpm_config.specs.Rules.{place_of, session_view}
 use Rattle.cpm_config.specs.declared.config.Config.{Config}
 use Rattle.cpm_config.specs.declared.config.Origin.{Origin}
@@ -200,12 +201,24 @@ IsMet files (ImageIn name) = (d : Disk) × IsImageIn files name d
 IsMet files (ScriptIn name) = (keys : List Key) × IsScriptIn files name keys
 IsMet files (ForkedScriptIn name at before) = (keys : List Key) × IsForkedScriptIn files name at before keys
 
--- it doesn't, as the error says; any file may be one that can't be read
+-- the name of the file
+abbrev pub name_of : Need → Text
+name_of (ImageIn name) = name
+name_of (ScriptIn name) = name
+name_of (ForkedScriptIn name at before) = name
+
+-- the file of this name couldn't be read, as the error says with the name as it is shown
+abbrev pub IsMissed : Text → ReadError → Type 0
+IsMissed name (File shown) = shown.bytes ≡ shown_of (chars name)
+IsMissed name _ = ⊥
+
+-- it doesn't, as the error says, with the file's name as it is shown; any file may be one that can't be read
 abbrev pub IsFault : Option Files → Need → ReadError → Type 0
-IsFault files need (File name) = ⊤
-IsFault files (ImageIn name) (Image shown count) = IsNoImageIn files name count
-IsFault files (ScriptIn name) (Script shown line fault) = IsNoScriptIn files name line fault
-IsFault files (ForkedScriptIn name at before) (Script shown line fault) = IsNoForkedScriptIn files name at before line fault
+IsFault files need (File shown) = shown.bytes ≡ shown_of (chars (name_of need))
+IsFault files (ImageIn name) (Image shown count) = (shown.bytes ≡ shown_of (chars name)) × IsNoImageIn files name count
+IsFault files (ScriptIn name) (Script shown line fault) = (shown.bytes ≡ shown_of (chars name)) × IsNoScriptIn files name line fault
+IsFault files (ForkedScriptIn name at before) (Script shown line fault) =
+    (shown.bytes ≡ shown_of (chars name)) × IsNoForkedScriptIn files name at before line fault
 IsFault files need _ = ⊥
 
 -- the first of the needs that isn't met is refused so

@@ -1,6 +1,7 @@
 -- What is read for the sessions of a configuration, as the calls of a store in their order. All of it is own.
-use Rattle.std.specs.Prelude.{◌≡◌, ◌⊎◌, ℕ, List, [], ◌∷◌, ◌++◌, length, map, Option, Some, None, Ok, Err, String, string_bytes}
+use Rattle.std.specs.Prelude.{◌≡◌, ◌⊎◌, ℕ, List, [], ◌∷◌, ◌++◌, length, map, chars, Option, Some, None, Ok, Err, String, string_bytes}
 use Rattle.std.specs.declared.alloc.Global.{Global}
+use Rattle.cpm_command.specs.Shown.{shown_of}
 use Rattle.cpm_config.specs.declared.config.Config.{Config}
 use Rattle.cpm_config.specs.declared.config.Origin.{Origin}
 use Rattle.cpm_config.specs.declared.config.Origin.TheVariants as origin
@@ -14,7 +15,7 @@ use Rattle.cpm_script.specs.declared.fault.LineFault.{LineFault}
 use Rattle.cpm_script.specs.declared.script.Key.{Key}
 use Rattle.cpm_store.specs.Files.{Text}
 use Rattle.cpm_store.specs.Log.{Access, AreNoWrites, Gave, Missed, Then}
-use Rattle.cpm_batch.specs.Inputs.{Forks, ForkedScriptIn, ImageIn, IsImage, IsParent, Need, Opens, ScriptIn, SessionInput, needs_of}
+use Rattle.cpm_batch.specs.Inputs.{Forks, ForkedScriptIn, ImageIn, IsImage, IsParent, Need, Opens, ScriptIn, SessionInput, name_of, needs_of}
 use Rattle.cpm_batch.specs.declared.error.ReadError.{ReadError}
 use Rattle.cpm_batch.specs.declared.error.ReadError.TheVariants.{File, Image, Script, OutOfMemory}
 
@@ -87,11 +88,6 @@ pub record AreRead (config : Config) (system : Disk) (inputs : List SessionInput
 
 -- ---- where reading is given up
 
-abbrev pub name_of : Need → Text
-name_of (ImageIn name) = name
-name_of (ScriptIn name) = name
-name_of (ForkedScriptIn name at before) = name
-
 -- one read, in which the file gave so many bytes, which no image has
 pub record IsNoImageRead (name : Text) (count : ℕ) (log : List Access) : Type 0 where
   pub bytes : List ℕ
@@ -119,10 +115,11 @@ IsNeedRead (ForkedScriptIn name at before) log = (keys : List Key) × IsForkedSc
 
 -- one read, which failed, or in which the file didn't hold it, as the error says
 abbrev pub IsFaultRead : Need → ReadError → List Access → Type 0
-IsFaultRead need (File shown) log = log ≡ Missed (name_of need) ∷ []
-IsFaultRead (ImageIn name) (Image shown count) log = IsNoImageRead name count log
-IsFaultRead (ScriptIn name) (Script shown line fault) log = IsNoScriptRead name line fault log
-IsFaultRead (ForkedScriptIn name at before) (Script shown line fault) log = IsNoForkedScriptRead name at before line fault log
+IsFaultRead need (File shown) log = (shown.bytes ≡ shown_of (chars (name_of need))) × (log ≡ Missed (name_of need) ∷ [])
+IsFaultRead (ImageIn name) (Image shown count) log = (shown.bytes ≡ shown_of (chars name)) × IsNoImageRead name count log
+IsFaultRead (ScriptIn name) (Script shown line fault) log = (shown.bytes ≡ shown_of (chars name)) × IsNoScriptRead name line fault log
+IsFaultRead (ForkedScriptIn name at before) (Script shown line fault) log =
+    (shown.bytes ≡ shown_of (chars name)) × IsNoForkedScriptRead name at before line fault log
 IsFaultRead need _ log = ⊥
 
 -- a read of each of the needs in order, up to the first that isn't met, and none behind it

@@ -3,7 +3,7 @@ ghost use Rattle.std.specs.Prelude.{◌≡◌, ◌≤◌, ◌∷◌, ◌++◌, �
 ghost use Rattle.cpm_config.specs.Rules.{config_view, fork_fault, forks_fault, session_view};
 ghost use Rattle.cpm_store.specs.Files.{CountsFailure, Finds};
 ghost use Rattle.cpm_store.specs.Log.{AreNoWrites, Gave, Missed, RanBy};
-ghost use Rattle.cpm_batch.specs.Inputs.{AllImages, AllInputs, AreInputs, HasInput, HasKeys, ImageIn, IsFileFault, IsImageIn, IsNeedRefusal, IsOpenedInput, IsReadRefusal, IsScriptIn, IsSessionRefusal, ScriptIn, given, image_needs, needs_of, script_needs};
+ghost use Rattle.cpm_batch.specs.Inputs.{AllImages, AllInputs, AreInputs, HasInput, HasKeys, ImageIn, IsFileFault, IsImageIn, IsMissed, IsNeedRefusal, IsOpenedInput, IsReadRefusal, IsScriptIn, IsSessionRefusal, ScriptIn, given, image_needs, needs_of, script_needs};
 ghost use Rattle.cpm_batch.specs.Reads.{AreImagesRead, AreInputsRead, AreKeysRead, AreRead, IsImageRead, IsInputRead, IsOpenedRead, IsScriptRead, StopsAmongNeeds, StopsAmongSessions, StopsReading};
 
 use crate::error::ReadError;
@@ -61,7 +61,7 @@ pub(crate) fn read_bytes<S: Store>(
     ensures found { IfOk result (λ v. Finds (S.files store.old) name.now v.items) }
     ensures gave { IfOk result (λ v. S.does store.old (Gave name.now v.items) store.new) }
     ensures missed { OnErr result (S.does store.old (Missed name.now) store.new) }
-    ensures refusal { IfErr result (λ e. (e ≡ ReadError.OutOfMemory) ⊎ IsFileFault e) }
+    ensures refusal { IfErr result (λ e. (e ≡ ReadError.OutOfMemory) ⊎ IsMissed name.now e) }
     ensures device { IfErr result (λ e. IsFileFault e → CountsFailure (S.failed store.old) (S.failed store.new)) }
     ensures same { S.files store.new ≡ S.files store.old }
     ensures unwritten { RanBy S.does AreNoWrites store.old store.new }

@@ -9,7 +9,7 @@ use Rattle.cpm_script.specs.Script.{script}
 use Rattle.cpm_script.specs.declared.cue.Cue.{Cue}
 use Rattle.cpm_script.specs.declared.cue.Cue.TheVariants.{Key as Timed}
 use Rattle.cpm_script.specs.declared.script.Key.{Key}
-use Rattle.cpm_script.proofs.CueLemmas.{keys_in-append}
+use Rattle.cpm_script.proofs.CueLemmas.{ascii-append, counted-keys, keys_in-append}
 use Rattle.cpm_script.proofs.ForkLemmas.{length-keys_before}
 use Rattle.cpm_host.specs.Cued.{AreFit}
 
@@ -21,16 +21,6 @@ said-counted (k ∷ ks) = ap (λ cs. Counted k ∷ cs) (said-counted ks)
 
 pub joined-said : (keys : List Key) (own all : Vec Cue Global) → all.items ≡ map Timed keys ++ own.items → all_said all ≡ map Counted keys ++ all_said own
 joined-said keys own all is = ap (map said) is ∙ map-append said (map Timed keys) own.items ∙ ap (λ cs. cs ++ all_said own) (said-counted keys)
-
-counted-keys : (keys : List Key) → keys_in (map Counted keys) ≡ length keys
-counted-keys [] = refl
-counted-keys (k ∷ keys) = omega (arith, counted-keys keys)
-
-ascii-append : (a b : List Said) → KeysAreAscii a → KeysAreAscii b → KeysAreAscii (a ++ b)
-ascii-append [] b first later = later
-ascii-append (Counted key ∷ a) b first later = (first.0, ascii-append a b first.1 later)
-ascii-append (Awaited text ∷ a) b first later = ascii-append a b first later
-ascii-append (Pressed byte ∷ a) b first later = (first.0, ascii-append a b first.1 later)
 
 -- those that are left of keys below 80h
 ascii-kept : (t : Bool) (k : Key) (kept : List Key) → k.byte < 128 → KeysAreAscii (map Counted kept) → KeysAreAscii (map Counted (cond t (k ∷ kept) kept))

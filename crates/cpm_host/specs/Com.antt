@@ -1,6 +1,7 @@
 -- What running a program shows, and when it is refused.
-use Rattle.std.specs.Prelude.{⊤, ◌≡◌, ◌<◌, ◌≤◌, ℕ, List, [], ◌∷◌, length, Option, Some, None, Result, Ok, Err}
+use Rattle.std.specs.Prelude.{⊤, ◌≡◌, ◌<◌, ◌≤◌, ℕ, List, [], ◌∷◌, length, chars, Option, Some, None, Result, Ok, Err}
 use Rattle.cpm_batch.specs.declared.error.ReadError.TheVariants as read
+use Rattle.cpm_command.specs.Shown.{shown_of}
 use Rattle.cpm_flags.specs.declared.regs.Cpu.{Cpu}
 use Rattle.cpm_geom.specs.Disk.{Disk, blank_disk}
 use Rattle.cpm_geom.specs.declared.format.Format.TheVariants.{Ibm3740}
@@ -41,10 +42,10 @@ abbrev pub keys_given : Option Script → List Key
 keys_given None = []
 keys_given (Some s) = keys_or_none (script s.text.now)
 
--- the first line of the script with a fault
-abbrev pub IsBadLine : Option Script → ℕ → LineFault → Type 0
-IsBadLine None line fault = ⊥
-IsBadLine (Some s) line fault = script s.text.now ≡ Err (line, fault)
+-- the first line of the script with a fault, with the name of its file as it is shown
+abbrev pub IsBadLine : Option Script → (shown : List ℕ) → ℕ → LineFault → Type 0
+IsBadLine None shown line fault = ⊥
+IsBadLine (Some s) shown line fault = (shown ≡ shown_of (chars s.name.now)) × (script s.text.now ≡ Err (line, fault))
 
 -- ---- what a program begins with
 
@@ -81,15 +82,16 @@ machine_of g = with_tail_if_any g.tail (opened_with g.cpu (drives_or_blank g.dri
 abbrev pub ran_alone : Given → List Key → ℕ → MachineState
 ran_alone g keys steps = alone_by (blank_disk Ibm3740) keys steps (machine_of g)
 
--- what is told of a script that is refused
-abbrev pub IsScriptTold : ScriptError → HostError → Type 0
-IsScriptTold (Line number fault) (FileRefused (read.Script name line told)) = (line ≡ number) × (told ≡ fault)
-IsScriptTold (Line number fault) _ = ⊥
-IsScriptTold script_error.OutOfMemory e = e ≡ OutOfMemory
+-- what is told of a script that is refused, in the file of this name
+abbrev pub IsScriptTold : (name : List ℕ) → ScriptError → HostError → Type 0
+IsScriptTold name (Line number fault) (FileRefused (read.Script shown line told)) =
+    (shown.bytes ≡ shown_of (chars name)) × (line ≡ number) × (told ≡ fault)
+IsScriptTold name (Line number fault) _ = ⊥
+IsScriptTold name script_error.OutOfMemory e = e ≡ OutOfMemory
 
 -- how a script is refused
 abbrev pub IsScriptRefusal : Option Script → HostError → Type 0
-IsScriptRefusal script (FileRefused (read.Script name line fault)) = IsBadLine script line fault
+IsScriptRefusal script (FileRefused (read.Script shown line fault)) = IsBadLine script shown.bytes line fault
 IsScriptRefusal script OutOfMemory = ⊤
 IsScriptRefusal script _ = ⊥
 
@@ -97,7 +99,7 @@ IsScriptRefusal script _ = ⊥
 abbrev pub IsStartRefusal : Given → HostError → Type 0
 IsStartRefusal g (ProgramTooLong count) = (58112 < length g.program) × (count ≡ length g.program)
 IsStartRefusal g (OpeningRefused fault) = (length g.program ≤ 58112) × (4 < length g.drives) × (fault ≡ BadDrives)
-IsStartRefusal g OutOfMemory = length g.program ≤ 58112
+IsStartRefusal g OutOfMemory = (length g.program ≤ 58112) × (length g.drives ≤ 4)
 IsStartRefusal g _ = ⊥
 
 -- When a program that runs for so many steps is refused: it is too long, it has too many drives, a line of its script is wrong, memory is refused, or the
@@ -105,9 +107,9 @@ IsStartRefusal g _ = ⊥
 abbrev pub IsComRefusal : {W : Type 0} → Given → Option Script → ℕ → HostError → W → W → Type 0
 IsComRefusal {W} g script steps (ProgramTooLong count) old new = IsStartRefusal g (ProgramTooLong count) × (new ≡ old)
 IsComRefusal {W} g script steps (OpeningRefused fault) old new = IsStartRefusal g (OpeningRefused fault) × (new ≡ old)
-IsComRefusal {W} g script steps (FileRefused (read.Script name line fault)) old new =
-    (length g.program ≤ 58112) × (length g.drives ≤ 4) × IsBadLine script line fault × (new ≡ old)
-IsComRefusal {W} g script steps OutOfMemory old new = (length g.program ≤ 58112) × (new ≡ old)
+IsComRefusal {W} g script steps (FileRefused (read.Script shown line fault)) old new =
+    (length g.program ≤ 58112) × (length g.drives ≤ 4) × IsBadLine script shown.bytes line fault × (new ≡ old)
+IsComRefusal {W} g script steps OutOfMemory old new = (length g.program ≤ 58112) × (length g.drives ≤ 4) × (new ≡ old)
 IsComRefusal {W} g script steps (OutputUnwritable reason) old new =
     (length g.program ≤ 58112) × (length g.drives ≤ 4) × HasScript script (keys_given script) × HasText (ran_alone g (keys_given script) steps)
 IsComRefusal {W} g script steps _ old new = ⊥

@@ -1,11 +1,12 @@
 -- A program, or a session, that is played by a script that may wait for it. All of it is own.
-use Rattle.std.specs.Prelude.{⊤, ◌≡◌, ◌⊎◌, ◌≤◌, ◌++◌, ℕ, List, length, map, Option, Result, Ok, Err}
+use Rattle.std.specs.Prelude.{⊤, ◌≡◌, ◌⊎◌, ◌≤◌, ◌++◌, ℕ, List, length, map, chars, Option, Result, Ok, Err}
 use Rattle.std.specs.Io.KnownBytes.{Appends}
 use Rattle.cpm_batch.specs.declared.error.ReadError.TheVariants as read
+use Rattle.cpm_command.specs.Shown.{shown_of}
 use Rattle.cpm_disks.specs.Disks.{images_of}
 use Rattle.cpm_geom.specs.Disk.{Disk, blank_disk}
 use Rattle.cpm_geom.specs.declared.format.Format.TheVariants.{Ibm3740}
-use Rattle.cpm_script.specs.Cues.{Counted, Said, all_said}
+use Rattle.cpm_script.specs.Cues.{Counted, Said, all_said, cues}
 use Rattle.cpm_script.specs.Fork.{forked_cues, keys_before}
 use Rattle.cpm_script.specs.Recording.{recorded}
 use Rattle.cpm_script.specs.Script.{script}
@@ -14,7 +15,7 @@ use Rattle.cpm_script.specs.declared.fault.LineFault.{LineFault}
 use Rattle.cpm_script.specs.declared.script.Key.{Key}
 use Rattle.cpm_slots.specs.MachineState.{MachineState}
 use Rattle.cpm_slots.specs.Opening.{opening_fault}
-use Rattle.cpm_turns.specs.Cued.{AreAscii, HasEndedCued, IsCued, IsCutOff, key_count}
+use Rattle.cpm_turns.specs.Cued.{AreAscii, HasEndedCued, IsCued, IsCutOff, key_count, waits_at}
 use Rattle.cpm_turns.specs.Live.{AreGiven}
 use Rattle.cpm_turns.specs.Playing.{alone_by}
 use Rattle.cpm_turns.specs.declared.cued.Cued.{Cued}
@@ -22,6 +23,7 @@ use Rattle.cpm_turns.specs.declared.live.LiveError.{LiveError}
 use Rattle.cpm_host.specs.Com.{Given, IsStartRefusal, ending_of, machine_of, text_of}
 use Rattle.cpm_host.specs.Live.{IsOpeningRefused, begun}
 use Rattle.cpm_host.specs.Refusals.{host_error_of_live}
+use Rattle.cpm_host.specs.declared.com.Script.{Script}
 use Rattle.cpm_host.specs.declared.cued.ForkedCues.{ForkedCues}
 use Rattle.cpm_host.specs.declared.live.SessionStart.{SessionStart}
 use Rattle.cpm_host.specs.declared.live.Typed.{Typed}
@@ -33,11 +35,12 @@ pub record AreFit (cues : List Cue) : Type 0 where
   pub ascii : AreAscii cues
   pub few : key_count cues ≤ 4096
 
--- how a script is refused, of which this was read
-abbrev pub IsCueRefusal : Result (List Said) (ℕ × LineFault) → HostError → Type 0
-IsCueRefusal read_of (FileRefused (read.Script name line fault)) = read_of ≡ Err (line, fault)
-IsCueRefusal read_of OutOfMemory = ⊤
-IsCueRefusal read_of _ = ⊥
+-- how a script is refused that may wait
+abbrev pub IsCueRefusal : Script → HostError → Type 0
+IsCueRefusal s (FileRefused (read.Script shown line fault)) =
+    (shown.bytes ≡ shown_of (chars s.name.now)) × (cues s.text.now ≡ Err (line, fault))
+IsCueRefusal s OutOfMemory = ⊤
+IsCueRefusal s _ = ⊥
 
 -- What a forked session plays: the keys that its parent's script gives before the fork, so many, and behind them what its own script says.
 pub record AreForked (parent own : List ℕ) (at : ℕ) (f : ForkedCues) : Type 0 where
@@ -49,14 +52,15 @@ pub record AreForked (parent own : List ℕ) (at : ℕ) (f : ForkedCues) : Type 
   pub joined : all_said f.cues ≡ map Counted (keys_before at keys) ++ said
 
 -- how the scripts of a forked session are refused: its parent's, and then its own
-abbrev pub IsForkedRefusal : (parent own : List ℕ) → ℕ → HostError → Type 0
-IsForkedRefusal parent own at (FileRefused (read.Script name line fault)) =
-    (script parent ≡ Err (line, fault))
-    ⊎ ((keys : List Key) × (script parent ≡ Ok keys) × (forked_cues at (length (keys_before at keys)) own ≡ Err (line, fault)))
+abbrev pub IsForkedRefusal : (parent own : Script) → ℕ → HostError → Type 0
+IsForkedRefusal parent own at (FileRefused (read.Script shown line fault)) =
+    ((shown.bytes ≡ shown_of (chars parent.name.now)) × (script parent.text.now ≡ Err (line, fault)))
+    ⊎ ((shown.bytes ≡ shown_of (chars own.name.now))
+        × ((keys : List Key) × (script parent.text.now ≡ Ok keys) × (forked_cues at (length (keys_before at keys)) own.text.now ≡ Err (line, fault))))
 IsForkedRefusal parent own at OutOfMemory = ⊤
 IsForkedRefusal parent own at _ = ⊥
 
--- A machine was played by a script that may wait: the keys that came are those that the script gives to the machine run alone; what it left is that of the machine run alone by these keys, for so many steps; and it ended as a script has it end.
+-- A machine was played by a script that may wait: the keys that came are those that the script gives to the machine run alone; what it left is that of the machine run alone by these keys, for so many steps; it ended as a script has it end; and the keys as lines of a script are one that gives them again.
 pub record IsRehearsed (system : Disk) (start : MachineState) (steps : ℕ) (c : Cued) (t : Typed) : Type 0 where
   pub within : t.steps ≤ steps
   pub keys : IsCued system start steps c.waits_from c.cues.now t.keys.items
@@ -64,6 +68,8 @@ pub record IsRehearsed (system : Disk) (start : MachineState) (steps : ℕ) (c :
   pub ending : t.ran.ending ≡ ending_of (alone_by system t.keys.items t.steps start)
   pub drives : t.ran.drives ≡ images_of (alone_by system t.keys.items t.steps start).cpm.disks
   pub ends : HasEndedCued system start steps c.waits_from c.stops_idle t.keys.items t.steps (alone_by system t.keys.items t.steps start)
+  pub waits : t.waits ≡ waits_at system start t.keys.items t.steps
+  pub replays : script (recorded t.keys.items) ≡ Ok t.keys.items
 
 -- and what it showed, and its keys as lines of a script, went to two writers
 pub record IsPlayedCued (system : Disk) (start : MachineState) (steps : ℕ) (c : Cued) (t : Typed) (before written unrecorded record_now : Option (List ℕ)) : Type 0 where

@@ -1,14 +1,16 @@
 -- A program, or a session, whose keys are typed. All of it is own.
-use Rattle.std.specs.Prelude.{⊤, ◌≡◌, ◌⊎◌, ◌≤◌, ℕ, List, chars, Option, Some}
+use Rattle.std.specs.Prelude.{⊤, ◌≡◌, ◌⊎◌, ◌≤◌, ℕ, List, chars, Option, Some, Ok}
 use Rattle.std.specs.Io.KnownBytes.{Appends}
 use Rattle.cpm_command.specs.Shown.{shown_of}
 use Rattle.cpm_disks.specs.Disks.{images_of}
 use Rattle.cpm_geom.specs.Disk.{Disk, blank_disk}
 use Rattle.cpm_geom.specs.declared.format.Format.TheVariants.{Ibm3740}
 use Rattle.cpm_script.specs.Recording.{recorded}
+use Rattle.cpm_script.specs.Script.{script}
 use Rattle.cpm_slots.specs.MachineState.{MachineState, opened_machine}
 use Rattle.cpm_slots.specs.Opening.{opening_fault}
 use Rattle.cpm_slots.specs.declared.opening.OpenError.{OpenError}
+use Rattle.cpm_turns.specs.Cued.{waits_at}
 use Rattle.cpm_turns.specs.Live.{AreGiven, AreRead, IsCutShort}
 use Rattle.cpm_turns.specs.Playing.{alone_by}
 use Rattle.cpm_turns.specs.declared.live.LiveError.{LiveError}
@@ -39,7 +41,8 @@ streams unread left before written unrecorded record_now = record {
 }
 
 -- A machine was played by keys as they were typed: what it showed and left is that of the machine run alone by these keys, each at the count at
--- which it was accepted, for so many steps; the keys are those that were read, up to ^]; and the record got just these keys as lines of a script.
+-- which it was accepted, for so many steps; the keys are those that were read, up to ^]; and the record got just these keys as lines of a script, which gives
+-- them again.
 pub record IsPlayedLive (system : Disk) (start : MachineState) (steps most : ℕ) (t : Typed) (io : Streams) : Type 0 where
   pub within : t.steps ≤ steps
   pub given : AreGiven most t.steps t.keys.items
@@ -47,7 +50,9 @@ pub record IsPlayedLive (system : Disk) (start : MachineState) (steps most : ℕ
   pub text : Appends io.before io.written (text_of (alone_by system t.keys.items t.steps start))
   pub ending : t.ran.ending ≡ ending_of (alone_by system t.keys.items t.steps start)
   pub drives : t.ran.drives ≡ images_of (alone_by system t.keys.items t.steps start).cpm.disks
+  pub waits : t.waits ≡ waits_at system start t.keys.items t.steps
   pub lines : Appends io.unrecorded io.record_now (recorded t.keys.items)
+  pub replays : most ≤ 4096 → script (recorded t.keys.items) ≡ Ok t.keys.items
 
 -- it was not played to its end, and this is told of it
 pub record IsCut (system : Disk) (start : MachineState) (steps most : ℕ) (io : Streams) (e : HostError) : Type 0 where

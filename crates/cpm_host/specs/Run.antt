@@ -166,6 +166,19 @@ pub record HasAccessed {S : Type 0} (does : S → Access → S → Type 0) (conf
   pub calls : RanBy does (Then (AreRead config system inputs) (AreWrites (outputs_of system inputs))) old new
   pub reported : map report_view reports ≡ reports_of system inputs
 
+-- the openings of those that are opened are all accepted, one after another, whatever becomes of the forks
+abbrev pub AreOpenable : Host → List SessionInput → Type 0
+AreOpenable h [] = ⊤
+AreOpenable h (i ∷ is) = IsAccepted h i.start (λ next. AreOpenable next is)
+
+-- Where the store tells its files: no number at the top and no fork is at fault, the files hold what is needed, and all openings are accepted.
+pub record IsJudged (config : Config) (files : Option Files) : Type 0 where
+  pub faultless : config_fault config ≡ None
+  pub system : Disk
+  pub inputs : List SessionInput
+  pub read : AreInputs files config system inputs
+  pub open : AreOpenable (new_host system config.frames) inputs
+
 -- ---- refusals
 
 -- a host lacks what so many forks, which may write so many pages, want: slots or numbers, or frames

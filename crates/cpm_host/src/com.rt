@@ -28,7 +28,7 @@ pub struct Script<'a> {
 
 /// The refusal of the script in a file of this name.
 pub(crate) fn script_refused(name: &str, error: ScriptError) -> HostError
-    ensures { IsScriptTold error result }
+    ensures { IsScriptTold name.now error result }
 {
     match error {
         ScriptError::Line { number, fault } => HostError::FileRefused(ReadError::Script {
@@ -166,6 +166,7 @@ pub fn run_com<W: Write, T: Watcher>(
     ensures drives { IfOk result (λ r. r.drives ≡ images_of (ran_alone (given start) (keys_given script.entry) steps).cpm.disks) }
     ensures script { IfOk result (λ _. HasScript script.entry (keys_given script.entry)) }
 
+    ensures fits { OnOk result ((length (given start).program ≤ 58112) × (length (given start).drives ≤ 4)) }
     ensures too_long { IsErrOf result (HostError.ProgramTooLong (length (given start).program))
         ↔ (58112 < length (given start).program) }
     ensures refusal { IfErr result (λ e. IsComRefusal (given start) script.entry steps e out.old out.new) }

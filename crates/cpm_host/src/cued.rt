@@ -1,6 +1,6 @@
 //! A program, or a session, that is played by a script that may wait for it.
 
-ghost use Rattle.std.specs.Prelude.{◌≡◌, ◌++◌, IfErr, IfOk, Ok, map};
+ghost use Rattle.std.specs.Prelude.{◌≡◌, ◌≤◌, ◌++◌, IfErr, IfOk, OnOk, Ok, length, map};
 ghost use Rattle.cpm_geom.specs.Disk.{blank_disk};
 ghost use Rattle.cpm_geom.specs.declared.format.Format.TheVariants.{Ibm3740};
 ghost use Rattle.cpm_script.specs.Cues.{all_said, cues};
@@ -14,10 +14,10 @@ use crate::com::{Script, Start, keys_of, left_of, machine_of, script_refused};
 use crate::error::HostError;
 use crate::live::{SessionStart, Typed, opening_refused};
 use cpm_geom::{Format, Image};
-use cpm_script::laws::{cues_in_order, forked_cues_in_order, plain_scripts};
+use cpm_script::laws::{cues_in_order, forked_cues_in_order, plain_scripts, recorded_keys};
 use cpm_script::{Cue, Key, keys_before, read_cues, read_forked_cues};
 use cpm_slots::Machine;
-use cpm_turns::{Cued, Live, play_cues};
+use cpm_turns::{Cued, Live, Watcher, play_cues};
 use std::alloc::{AllocError, Global};
 use std::io;
 use std::io::Write;
@@ -37,7 +37,7 @@ pub struct ForkedCues {
 pub fn cues_of(alloc: Global, script: Script<'_>) -> Result<Vec<Cue>, HostError>
     ensures cues { IfOk result (λ v. cues script.entry.text.now ≡ Ok (all_said v)) }
     ensures fit { IfOk result (λ v. AreFit v.items) }
-    ensures refusal { IfErr result (IsCueRefusal (cues script.entry.text.now)) }
+    ensures refusal { IfErr result (IsCueRefusal script.entry) }
 {
     cues_in_order();
     match read_cues(alloc, script.text) {
@@ -74,7 +74,7 @@ pub fn forked_cues_of(
 ) -> Result<ForkedCues, HostError>
     ensures cues { IfOk result (AreForked parent.entry.text.now script.entry.text.now at) }
     ensures fit { IfOk result (λ f. AreFit f.cues.items) }
-    ensures refusal { IfErr result (IsForkedRefusal parent.entry.text.now script.entry.text.now at) }
+    ensures refusal { IfErr result (IsForkedRefusal parent.entry script.entry at) }
 {
     plain_scripts();
     cues_in_order();
@@ -92,7 +92,7 @@ pub fn forked_cues_of(
 }
 
 /// Plays a machine by a script that may wait, for at most `steps` steps.
-fn play_cued<W: Write, S: Write>(
+fn play_cued<W: Write, S: Write, T: Watcher>(
     alloc: Global,
     system: &Image,
     machine: Machine,
@@ -100,51 +100,69 @@ fn play_cued<W: Write, S: Write>(
     cued: Cued<'_>,
     out: &mut W,
     record: &mut S,
+    watcher: &mut T,
 ) -> Result<Typed, HostError>
     requires fresh { IsFresh machine }
     requires fit { AreFit cued.cues.now }
     ensures played { IfOk result (λ t. IsPlayedCued system.now machine steps cued.entry t (W.contents out.old) (W.contents out.new) (S.contents «record».old) (S.contents «record».new)) }
     ensures refusal { IfErr result (IsCutCued system.now machine steps cued.entry (W.contents out.old) (W.contents out.new) (S.contents «record».old) (S.contents «record».new)) }
 {
+    recorded_keys();
     let mut machine = machine;
-    let Live { keys, steps } = play_cues(alloc, system, &mut machine, steps, cued, out, record)?;
+    let Live { keys, steps } = play_cues(
+        alloc,
+        system,
+        &mut machine,
+        steps,
+        cued,
+        out,
+        record,
+        watcher,
+    )?;
+    let waits = machine.look().waiting;
     Ok(Typed {
         ran: left_of(machine),
         keys,
         steps,
+        waits,
     })
 }
 
 /// Runs a program on a machine of its own, with a blank system drive and a script that may wait, for at most `steps` steps. It writes what the program
-/// shows as it comes, and each key to `record` as a line of a key script. What it sends to its list device is dropped.
+/// shows as it comes, and each key to `record` as a line of a key script. What it sends to its list device is dropped. The watcher is told on the way how far it
+/// has come.
 ///
 /// `ProgramTooLong`, `OpeningRefused` for more than four drives, and `OutOfMemory` for the machine come before anything is written.
 /// `OutputUnwritable` and `RecordUnwritable` have the errors of the two.
-pub fn run_waiting<W: Write, S: Write>(
+pub fn run_waiting<W: Write, S: Write, T: Watcher>(
     alloc: Global,
     start: Start,
     steps: u64,
     cued: Cued<'_>,
     out: &mut W,
     record: &mut S,
+    watcher: &mut T,
 ) -> Result<Typed, HostError>
     requires fit { AreFit cued.cues.now }
     ensures played { IfOk result (λ t. IsPlayedCued (blank_disk Ibm3740) (machine_of (given start)) steps cued.entry t (W.contents out.old) (W.contents out.new) (S.contents «record».old) (S.contents «record».new)) }
+    ensures fits { OnOk result ((length (given start).program ≤ 58112) × (length (given start).drives ≤ 4)) }
     ensures refusal { IfErr result (IsWaitingRefusal (given start) steps cued.entry (W.contents out.old) (W.contents out.new) (S.contents «record».old) (S.contents «record».new)) }
 {
     let machine = machine_of(alloc, start)?;
     let system = Image::blank(alloc, Format::Ibm3740)?;
-    play_cued(alloc, &system, machine, steps, cued, out, record)
+    play_cued(alloc, &system, machine, steps, cued, out, record, watcher)
 }
 
-/// Plays a session by itself, with this system drive and a script that may wait. What it shows is dropped, and its keys are in the result.
+/// Plays a session by itself, with this system drive and a script that may wait. What it shows is dropped, and its keys are in the result. The watcher is told
+/// on the way how far it has come.
 ///
 /// `SessionRefused` has the fault of the opening. `OutOfMemory` comes only where memory is refused.
-pub fn rehearse_session(
+pub fn rehearse_session<T: Watcher>(
     alloc: Global,
     system: &Image,
     start: SessionStart<'_>,
     cued: Cued<'_>,
+    watcher: &mut T,
 ) -> Result<Typed, HostError>
     requires fit { AreFit cued.cues.now }
     ensures played { IfOk result (λ t. IsRehearsed system.now (begun start.entry) start.entry.steps cued.entry t) }
@@ -167,5 +185,6 @@ pub fn rehearse_session(
         cued,
         &mut io::sink(),
         &mut io::sink(),
+        watcher,
     )
 }

@@ -41,5 +41,5 @@ pub use input::{MOST_FILE, read_whole};
 pub use list::run_list;
 pub use live::{MOST_SCRIPT, SessionStart, Typed, run_live, type_session};
 pub use report::{Report, SessionReport};
-pub use run::run_host;
+pub use run::{judge_host, run_host};
 pub use tail::tail_of;

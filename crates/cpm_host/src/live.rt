@@ -1,6 +1,6 @@
 //! A program, or a session, whose keys are typed.
 
-ghost use Rattle.std.specs.Prelude.{IfErr, IfOk, Option};
+ghost use Rattle.std.specs.Prelude.{◌≤◌, IfErr, IfOk, OnOk, Option, length};
 ghost use Rattle.cpm_geom.specs.Disk.{blank_disk};
 ghost use Rattle.cpm_slots.specs.Opening.{IsRefusal};
 ghost use Rattle.cpm_slots.specs.declared.opening.OpenError.{OpenError as OpenErrorValue};
@@ -13,6 +13,7 @@ use crate::error::HostError;
 use cpm_command::shown;
 use cpm_geom::{Format, Image};
 use cpm_script::Key;
+use cpm_script::laws::recorded_keys;
 use cpm_slots::{Machine, OpenError, Opening};
 use cpm_turns::{Live, play_live};
 use std::alloc::Global;
@@ -24,6 +25,8 @@ pub struct Typed {
     pub ran: Ran,
     pub keys: Vec<Key>,
     pub steps: u64,
+    /// Whether the machine then waits for a key.
+    pub waits: bool,
 }
 
 /// The most keys that a script has.
@@ -44,6 +47,7 @@ fn play_typed<I: Read, W: Write, S: Write>(
     ensures played { IfOk result (λ t. IsPlayedLive system.now machine steps most_keys t (streams (I.remaining input.old) (I.remaining input.new) (W.contents out.old) (W.contents out.new) (S.contents «record».old) (S.contents «record».new))) }
     ensures refusal { IfErr result (IsCut system.now machine steps most_keys (streams (I.remaining input.old) (I.remaining input.new) (W.contents out.old) (W.contents out.new) (S.contents «record».old) (S.contents «record».new))) }
 {
+    recorded_keys();
     let mut machine = machine;
     let Live { keys, steps } = play_live(
         alloc,
@@ -55,10 +59,12 @@ fn play_typed<I: Read, W: Write, S: Write>(
         out,
         record,
     )?;
+    let waits = machine.look().waiting;
     Ok(Typed {
         ran: left_of(machine),
         keys,
         steps,
+        waits,
     })
 }
 
@@ -78,6 +84,7 @@ pub fn run_live<I: Read, W: Write, S: Write>(
     record: &mut S,
 ) -> Result<Typed, HostError>
     ensures played { IfOk result (λ t. IsPlayedLive (blank_disk Format.Ibm3740) (machine_of (given start)) steps most_keys t (streams (I.remaining input.old) (I.remaining input.new) (W.contents out.old) (W.contents out.new) (S.contents «record».old) (S.contents «record».new))) }
+    ensures fits { OnOk result ((length (given start).program ≤ 58112) × (length (given start).drives ≤ 4)) }
     ensures refusal { IfErr result (IsLiveRefusal (given start) steps most_keys (streams (I.remaining input.old) (I.remaining input.new) (W.contents out.old) (W.contents out.new) (S.contents «record».old) (S.contents «record».new))) }
 {
     let machine = machine_of(alloc, start)?;

@@ -13,7 +13,7 @@ ghost use Rattle.cpm_turns.specs.declared.player.Player.TheVariants.{Playing};
 ghost use Rattle.cpm_turns.specs.declared.player.Player.{Player as PlayerValue};
 ghost use Rattle.cpm_turns.specs.declared.scripted_slot.ScriptedSlot.{ScriptedSlot};
 ghost use Rattle.cpm_host.specs.Playing.{HavePlayers, AreFinished, ArePressable, IsClosed, IsForkRefusal, IsOpeningRefusal, IsPlayRefusal, IsPrepared, IsSlotRefusal, IsStartRefusal, OpensSlot, files_by, report_by};
-ghost use Rattle.cpm_host.specs.Run.{AllAccepted, HasForkRoom, IsFirstRefused, IsShortFor, files_left, fork_pages_in, forks_in, report_view, reports_of};
+ghost use Rattle.cpm_host.specs.Run.{AllAccepted, AreOpenable, HasForkRoom, IsFirstRefused, IsShortFor, files_left, fork_pages_in, forks_in, report_view, reports_of};
 
 use crate::at_pc::bytes_of_slot;
 use crate::error::HostError;
@@ -234,6 +234,47 @@ fn finish_all<'a>(
     Ok(Played { reports, files })
 }
 
+/// A host with the sessions of a configuration that aren't forked, and the players of all sessions.
+fn prepare_host(
+    alloc: Global,
+    config: &Config,
+    inputs: Inputs<'_>,
+) -> Result<(Host, Vec<Player>), HostError>
+    requires least { 16 ≤ config.now.frames }
+    requires most { config.now.frames ≤ 16384 }
+    ensures prepared { IfOk result (λ p. HavePlayers p.0.host.slots (map given inputs.entry.sessions.items) p.1.items) }
+    ensures accepted { IfOk result (λ p. (all : List SessionInput) → HasForkRoom all p.0.host → AllAccepted all (new_host inputs.entry.system config.entry.now.frames) (map given inputs.entry.sessions.items)) }
+    ensures short { IfOk result (λ p. (all : List SessionInput) (fault : OpenErrorValue) → IsShortFor p.0.host (forks_in all) (fork_pages_in all) fault → IsFirstRefused all (new_host inputs.entry.system config.entry.now.frames) (map given inputs.entry.sessions.items) fault) }
+    ensures differ { IfOk result (λ p. AllDiffer p.1.items) }
+    ensures system { IfOk result (λ p. p.0.host.system ≡ inputs.entry.system) }
+    ensures refusal { IfErr result (IsPlayRefusal config.entry.now (new_host inputs.entry.system config.entry.now.frames) (map given inputs.entry.sessions.items)) }
+{
+    let Inputs { system, sessions } = inputs;
+    let mut host = match Host::new(alloc, system, config.frames) {
+        Ok(host) => host,
+        Err(_) => return Err(HostError::OutOfMemory),
+    };
+    match prepare_all(alloc, &mut host, sessions) {
+        Ok(players) => Ok((host, players)),
+        Err(error) => Err(play_refusal(config, error)),
+    }
+}
+
+/// Opens all sessions of a configuration that aren't forked, and drops them again.
+pub(crate) fn open_all(
+    alloc: Global,
+    config: &Config,
+    inputs: Inputs<'_>,
+) -> Result<(), HostError>
+    requires least { 16 ≤ config.now.frames }
+    requires most { config.now.frames ≤ 16384 }
+    ensures refusal { IfErr result (IsPlayRefusal config.entry.now (new_host inputs.entry.system config.entry.now.frames) (map given inputs.entry.sessions.items)) }
+    ensures open { OnOk result (AreOpenable (new_host inputs.entry.system config.entry.now.frames) (map given inputs.entry.sessions.items)) }
+{
+    prepare_host(alloc, config, inputs)?;
+    Ok(())
+}
+
 /// Plays the sessions of a configuration in a host, by turns in their order, forks those that are forked on the way, and gives what is left of them.
 pub(crate) fn play_all<'a, T: Watcher>(
     alloc: Global,
@@ -251,15 +292,7 @@ pub(crate) fn play_all<'a, T: Watcher>(
     ensures accepted { OnOk result (AllAccepted (map given inputs.entry.sessions.items) (new_host inputs.entry.system config.entry.now.frames) (map given inputs.entry.sessions.items)) }
     ensures refusal { IfErr result (IsPlayRefusal config.entry.now (new_host inputs.entry.system config.entry.now.frames) (map given inputs.entry.sessions.items)) }
 {
-    let Inputs { system, sessions } = inputs;
-    let mut host = match Host::new(alloc, system, config.frames) {
-        Ok(host) => host,
-        Err(_) => return Err(HostError::OutOfMemory),
-    };
-    let mut players = match prepare_all(alloc, &mut host, sessions) {
-        Ok(players) => players,
-        Err(error) => return Err(play_refusal(config, error)),
-    };
+    let (mut host, mut players) = prepare_host(alloc, config, inputs)?;
     match play(
         alloc,
         &mut host,

@@ -1,12 +1,12 @@
 //! The command `run`.
 ghost use Rattle.std.specs.Prelude.{◌≡◌, ◌⊎◌, ◌<◌, ◌≤◌, ℕ, IfErr, IfOk, OnOk, length, map};
 ghost use Rattle.cpm_store.specs.Files.{CountsFailure, Told};
-ghost use Rattle.cpm_store.specs.Log.{AreWrites, RanBy, StopsAfter};
+ghost use Rattle.cpm_store.specs.Log.{AreNoWrites, AreWrites, RanBy, StopsAfter};
 ghost use Rattle.cpm_store.specs.Writes.{StopsAt, WritesAll, named};
-ghost use Rattle.cpm_host.specs.Run.{HasAccessed, HasRun, IsDeviceFault, IsRunRefusal, IsStoppedRun, IsWriteRefusal, config_fault, top_fault};
+ghost use Rattle.cpm_host.specs.Run.{HasAccessed, HasRun, IsDeviceFault, IsJudged, IsRunRefusal, IsStoppedRun, IsWriteRefusal, config_fault, top_fault};
 
 use crate::error::HostError;
-use crate::play::{Played, play_all};
+use crate::play::{Played, open_all, play_all};
 use crate::report::Report;
 use cpm_batch::{outputs_of, read_inputs};
 use cpm_command::shown;
@@ -57,6 +57,28 @@ fn write_files<S: Store>(outputs: &[Output<'_>], store: &mut S) -> Result<(), Ho
             StoreError::OutOfMemory => Err(HostError::OutOfMemory),
         },
     }
+}
+
+/// Judges the sessions of a configuration before a person types at one of them: what `run_host` would read is read, and all sessions are opened that aren't
+/// forked. Nothing is played, and nothing is written.
+///
+/// It is refused as `run_host` refuses it, but for want of room for forks.
+pub fn judge_host<S: Store>(
+    alloc: Global,
+    config: &Config,
+    store: &mut S,
+) -> Result<(), HostError>
+    ensures judged { OnOk result (IsJudged config.now (S.files store.old)) }
+    ensures refusal { IfErr result (IsRunRefusal config.now (S.files store.old) (S.files store.new)) }
+    ensures same { S.files store.new ≡ S.files store.old }
+    ensures unwritten { RanBy S.does AreNoWrites store.old store.new }
+    ensures device { IfErr result (λ e. IsDeviceFault e → CountsFailure (S.failed store.old) (S.failed store.new)) }
+{
+    if let Some(place) = config_fault(config) {
+        return Err(HostError::ConfigRefused(ConfigError::Range(place)));
+    }
+    let inputs = read_inputs(alloc, config, store)?;
+    open_all(alloc, config, inputs)
 }
 
 /// Runs the sessions of a configuration over the files of a store: reads the system drive's image, then each session's drives and

@@ -17,7 +17,7 @@ use Rattle.cpm_script.specs.Script.{is_after, is_skipped, is_space, keys_at, mos
 use Rattle.cpm_script.specs.declared.fault.LineFault.{LineFault}
 use Rattle.cpm_script.specs.declared.fault.LineFault.TheVariants.{CountFalls, NoCount, NoText, NotAKey, TooManyKeys}
 use Rattle.cpm_script.specs.declared.script.Key.{Key}
-use Rattle.cpm_script.proofs.CueLemmas.{keys_in-append}
+use Rattle.cpm_script.proofs.CueLemmas.{ascii-append, counted-keys, keys_in-append}
 
 -- ---- a line with a count means the same
 
@@ -25,10 +25,6 @@ use Rattle.cpm_script.proofs.CueLemmas.{keys_in-append}
 abbrev SameLine : Result (List Key) LineFault → Result (List Said) LineFault → Type 0
 SameLine (Ok keys) read = read ≡ Ok (map Counted keys)
 SameLine (Err fault) read = fault ≢ NoCount → read ≡ Err fault
-
-counted-keys : (keys : List Key) → keys_in (map Counted keys) ≡ length keys
-counted-keys [] = refl
-counted-keys (k ∷ keys) = omega (arith, counted-keys keys)
 
 counted-at : (count : ℕ) (bytes : List ℕ) → map Counted (keys_at count bytes) ≡ map (pressed (Some count)) bytes
 counted-at count [] = refl
@@ -167,12 +163,6 @@ counts-append n [] b first later = later
 counts-append n (Counted key ∷ a) b first later = (first.0, counts-append key.count a b first.1 later)
 counts-append n (Awaited text ∷ a) b first later = counts-append n a b first later
 counts-append n (Pressed byte ∷ a) b first later = counts-append n a b first later
-
-ascii-append : (a b : List Said) → KeysAreAscii a → KeysAreAscii b → KeysAreAscii (a ++ b)
-ascii-append [] b first later = later
-ascii-append (Counted key ∷ a) b first later = (first.0, ascii-append a b first.1 later)
-ascii-append (Awaited text ∷ a) b first later = ascii-append a b first later
-ascii-append (Pressed byte ∷ a) b first later = (first.0, ascii-append a b first.1 later)
 
 presses-append : (waited : Bool) (a b : List Said) → PressesFollow waited a → ((t : Bool) → PressesFollow t b) → PressesFollow waited (a ++ b)
 presses-append waited [] b first later = later waited

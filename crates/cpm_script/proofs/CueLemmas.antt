@@ -10,10 +10,12 @@ use Rattle.memchr.specs.Find.{FindsNeedle, first_of, matches}
 use Rattle.memchr.proofs.lemmas.ValueLemmas.{FindsNeedle-value}
 use Rattle.cpm_script.specs.Cues.{Awaited, Counted, IsReading, Pressed, Said, all_said, closing, cues_from, cut_at, keys_in, last_count, pressed, quoted, said, with_keys, with_line, with_text, with_word}
 use Rattle.cpm_script.specs.KeyText.{first_key, keys_of}
+use Rattle.cpm_script.specs.Laws.{KeysAreAscii}
 use Rattle.cpm_script.specs.Script.{is_skipped, is_space, most_keys, numbered, or_fault}
 use Rattle.cpm_script.specs.declared.cue.Cue.{Cue}
 use Rattle.cpm_script.specs.declared.cue.Reading.{Reading}
 use Rattle.cpm_script.specs.declared.fault.LineFault.TheVariants.{NoKey, NotAKey, TooManyKeys}
+use Rattle.cpm_script.specs.declared.script.Key.{Key}
 use Rattle.cpm_script.proofs.KeyLemmas.{fits, fronted, keys_of-first, too_many}
 
 -- ---- cues behind others
@@ -29,6 +31,17 @@ last_count-append n [] b = refl
 last_count-append n (Counted key ∷ a) b = last_count-append key.count a b
 last_count-append n (Awaited text ∷ a) b = last_count-append n a b
 last_count-append n (Pressed byte ∷ a) b = last_count-append n a b
+
+pub ascii-append : (a b : List Said) → KeysAreAscii a → KeysAreAscii b → KeysAreAscii (a ++ b)
+ascii-append [] b first later = later
+ascii-append (Counted key ∷ a) b first later = (first.0, ascii-append a b first.1 later)
+ascii-append (Awaited text ∷ a) b first later = ascii-append a b first later
+ascii-append (Pressed byte ∷ a) b first later = (first.0, ascii-append a b first.1 later)
+
+-- cues that are keys with their counts
+pub counted-keys : (keys : List Key) → keys_in (map Counted keys) ≡ length keys
+counted-keys [] = refl
+counted-keys (k ∷ keys) = omega (arith, counted-keys keys)
 
 -- one cue more
 pub said-pushed : (v w : Vec Cue Global) (x : Cue) → w.items ≡ v.items ++ x ∷ [] → all_said w ≡ all_said v ++ said x ∷ []

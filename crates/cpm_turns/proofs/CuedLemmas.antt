@@ -6,7 +6,6 @@ use Rattle.std.specs.Io.KnownBytes.{Appends}
 use Rattle.cpm_geom.specs.Disk.{Disk}
 use Rattle.cpm_script.specs.Recording.{key_line}
 use Rattle.cpm_script.specs.declared.script.Key.{Key}
-use Rattle.cpm_slots.specs.Alone.{alone}
 use Rattle.cpm_slots.specs.Calls.{state_behind}
 use Rattle.cpm_slots.specs.MachineState.{MachineState}
 use Rattle.cpm_slots.specs.Serve.{keyed, look_of, takes_key}

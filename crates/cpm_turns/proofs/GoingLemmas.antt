@@ -7,16 +7,17 @@ use Rattle.cpm_geom.specs.Disk.{Disk}
 use Rattle.cpm_script.specs.Recording.{AreTyped, key_line, recorded}
 use Rattle.cpm_script.specs.declared.script.Key.{Key}
 use Rattle.cpm_slots.specs.Alone.{due, alone}
-use Rattle.cpm_slots.specs.Calls.{state_behind}
 use Rattle.cpm_slots.specs.MachineState.{MachineState}
-use Rattle.cpm_slots.specs.Serve.{keyed}
+use Rattle.cpm_slots.specs.Serve.{keyed, look_of}
 use Rattle.cpm_slots.specs.Step.{after}
 use Rattle.cpm_slots.proofs.AloneLaws.{after-behind}
 use Rattle.cpm_slots.proofs.PressLaws.{alone-add, alone-pressed, with_keys-nil}
+use Rattle.cpm_turns.specs.Cued.{waits_at}
 use Rattle.cpm_turns.specs.Live.{AreBy, AreGiven, HadText, HasCome, HasGone, IsGoing}
 use Rattle.cpm_turns.specs.Pacing.{without_list, without_text}
 use Rattle.cpm_turns.specs.Playing.{presses_of, alone_by, EndsAs, HasText, IsFresh, IsQuiet}
 use Rattle.cpm_turns.proofs.AloneLemmas.{presses-more}
+use Rattle.cpm_turns.proofs.RunLemmas.{waits-behind}
 use Rattle.cpm_turns.proofs.TextLemmas.{appends_more, appends_none, both_empty, keeps_all}
 
 -- ---- keys
@@ -163,6 +164,10 @@ module _ (system : Disk) (steps most : ℕ) (start now : MachineState) (before w
     memory = ap (λ (s : MachineState). s.memory) going.gone.state;
     disks = ap (λ (s : MachineState). s.cpm.disks) going.gone.state;
   }
+
+  -- it waits for a key exactly where that one does
+  pub going-waiting : (look_of now).waiting ≡ waits_at system start keys done
+  going-waiting = sym (waits-behind going.console going.list now) ∙ ap (λ (s : MachineState). (look_of s).waiting) going.gone.state
 
   pub going-come : HasCome system steps most start now before written keys
   going-come = record { done = done; within = going.within; given = going-given; text = going-shown; ending = going-ending }

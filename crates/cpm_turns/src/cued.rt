@@ -5,13 +5,14 @@ ghost use Rattle.std.specs.Io.KnownBytes.{Appends};
 ghost use Rattle.cpm_script.specs.Recording.{recorded};
 ghost use Rattle.cpm_slots.specs.Serve.{look_of, takes_key};
 ghost use Rattle.cpm_slots.specs.Step.{after, is_running};
-ghost use Rattle.cpm_turns.specs.Cued.{AreAscii, HasEndedCued, HasIdled, HasMissed, HasNoWait, HasPressed, HasRun, HasShown, HasStopped, IsCued, IsCutOff, IsPressCut, IsRunCut, IsTaken, IsUntaken, key_count, last_count, looks_back};
+ghost use Rattle.cpm_turns.specs.Cued.{AreAscii, HasEndedCued, HasIdled, HasMissed, HasNoWait, HasPressed, HasRun, HasShown, HasStopped, IsCued, IsCutOff, IsPressCut, IsRunCut, IsTaken, IsUntaken, key_count, last_count, looks_back, waits_at};
 ghost use Rattle.cpm_turns.specs.Live.{AreGiven, IsGoing};
 ghost use Rattle.cpm_turns.specs.Pacing.{without_text};
 ghost use Rattle.cpm_turns.specs.Playing.{EndsAs, HasText, IsFresh, IsQuiet, alone_by};
 
 use crate::live::{Live, LiveError, show};
 use crate::machine::{CHUNK, QUANTUM, drop_list, quantum_of};
+use crate::progress::{Watcher, progress_of_one};
 use cpm_geom::Image;
 use cpm_script::{Cue, Key};
 use cpm_slots::{End, Machine};
@@ -104,8 +105,8 @@ fn show_kept<W: Write>(
 }
 
 /// Executes so many steps, or those up to the machine's end, or with `to_wait` to where it waits for a key. Shows their text, and keeps it if
-/// so asked; says how many.
-fn run<W: Write>(
+/// so asked; says how many. The watcher is told after each turn how far the machine has come of `until` steps.
+fn run<W: Write, T: Watcher>(
     system: &Image,
     machine: &mut Machine,
     steps: u64,
@@ -113,6 +114,8 @@ fn run<W: Write>(
     keeps: bool,
     kept: &mut Vec<u8>,
     out: &mut W,
+    until: u64,
+    watcher: &mut T,
 ) -> Result<u64, LiveError>
     requires { IsQuiet machine.old }
     ensures within { IfOk result (λ k. k ≤ steps) }
@@ -136,6 +139,7 @@ fn run<W: Write>(
         }
         executed += granted;
         show_kept(machine, keeps, kept, out)?;
+        watcher.see(progress_of_one(machine.look().count, until));
     }
     Ok(executed)
 }
@@ -160,7 +164,7 @@ fn has_met(machine: &Machine, text: &[u8], shown: &[u8]) -> bool
 
 impl Live {
     /// Presses a key at its count, if the machine then runs and that is within the steps; says whether it is. What was shown before is then forgotten.
-    fn press<W: Write, S: Write>(
+    fn press<W: Write, S: Write, T: Watcher>(
         &mut self,
         system: &Image,
         machine: &mut Machine,
@@ -169,6 +173,7 @@ impl Live {
         shown: &mut Vec<u8>,
         out: &mut W,
         record: &mut S,
+        watcher: &mut T,
     ) -> Result<bool, LiveError>
         requires ascii { key.byte < 128 }
         requires later { self.old.steps ≤ key.count }
@@ -189,7 +194,9 @@ impl Live {
             return Ok(false);
         }
         let left = key.count - self.steps;
-        self.steps += run(system, machine, left, false, false, shown, out)?;
+        self.steps += run(
+            system, machine, left, false, false, shown, out, steps, watcher,
+        )?;
         if !runs(machine) {
             return Ok(false);
         }
@@ -199,7 +206,7 @@ impl Live {
     }
 
     /// Executes steps up to where the machine waits for a key, not before `waits_from`, or has ended. Shows their text, and keeps it if so asked.
-    fn idle<W: Write>(
+    fn idle<W: Write, T: Watcher>(
         &mut self,
         system: &Image,
         machine: &mut Machine,
@@ -208,6 +215,7 @@ impl Live {
         keeps: bool,
         shown: &mut Vec<u8>,
         out: &mut W,
+        watcher: &mut T,
     ) -> Result<(), LiveError>
         requires quiet { IsQuiet machine.old }
         requires within { self.old.steps ≤ steps }
@@ -218,15 +226,19 @@ impl Live {
         ensures refused { IfErr result (IsRunCut system.now (steps - self.old.steps) machine.old machine.new (W.contents out.old) (W.contents out.new)) }
     {
         let pause = waits_from.min(steps).saturating_sub(self.steps);
-        self.steps += run(system, machine, pause, false, keeps, shown, out)?;
+        self.steps += run(
+            system, machine, pause, false, keeps, shown, out, steps, watcher,
+        )?;
         let left = steps - self.steps;
-        self.steps += run(system, machine, left, true, keeps, shown, out)?;
+        self.steps += run(
+            system, machine, left, true, keeps, shown, out, steps, watcher,
+        )?;
         Ok(())
     }
 }
 
 /// Plays a machine by a script as far as its keys come.
-fn follow<W: Write, S: Write>(
+fn follow<W: Write, S: Write, T: Watcher>(
     alloc: Global,
     system: &Image,
     machine: &mut Machine,
@@ -234,6 +246,7 @@ fn follow<W: Write, S: Write>(
     cued: Cued<'_>,
     out: &mut W,
     record: &mut S,
+    watcher: &mut T,
 ) -> Result<Live, LiveError>
     requires fresh { IsFresh machine.old }
     requires ascii { AreAscii cued.cues.now }
@@ -267,6 +280,7 @@ fn follow<W: Write, S: Write>(
                     keeps,
                     &mut shown,
                     out,
+                    watcher,
                 )?;
                 if live.steps < steps && has_met(machine, text.as_slice(), shown.as_slice()) {
                     continue;
@@ -275,7 +289,9 @@ fn follow<W: Write, S: Write>(
             }
         };
         let key = Key { count, byte };
-        if !live.press(system, machine, key, steps, &mut shown, out, record)? {
+        if !live.press(
+            system, machine, key, steps, &mut shown, out, record, watcher,
+        )? {
             return Ok(live);
         }
     }
@@ -285,8 +301,9 @@ fn follow<W: Write, S: Write>(
 /// Plays one machine by a script that may wait, for at most so many steps, and writes its console bytes as they come. List bytes
 /// are dropped.
 ///
-/// Each key is written to `record` as a line of a key script: by that script the machine shows and does the same again.
-pub fn play_cues<W: Write, S: Write>(
+/// Each key is written to `record` as a line of a key script: by that script the machine shows and does the same again. The watcher is told after each turn how
+/// far it has come.
+pub fn play_cues<W: Write, S: Write, T: Watcher>(
     alloc: Global,
     system: &Image,
     machine: &mut Machine,
@@ -294,6 +311,7 @@ pub fn play_cues<W: Write, S: Write>(
     cued: Cued<'_>,
     out: &mut W,
     record: &mut S,
+    watcher: &mut T,
 ) -> Result<Live, LiveError>
     requires fresh { IsFresh machine.old }
     requires ascii { AreAscii cued.cues.now }
@@ -306,10 +324,11 @@ pub fn play_cues<W: Write, S: Write>(
     ensures ending { IfOk result (λ live. EndsAs (alone_by system.now live.keys.items live.steps machine.old) machine.new) }
     ensures record { IfOk result (λ live. Appends (S.contents record.old) (S.contents record.new) (recorded live.keys.items)) }
     ensures ends { IfOk result (λ live. HasEndedCued system.now machine.old steps cued.entry.waits_from cued.entry.stops_idle live.keys.items live.steps machine.new) }
+    ensures waits { IfOk result (λ live. (look_of machine.new).waiting ≡ waits_at system.now machine.old live.keys.items live.steps) }
     ensures refused { IfErr result (IsCutOff system.now steps (key_count cued.entry.cues.now) machine.old machine.new (W.contents out.old) (W.contents out.new)
         (S.contents record.old) (S.contents record.new)) }
 {
-    let mut live = follow(alloc, system, machine, steps, cued, out, record)?;
+    let mut live = follow(alloc, system, machine, steps, cued, out, record, watcher)?;
     // One that does not stop where it is idle runs on as if waits counted from its end on.
     let waits_from = if cued.stops_idle {
         cued.waits_from
@@ -324,6 +343,7 @@ pub fn play_cues<W: Write, S: Write>(
         false,
         &mut Vec::new(alloc),
         out,
+        watcher,
     )?;
     Ok(live)
 }

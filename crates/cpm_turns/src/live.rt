@@ -3,8 +3,9 @@
 ghost use Rattle.std.specs.Prelude.{◌≡◌, ◌≤◌, ◌<◌, ◌++◌, ◌∷◌, [], false, true, IfErr, IfOk, OnErr, OnOk};
 ghost use Rattle.std.specs.Io.KnownBytes.{Appends};
 ghost use Rattle.cpm_script.specs.Recording.{key_line, recorded};
-ghost use Rattle.cpm_slots.specs.Serve.{keyed, takes_key};
+ghost use Rattle.cpm_slots.specs.Serve.{keyed, look_of, takes_key};
 ghost use Rattle.cpm_slots.specs.Step.{after, is_running};
+ghost use Rattle.cpm_turns.specs.Cued.{waits_at};
 ghost use Rattle.cpm_turns.specs.Live.{AreGiven, AreRead, HasReason, IsCutShort, IsNotGiven, IsUnreadable, IsUnwritable};
 ghost use Rattle.cpm_turns.specs.Pacing.{without_list, without_text};
 ghost use Rattle.cpm_turns.specs.Playing.{EndsAs, HasText, IsFresh, IsQuiet, alone_by};
@@ -151,6 +152,7 @@ pub fn play_live<I: Read, W: Write, S: Write>(
     ensures ending { IfOk result (λ live. EndsAs (alone_by system.now live.keys.items live.steps machine.old) machine.new) }
     ensures record { IfOk result (λ live. Appends (S.contents record.old) (S.contents record.new) (recorded live.keys.items)) }
     ensures input { IfOk result (λ live. AreRead (I.remaining input.old) (I.remaining input.new) live.keys.items) }
+    ensures waits { IfOk result (λ live. (look_of machine.new).waiting ≡ waits_at system.now machine.old live.keys.items live.steps) }
     ensures ends { IfOk result (λ live. HasReason steps most_keys (I.remaining input.old) (I.remaining input.new) live.keys.items live.steps machine.new) }
     ensures refused { IfErr result (IsCutShort system.now steps most_keys machine.old machine.new (W.contents out.old) (W.contents out.new)
         (S.contents record.old) (S.contents record.new) (I.remaining input.old) (I.remaining input.new)) }

@@ -6,8 +6,8 @@ use crate::texts::{KEYS, SOURCE};
 use cpm_flags::Cpu;
 use cpm_geom::{Format, Image};
 use cpm_host::{
-    Cued, HostError, Opening, Script, SessionStart, cues_of, forked_cues_of, rehearse_session,
-    run_asm_listed, run_waiting,
+    Cued, HostError, Opening, Script, SessionStart, Unwatched, cues_of, forked_cues_of,
+    rehearse_session, run_asm_listed, run_waiting,
 };
 use std::alloc::{AllocError, Global};
 
@@ -56,7 +56,15 @@ pub fn com(alloc: Global) -> Result<Outcome, AllocError> {
     let mut out = Counter { count: 0 };
     let mut record = Counter { count: 0 };
     Ok(
-        match run_waiting(alloc, start, 100, cued, &mut out, &mut record) {
+        match run_waiting(
+            alloc,
+            start,
+            100,
+            cued,
+            &mut out,
+            &mut record,
+            &mut Unwatched,
+        ) {
             Ok(typed) if typed.ran.ending.count == 7 && out.count == 1 => Outcome::Made,
             Err(HostError::OutOfMemory) => Outcome::refused_if(record.count == 0),
             _ => Outcome::Wrong,
@@ -85,11 +93,13 @@ pub fn session(alloc: Global) -> Result<Outcome, AllocError> {
         },
         steps: 1000,
     };
-    Ok(match rehearse_session(alloc, &system, start, cued) {
-        Ok(typed) => Outcome::made_if(typed.keys.len() == 5 && typed.steps < 1000),
-        Err(HostError::OutOfMemory) => Outcome::Refused,
-        Err(_) => Outcome::Wrong,
-    })
+    Ok(
+        match rehearse_session(alloc, &system, start, cued, &mut Unwatched) {
+            Ok(typed) => Outcome::made_if(typed.keys.len() == 5 && typed.steps < 1000),
+            Err(HostError::OutOfMemory) => Outcome::Refused,
+            Err(_) => Outcome::Wrong,
+        },
+    )
 }
 
 pub fn listed_source(alloc: Global) -> Outcome {

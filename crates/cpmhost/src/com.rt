@@ -4,15 +4,15 @@ use crate::disk::read_image;
 use crate::files::{check_file, read_file, write_file};
 use crate::output::Outputs;
 use crate::place::check_com;
-use crate::progress::{Form, Teller};
+use crate::progress::{Form, Teller, Told};
 use crate::refused::Refused;
 use crate::rehearse::waits_in;
 use crate::screen::Screen;
-use crate::typing::{Terminals, record_in, tell_quit};
+use crate::typing::{Terminals, record_in, tell_full, tell_quit};
 use crate::waiting_word;
 use cpm_geom::Image;
 use cpm_host::{
-    ComTask, Cued, End, Ending, HostError, Ran, Script, Start, cues_of, run_com, run_live,
+    ComTask, Cued, Ending, HostError, Ran, Script, Start, cues_of, run_com, run_live,
     run_waiting, tail_of,
 };
 use std::io;
@@ -37,12 +37,12 @@ pub fn com(
     // (before a file is emptied in which keys are recorded)
     start.check()?;
     let (ran, waits) = if task.is_live {
-        (play_keyboard(rt, task, start, terminals)?, false)
+        play_keyboard(rt, task, start, terminals)?
     } else {
         play_script(rt, task, start, terminals)?
     };
     write_drives(rt, outputs, &task.outs, ran.drives)?;
-    tell(rt, ran.ending, waits);
+    tell(rt, ran.ending, waits && task.stops_idle);
     Ok(())
 }
 
@@ -66,7 +66,7 @@ fn start_of(rt: &(impl Files + AllocGlobal), task: &ComTask<'_>) -> Result<Start
     })
 }
 
-/// Runs a program by the keys of the script in a file, if there is one, and says whether it stopped where it waits and no key comes.
+/// Runs a program by the keys of the script in a file, if there is one, and says whether it then waits for a key, where that is known.
 fn play_script(
     rt: &(impl Files + Print + Eprint + AllocGlobal),
     task: &ComTask<'_>,
@@ -87,7 +87,8 @@ fn play_script(
     Ok((play(rt, task, start, script, terminals)?, false))
 }
 
-/// Runs a program by a script that may wait for it, and records its keys if that is asked. With `--stop-idle` it stops where it waits and no key comes.
+/// Runs a program by a script that may wait for it, records its keys if that is asked, and says whether it then waits for a key. With `--stop-idle` it stops
+/// where it waits and no key comes.
 fn play_waiting(
     rt: &(impl Files + Print + Eprint + AllocGlobal),
     task: &ComTask<'_>,
@@ -103,15 +104,34 @@ fn play_waiting(
     };
     let mut record = record_in(rt, task.record)?;
     let steps = task.steps.unwrap_or(STEPS);
-    let typed = if terminals.is_screen {
+    let form = Form::of(task.has_progress, terminals.is_error_terminal);
+    let mut teller = Teller::new(rt, Told::Program, form);
+    let played = if terminals.is_screen {
         let mut out = Screen::new(io::writer(rt));
-        run_waiting(rt.alloc(), start, steps, cued, &mut out, &mut record)?
+        run_waiting(
+            rt.alloc(),
+            start,
+            steps,
+            cued,
+            &mut out,
+            &mut record,
+            &mut teller,
+        )
     } else {
         let mut out = io::writer(rt);
-        run_waiting(rt.alloc(), start, steps, cued, &mut out, &mut record)?
+        run_waiting(
+            rt.alloc(),
+            start,
+            steps,
+            cued,
+            &mut out,
+            &mut record,
+            &mut teller,
+        )
     };
-    let is_short = typed.ran.ending.ended == End::Running && typed.steps < steps;
-    Ok((typed.ran, is_short))
+    teller.end();
+    let typed = played?;
+    Ok((typed.ran, typed.waits))
 }
 
 /// Runs a program by the keys of a script. A screen gets its control bytes as text.
@@ -124,7 +144,7 @@ fn play(
 ) -> Result<Ran, Refused> {
     let steps = task.steps.unwrap_or(STEPS);
     let form = Form::of(task.has_progress, terminals.is_error_terminal);
-    let mut teller = Teller::new(rt, None, form);
+    let mut teller = Teller::new(rt, Told::Program, form);
     let ran = if terminals.is_screen {
         let mut screen = Screen::new(io::writer(rt));
         run_com(
@@ -150,13 +170,13 @@ fn play(
     Ok(ran?)
 }
 
-/// Runs a program by the keys of standard input, and records them if that is asked.
+/// Runs a program by the keys of standard input, records them if that is asked, and says whether it then waits for a key.
 fn play_keyboard(
     rt: &(impl Files + Input + Print + Eprint + AllocGlobal),
     task: &ComTask<'_>,
     start: Start,
     terminals: Terminals,
-) -> Result<Ran, Refused> {
+) -> Result<(Ran, bool), Refused> {
     let mut record = record_in(rt, task.record)?;
     let most_keys = record.most_keys();
     let steps = task.steps.unwrap_or(u64::MAX);
@@ -187,7 +207,8 @@ fn play_keyboard(
             &mut record,
         )?
     };
-    Ok(typed.ran)
+    tell_full(rt, typed.keys.len(), most_keys);
+    Ok((typed.ran, typed.waits))
 }
 
 /// Writes the first drives to files, as many as these are.

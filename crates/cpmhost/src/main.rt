@@ -7,6 +7,7 @@ ghost use Rattle.cpm_host.specs.Refusals.{IsWordRefusal};
 mod com;
 mod disk;
 mod files;
+mod judge;
 mod output;
 mod place;
 mod progress;
@@ -25,9 +26,10 @@ use disk::do_disk;
 use files::{
     MachineFiles, check_file, check_outputs, check_scripts, read_file, write_file, write_scripts,
 };
+use judge::judge;
 use output::Outputs;
 use place::{check_apart, check_asm};
-use progress::{Form, Teller};
+use progress::{Form, Teller, Told};
 use refused::{Behind, Refused};
 use rehearse::{Rehearsals, rehearse_all};
 use screen::Screen;
@@ -68,18 +70,19 @@ fn run_sessions(
     check_apart(rt, task.config, &config, task)?;
     let mut rehearsals = Rehearsals::new(rt);
     if let Some(name) = task.keyboard {
-        let is_screen = terminals.is_screen;
+        judge(rt, outputs, &mut config, name)?;
         type_in(
             rt,
             &mut config,
             &mut rehearsals,
             name,
             task.record,
-            is_screen,
+            task.stops_idle,
+            terminals.is_screen,
         )?;
     }
-    rehearse_all(rt, &mut config, &mut rehearsals, task.stops_idle)?;
     let form = Form::of(task.has_progress, terminals.is_error_terminal);
+    rehearse_all(rt, &mut config, &mut rehearsals, task.stops_idle, form)?;
     play_sessions(rt, outputs, &config, &rehearsals, form)?;
     write_scripts(rt, outputs, &config, &rehearsals, task.scripts)?;
     Ok(())
@@ -94,7 +97,7 @@ fn play_sessions(
     form: Form,
 ) -> Result<(), Refused> {
     let mut files = MachineFiles::new(rt, outputs, rehearsals);
-    let mut teller = Teller::new(rt, Some(config), form);
+    let mut teller = Teller::new(rt, Told::Sessions(config), form);
     let ran = run_host(rt.alloc(), config, &mut files, &mut teller);
     teller.end();
     let report = match ran {

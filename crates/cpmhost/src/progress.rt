@@ -26,21 +26,31 @@ impl Form {
     }
 }
 
-/// Tells how far the sessions of a configuration, or a program, have come.
+/// Of whom it is told.
+#[derive(Clone, Copy, Debug, Drop)]
+pub enum Told<'a> {
+    Program,
+    /// The sessions of a configuration.
+    Sessions(&'a Config),
+    /// The session of this name, which is played by itself.
+    Alone(&'a str),
+}
+
+/// Tells how far the sessions of a configuration, one of them, or a program, have come.
 #[derive(Drop)]
 pub struct Teller<'a, R: Eprint> {
     rt: &'a R,
-    config: Option<&'a Config>,
+    whom: Told<'a>,
     form: Form,
     /// How many parts were told.
     told: u128,
 }
 
 impl<'a, R: Eprint> Teller<'a, R> {
-    pub fn new(rt: &'a R, config: Option<&'a Config>, form: Form) -> Teller<'a, R> {
+    pub fn new(rt: &'a R, whom: Told<'a>, form: Form) -> Teller<'a, R> {
         Teller {
             rt,
-            config,
+            whom,
             form,
             told: 0,
         }
@@ -60,15 +70,21 @@ impl<'a, R: Eprint> Teller<'a, R> {
             Form::InPlace => ("\r", "\x1b[K"),
             _ => ("", "\n"),
         };
-        let _ = match self
-            .config
-            .and_then(|config| config.sessions.get(progress.slowest))
-        {
-            Some(slowest) => eprint!(self.rt;
-                "{before}progress {percent}%: {} of {} sessions have ended, {} has the most left{behind}",
-                progress.ended, progress.sessions, slowest.name
-            ),
-            None => eprint!(self.rt; "{before}progress {percent}%{behind}"),
+        let _ = match self.whom {
+            Told::Program => eprint!(self.rt; "{before}progress {percent}%{behind}"),
+            Told::Alone(name) => {
+                eprint!(self.rt; "{before}progress {percent}% of {name} by itself{behind}")
+            }
+            Told::Sessions(config) => {
+                let (ended, sessions) = (progress.ended, progress.sessions);
+                match config.sessions.get(progress.slowest) {
+                    Some(slowest) if ended < sessions => eprint!(self.rt;
+                        "{before}progress {percent}%: {ended} of {sessions} sessions have ended, {} has the most left{behind}",
+                        slowest.name
+                    ),
+                    _ => eprint!(self.rt; "{before}progress {percent}%: {ended} of {sessions} sessions have ended{behind}"),
+                }
+            }
         };
     }
 }

@@ -6,10 +6,11 @@ ghost use Rattle.cpm_host.specs.Cued.{AreFit};
 
 use crate::disk::read_image;
 use crate::files::read_file;
+use crate::progress::{Form, Teller, Told};
 use crate::refused::Refused;
 use cpm_geom::Image;
 use cpm_host::{
-    Config, Cue, Cued, End, Opening, Origin, Script, Session, SessionStart, Typed, cues_of,
+    Config, Cue, Cued, Opening, Origin, Script, Session, SessionStart, Typed, cues_of,
     forked_cues_of, key_line, rehearse_session,
 };
 use std::alloc::AllocError;
@@ -96,14 +97,15 @@ impl Rehearsals {
 
 /// Plays the sessions by themselves whose scripts wait, or all where they are to stop idle.
 pub fn rehearse_all(
-    rt: &(impl Files + AllocGlobal),
+    rt: &(impl Files + Eprint + AllocGlobal),
     config: &mut Config,
     all: &mut Rehearsals,
     stops_idle: bool,
+    form: Form,
 ) -> Result<(), Refused> {
     for place in 0..config.sessions.len() {
         if place < config.sessions.len() && all.at(place).is_none() {
-            rehearse_at(rt, config, place, all, stops_idle)?;
+            rehearse_at(rt, config, place, all, stops_idle, form)?;
         }
     }
     Ok(())
@@ -134,15 +136,16 @@ struct Played {
 
 /// Plays the session at a place by itself, if that is to be, and gives it the keys that came as its script.
 fn rehearse_at(
-    rt: &(impl Files + AllocGlobal),
+    rt: &(impl Files + Eprint + AllocGlobal),
     config: &mut Config,
     place: usize,
     all: &mut Rehearsals,
     stops_idle: bool,
+    form: Form,
 ) -> Result<(), Refused>
     requires { place < length config.old.sessions.items }
 {
-    let Some(played) = rehearse(rt, config, place, all, stops_idle)? else {
+    let Some(played) = rehearse(rt, config, place, all, stops_idle, form)? else {
         return Ok(());
     };
     let Played {
@@ -162,11 +165,12 @@ fn rehearse_at(
 
 /// Plays the session at a place by itself, if that is to be.
 fn rehearse(
-    rt: &(impl Files + AllocGlobal),
+    rt: &(impl Files + Eprint + AllocGlobal),
     config: &Config,
     place: usize,
     all: &Rehearsals,
     stops_idle: bool,
+    form: Form,
 ) -> Result<Option<Played>, Refused>
     requires { place < length config.now.sessions.items }
 {
@@ -196,8 +200,11 @@ fn rehearse(
         opening,
         steps: session.steps,
     };
-    let typed = rehearse_session(rt.alloc(), &system, start, cued)?;
-    let is_idle = typed.ran.ending.ended == End::Running && typed.steps < session.steps;
+    let mut teller = Teller::new(rt, Told::Alone(name), form);
+    let played = rehearse_session(rt.alloc(), &system, start, cued, &mut teller);
+    teller.end();
+    let typed = played?;
+    let is_idle = stops_idle && typed.waits;
     let steps = typed.steps.max(forked_at).max(last_fork(config, name));
     Ok(Some(Played {
         typed,

@@ -71,6 +71,13 @@ pub fn tell_quit(rt: &impl Eprint) {
     let _ = eprintln!(rt; "cpmhost: keys come from standard input; ^] ends");
 }
 
+/// Says that typing has ended since the record is full, if it is.
+pub fn tell_full(rt: &impl Eprint, keys: usize, most_keys: usize) {
+    if keys >= most_keys {
+        let _ = eprintln!(rt; "cpmhost: the record is full with {keys} keys, so no more is typed");
+    }
+}
+
 /// Plays a session of a configuration by itself, by the keys of standard input. The configuration's session then has these keys as its script, and
 /// the steps that were played: a person's session has no limit of steps before.
 pub fn type_in(
@@ -79,6 +86,7 @@ pub fn type_in(
     all: &mut Rehearsals,
     name: &str,
     record: Option<&str>,
+    stops_idle: bool,
     is_screen: bool,
 ) -> Result<(), Refused> {
     let Some(place) = place_of(config, name) else {
@@ -94,8 +102,10 @@ pub fn type_in(
         steps: u64::MAX,
     };
     let typed = typed_by(rt, &system, start, record, is_screen)?;
+    tell_full(rt, typed.keys.len(), MOST_SCRIPT);
     let steps = typed.steps.max(last_fork(config, name));
-    let script = all.add(rt, place, typed, 0, false)?;
+    let is_idle = stops_idle && typed.waits;
+    let script = all.add(rt, place, typed, 0, is_idle)?;
     let session = &mut config.sessions[place];
     session.keys = Some(script);
     session.steps = steps;

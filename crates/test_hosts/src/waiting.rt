@@ -37,10 +37,16 @@ fn echoed(
     let mut out = Vec::new(rt.alloc());
     let mut record = Vec::new(rt.alloc());
     let start = start(rt, ECHO);
-    let typed = run_waiting(rt.alloc(), start, STEPS, cued, &mut out, &mut record).expect(
-        rt,
-        "a program that runs",
-    );
+    let typed = run_waiting(
+        rt.alloc(),
+        start,
+        STEPS,
+        cued,
+        &mut out,
+        &mut record,
+        &mut Unwatched,
+    )
+    .expect(rt, "a program that runs");
     (typed, out, record)
 }
 
@@ -50,6 +56,7 @@ fn a_program_gets_its_keys_where_it_waits(rt: HostRuntime) {
     same(&rt, shown.as_slice(), b"AB\r".as_slice());
     same(&rt, typed.keys.len(), 3);
     same(&rt, typed.ran.ending.ended, End::Exited);
+    same(&rt, typed.waits, false);
     let mut again = Vec::new(rt.alloc());
     let ran = run_com(
         rt.alloc(),
@@ -71,9 +78,11 @@ fn a_program_stops_where_it_is_idle(rt: HostRuntime) {
     same(&rt, typed.ran.ending.ended, End::Running);
     same(&rt, typed.ran.ending.count, typed.steps);
     same(&rt, typed.steps < STEPS, true);
+    same(&rt, typed.waits, true);
     let (goes_on, shown, _) = echoed(&rt, b"wait AB\nexpect \"C\" ^M\n", false);
     same(&rt, shown.as_slice(), b"AB".as_slice());
     same(&rt, goes_on.steps, STEPS);
+    same(&rt, goes_on.waits, true);
 }
 
 /// What a session plays that is forked at step 5, or the line that is refused and its fault.
@@ -150,7 +159,10 @@ fn rehearsed(rt: &(impl Abort + AllocGlobal), waits_from: u64) -> Typed {
         },
         steps: STEPS,
     };
-    rehearse_session(rt.alloc(), &system, start, cued).expect(rt, "a session that runs")
+    rehearse_session(rt.alloc(), &system, start, cued, &mut Unwatched).expect(
+        rt,
+        "a session that runs",
+    )
 }
 
 #[test]

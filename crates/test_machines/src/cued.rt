@@ -7,7 +7,7 @@ use cpm_flags::Cpu;
 use cpm_script::laws::cues_in_order;
 use cpm_script::read_cues;
 use cpm_slots::{End, Machine};
-use cpm_turns::{Cued, play_cues};
+use cpm_turns::{Cued, Unwatched, play_cues};
 use std::alloc::Global;
 use std::process::Abort;
 use std::test::Fail;
@@ -140,6 +140,7 @@ fn plays(rt: &impl Abort, alloc: Global, row: &Row) -> Result<(), Fail> {
         cued,
         &mut out,
         &mut record,
+        &mut Unwatched,
     )?;
     same(rt, out.as_slice(), row.shown);
     same(rt, record.as_slice(), row.recorded);
@@ -187,6 +188,7 @@ fn stops_at_the_prompt(rt: HostRuntime) -> Result<(), Fail> {
         cued,
         &mut out,
         &mut record,
+        &mut Unwatched,
     )?;
     same(&rt, out.as_slice(), b"\r\nA>".as_slice());
     same(&rt, record.len(), 0);

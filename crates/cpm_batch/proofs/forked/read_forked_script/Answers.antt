@@ -27,10 +27,12 @@ returns-in-Err-Line-clause-refused_log g c =
     let at = c.args.at in
     let before = c.args.before.items in
     stopped_at g.S.Store.does (ForkedScriptIn c.args.name.now at before) (Script c.shown.result c.in-Err-Line.number c.in-Err-Line.fault) (Gave c.args.name.now c.in_ok-text.text.items) c.args.store.now
-    c.read_bytes.new.store c.in_ok-text.ensures.gave
-    (record {
-      text = c.in_ok-text.text.items;
-      read = ap (forked_script at before) (sym c.as_slice.ensures.value) ∙ subst (λ (x : ScriptError). Reads (Err x) (forked_script at before c.as_slice.result.now)) c.in-Err-Line.field-0-is
-          c.in-Err-Line.ensures.read;
-      calls = refl;
-    })
+    c.read_bytes.new.store c.in_ok-text.ensures.gave (
+      c.shown.ensures,
+      record {
+        text = c.in_ok-text.text.items;
+        read = ap (forked_script at before) (sym c.as_slice.ensures.value) ∙ subst (λ (x : ScriptError). Reads (Err x) (forked_script at before c.as_slice.result.now)) c.in-Err-Line.field-0-is
+            c.in-Err-Line.ensures.read;
+        calls = refl;
+      },
+    )

@@ -22,4 +22,4 @@ returns-in-Err-clause-refused_log g c =
     let given_back = c.in-Err.ensures.1 in
     let count = c.len.ensures in
     stopped_at g.S.Store.does (ImageIn c.args.name.now) (Image c.shown.result c.len.result) (Gave c.args.name.now c.in_ok-bytes.bytes.items) c.args.store.now c.read_bytes.new.store
-    c.in_ok-bytes.ensures.gave (record { bytes = c.in_ok-bytes.bytes.items; size = cc; format = c.in-Err.ensures.0; calls = refl })
+    c.in_ok-bytes.ensures.gave (c.shown.ensures, record { bytes = c.in_ok-bytes.bytes.items; size = cc; format = c.in-Err.ensures.0; calls = refl })

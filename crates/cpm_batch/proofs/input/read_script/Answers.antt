@@ -25,4 +25,4 @@ pub returns-in-Err-Line-clause-refused_log : goal.returns-in-Err-Line-clause-ref
 returns-in-Err-Line-clause-refused_log g c =
     stopped_at g.S.Store.does (ScriptIn c.args.name.now) (Script c.shown.result c.in-Err-Line.number c.in-Err-Line.fault) (Gave c.args.name.now c.in_ok-text.text.items) c.args.store.now
     c.read_bytes.new.store c.in_ok-text.ensures.gave
-    (record { text = c.in_ok-text.text.items; read = ap script (sym c.as_slice.ensures.value) ∙ subst (λ (x : ScriptError). Reads (Err x) (script c.as_slice.result.now)) c.in-Err-Line.field-0-is c.in-Err-Line.ensures.read; calls = refl })
+    (c.shown.ensures, record { text = c.in_ok-text.text.items; read = ap script (sym c.as_slice.ensures.value) ∙ subst (λ (x : ScriptError). Reads (Err x) (script c.as_slice.result.now)) c.in-Err-Line.field-0-is c.in-Err-Line.ensures.read; calls = refl })

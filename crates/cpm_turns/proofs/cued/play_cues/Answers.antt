@@ -1,7 +1,7 @@
 use Rattle.std.proofs.Common.{inl, inr}
 use Rattle.std.proofs.lemmas.Result.{err_from_is_err_and}
 use Rattle.cpm_turns.proofs.CuedLemmas.{going-cut, idle-ends, idle-going}
-use Rattle.cpm_turns.proofs.GoingLemmas.{going-ending, going-given, going-shown}
+use Rattle.cpm_turns.proofs.GoingLemmas.{going-ending, going-given, going-shown, going-waiting}
 use Rattle.cpm_turns.proofs.cued.play_cues.Goals.{then-cued, else-cued}
 use Rattle.cpm_turns.proofs.cued.play_cues.Goals as goal
 
@@ -47,3 +47,8 @@ returns-clause-ends g c =
       | then-cued w ↦ inl (w.if-cued.true, w.waits_from-is)
       | else-cued w ↦ inr (w.if-cued.false, w.waits_from-is)
     ]) c.in_ok-idle.ensures.within c.in_ok-live.ensures.busy
+
+pub returns-clause-waits : goal.returns-clause-waits
+returns-clause-waits g c =
+    let went = idle-going c.in_ok-live.ensures.going c.in_ok-idle.ensures.idled c.idle.new.self.keys.items c.idle.ensures.still c.in_ok-idle.ensures.within in
+    going-waiting _ _ _ _ _ _ _ _ _ _ _ went

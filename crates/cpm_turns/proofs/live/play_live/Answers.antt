@@ -1,7 +1,9 @@
-use Rattle.std.proofs.Common.{◌<◌, ◌^◌, List, arith, length, subst, sym}
+use Rattle.std.proofs.Common.{◌≡◌, ◌<◌, ◌^◌, ◌∙◌, List, ap, arith, length, subst, sym}
 use Rattle.std.proofs.lemmas.Grind.{common_steps}
 use Rattle.std.proofs.lemmas.Result.{err_from_is_err_and}
 use Rattle.cpm_script.specs.declared.script.Key.{Key}
+use Rattle.cpm_slots.specs.Step.{after}
+use Rattle.cpm_turns.proofs.GoingLemmas.{going-waiting}
 use Rattle.cpm_turns.proofs.LiveLemmas.{IsLive, live-key, live-over, live-start, live-turn, live-unread, live-unshown, takes-first}
 use Rattle.cpm_turns.proofs.live.play_live.Goals as goal
 
@@ -46,3 +48,18 @@ returns-in_err-show-clause-refused g c =
     let p = err_from_is_err_and c.from_residual-in_err-show.result c.from_residual-in_err-show.ensures.1 in
     rw (p.1, p.2) (live-unshown _ _ _ _ _ _ _ _ _ _ _ _ _ c.loop-live.invariant c.turn-executed.result c.turn-executed.new.machine c.show.new.machine (g.W.Write.contents c.show.new.out) c.in_err-show.field-0.0
     c.turn-executed.ensures.within c.turn-executed.ensures.state c.in_err-show.ensures.refused)
+
+pub returns-then-len-most_keys-clause-waits : goal.returns-then-len-most_keys-clause-waits
+returns-then-len-most_keys-clause-waits g c = going-waiting _ _ _ _ _ _ _ _ _ _ _ c.loop-live.invariant.going
+
+pub returns-in_default-clause-waits : goal.returns-in_default-clause-waits
+returns-in_default-clause-waits g c = going-waiting _ _ _ _ _ _ _ _ _ _ _ c.loop-live.invariant.going
+
+pub returns-clause-waits : goal.returns-clause-waits
+returns-clause-waits g c = going-waiting _ _ _ _ _ _ _ _ _ _ _ c.loop-live.invariant.going
+
+pub returns-then-executed-eq0-clause-waits : goal.returns-then-executed-eq0-clause-waits
+returns-then-executed-eq0-clause-waits g c =
+    let still : c.turn-executed.new.machine ≡ c.loop-live.machine =
+    c.turn-executed.ensures.state ∙ ap (λ k. after c.args.system.now k c.loop-live.machine) c.if-executed-eq0.true in
+    rw still (going-waiting _ _ _ _ _ _ _ _ _ _ _ c.loop-live.invariant.going)

@@ -1,4 +1,4 @@
-use Rattle.std.proofs.Common.{◌+◌, ◌∷◌, [], ◌++◌, ℕ, ap, refl, sym, ◌∙◌}
+use Rattle.std.proofs.Common.{◌∷◌, [], ◌++◌, ℕ, ap, refl, sym, ◌∙◌}
 use Rattle.cpm_script.specs.declared.script.Key.{Key}
 use Rattle.cpm_turns.proofs.CuedLemmas.{missed-ended, pressed-there, reached, takes-later}
 use Rattle.cpm_turns.proofs.live.Live.press.Goals as goal
