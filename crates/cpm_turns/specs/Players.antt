@@ -1,5 +1,5 @@
 -- Players of a host: sessions that are played in turns, of which some are forked from others on the way. All of it is own.
-use Rattle.std.specs.Prelude.{⊤, ◌≡◌, ◌≢◌, ◌⊎◌, ℕ, ◌+◌, ◌<◌, ◌≤◌, List, [], ◌∷◌, ◌++◌, length, take, sum_by, Bool, false, ◌||◌, ◌==◌, nat_le, nat_lt, Option, Some, None, IfSome, slice_get}
+use Rattle.std.specs.Prelude.{true, ⊤, ◌≡◌, ◌≢◌, ◌⊎◌, ℕ, ◌+◌, ◌<◌, ◌≤◌, List, [], ◌∷◌, ◌++◌, length, take, sum_by, Bool, false, ◌||◌, ◌==◌, nat_le, nat_lt, Option, Some, None, IfSome, slice_get}
 use Rattle.std.specs.List.{list_any}
 use Rattle.cpm_geom.specs.Disk.{Disk}
 use Rattle.cpm_script.specs.declared.script.Key.{Key}
