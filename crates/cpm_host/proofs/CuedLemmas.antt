@@ -2,7 +2,7 @@
 use Rattle.std.proofs.Common.{◌≡◌, ◌≤◌, ◌<◌, ℕ, Bool, true, false, List, [], ◌∷◌, ◌++◌, Ok, IfOk, Vec, cond, length, map, arith, refl, ap, ◌∙◌, sym, subst, nat_lt}
 use Rattle.std.specs.declared.alloc.Global.{Global}
 use Rattle.std.proofs.lemmas.List.{map-append}
-use Rattle.cpm_script.specs.Cues.{Awaited, Counted, Pressed, Said, all_said, cues, keys_in, said}
+use Rattle.cpm_script.specs.Cues.{Counted, all_said, cues, keys_in, said}
 use Rattle.cpm_script.specs.Fork.{forked_cues, keys_before}
 use Rattle.cpm_script.specs.Laws.{AreInOrder, AreOwn, CuesInOrder, ForkedCuesInOrder, KeysAreAscii, MeansTheSame, PlainScripts}
 use Rattle.cpm_script.specs.Script.{script}

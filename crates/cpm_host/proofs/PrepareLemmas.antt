@@ -23,7 +23,7 @@ use Rattle.cpm_turns.specs.declared.scripted_slot.ScriptedSlot.{ScriptedSlot}
 use Rattle.cpm_host.specs.Playing.{HasPlayer, HasPlayerBy, HasSlot, HavePlayers, IsForkFor, IsOpeningRefusal, IsPrepared, IsPreparedBy, IsSlotRefusal, IsStartRefusal, OpensSlot}
 use Rattle.cpm_host.specs.declared.error.HostError.{HostError}
 use Rattle.cpm_host.specs.declared.error.HostError.TheVariants as refusal
-use Rattle.cpm_host.specs.Run.{AllAccepted, IsFirstRefused, IsOpening}
+use Rattle.cpm_host.specs.Run.{AllAccepted, AreOpenable, IsFirstRefused, IsOpening}
 
 -- ---- numbers of slots
 
@@ -115,6 +115,7 @@ pub record IsPreparedTo (start now : Host) (all rest : List SessionInput) (ps : 
   pub system : now.system ≡ start.system
   pub refused : (whole : List SessionInput) (fault : OpenError) → IsFirstRefused whole now rest fault → IsFirstRefused whole start all fault
   pub accepted : (whole : List SessionInput) → AllAccepted whole now rest → AllAccepted whole start all
+  pub openable : AreOpenable now rest → AreOpenable start all
 
 abbrev input_of : Session → StartInput → List Key → SessionInput
 input_of session b keys = record { session = session; start = b; keys = keys }
@@ -148,6 +149,7 @@ opened_more start now new all rest session cpu quota drives keys ps p o h is ope
       system = h.system;
       refused = λ whole fault f. h.refused whole fault (o, is, inr (open_slot.accepted, f));
       accepted = λ whole more. h.accepted whole (o, is, open_slot.accepted, more);
+      openable = λ more. h.openable (o, is, open_slot.accepted, more);
     } in
     subst (λ (host : Host). IsPreparedTo start host all rest (ps ++ Playing p ∷ [])) (sym open_slot.host) made
 
@@ -168,6 +170,7 @@ forked_more start now new all rest session parent at keys ps fork h is same =
       system = h.system;
       refused = h.refused;
       accepted = h.accepted;
+      openable = h.openable;
     } in
     subst (λ (host : Host). IsPreparedTo start host all rest (ps ++ Waiting fork ∷ [])) (sym same) made
 

@@ -27,6 +27,10 @@ some_drives : (ds : List Disk) → 4 < length (drives_or_blank ds) → 4 < lengt
 some_drives [] h = absurd (omega (arith, h))
 some_drives (d ∷ ds) h = h
 
+few_given : (ds : List Disk) → length (drives_or_blank ds) ≤ 4 → length ds ≤ 4
+few_given [] h = omega arith
+few_given (d ∷ ds) h = h
+
 -- the fault of drives of which there is one at least
 fault_of_some : (ds : List Disk) → drives_fault (length (drives_or_blank ds)) ≡ cond (ltb 4 (length (drives_or_blank ds))) (Some opening.BadDrives) None
 fault_of_some [] = refl
@@ -66,7 +70,7 @@ start_refused g o program fault quota drives same short h =
         subst (λ f. IsStartRefusal g (host_error_of_opening f)) (sym is) (short, some_drives g.drives (ltb-true 4 _ many), refl)
     go false many r =
         let is : fault ≡ opening.OutOfMemory = subst (λ b. IsRefusal (first_fault (cond b (Some opening.BadDrives) None) None) fault) many r in
-        subst (λ f. IsStartRefusal g (host_error_of_opening f)) (sym is) short
+        subst (λ f. IsStartRefusal g (host_error_of_opening f)) (sym is) (short, few_given g.drives (ltb-false 4 _ many))
 
 -- one that is made has no more drives than four, and no longer program
 pub start_fits : (g : Given) (o : Opening) (program : List ℕ) → o.quota ≡ 256 → o.drives.items ≡ drives_or_blank g.drives → program_fault o program ≡ None → length g.drives ≤ 4

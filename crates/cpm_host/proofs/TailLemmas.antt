@@ -1,5 +1,5 @@
 -- Words of a tail, one after another.
-use Rattle.std.proofs.Common.{◌≡◌, ◌∙◌, ℕ, suc, ◌+◌, ◌<◌, ◌≤◌, true, cond, List, [], ◌∷◌, ◌++◌, length, length-append, get_or, drop, map, sym, ap, append_assoc, arith, Bor}
+use Rattle.std.proofs.Common.{◌≡◌, ◌∙◌, ℕ, suc, ◌+◌, ◌<◌, ◌≤◌, true, cond, List, ◌∷◌, length, length-append, get_or, drop, map, sym, ap, arith, Bor}
 use Rattle.std.proofs.lemmas.Bool.{and_parts, ltb-true}
 use Rattle.std.proofs.lemmas.List.{at_drop_more, length-map}
 use Rattle.std.specs.List.{list_all}

@@ -1,5 +1,5 @@
 -- A program, or a session, that is played by a script that may wait for it. All of it is own.
-use Rattle.std.specs.Prelude.{⊤, ◌≡◌, ◌⊎◌, ◌≤◌, ◌++◌, ℕ, List, length, map, chars, Option, Result, Ok, Err}
+use Rattle.std.specs.Prelude.{⊤, ◌≡◌, ◌⊎◌, ◌≤◌, ◌++◌, ℕ, List, length, map, chars, Option, Ok, Err}
 use Rattle.std.specs.Io.KnownBytes.{Appends}
 use Rattle.cpm_batch.specs.declared.error.ReadError.TheVariants as read
 use Rattle.cpm_command.specs.Shown.{shown_of}
@@ -11,7 +11,6 @@ use Rattle.cpm_script.specs.Fork.{forked_cues, keys_before}
 use Rattle.cpm_script.specs.Recording.{recorded}
 use Rattle.cpm_script.specs.Script.{script}
 use Rattle.cpm_script.specs.declared.cue.Cue.{Cue}
-use Rattle.cpm_script.specs.declared.fault.LineFault.{LineFault}
 use Rattle.cpm_script.specs.declared.script.Key.{Key}
 use Rattle.cpm_slots.specs.MachineState.{MachineState}
 use Rattle.cpm_slots.specs.Opening.{opening_fault}
@@ -56,7 +55,7 @@ abbrev pub IsForkedRefusal : (parent own : Script) → ℕ → HostError → Typ
 IsForkedRefusal parent own at (FileRefused (read.Script shown line fault)) =
     ((shown.bytes ≡ shown_of (chars parent.name.now)) × (script parent.text.now ≡ Err (line, fault)))
     ⊎ ((shown.bytes ≡ shown_of (chars own.name.now))
-        × ((keys : List Key) × (script parent.text.now ≡ Ok keys) × (forked_cues at (length (keys_before at keys)) own.text.now ≡ Err (line, fault))))
+    × ((keys : List Key) × (script parent.text.now ≡ Ok keys) × (forked_cues at (length (keys_before at keys)) own.text.now ≡ Err (line, fault))))
 IsForkedRefusal parent own at OutOfMemory = ⊤
 IsForkedRefusal parent own at _ = ⊥
 

@@ -177,7 +177,7 @@ pub record IsJudged (config : Config) (files : Option Files) : Type 0 where
   pub system : Disk
   pub inputs : List SessionInput
   pub read : AreInputs files config system inputs
-  pub open : AreOpenable (new_host system config.frames) inputs
+  pub openable : AreOpenable (new_host system config.frames) inputs
 
 -- ---- refusals
 

@@ -147,6 +147,7 @@ fn prepare_all(
     requires { host.old.host.slots ≡ [] }
     ensures prepared { IfOk result (λ players. HavePlayers host.new.host.slots (map given inputs.entry.items) players.items) }
     ensures accepted { OnOk result ((all : List SessionInput) → HasForkRoom all host.new.host → AllAccepted all host.old.host (map given inputs.entry.items)) }
+    ensures openable { OnOk result (AreOpenable host.old.host (map given inputs.entry.items)) }
     ensures short { OnOk result ((all : List SessionInput) (fault : OpenErrorValue) → IsShortFor host.new.host (forks_in all) (fork_pages_in all) fault → IsFirstRefused all host.old.host (map given inputs.entry.items) fault) }
     ensures differ { IfOk result (λ players. AllDiffer players.items) }
     ensures system { host.new.host.system ≡ host.old.host.system }
@@ -244,6 +245,7 @@ fn prepare_host(
     requires most { config.now.frames ≤ 16384 }
     ensures prepared { IfOk result (λ p. HavePlayers p.0.host.slots (map given inputs.entry.sessions.items) p.1.items) }
     ensures accepted { IfOk result (λ p. (all : List SessionInput) → HasForkRoom all p.0.host → AllAccepted all (new_host inputs.entry.system config.entry.now.frames) (map given inputs.entry.sessions.items)) }
+    ensures openable { OnOk result (AreOpenable (new_host inputs.entry.system config.entry.now.frames) (map given inputs.entry.sessions.items)) }
     ensures short { IfOk result (λ p. (all : List SessionInput) (fault : OpenErrorValue) → IsShortFor p.0.host (forks_in all) (fork_pages_in all) fault → IsFirstRefused all (new_host inputs.entry.system config.entry.now.frames) (map given inputs.entry.sessions.items) fault) }
     ensures differ { IfOk result (λ p. AllDiffer p.1.items) }
     ensures system { IfOk result (λ p. p.0.host.system ≡ inputs.entry.system) }
@@ -261,15 +263,11 @@ fn prepare_host(
 }
 
 /// Opens all sessions of a configuration that aren't forked, and drops them again.
-pub(crate) fn open_all(
-    alloc: Global,
-    config: &Config,
-    inputs: Inputs<'_>,
-) -> Result<(), HostError>
+pub(crate) fn open_all(alloc: Global, config: &Config, inputs: Inputs<'_>) -> Result<(), HostError>
     requires least { 16 ≤ config.now.frames }
     requires most { config.now.frames ≤ 16384 }
     ensures refusal { IfErr result (IsPlayRefusal config.entry.now (new_host inputs.entry.system config.entry.now.frames) (map given inputs.entry.sessions.items)) }
-    ensures open { OnOk result (AreOpenable (new_host inputs.entry.system config.entry.now.frames) (map given inputs.entry.sessions.items)) }
+    ensures openable { OnOk result (AreOpenable (new_host inputs.entry.system config.entry.now.frames) (map given inputs.entry.sessions.items)) }
 {
     prepare_host(alloc, config, inputs)?;
     Ok(())

@@ -63,11 +63,7 @@ fn write_files<S: Store>(outputs: &[Output<'_>], store: &mut S) -> Result<(), Ho
 /// forked. Nothing is played, and nothing is written.
 ///
 /// It is refused as `run_host` refuses it, but for want of room for forks.
-pub fn judge_host<S: Store>(
-    alloc: Global,
-    config: &Config,
-    store: &mut S,
-) -> Result<(), HostError>
+pub fn judge_host<S: Store>(alloc: Global, config: &Config, store: &mut S) -> Result<(), HostError>
     ensures judged { OnOk result (IsJudged config.now (S.files store.old)) }
     ensures refusal { IfErr result (IsRunRefusal config.now (S.files store.old) (S.files store.new)) }
     ensures same { S.files store.new ≡ S.files store.old }
@@ -77,8 +73,8 @@ pub fn judge_host<S: Store>(
     if let Some(place) = config_fault(config) {
         return Err(HostError::ConfigRefused(ConfigError::Range(place)));
     }
-    let inputs = read_inputs(alloc, config, store)?;
-    open_all(alloc, config, inputs)
+    let needed = read_inputs(alloc, config, store)?;
+    open_all(alloc, config, needed)
 }
 
 /// Runs the sessions of a configuration over the files of a store: reads the system drive's image, then each session's drives and
