@@ -8,8 +8,8 @@ use crate::output::Outputs;
 use crate::place::check_taken;
 use crate::refused::Refused;
 use cpm_filing::{
-    FilingError, base_name, check_new, file_name, get_file, host_name, image_of, list_files, matching_files,
-    new_image, put_file, remove_file, rename_file, split_pair, write_list,
+    FilingError, base_name, check_new, file_name, get_file, host_name, image_of, list_files,
+    matching_files, new_image, put_file, remove_file, rename_file, split_pair, write_list,
 };
 use cpm_geom::Image;
 use cpm_host::{DiskTask, HostError, shown};
