@@ -29,8 +29,8 @@ fn asks_in(round: u64) -> bool {
     round & round.wrapping_sub(1) == 0
 }
 
-/// The most steps of a player's turn: a quantum. A session that is asked, and waits for a key, may have all those to its next key, since each changes its
-/// count alone.
+/// The most steps of a player's turn: a quantum. A session that is asked, and waits for a key of which none is due, may have all those to its next key, since
+/// each changes its count alone.
 fn most_steps(host: &mut Host, player: &Player, asks: bool, quantum: u64) -> u64
     requires { 1 ≤ quantum }
     ensures some { 1 ≤ result }
@@ -39,7 +39,7 @@ fn most_steps(host: &mut Host, player: &Player, asks: bool, quantum: u64) -> u64
     let Player::Playing(slot) = player else {
         return quantum;
     };
-    if !asks {
+    if !asks || slot.pace.due(slot.keys.as_slice()).is_some() {
         return quantum;
     }
     match host.look(slot.id) {
