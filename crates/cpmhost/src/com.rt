@@ -12,8 +12,8 @@ use crate::typing::{Terminals, record_in, tell_full, tell_quit};
 use crate::waiting_word;
 use cpm_geom::Image;
 use cpm_host::{
-    ComTask, Cued, Ending, HostError, Ran, Script, Start, cues_of, run_com, run_live,
-    run_waiting, tail_of,
+    ComTask, Cued, Ending, HostError, Ran, Script, Start, cues_of, run_com, run_live, run_waiting,
+    tail_of,
 };
 use std::io;
 use std::io::BufReader;

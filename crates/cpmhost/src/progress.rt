@@ -82,7 +82,9 @@ impl<'a, R: Eprint> Teller<'a, R> {
                         "{before}progress {percent}%: {ended} of {sessions} sessions have ended, {} has the most left{behind}",
                         slowest.name
                     ),
-                    _ => eprint!(self.rt; "{before}progress {percent}%: {ended} of {sessions} sessions have ended{behind}"),
+                    _ => eprint!(self.rt;
+                        "{before}progress {percent}%: {ended} of {sessions} sessions have ended{behind}"
+                    ),
                 }
             }
         };
