@@ -7,8 +7,8 @@ use crate::texts::{CONFIG, KEYS, SOURCE};
 use cpm_flags::Cpu;
 use cpm_geom::{Format, Image};
 use cpm_host::{
-    Config, DebugError, HostError, MemoryStore, Script, Start, Tail, Unwatched, run_asm, run_com,
-    run_debug, run_host, run_list, run_live, tail_of,
+    Config, DebugError, HostError, MemoryStore, Script, Start, Tail, Unwatched, judge_host,
+    run_asm, run_com, run_debug, run_host, run_list, run_live, tail_of,
 };
 use std::alloc::{AllocError, Global};
 use std::io;
@@ -165,6 +165,29 @@ fn run_configured(alloc: Global, config: &Config) -> Result<Outcome, AllocError>
 pub fn run(alloc: Global) -> Result<Outcome, AllocError> {
     match Config::read(alloc, CONFIG.as_bytes()) {
         Ok(config) => run_configured(alloc, &config),
+        Err(_) => Err(AllocError),
+    }
+}
+
+fn judge_over(alloc: Global, config: &Config, store: &mut MemoryStore) -> Outcome {
+    let answer = judge_host(alloc, config, store);
+    let is_unwritten = store.file("one.txt").is_none() && store.file("two.txt").is_none();
+    match answer {
+        Ok(()) => Outcome::made_if(is_unwritten),
+        Err(HostError::OutOfMemory) => Outcome::refused_if(is_unwritten),
+        Err(_) => Outcome::Wrong,
+    }
+}
+
+fn judge_configured(alloc: Global, config: &Config) -> Result<Outcome, AllocError> {
+    let blank = Image::blank(alloc, Format::Ibm3740)?.into_bytes();
+    let mut store = filled(alloc, blank.as_slice())?;
+    Ok(judge_over(alloc, config, &mut store))
+}
+
+pub fn judge(alloc: Global) -> Result<Outcome, AllocError> {
+    match Config::read(alloc, CONFIG.as_bytes()) {
+        Ok(config) => judge_configured(alloc, &config),
         Err(_) => Err(AllocError),
     }
 }

@@ -60,7 +60,7 @@ impl Outcome {
 }
 
 /// The calls, as they are named on the command line.
-const NAMES: [&str; 44] = [
+const NAMES: [&str; 45] = [
     "command",
     "FlatMemory::new",
     "FrameStore::new",
@@ -80,6 +80,7 @@ const NAMES: [&str; 44] = [
     "Store::read",
     "Store::write",
     "run_host",
+    "judge_host",
     "put",
     "get",
     "remove",
@@ -129,6 +130,7 @@ fn make(alloc: Global, name: &str) -> Result<Outcome, AllocError> {
         "Store::read" => stores::read(alloc),
         "Store::write" => stores::write(alloc),
         "run_host" => commands::run(alloc),
+        "judge_host" => commands::judge(alloc),
         "put" | "get" | "remove" | "rename" | "list" | "to_text" | "from_text" => {
             disks::of_shelf(alloc, name)
         }

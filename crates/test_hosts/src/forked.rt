@@ -1,7 +1,7 @@
 //! Runs with sessions that are forked from others.
 
 use crate::lab::disk_of;
-use crate::runs::{ONE, filled, holds, joined, refusal, report};
+use crate::runs::{ONE, filled, holds, joined, judged, refusal, report};
 use crate::same::same;
 use cpm_host::{Config, MemoryStore, Origin, Store, Unwatched, run_host};
 use std::process::Abort;
@@ -122,6 +122,9 @@ fn forks_that_lack_frames_are_refused(rt: HostRuntime) {
     let shown = refusal(&rt, text.as_str(), &mut store_with(&rt, b"7 X^M"));
     let wanted = "HO9 session 'two': quotas of 32 pages in all, and frames = 16";
     same(&rt, shown.as_str(), wanted);
+    // (room for forks is not judged)
+    let told = judged(&rt, text.as_str(), &mut store_with(&rt, b"7 X^M"));
+    same(&rt, told.as_str(), "judged");
     let enough = with(&rt, "frames = 64", "frames = 32", &[ONE, FORKED]);
     let lines = report(&rt, enough.as_str(), &mut store_with(&rt, b"7 X^M"));
     same(

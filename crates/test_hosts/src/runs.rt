@@ -2,7 +2,7 @@
 
 use crate::same::{same, same_at};
 use cpm_geom::{Format, Image};
-use cpm_host::{Config, HostError, MemoryStore, Report, Store, Unwatched, run_host};
+use cpm_host::{Config, HostError, MemoryStore, Report, Store, Unwatched, judge_host, run_host};
 use std::process::Abort;
 
 /// One session on blank drives, which is asked for its files.
@@ -229,4 +229,31 @@ fn refuses_what_no_host_has(rt: HostRuntime) {
         Ok(_) => panic!(&rt; "run"),
         Err(error) => same(&rt, error.status(), 2),
     }
+}
+
+/// What judging a configuration says, which writes nothing: `judged`, or the text of a refusal.
+pub fn judged(rt: &(impl Abort + AllocGlobal), text: &str, store: &mut MemoryStore) -> String {
+    let config = Config::read(rt.alloc(), text.as_bytes()).expect(rt, "a good configuration");
+    let told = match judge_host(rt.alloc(), &config, store) {
+        Ok(()) => joined(rt, &["judged"]),
+        Err(error) => error.to_string(rt.alloc()).expect(rt, "memory"),
+    };
+    assert!(rt; store.file("one.txt").is_none());
+    told
+}
+
+#[test]
+fn a_run_is_judged_before_it_is_played(rt: HostRuntime) {
+    let both = joined(&rt, &[ONE, TWO]);
+    let told = judged(&rt, both.as_str(), &mut filled(&rt));
+    same(&rt, told.as_str(), "judged");
+    let mut falling = filled(&rt);
+    same(&rt, falling.write("one.keys", b"5 A\n4 B\n"), Ok(()));
+    let told = judged(&rt, both.as_str(), &mut falling);
+    let wanted = "HO3 'one.keys', line 2: the count is less than the one before it";
+    same(&rt, told.as_str(), wanted);
+    let text = replaced(&rt, both.as_str(), "frames = 64", "frames = 16");
+    let told = judged(&rt, text.as_str(), &mut filled(&rt));
+    let wanted = "HO9 session 'two': quotas of 32 pages in all, and frames = 16";
+    same(&rt, told.as_str(), wanted);
 }

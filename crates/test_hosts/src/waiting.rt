@@ -5,9 +5,8 @@ use crate::started::{ECHO, start};
 use cpm_flags::Cpu;
 use cpm_geom::{Format, Image};
 use cpm_host::{
-    Cue, Cued, End, ForkedCues, HostError, Key, LineFault, Opening, ReadError, Script,
-    SessionStart, Typed, Unwatched, cues_of, forked_cues_of, rehearse_session, run_com,
-    run_waiting,
+    Cue, Cued, End, ForkedCues, Key, Opening, Script, SessionStart, Typed, Unwatched, cues_of,
+    forked_cues_of, rehearse_session, run_com, run_waiting,
 };
 use std::process::Abort;
 
@@ -85,18 +84,23 @@ fn a_program_stops_where_it_is_idle(rt: HostRuntime) {
     same(&rt, goes_on.waits, true);
 }
 
-/// What a session plays that is forked at step 5, or the line that is refused and its fault.
+/// What a session plays that is forked at step 5, or the text with which its scripts are refused.
 fn forked(
-    rt: &impl AllocGlobal,
+    rt: &(impl Abort + AllocGlobal),
     parent: &[u8],
     own: &[u8],
-) -> Result<ForkedCues, Option<(u64, LineFault)>> {
-    match forked_cues_of(rt.alloc(), script(parent), 5, script(own)) {
+) -> Result<ForkedCues, String> {
+    let parent = Script {
+        name: "one.keys",
+        text: parent,
+    };
+    let own = Script {
+        name: "own.keys",
+        text: own,
+    };
+    match forked_cues_of(rt.alloc(), parent, 5, own) {
         Ok(forked) => Ok(forked),
-        Err(HostError::FileRefused(ReadError::Script { line, fault, .. })) => {
-            Err(Some((line, fault)))
-        }
-        Err(_) => Err(None),
+        Err(error) => Err(error.to_string(rt.alloc()).expect(rt, "memory")),
     }
 }
 
@@ -123,15 +127,31 @@ fn a_fork_has_the_keys_before_it_and_then_its_own(rt: HostRuntime) {
 
 #[test]
 fn a_fork_names_the_line_of_its_parent_or_its_own(rt: HostRuntime) {
-    let rows: [(&[u8], &[u8], u64, LineFault); 4] = [
-        (b"1 A\nx", b"4 B", 2, LineFault::NoCount),
-        (b"wait A", b"", 1, LineFault::NoCount),
-        (b"1 A", b"wait A\n4 B", 2, LineFault::BeforeFork),
-        (b"1 A", b"expect B", 1, LineFault::NoText),
+    let rows: [(&[u8], &[u8], &str); 4] = [
+        (
+            b"1 A\nx",
+            b"4 B",
+            "HO3 'one.keys', line 2: a count from 0 to 18446744073709551615 is wanted, or '#' before a comment",
+        ),
+        (
+            b"wait A",
+            b"",
+            "HO3 'one.keys', line 1: a count from 0 to 18446744073709551615 is wanted, or '#' before a comment",
+        ),
+        (
+            b"1 A",
+            b"wait A\n4 B",
+            "HO3 'own.keys', line 2: the count is below that at which the session is forked",
+        ),
+        (
+            b"1 A",
+            b"expect B",
+            "HO3 'own.keys', line 1: a text in quotes is missing",
+        ),
     ];
-    for (parent, own, line, fault) in rows {
+    for (parent, own, wanted) in rows {
         match forked(&rt, parent, own) {
-            Err(told) => same(&rt, told, Some((line, fault))),
+            Err(told) => same(&rt, told.as_str(), wanted),
             Ok(_) => panic!(rt; "a bad script is taken"),
         }
     }
