@@ -1,4 +1,4 @@
-use Rattle.std.proofs.Common.{◌≡◌, ◌≢◌, ℕ, ◌%◌, ◌<◌, true, false, get_or, arith, ap, ◌∙◌}
+use Rattle.std.proofs.Common.{◌≡◌, ◌≢◌, ℕ, ◌%◌, ◌/◌, ◌<◌, true, false, get_or, arith, ap, ◌∙◌}
 use Rattle.cpm_memory.specs.Contents.{Contents, page_of, next, is_written, after_set}
 use Rattle.cpm_memory.specs.Room.{written-after_set}
 use Rattle.cpm_memory.proofs.access.set_word_settled.Goals as goal
@@ -15,12 +15,14 @@ high-written c d address value fits ne settled e =
 pub set-requires-2 : goal.set-requires-2
 set-requires-2 g c = λ _.
     let settled = c.is_settled.ensures c.if-not-is_settled.false in
-    ap (λ ws. get_or ws (page_of c.args.address) false) (high-written _ _ c.args.address _ (omega arith) c.if-address-eq255.false settled c.set.ensures.contents) ∙ settled
+    let stored : g.M.Memory.contents c.set.new.self ≡ after_set (g.M.Memory.contents c.args.memory.now) (next c.args.address) (c.args.value / 256) = rw (← c.next_in_page.ensures) c.set.ensures.contents in
+    ap (λ ws. get_or ws (page_of c.args.address) false) (high-written _ _ c.args.address _ (omega arith) c.if-address-eq255.false settled stored) ∙ settled
 
 pub returns-clause-pages : goal.returns-clause-pages
 returns-clause-pages g c =
     let settled = c.is_settled.ensures c.if-not-is_settled.false in
-    let first = high-written _ _ c.args.address _ (omega arith) c.if-address-eq255.false settled c.set.ensures.contents in
+    let stored : g.M.Memory.contents c.set.new.self ≡ after_set (g.M.Memory.contents c.args.memory.now) (next c.args.address) (c.args.value / 256) = rw (← c.next_in_page.ensures) c.set.ensures.contents in
+    let first = high-written _ _ c.args.address _ (omega arith) c.if-address-eq255.false settled stored in
     ap (λ (m : Contents). m.written) c.set-2.ensures.contents
     ∙ written-after_set (g.M.Memory.contents c.set.new.self) c.args.address _ (ap (λ ws. get_or ws (page_of c.args.address) false) first ∙ settled)
     ∙ first
