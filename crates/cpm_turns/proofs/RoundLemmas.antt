@@ -2,7 +2,8 @@
 use Rattle.std.proofs.Common.{◌≡◌, ◌≢◌, ℕ, zero, suc, [], ◌∷◌, ◌+◌, ◌-◌, ◌<◌, ◌≤◌, min, nat_le, ◌==◌, ◌||◌, Bool, true, false, Some, ◌⊎◌, inl, inr, ⊎_elim, List, length, take, set, refl, sym, ap, ◌∙◌, subst, arith, slice_get, length-set}
 use Rattle.std.proofs.lemmas.Bool.Decides.{nat_tests}
 use Rattle.std.proofs.lemmas.Bool.{cases_lt, or_parts, true≢false}
-use Rattle.std.proofs.lemmas.Option.{none-some, same_Some}
+use Rattle.std.proofs.lemmas.List.{set-get_or}
+use Rattle.std.proofs.lemmas.Option.{get_or_from_slice_get, none-some, same_Some}
 use Rattle.cpm_sessions.specs.Host.{Host, slot_at}
 use Rattle.cpm_slots.specs.MachineState.{MachineState}
 use Rattle.cpm_turns.specs.declared.player.Fork.{Fork}
@@ -10,7 +11,7 @@ use Rattle.cpm_turns.specs.declared.player.Player.{Player}
 use Rattle.cpm_turns.specs.declared.player.Player.TheVariants.{Playing, Waiting}
 use Rattle.cpm_turns.specs.declared.scripted_slot.ScriptedSlot.{ScriptedSlot}
 use Rattle.cpm_turns.specs.ScriptedSlots.{AreDifferent, IsNone, IsResting, Moves, keys_of, steps_of}
-use Rattle.cpm_turns.specs.Players.{AllBefore, AllReady, ChangesAt, HasCome, IsFar, IsGoing, IsWaiting, KeepsPlaying, LeavesFewer, NoneIsDue, StandsAs, has_fork, ids_of, is_due, is_fork, left_in_player, left_of, pages_of, waits}
+use Rattle.cpm_turns.specs.Players.{AllBefore, AllReady, ChangesAt, HasCome, IsFar, IsGoing, IsWaiting, KeepsPlaying, LeavesFewer, NoneIsDue, StandsAs, has_fork, ids_of, is_due, is_over, is_fork, left_in_player, left_of, pages_of, waits}
 use Rattle.cpm_turns.proofs.PlaceLemmas.{at-other, at-set, same-at, sum-none, sum-set, within-at}
 use Rattle.cpm_turns.proofs.PlayerLemmas.{apart-at, going-in, given-at, ids-kept, none-at, playing-waiting, same-playing}
 
@@ -284,6 +285,14 @@ left-waits old before players place left fewer waits = go left fewer
         by_test k below false e =
             let ne : k ≢ place = λ h. (let no : ⊥ = grind (arith, nat_tests) in no) in
             subst (λ (ps : List Player). IsIdle ps k) (sym same) (even.1 k (omega (arith, below, ne)))
+
+-- where the player at a place is passed by, since it executes no more and none is still to be forked
+pub left-over : (old players : List Player) (place : ℕ) (p : Player) → IsLeft old players place → has_fork players ≡ false → slice_get players place ≡ Some p → is_over p ≡ true → IsLeft old players (place + 1)
+left-over old players place (Playing slot) left none at over =
+    let spent : steps_of slot ≡ 0 = grind (arith, nat_tests) in
+    let same : set players place (Playing slot) ≡ players = ap (set players place) (sym (get_or_from_slice_get players place (Playing slot) (Playing slot) at)) ∙ set-get_or players place (Playing slot) in
+    subst (λ (ps : List Player). IsLeft old ps (place + 1)) same (left-turn old players players place 1 slot slot left (inr refl) (far-none place 1 players none) at (omega (arith, spent)))
+left-over old players place (Waiting fork) left none at over = absurd (true≢false (sym over))
 
 -- a round leaves fewer, where some were left
 pub left-round : (old h : Host) (given start now : List Player) (place : ℕ) → HasCome old h given now → length now ≤ place → 0 < left_of start → IsLeft start now place → left_of now < left_of start

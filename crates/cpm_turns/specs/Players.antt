@@ -201,6 +201,11 @@ waits (Waiting fork) = true
 abbrev pub has_fork : List Player → Bool
 has_fork players = list_any waits players
 
+-- a session executes no more
+abbrev pub is_over : Player → Bool
+is_over (Playing slot) = steps_of slot == 0
+is_over (Waiting fork) = false
+
 -- The session at a place, if it waits to be forked from that at another place, is not to be forked now; that one may execute so many steps before.
 abbrev pub IsFar : (parent steps : ℕ) → List Player → (place : ℕ) → Type 0
 IsFar parent steps players place = (fork : Fork) (slot : ScriptedSlot) → slice_get players place ≡ Some (Waiting fork) → fork.parent ≡ parent → slice_get players parent ≡ Some (Playing slot) →

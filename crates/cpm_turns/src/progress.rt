@@ -19,6 +19,9 @@ pub struct Progress {
 
 /// Who is told how far sessions have come, each time that all had a turn.
 pub trait Watcher {
+    /// Whether it is to be told at all. For one that isn't, nothing is counted.
+    fn is_watching(&self) -> bool;
+
     fn see(&mut self, progress: Progress);
 }
 
@@ -27,6 +30,10 @@ pub trait Watcher {
 pub struct Unwatched;
 
 impl Watcher for Unwatched {
+    fn is_watching(&self) -> bool {
+        false
+    }
+
     fn see(&mut self, _progress: Progress) {}
 }
 

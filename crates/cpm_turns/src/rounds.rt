@@ -1,9 +1,9 @@
 //! Many players of a host, in turns.
 
-ghost use Rattle.std.specs.Prelude.{◌≡◌, ◌≤◌, ◌<◌, List, OnOk, IfErr};
+ghost use Rattle.std.specs.Prelude.{◌≡◌, ◌≤◌, ◌<◌, List, OnOk, IfErr, false};
 ghost use Rattle.cpm_sessions.specs.Host.{Host as HostValue};
 ghost use Rattle.cpm_turns.specs.declared.player.Player.{Player as PlayerValue};
-ghost use Rattle.cpm_turns.specs.Players.{AllDiffer, AllPlayed, AllReady, HasCome, HasRoomFor, IsPlayRefusal, LeavesRest, fork_pages, forks_of, goes_on, ids_of, left_of};
+ghost use Rattle.cpm_turns.specs.Players.{AllDiffer, AllPlayed, AllReady, HasCome, HasRoomFor, IsPlayRefusal, LeavesRest, fork_pages, forks_of, goes_on, has_fork, ids_of, is_over, left_of};
 
 use crate::error::PlayError;
 use crate::forks::{fork_if_due, has_fork};
@@ -48,21 +48,37 @@ fn most_steps(host: &mut Host, player: &Player, asks: bool, quantum: u64) -> u64
     }
 }
 
-/// Gives each of the players a turn, once those that are to be forked from it now are forked.
+/// Whether a player is one that executes no more.
+fn is_over(player: &Player) -> bool
+    ensures { result ≡ is_over player.now }
+{
+    match player {
+        Player::Playing(slot) => slot.pace.left() == 0,
+        Player::Waiting(_) => false,
+    }
+}
+
+/// Gives each of the players a turn, once those that are to be forked from it now are forked. Where none may be still to be forked, one that executes no
+/// more is only passed by.
 fn round(
     alloc: Global,
     host: &mut Host,
     players: &mut [Player],
     asks: bool,
     quantum: u64,
+    may_fork: bool,
 ) -> Result<(), PlayError>
-    requires { 1 ≤ quantum }
+    requires quantum { 1 ≤ quantum }
+    requires none { may_fork ≡ false → has_fork players.old ≡ false }
     ensures come { OnOk result ((old : HostValue) (given : List PlayerValue) → AllReady old.slots given → HasCome old host.old.host given players.old → HasCome old host.new.host given players.new) }
     ensures left { OnOk result ((old : HostValue) (given : List PlayerValue) → AllReady old.slots given → HasCome old host.old.host given players.old → 0 < left_of players.old → left_of players.new < left_of players.old) }
+    ensures none { OnOk result (may_fork ≡ false → has_fork players.new ≡ false) }
     ensures refused { IfErr result (λ e. (old : HostValue) (given : List PlayerValue) → AllReady old.slots given → HasCome old host.old.host given players.old → IsPlayRefusal old given e) }
 {
-    let may_fork = has_fork(players);
     for place in 0..players.len() {
+        if !may_fork && is_over(&players[place]) {
+            continue;
+        }
         let most = most_steps(host, &players[place], asks, quantum);
         let steps = fork_if_due(alloc, host, players, place, most, may_fork)?;
         if let Player::Playing(slot) = &mut players[place] {
@@ -96,9 +112,13 @@ pub fn play<T: Watcher>(
 {
     host.slots_are_orderly();
     let mut rounds = 0u64;
+    let mut may_fork = has_fork(players);
     while goes_on(players) {
-        round(alloc, host, players, asks_in(rounds), quantum)?;
-        watcher.see(progress_of(players));
+        round(alloc, host, players, asks_in(rounds), quantum, may_fork)?;
+        may_fork = may_fork && has_fork(players);
+        if watcher.is_watching() {
+            watcher.see(progress_of(players));
+        }
         rounds = rounds.wrapping_add(1);
     }
     Ok(())

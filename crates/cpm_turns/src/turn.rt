@@ -15,8 +15,8 @@ use cpm_console::Device;
 use cpm_sessions::{Host, SlotId};
 use std::alloc::AllocError;
 
-/// How many bytes are taken at once.
-const CHUNK: usize = 8192;
+/// How many bytes are taken at once. A turn that shows nothing fills as many for each device, and a short turn is not to notice.
+const CHUNK: usize = 512;
 
 /// Presses the keys that are due.
 fn press_due(host: &mut Host, slot: &mut ScriptedSlot)

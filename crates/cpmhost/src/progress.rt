@@ -92,8 +92,12 @@ impl<'a, R: Eprint> Teller<'a, R> {
 }
 
 impl<R: Eprint> Watcher for Teller<'_, R> {
+    fn is_watching(&self) -> bool {
+        self.form != Form::Silent
+    }
+
     fn see(&mut self, progress: Progress) {
-        if self.form == Form::Silent || progress.all == 0 {
+        if !self.is_watching() || progress.all == 0 {
             return;
         }
         let parts = u128::from(progress.done) * PARTS / u128::from(progress.all);

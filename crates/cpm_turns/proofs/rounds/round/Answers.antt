@@ -7,7 +7,7 @@ use Rattle.cpm_sessions.specs.HostWithStore.{HostWithStore}
 use Rattle.cpm_turns.specs.declared.player.Player.{Player}
 use Rattle.cpm_turns.specs.declared.player.Player.TheVariants.{Playing}
 use Rattle.cpm_turns.specs.Players.{HasCome, has_fork}
-use Rattle.cpm_turns.proofs.RoundLemmas.{IsLeft, IsTurn, come-turn, left-round, left-turn, left-waits, none-set}
+use Rattle.cpm_turns.proofs.RoundLemmas.{IsLeft, IsTurn, come-turn, left-over, left-round, left-turn, left-waits, none-set}
 use Rattle.cpm_turns.proofs.rounds.round.Goals as goal
 use Rattle.cpm_turns.proofs.rounds.round.Goals.{in-Playing+in_ok-turn, in_default}
 
@@ -16,7 +16,7 @@ loop-place-init c = record {
   come = λ old given ready come. come;
   long = refl;
   left = inr (refl, λ k less. absurd (let no : ⊥ = omega (arith, less) in no));
-  none = λ no. sym c.has_fork-may_fork.ensures ∙ no;
+  none = c.requires.none;
 }
 
 pub returns-in_err-steps-clause-refused : goal.returns-in_err-steps-clause-refused
@@ -40,7 +40,7 @@ loop-place-preserved c =
           let slot = w.in-Playing.slot in
           let next = w.turn.new.slot in
           let turned = w.in_ok-turn.ensures in
-          let plays : slice_get players place ≡ Some (Playing slot) = slice_get-get_or players place c.index-players-place-in-loop-place.result within ∙ ap Some w.in-Playing.is in
+          let plays : slice_get players place ≡ Some (Playing slot) = slice_get-get_or players place c.index-players-place-in-loop-place-2.result within ∙ ap Some w.in-Playing.is in
           let after : c.match-players-place.players ≡ set players place (Playing next) = w.players-is in
           let host = ap (λ (h : HostWithStore). h.host) w.host-is in
           record {
@@ -63,7 +63,7 @@ loop-place-preserved c =
             none = λ no. ap has_fork after ∙ none-set players place next (k.none no);
           }
       | in_default w ↦
-          let after : c.match-players-place.players ≡ players = w.players-is ∙ set-get_or players place c.index-players-place-in-loop-place.result in
+          let after : c.match-players-place.players ≡ players = w.players-is ∙ set-get_or players place c.index-players-place-in-loop-place-2.result in
           let host = ap (λ (h : HostWithStore). h.host) w.host-is in
           record {
             come = λ old given ready come.
@@ -72,7 +72,7 @@ loop-place-preserved c =
             long = ap length after ∙ kept ∙ long;
             left = subst (λ (ps : List Player). IsLeft c.args.players.now ps (place + 1)) (sym after)
                 (left-waits c.args.players.now c.loop-place.players players place i.left k.left
-                (λ slot at. w.in_default.not-Playing slot (get_or_from_slice_get players place (Playing slot) c.index-players-place-in-loop-place.result at)));
+                (λ slot at. w.in_default.not-Playing slot (get_or_from_slice_get players place (Playing slot) c.index-players-place-in-loop-place-2.result at)));
             none = λ no. ap has_fork after ∙ k.none no;
           }
     ]
@@ -86,3 +86,18 @@ returns-clause-left c = λ old given ready come some.
     let test = c.loop-place-test.false in
     let long = i.long in
     left-round old c.loop-place.host.host given c.args.players.now c.loop-place.players c.loop-place.place (i.come old given ready come) (omega (arith, test, long)) some i.left
+
+pub loop-place-preserved-then-is_over : goal.loop-place-preserved-then-is_over
+loop-place-preserved-then-is_over c =
+    let i = c.loop-place.invariant in
+    let players = c.loop-place.players in
+    let place = c.loop-place.place in
+    let test = c.loop-place-test.true in
+    let long = i.long in
+    let within : place < length players = omega (arith, test, long) in
+    record {
+      come = i.come;
+      long = i.long;
+      left = left-over c.args.players.now players place _ i.left (i.none c.if-not-may_fork.true) (slice_get-get_or players place c.index-players-place.result within) (sym c.is_over.ensures ∙ c.if-is_over.true);
+      none = i.none;
+    }

@@ -11,7 +11,7 @@ invariant-loop l = record {
   stays : (other : Device) → waits_in other (slot_at l.fn.slot.id.0 l.fn.host.host.slots) ≡ [] → waits_in other (slot_at l.slot.id.0 l.host.host.slots) ≡ [];
   moves : Moves l.fn.slot l.slot l.fn.host.host l.host.host;
   pace : l.slot.pace ≡ l.fn.slot.pace;
-  room : length l.chunk ≡ 8192;
+  room : length l.chunk ≡ 512;
 }
 
 abbrev pub decreases-loop : goal.decreases-loop
