@@ -72,6 +72,8 @@ pub fn tell_quit(rt: &impl Eprint) {
 }
 
 /// Says that typing has ended since the record is full, if it is.
+#[cold]
+#[inline(never)]
 pub fn tell_full(rt: &impl Eprint, keys: usize, most_keys: usize) {
     if keys >= most_keys {
         let _ = eprintln!(rt; "cpmhost: the record is full with {keys} keys, so no more is typed");
