@@ -17,7 +17,7 @@ pub mod view;
 
 pub use access::{
     change_byte, change_run, change_word, get_run, get_whole_word, get_word, has_room, set_byte,
-    set_run, set_settled, set_word, set_word_settled,
+    set_run, set_settled, set_word,
 };
 pub use flat::FlatMemory;
 pub use memory::Memory;

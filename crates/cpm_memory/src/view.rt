@@ -1,7 +1,7 @@
 //! The memory of one table of a store.
 
-ghost use Rattle.std.specs.Prelude.{◌≡◌, ◌<◌, ℕ, true, false, length, slice_index, slice_index_or};
-ghost use Rattle.cpm_memory.specs.Contents.{touched_of};
+ghost use Rattle.std.specs.Prelude.{◌≡◌, ◌<◌, ◌+◌, ◌%◌, ℕ, true, false, length, slice_index, slice_index_or};
+ghost use Rattle.cpm_memory.specs.Contents.{next, touched_of};
 ghost use Rattle.cpm_memory.specs.Frames.{IsSound, IsAlone, HasReservation, memory_of, place_of, reserved_by, table_at};
 
 use crate::memory::Memory;
@@ -60,6 +60,15 @@ impl View<'_> {
     }
 }
 
+/// The address after one that is not the last of its page. Said so, the machine below sees that it lies in the same page.
+#[inline(always)]
+fn next_in_page(address: u16) -> u16
+    requires { address % 256 < 255 }
+    ensures { result ≡ next address }
+{
+    address / 0x100 * 0x100 + (address + 1) % 0x100
+}
+
 impl Memory for View<'_> {
     ghost use Rattle.cpm_memory.specs.Contents.{CanSet, after_set, page_of};
     ghost use Rattle.cpm_memory.specs.Stamps.{after_stamp};
@@ -101,6 +110,15 @@ impl Memory for View<'_> {
     /// A page that it has not stored to is left to `set` alone, which may have to copy it.
     fn is_settled(&self, address: u16) -> bool {
         self.owned[(address / 256) as usize]
+    }
+
+    fn set_word_settled(&mut self, address: u16, value: u16) -> bool {
+        if address % 0x100 == 0xff || !self.is_settled(address) {
+            return false;
+        }
+        self.set(next_in_page(address), (value >> 8) as u8);
+        self.set(address, (value & 0xff) as u8);
+        true
     }
 
     fn touched(&self) -> u16 {
