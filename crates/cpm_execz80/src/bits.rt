@@ -6,7 +6,7 @@ ghost use Rattle.cpm_execz80.specs.Bits.{shifted, shifted_out, bit_mask, has_bit
 
 use cpm_decode::{BitOp, Place, Shift};
 use cpm_exec8080::operands::{read_place, write_place};
-use cpm_flags::{Byte, Flags, Regs, flags_of_shift};
+use cpm_flags::{Byte, Flags, Regs, set_shift_flags};
 use cpm_memory::Memory;
 
 /// A byte shifted or rotated.
@@ -22,7 +22,7 @@ pub(crate) fn shift_byte(shift: Shift, carry: bool, byte: u8) -> u8
         Shift::RotateLeftThroughCarry => left | u8::from(carry),
         Shift::RotateRightThroughCarry => u8::from(carry) << 7 | right,
         Shift::Left => left,
-        Shift::ArithmeticRight => byte & 0x80 | right,
+        Shift::ArithmeticRight => (byte.cast_signed() >> 1).cast_unsigned(),
         Shift::LogicalRight => right,
     }
 }
@@ -87,10 +87,9 @@ pub fn apply(op: BitOp, flags: Flags, byte: u8) -> Byte
     match op {
         BitOp::Shift(shift) => {
             let value = shift_byte(shift, flags.carry, byte);
-            Byte {
-                value,
-                flags: flags_of_shift(flags, value, falls_out(shift, byte)),
-            }
+            let mut flags = flags;
+            set_shift_flags(&mut flags, value, falls_out(shift, byte));
+            Byte { value, flags }
         }
         BitOp::Test(bit) => Byte {
             value: byte,
