@@ -1,5 +1,5 @@
 -- The first fault among needs.
-use Rattle.std.proofs.Common.{◌≡◌, ◌∙◌, ⊎_elim, inl, inr, ℕ, List, [], ◌∷◌, ◌++◌, Option, Some, None, String, append_assoc, append-nil, refl, ◌+◌, length, get_or, take, drop, suc, map, ◌<◌, ap, sym, subst}
+use Rattle.std.proofs.Common.{◌≡◌, ◌∙◌, ⊎_elim, inl, inr, ℕ, List, [], ◌∷◌, ◌++◌, Option, String, append_assoc, append-nil, refl, ◌+◌, length, get_or, take, drop, suc, map, ◌<◌, ap, sym, subst}
 use Rattle.std.proofs.Math.Seq.{split_at}
 use Rattle.std.proofs.lemmas.List.{map-append, take_more}
 use Rattle.std.specs.Prelude.{⊤, string_bytes}
@@ -9,11 +9,10 @@ use Rattle.cpm_config.specs.declared.config.Origin.TheVariants as origin
 use Rattle.cpm_config.specs.declared.config.Session.{Session}
 use Rattle.cpm_geom.specs.Disk.{Disk}
 use Rattle.cpm_script.specs.Fork.{keys_before}
-use Rattle.cpm_script.specs.declared.script.Key.{Key}
 use Rattle.cpm_store.specs.Files.{Files, Text}
 use Rattle.cpm_batch.specs.declared.error.ReadError.{ReadError}
 use Rattle.cpm_batch.specs.declared.input.Input.{Input}
-use Rattle.cpm_batch.specs.Inputs.{AllImages, AllInputs, given, HasInput, HasKeys, ImageIn, IsFirstFault, IsImageIn, IsMet, IsNeedRefusal, IsReadRefusal, IsSessionRefusal, AreFirstFault, Need, SessionInput, forked_script_needs, image_needs, keys_in, needs_from, needs_of, script_needs}
+use Rattle.cpm_batch.specs.Inputs.{AllImages, AllInputs, given, HasInput, ImageIn, IsFirstFault, IsImageIn, IsMet, IsNeedRefusal, IsReadRefusal, IsSessionRefusal, AreFirstFault, Need, SessionInput, forked_script_needs, image_needs, keys_in, needs_from, needs_of}
 
 -- each of the needs is met
 abbrev pub AllMet : Option Files → List Need → Type 0
@@ -52,10 +51,6 @@ images_push files [] [] name d h g = (g, tt)
 images_push files [] (x ∷ ds) name d h g = absurd h
 images_push files (n ∷ names) [] name d h g = absurd h
 images_push files (n ∷ names) (x ∷ ds) name d h g = (h.0, images_push files names ds name d h.1 g)
-
-pub keys_met : (files : Option Files) (name : Option (String Global)) (keys : List Key) → HasKeys files name keys → AllMet files (script_needs name)
-keys_met files None keys h = tt
-keys_met files (Some name) keys h = ((keys, h), tt)
 
 -- ---- one more of a list that is gone through
 
@@ -120,9 +115,6 @@ image_as files now name text d same is h = subst (λ (f : Option Files). IsImage
 
 pub refusal_as : (files now : Option Files) (ns ms : List Need) (e : ReadError) → now ≡ files → ms ≡ ns → IsNeedRefusal now ms e → IsNeedRefusal files ns e
 refusal_as files now ns ms e same is h = subst (λ (f : Option Files). IsNeedRefusal f ns e) same (subst (λ (xs : List Need). IsNeedRefusal now xs e) is h)
-
-pub input_as : (files now : Option Files) (before : List SessionInput) (i : SessionInput) → now ≡ files → HasInput now before i → HasInput files before i
-input_as files now before i same h = subst (λ (f : Option Files). HasInput f before i) same h
 
 pub inputs_as : (files now : Option Files) (is : List SessionInput) → now ≡ files → AllInputs now [] is → AllInputs files [] is
 inputs_as files now is same h = subst (λ (f : Option Files). AllInputs f [] is) same h

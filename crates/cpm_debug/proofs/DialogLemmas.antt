@@ -91,13 +91,6 @@ pub record IsSoFar (system : Disk) (cpu : Cpu) (listing : List ℕ) (start now :
   pub written : Appends before after_it (dialog system cpu listing lines start)
   pub goes : (more : List (List ℕ)) → dialog system cpu listing (lines ++ more) start ≡ dialog system cpu listing lines start ++ dialog system cpu listing more now
 
-follows_none : (known : Option (List ℕ)) → Follows known known 1000000 16777216 []
-follows_none None = tt
-follows_none (Some text) = refl
-
-pub so_far_none : (system : Disk) (cpu : Cpu) (listing : List ℕ) (start : MachineState) (known before : Option (List ℕ)) → IsSoFar system cpu listing start start known known before before 1000000 16777216
-so_far_none system cpu listing start known before = record { lines = []; follows = follows_none known; written = Appends-nil before; goes = λ more. refl }
-
 -- a line that was answered
 answered : {system : Disk} {cpu : Cpu} {listing : List ℕ} {start now : MachineState} {known rest before after_it : Option (List ℕ)} (left room : ℕ) (so : IsSoFar system cpu listing start now known rest before after_it left room) (line : List ℕ)
     → is_quit (request_of line) ≡ false → dialog system cpu listing (so.lines ++ line ∷ []) start ≡ dialog system cpu listing so.lines start ++ (answer_to system cpu listing line now).text

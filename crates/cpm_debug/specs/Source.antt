@@ -1,5 +1,5 @@
 -- Which line of the assembler's listing shows what stands at an address. The form of the listing is own.
-use Rattle.std.specs.Prelude.{◌≡◌, ℕ, ◌==◌, ◌&&◌, Bool, false, not, eqb, refl, if◌then◌else◌, List, [], ◌∷◌, ◌++◌, drop}
+use Rattle.std.specs.Prelude.{ℕ, ◌==◌, ◌&&◌, Bool, false, not, eqb, if◌then◌else◌, List, [], ◌∷◌, ◌++◌, drop}
 use Rattle.std.specs.List.{starts_with}
 use Rattle.std.specs.Str.Lines.{lines}
 use Rattle.cpm_lines.specs.Digits.{four_digits}
@@ -26,7 +26,3 @@ first_with head (line ∷ rest) = if has_bytes head line then line else first_wi
 -- LF or CR LF
 abbrev pub source_line : (listing : List ℕ) → (pc : ℕ) → List ℕ
 source_line listing pc = first_with (head_of pc) (lines listing)
-
--- without a listing there is no line
-pub source_line-nil : (pc : ℕ) → source_line [] pc ≡ []
-source_line-nil pc = refl

@@ -1,9 +1,2 @@
-pub mod Apart
 pub mod BitLemmas
-pub mod BitsAt
 pub mod FewStores
-pub mod PlainRows
-pub mod Prefixed
-pub mod Replaced
-pub mod Settled
-pub mod ShiftRows

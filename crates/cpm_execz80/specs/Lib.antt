@@ -1,9 +1,7 @@
-pub mod At
 pub mod Bits
 pub mod Blocks
 pub mod Extended
 pub mod Indexed
 pub mod Laws
 pub mod MeaningZ80
-pub mod Plain
 pub mod Registers

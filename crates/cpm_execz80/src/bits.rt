@@ -2,16 +2,17 @@
 ghost use Rattle.std.specs.Prelude.{◌≡◌, bit_or};
 ghost use Rattle.cpm_memory.specs.Contents.{Contents, after_sets};
 ghost use Rattle.cpm_memory.specs.Room.{HasRoom};
-ghost use Rattle.cpm_execz80.specs.Bits.{shifted, shifted_out, bit_mask, has_bit_at, cleared, tested, applied, is_test, meaning_bits};
+ghost use Rattle.cpm_execz80.specs.Bits.{shifted, shifted_out, bit_mask, has_bit_at, cleared, applied, is_test, meaning_bits};
 
 use cpm_decode::{BitOp, Place, Shift};
 use cpm_exec8080::operands::{read_place, write_place};
-use cpm_flags::{Byte, Flags, Regs, set_shift_flags};
+use cpm_flags::{Byte, Flags, Regs, set_shift_flags, set_test_flags};
 use cpm_memory::Memory;
 
-/// A byte shifted or rotated.
+/// A byte shifted or rotated; `carry` is the flag before it.
+/// Zilog Z80 CPU User Manual, "Rotate and Shift Group".
 #[inline(always)]
-pub(crate) fn shift_byte(shift: Shift, carry: bool, byte: u8) -> u8
+pub fn shift_byte(shift: Shift, carry: bool, byte: u8) -> u8
     ensures { result ≡ shifted shift carry byte }
 {
     let left = (byte & 0x7f) << 1;
@@ -27,9 +28,10 @@ pub(crate) fn shift_byte(shift: Shift, carry: bool, byte: u8) -> u8
     }
 }
 
-/// The bit that falls out.
+/// The bit of a byte that falls out of a shift or rotation.
+/// Zilog Z80 CPU User Manual, "Rotate and Shift Group".
 #[inline(always)]
-pub(crate) fn falls_out(shift: Shift, byte: u8) -> bool
+pub fn falls_out(shift: Shift, byte: u8) -> bool
     ensures { result ≡ shifted_out shift byte }
 {
     match shift {
@@ -41,41 +43,31 @@ pub(crate) fn falls_out(shift: Shift, byte: u8) -> bool
     }
 }
 
-/// Whether a bit of a byte is set.
+/// Whether a bit of a byte is set; the bit counts modulo 8.
+/// Zilog Z80 CPU User Manual, "BIT b, r".
 #[inline(always)]
-pub(crate) fn has_bit(byte: u8, bit: u8) -> bool
+pub fn has_bit(byte: u8, bit: u8) -> bool
     ensures { result ≡ has_bit_at byte bit }
 {
     byte.wrapping_shr(u32::from(bit)) & 0x01 == 1
 }
 
-/// A byte with a bit set.
+/// A byte with a bit set; the bit counts modulo 8.
+/// Zilog Z80 CPU User Manual, "SET b, r".
 #[inline(always)]
-pub(crate) fn with_bit(byte: u8, bit: u8) -> u8
+pub fn with_bit(byte: u8, bit: u8) -> u8
     ensures { result ≡ bit_or byte (bit_mask bit) }
 {
     byte | 1u8.wrapping_shl(u32::from(bit))
 }
 
-/// A byte with a bit cleared.
+/// A byte with a bit cleared; the bit counts modulo 8.
+/// Zilog Z80 CPU User Manual, "RES b, m".
 #[inline(always)]
-pub(crate) fn without_bit(byte: u8, bit: u8) -> u8
+pub fn without_bit(byte: u8, bit: u8) -> u8
     ensures { result ≡ cleared byte bit }
 {
     byte & !1u8.wrapping_shl(u32::from(bit))
-}
-
-/// The flags after a test of a bit.
-#[inline(always)]
-fn flags_of_test(flags: Flags, byte: u8, bit: u8) -> Flags
-    ensures { result ≡ tested flags byte bit }
-{
-    Flags {
-        zero: !has_bit(byte, bit),
-        half_carry: true,
-        subtract: false,
-        ..flags
-    }
 }
 
 /// The byte that a shift, a rotation or an operation on a bit makes of a byte, and the flags.
@@ -91,10 +83,11 @@ pub fn apply(op: BitOp, flags: Flags, byte: u8) -> Byte
             set_shift_flags(&mut flags, value, falls_out(shift, byte));
             Byte { value, flags }
         }
-        BitOp::Test(bit) => Byte {
-            value: byte,
-            flags: flags_of_test(flags, byte, bit),
-        },
+        BitOp::Test(bit) => {
+            let mut flags = flags;
+            set_test_flags(&mut flags, has_bit(byte, bit));
+            Byte { value: byte, flags }
+        }
         BitOp::Reset(bit) => Byte {
             value: without_bit(byte, bit),
             flags,

@@ -7,8 +7,6 @@ pub mod exec;
 pub mod extended;
 pub mod indexed;
 pub mod laws;
-pub mod quick;
 pub mod registers;
 
 pub use exec::{execz80, stepz80};
-pub use quick::{kept_stepz80, quick_stepz80};

@@ -1,6 +1,6 @@
 //! Sums and differences of words with the carry, and flags of single bytes, on the Zilog Z80, which are set in place.
 ghost use Rattle.std.specs.Prelude.{◌≡◌, ◌+◌, ◌<◌, ◌%◌, ◌+ℤ◌, pos};
-ghost use Rattle.cpm_flags.specs.ArithmeticZ80.{signed16, overflows16, add16_carry_of, difference16, sub16_overflows, sub16_borrow_of, byte_flags, shift_flags};
+ghost use Rattle.cpm_flags.specs.ArithmeticZ80.{signed16, overflows16, add16_carry_of, difference16, sub16_overflows, sub16_borrow_of, byte_flags, shift_flags, test_flags};
 
 use crate::arithmetic::has_even_parity;
 use crate::regs::Flags;
@@ -80,4 +80,14 @@ pub fn set_shift_flags(flags: &mut Flags, value: u8, carry: bool)
 {
     set_byte_flags(flags, value);
     flags.carry = carry;
+}
+
+/// Sets the flags of a test of a bit. Zilog Z80 CPU User Manual, "BIT b, r".
+#[inline(always)]
+pub fn set_test_flags(flags: &mut Flags, is_set: bool)
+    ensures { flags.new ≡ test_flags flags.old is_set }
+{
+    flags.zero = !is_set;
+    flags.half_carry = true;
+    flags.subtract = false;
 }

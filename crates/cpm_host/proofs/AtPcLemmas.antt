@@ -1,7 +1,7 @@
 -- The bytes at the program counter of a machine, and of a slot that is open.
-use Rattle.std.proofs.Common.{◌≡◌, ◌∙◌, ◌+◌, ◌%◌, ℕ, [], ◌∷◌, Some, Ok, Err, ap, subst, arith}
+use Rattle.std.proofs.Common.{◌≡◌, ◌∙◌, ℕ, Some, Ok, Err, ap, subst}
 use Rattle.std.specs.Prelude.{⊤}
-use Rattle.cpm_memory.specs.Contents.{Contents, byte_at, next, run_at}
+use Rattle.cpm_memory.specs.Contents.{byte_at}
 use Rattle.cpm_sessions.specs.Host.{Host, look_reply, peek_reply, reply_at, slot_at}
 use Rattle.cpm_sessions.specs.Serving.{Calls}
 use Rattle.cpm_sessions.specs.declared.event.Refusal.{Refusal}
@@ -12,17 +12,6 @@ use Rattle.cpm_slots.specs.MachineState.{MachineState}
 use Rattle.cpm_slots.specs.Serve.{look_of}
 use Rattle.cpm_slots.specs.declared.reply.Look.{Look}
 use Rattle.cpm_turns.proofs.HostLemmas.{reply-served}
-
--- four bytes, each at an address that was counted from the first
-pub four_bytes : (m : Contents) (pc a b c d : ℕ) → a ≡ byte_at m pc → b ≡ byte_at m ((pc + 1) % 65536) → c ≡ byte_at m ((pc + 2) % 65536) → d ≡ byte_at m ((pc + 3) % 65536)
-    → a ∷ b ∷ c ∷ d ∷ [] ≡ run_at m pc 4
-unfolding run_at
-four_bytes m pc a b c d first second third fourth =
-    let two : (pc + 2) % 65536 ≡ next (next pc) = omega arith in
-    let three : (pc + 3) % 65536 ≡ next (next (next pc)) = omega arith in
-    ap (λ (x : ℕ). x ∷ b ∷ c ∷ d ∷ []) first ∙ ap (λ (x : ℕ). byte_at m pc ∷ x ∷ c ∷ d ∷ []) second
-    ∙ ap (λ (x : ℕ). byte_at m pc ∷ byte_at m (next pc) ∷ x ∷ d ∷ []) (third ∙ ap (byte_at m) two)
-    ∙ ap (λ (x : ℕ). byte_at m pc ∷ byte_at m (next pc) ∷ byte_at m (next (next pc)) ∷ x ∷ []) (fourth ∙ ap (byte_at m) three)
 
 -- ---- what a slot that is open replies
 

@@ -1,5 +1,5 @@
 -- Sessions that are prepared one after another: opened, or to be forked.
-use Rattle.std.proofs.Common.{◌≡◌, ◌∙◌, inl, inr, ◌<◌, ◌+◌, ℕ, List, [], ◌∷◌, ◌++◌, Some, map, ap, refl, subst, sym, arith, append-nil, append_assoc}
+use Rattle.std.proofs.Common.{◌≡◌, ◌∙◌, inl, inr, ◌<◌, ◌+◌, ℕ, List, [], ◌∷◌, ◌++◌, Some, map, ap, refl, subst, sym, arith, append_assoc}
 use Rattle.std.specs.Prelude.{⊤}
 use Rattle.cpm_batch.specs.Inputs.{Forks, Opens, SessionInput, StartInput, given, start_view}
 use Rattle.cpm_batch.specs.declared.input.Input.{Input}
@@ -198,10 +198,3 @@ refused_by start now all rest session (Forks parent at) keys ps e whole h r = ab
 pub prepare_refused : (start now : Host) (all rest : List SessionInput) (i : SessionInput) (ps : List Player) (e : HostError) → IsPreparedTo start now all (i ∷ rest) ps
     → IsStartRefusal now i.start e → (whole : List SessionInput) → IsSlotRefusal whole start all e
 prepare_refused start now all rest i ps e h r whole = refused_by start now all rest i.session i.start i.keys ps e whole h r
-
--- all are prepared
-pub prepared_all : (start now : Host) (all : List SessionInput) (rest : List Input) (ps : List Player) → rest ≡ [] → IsPreparedTo start now all (map given rest) ps → IsPreparedTo start now all [] ps
-prepared_all start now all rest ps none h = subst (λ (xs : List Input). IsPreparedTo start now all (map given xs) ps) none h
-
-pub have_players : (start now : Host) (all : List SessionInput) (ps : List Player) → IsPreparedTo start now all [] ps → HavePlayers now.slots all ps
-have_players start now all ps h = subst (λ (is : List SessionInput). HavePlayers now.slots is ps) (sym (append-nil h.done) ∙ h.parts) h.players

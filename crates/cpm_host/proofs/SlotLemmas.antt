@@ -1,7 +1,6 @@
 -- A slot that is refused, and a slot that is closed.
 use Rattle.std.proofs.Common.{◌≡◌, ◌≢◌, ◌∙◌, ℕ, ◌∷◌, List, Option, Some, None, ap, subst, sym, refl}
 use Rattle.std.specs.Prelude.{⊤, IfSome, Err}
-use Rattle.cpm_batch.specs.Inputs.{SessionInput}
 use Rattle.cpm_disks.specs.Disks.{images_of}
 use Rattle.cpm_sessions.specs.Host.{Host, after_ask, close_reply, reply_at, slot_at}
 use Rattle.cpm_sessions.specs.Serving.{Closes, serve_slot}
@@ -18,11 +17,8 @@ use Rattle.cpm_slots.specs.declared.reply.Closed.{Closed}
 use Rattle.cpm_turns.specs.declared.player.Player.{Player}
 use Rattle.cpm_turns.specs.declared.player.Player.TheVariants.{Playing}
 use Rattle.cpm_turns.specs.declared.scripted_slot.ScriptedSlot.{ScriptedSlot}
-use Rattle.cpm_config.specs.declared.config.Config.{Config}
 use Rattle.cpm_host.specs.Illegal.{bytes_at_pc}
-use Rattle.cpm_host.specs.Playing.{IsClosed, IsPlayRefusal, IsSlotRefusal}
-use Rattle.cpm_host.specs.declared.error.HostError.{HostError}
-use Rattle.cpm_host.specs.declared.error.HostError.TheVariants as refusal
+use Rattle.cpm_host.specs.Playing.{IsClosed}
 
 -- a fault that isn't the want of memory is the opening's
 pub fault_of : (o : Option OpenError) (e : OpenError) → IsRefusal o e → e ≢ OutOfMemory → o ≡ Some e
@@ -75,9 +71,3 @@ pub first_closes : (p q : ScriptedSlot) (ps rest all : List Player) (s : Machine
 first_closes p q ps rest all s old h fault is first at stays r =
     let same : q ≡ p = cc in
     can_close h p.id.0 s fault (ap (λ (x : Host). slot_at p.id.0 x.slots) stays ∙ at) (subst (λ (x : ScriptedSlot). close_reply (Err fault) ≡ reply_at h x.id.0 Closes) same r)
-
--- how playing is refused, where it is not for want of frames
-pub other_refused : (config : Config) (h : Host) (is : List SessionInput) (e : HostError) → ((name : _) (fault : OpenError) → e ≡ refusal.SessionRefused name fault → ⊥) → IsSlotRefusal is h is e → IsPlayRefusal config h is e
-other_refused config h is (refusal.SessionRefused name fault) other r = absurd (other name fault refl)
-other_refused config h is refusal.OutOfMemory other r = tt
-other_refused config h is _ other r = absurd r

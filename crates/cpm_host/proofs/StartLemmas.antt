@@ -3,23 +3,12 @@ use Rattle.std.proofs.Common.{◌≡◌, ◌∙◌, ap, sym, subst, refl, ℕ, �
 use Rattle.std.proofs.lemmas.Bool.{ltb-true, ltb-false, le-ltb, ne_eqb}
 use Rattle.std.proofs.lemmas.Option.{none-some}
 use Rattle.cpm_geom.specs.Disk.{Disk}
-use Rattle.cpm_slots.specs.MachineState.{MachineState, opened_with}
 use Rattle.cpm_slots.specs.Opening.{IsRefusal, drives_fault, first_fault, program_fault}
 use Rattle.cpm_slots.specs.declared.opening.OpenError.{OpenError}
 use Rattle.cpm_slots.specs.declared.opening.OpenError.TheVariants as opening
 use Rattle.cpm_slots.specs.declared.opening.Opening.{Opening}
-use Rattle.cpm_turns.specs.Playing.{IsFresh}
-use Rattle.cpm_host.specs.Com.{Given, IsStartRefusal, drives_or_blank, machine_of, with_tail_if_any}
+use Rattle.cpm_host.specs.Com.{Given, IsStartRefusal, drives_or_blank}
 use Rattle.cpm_host.specs.Refusals.{host_error_of_opening}
-
--- no key is pending and no byte waits, with a tail or without
-tailed_fresh : (tail : Option (List ℕ)) (s : MachineState) → IsFresh s → IsFresh (with_tail_if_any tail s)
-tailed_fresh None s h = h
-tailed_fresh (Some tail) s h = record { keys = h.keys; screen = h.screen; printer = h.printer }
-
-pub machine_fresh : (g : Given) → IsFresh (machine_of g)
-machine_fresh g =
-    tailed_fresh g.tail (opened_with g.cpu (drives_or_blank g.drives) g.program) (record { keys = refl; screen = refl; printer = refl })
 
 -- ---- refusals
 
@@ -36,14 +25,6 @@ fault_of_some : (ds : List Disk) → drives_fault (length (drives_or_blank ds)) 
 fault_of_some [] = refl
 fault_of_some (d ∷ ds) =
     ap (λ b. cond (b || ltb 4 (length (d ∷ ds))) (Some opening.BadDrives) None) (ne_eqb (length (d ∷ ds)) 0 (λ e. let bad : ⊥ = omega (arith, e) in bad))
-
-pub few_drives : (ds : List Disk) → None ≡ drives_fault (length (drives_or_blank ds)) → length ds ≤ 4
-few_drives [] h = omega arith
-few_drives (d ∷ ds) h = go (ltb 4 (length (d ∷ ds))) refl (h ∙ fault_of_some (d ∷ ds))
-  where
-    go : (b : Bool) → ltb 4 (length (d ∷ ds)) ≡ b → None ≡ cond b (Some opening.BadDrives) None → length (d ∷ ds) ≤ 4
-    go true is e = absurd (let bad : ⊥ = cc in bad)
-    go false is e = ltb-false 4 _ is
 
 -- how a machine is refused that may write all pages and has these drives
 pub start_refused : (g : Given) (o : Opening) (program : List ℕ) (fault : OpenError) → o.quota ≡ 256 → o.drives.items ≡ drives_or_blank g.drives → program ≡ g.program
@@ -71,13 +52,6 @@ start_refused g o program fault quota drives same short h =
     go false many r =
         let is : fault ≡ opening.OutOfMemory = subst (λ b. IsRefusal (first_fault (cond b (Some opening.BadDrives) None) None) fault) many r in
         subst (λ f. IsStartRefusal g (host_error_of_opening f)) (sym is) (short, few_given g.drives (ltb-false 4 _ many))
-
--- one that is made has no more drives than four, and no longer program
-pub start_fits : (g : Given) (o : Opening) (program : List ℕ) → o.quota ≡ 256 → o.drives.items ≡ drives_or_blank g.drives → program_fault o program ≡ None → length g.drives ≤ 4
-start_fits g o program quota drives h = few_drives g.drives (go (drives_fault (length (drives_or_blank g.drives))) refl)
-  where
-    rest : Option OpenError
-    rest = cond (ltb 58112 (length program)) (Some opening.ProgramTooLong) None
 
     none : first_fault (drives_fault (length (drives_or_blank g.drives))) rest ≡ None
     none = sym (ap (λ q. cond (not (eqb q 256)) (Some opening.BadQuota) (first_fault (drives_fault (length o.drives.items)) rest)) quota

@@ -88,12 +88,6 @@ module _ (s : Frames) (counts : List ℕ) (reservations t page t' page' f : ℕ)
     reserved = omega (arith, kept.reserved, sum_by-set reserved_by s.tables t joined blank_table in_tables);
   }
 
--- a page that keeps its place leaves the store as it was
-pub unchanged-place : (s : Frames) (t page : ℕ) → with_table s t (with_place (table_at s t) page (private_at s t page)) ≡ s
-unchanged-place s t page =
-    ap (λ ps. with_table s t (record (table_at s t) { places = ps })) (set-get_or (table_at s t).places page None)
-    ∙ ap (λ ts. record s { tables = ts }) (set-get_or s.tables t blank_table)
-
 -- ---- all pages of a table, one after another
 
 -- So many pages of a table are made of the frames of the other table's, the rest of boot frames, and nothing else has changed.

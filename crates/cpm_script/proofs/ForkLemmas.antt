@@ -8,8 +8,7 @@ use Rattle.std.proofs.lemmas.Bool.{true_from_ne_false}
 use Rattle.std.proofs.lemmas.Bool.Decides.{nat_tests}
 use Rattle.std.proofs.lemmas.List.{length-map}
 use Rattle.std.proofs.lemmas.List.Elements.{All-cons, All-head, All-nil, All-tail, All-weaker}
-use Rattle.std.proofs.lemmas.Result.{IfOk-weaker}
-use Rattle.cpm_script.specs.Fork.{fault_or, fork_fault, forked_keys, forked_script, keys_before, line_keys, room_left, with_own}
+use Rattle.cpm_script.specs.Fork.{fault_or, fork_fault, forked_keys, keys_before, line_keys, room_left, with_own}
 use Rattle.cpm_script.specs.KeyText.{count_of, keys_of}
 use Rattle.cpm_script.specs.Laws.{AreFrom, ForkedKeysInOrder, IsCut, IsForked, KeysBeforeAreFirst}
 use Rattle.cpm_script.specs.Script.{has_count, is_after, is_counted, is_skipped, is_space, keys_at, most_keys, numbered, or_fault, script, script_from, with_counted, with_keys, with_line}
@@ -186,13 +185,6 @@ forked_script-keys at before text room = by_script (script text) refl
         → IfOk (with_own r (forked_keys before (fork_fault at (most_keys - length before) 1 (lines text)))) (IsForked at before)
     by_script (Err f) is = tt
     by_script (Ok own) is = by_fault own (fork_fault at (most_keys - length before) 1 (lines text)) is refl
-
--- all keys of a forked session are in order, where those are that its parent had before
-pub forked_script-order : (n at : ℕ) (before : List Key) (text : List ℕ) → length before ≤ most_keys → n ≤ at → AreFrom n before
-    → All (λ k. k.count < at) before → IfOk (forked_script at before text) (AreFrom n)
-forked_script-order n at before text room low order early =
-    IfOk-weaker (forked_script at before text) (IsForked at before) (AreFrom n)
-    (λ keys forked. rw forked.joined (AreFrom-append n at before forked.own low order early forked.from_fork)) (forked_script-keys at before text room)
 
 -- ---- the keys before a count
 

@@ -1,9 +1,9 @@
 -- How far the records of an entry reach, and those of a file.
-use Rattle.std.proofs.Common.{◌≡◌, ◌≢◌, ℕ, max, ◌+◌, ◌-◌, ◌*◌, ◌/◌, ◌<◌, ◌≤◌, true, false, eqb, List, Option, Some, None, length, get_or, sym, refl, ap, ◌∙◌, inl, inr, arith}
+use Rattle.std.proofs.Common.{◌≡◌, ◌≢◌, ℕ, ◌+◌, ◌-◌, ◌*◌, ◌/◌, ◌<◌, ◌≤◌, true, false, eqb, List, Option, Some, None, length, get_or, sym, refl, ap, ◌∙◌, inl, inr, arith}
 use Rattle.std.specs.List.{list_any}
 use Rattle.std.proofs.lemmas.List.{get_or_past}
 use Rattle.std.proofs.lemmas.List.Folds.{list_any_at}
-use Rattle.std.proofs.lemmas.Bool.{false≢true, cases_lt, cases_eq, and_parts, and_from, eqb-true, eq-eqb, ne_eqb, false_from_ne_true}
+use Rattle.std.proofs.lemmas.Bool.{false≢true, cases_lt, and_parts, and_from, eqb-true, eq-eqb, ne_eqb, false_from_ne_true}
 use Rattle.cpm_geom.specs.declared.dpb.Dpb.{Dpb}
 use Rattle.cpm_geom.specs.declared.format.Format.{Format}
 use Rattle.cpm_geom.specs.declared.format.Format.TheVariants.{Ibm3740, Large}
@@ -70,42 +70,6 @@ end_is f e end size start s g small last none =
     }
 
 -- ---- the records of a file
-
-pub none_yet : (d : Dpb) (es : List Entry) (user : ℕ) (name : List ℕ) → IsEndBefore d es user name 0 0
-none_yet d es user name = record {
-  small = omega arith;
-  last = λ h. absurd (omega arith);
-  none = λ i n h of group past. absurd (omega arith);
-}
-
-pub other_entry : (d : Dpb) (es : List Entry) (user : ℕ) (name : List ℕ) (index end : ℕ) → IsEndBefore d es user name index end → is_of_file user name (entry_at es index) ≡ false → IsEndBefore d es user name (index + 1) end
-other_entry d es user name index end so_far other = record {
-  small = so_far.small;
-  last = λ some. (let l = so_far.last some in (l.0, omega arith, l.2, l.3, l.4));
-  none = λ i n h of group past. elim (cases_eq i index) [
-    | inl e ↦ absurd (false≢true (sym other ∙ rw e at of))
-    | inr apart ↦ so_far.none i n (omega arith) of group past
-  ];
-}
-
-pub more_entry : (d : Dpb) (es : List Entry) (user : ℕ) (name : List ℕ) (index end here : ℕ) → IsEndBefore d es user name index end → is_of_file user name (entry_at es index) ≡ true → IsEnd d (entry_at es index) here → here ≤ 65536 → IsEndBefore d es user name (index + 1) (max end here)
-more_entry d es user name index end here so_far of_file is small = record {
-  small = (let s = so_far.small in omega arith);
-  last = λ some. elim (cases_lt here end) [
-    | inl less ↦
-        let l = so_far.last (omega arith) in
-        let e : max end here ≡ end = omega arith in
-        rw e (l.0, omega arith, l.2, l.3, l.4)
-    | inr more ↦
-        let e : max end here ≡ here = omega arith in
-        let l = is.last (omega arith) in
-        rw e (index, omega arith, of_file, l.0, l.1)
-  ];
-  none = λ i n h of group past. elim (cases_eq i index) [
-    | inl e ↦ rw e (is.none n (rw e at group) (omega arith))
-    | inr apart ↦ so_far.none i n (omega arith) of group (omega arith)
-  ];
-}
 
 pub is_of_file_of : (d : Dpb) (user : ℕ) (name : List ℕ) (group : ℕ) (e : Entry) → is_of d user name group e ≡ true → is_of_file user name e ≡ true
 unfolding is_of_file

@@ -38,10 +38,6 @@ pub count_past : (number own rc k : ℕ) → own < number → record_count_of nu
 unfolding record_count_of
 count_past number own rc k h = rw (le-ltb number own (omega arith), ne_eqb number own (omega arith)) refl
 
-none_counted : (k place : ℕ) (x : Extent) → block_if 0 k x place ≡ 0
-unfolding block_if
-none_counted k place x = cond-false _ _ _ (le-ltb k 0 (omega arith))
-
 past_count : (count k place : ℕ) (x : Extent) → count ≤ k → block_if count k x place ≡ 0
 unfolding block_if
 past_count count k place x h = cond-false _ _ _ (le-ltb k count h)

@@ -42,10 +42,6 @@ changed_other : (user : ℕ) (name kept : List ℕ) (e : Entry) → is_named use
 unfolding change
 changed_other user name kept e h = rw h refl
 
-new_user : (kept : List ℕ) (e : Entry) → (renaming kept e).user ≡ e.user
-unfolding renaming
-new_user kept e = refl
-
 new_name : (kept : List ℕ) (e : Entry) → (renaming kept e).extent.name ≡ kept
 unfolding renaming
 new_name kept e = refl

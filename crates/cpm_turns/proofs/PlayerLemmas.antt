@@ -27,9 +27,6 @@ playing-waiting slot fork e = cc
 pub same-playing : (a b : ScriptedSlot) → Playing a ≡ Playing b → a ≡ b
 same-playing a b e = cc
 
-pub same-waiting : (a b : Fork) → Waiting a ≡ Waiting b → a ≡ b
-same-waiting a b e = cc
-
 -- ---- the numbers of the slots
 
 -- the number of a player is none of others'

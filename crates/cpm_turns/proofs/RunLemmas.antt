@@ -18,8 +18,7 @@ use Rattle.cpm_turns.specs.Cued.{HasIdled, HasRun, HasShown, HasStopped, IsBusyF
 use Rattle.cpm_turns.specs.declared.live.LiveError.{LiveError}
 use Rattle.cpm_turns.specs.declared.live.LiveError.TheVariants.{Unreadable, Unwritable, Unrecorded, OutOfMemory}
 use Rattle.cpm_turns.specs.Pacing.{without_list, without_text}
-use Rattle.cpm_turns.specs.Live.{IsUnwritable}
-use Rattle.cpm_turns.specs.Playing.{HasText, IsQuiet}
+use Rattle.cpm_turns.specs.Playing.{IsQuiet}
 use Rattle.cpm_turns.proofs.AloneLemmas.{after-ended}
 use Rattle.cpm_turns.proofs.WaitLemmas.{waits-output}
 use Rattle.cpm_turns.proofs.TextLemmas.{appends_more, appends_none, both_empty, keeps_all}
@@ -40,13 +39,6 @@ quiet-taken old now before written taken = record {
   screen = ap (λ (s : MachineState). s.cpm.console.screen) taken.state;
   printer = ap (λ (s : MachineState). s.cpm.console.printer) taken.state;
 }
-
--- the writer failed
-pub untaken : (old now : MachineState) (before written : Option (List ℕ)) (e : LiveError) → IsUnwritable e × HasText old → IsUntaken old now before written e
-untaken old now before written (Unreadable e) h = absurd h.0
-untaken old now before written (Unwritable e) h = h.1
-untaken old now before written (Unrecorded e) h = absurd h.0
-untaken old now before written OutOfMemory h = absurd h.0
 
 -- ---- a text that is looked for
 

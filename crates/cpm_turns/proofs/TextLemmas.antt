@@ -1,7 +1,6 @@
 -- Moving the bytes that wait out of a machine.
-use Rattle.std.proofs.Common.{◌≡◌, ◌∙◌, ◌++◌, ◌<◌, ◌≤◌, ap, ap₂, sym, refl, Result, Ok, Err, OnErr, OnOk, Bool, true, ℕ, List, [], ◌∷◌, Option, Some, None, length, take, drop, min, arith, append-nil}
-use Rattle.std.proofs.lemmas.List.{append_assoc, length-take-le, nil_from_length, take-append-drop, take_at}
-use Rattle.std.proofs.Math.Seq.{drop-nil}
+use Rattle.std.proofs.Common.{◌≡◌, ◌∙◌, ◌++◌, ◌≤◌, ap, ap₂, sym, refl, Result, Ok, Err, OnErr, OnOk, Bool, true, ℕ, List, [], ◌∷◌, Option, Some, None, length, take, drop, min, arith, append-nil}
+use Rattle.std.proofs.lemmas.List.{append_assoc, length-take-le, take-append-drop, take_at}
 use Rattle.std.specs.Io.KnownBytes.{Appends, Keeps}
 use Rattle.cpm_slots.specs.MachineState.{MachineState}
 use Rattle.cpm_slots.specs.Serve.{taken}
@@ -53,17 +52,6 @@ moved_more start now next before middle grown kept room chunk moved is state wri
           ∙ ap (λ v. moved.text ++ v) (take-append-drop count screen) ∙ moved.whole;
       state = state ∙ ap (taken room) moved.state ∙ ap (λ v. with_text v start) (sym left);
     }
-
--- the last chunk, which is empty
-pub moved_end : (start now next : MachineState) (before after : Option (List ℕ)) (room count : ℕ) → (moved : IsMoved start now before after) → count ≡ min room (length now.cpm.console.screen) → count ≡ 0 → 0 < room
-    → next ≡ taken room now → (next ≡ with_text [] start) × (moved.text ≡ start.cpm.console.screen)
-moved_end start now next before after room count moved is none some state =
-    let screen = now.cpm.console.screen in
-    let zero : length screen ≡ 0 = omega arith in
-    let empty : screen ≡ [] = nil_from_length screen zero in (
-      state ∙ ap (taken room) moved.state ∙ ap (λ xs. with_text (drop (min room (length xs)) xs) start) empty ∙ ap (λ xs. with_text xs start) (drop-nil (min room 0)),
-      sym (append-nil moved.text) ∙ ap (λ v. moved.text ++ v) (sym empty) ∙ moved.whole,
-    )
 
 -- some of them, which were kept too if there was memory for them
 pub record IsMovedKept (start now : MachineState) (before after : Option (List ℕ)) (old held : List ℕ) (whole : Bool) : Type 0 where
