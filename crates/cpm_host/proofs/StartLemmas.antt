@@ -1,7 +1,6 @@
--- How a program's machine begins, and is refused.
+-- How a program's machine is refused.
 use Rattle.std.proofs.Common.{◌≡◌, ◌∙◌, ap, sym, subst, refl, ℕ, ◌<◌, ◌≤◌, Bool, true, false, ◌||◌, cond, ltb, eqb, not, List, [], ◌∷◌, Option, Some, None, length, arith}
 use Rattle.std.proofs.lemmas.Bool.{ltb-true, ltb-false, le-ltb, ne_eqb}
-use Rattle.std.proofs.lemmas.Option.{none-some}
 use Rattle.cpm_geom.specs.Disk.{Disk}
 use Rattle.cpm_slots.specs.Opening.{IsRefusal, drives_fault, first_fault, program_fault}
 use Rattle.cpm_slots.specs.declared.opening.OpenError.{OpenError}
@@ -9,8 +8,6 @@ use Rattle.cpm_slots.specs.declared.opening.OpenError.TheVariants as opening
 use Rattle.cpm_slots.specs.declared.opening.Opening.{Opening}
 use Rattle.cpm_host.specs.Com.{Given, IsStartRefusal, drives_or_blank}
 use Rattle.cpm_host.specs.Refusals.{host_error_of_opening}
-
--- ---- refusals
 
 some_drives : (ds : List Disk) → 4 < length (drives_or_blank ds) → 4 < length ds
 some_drives [] h = absurd (omega (arith, h))
@@ -52,11 +49,3 @@ start_refused g o program fault quota drives same short h =
     go false many r =
         let is : fault ≡ opening.OutOfMemory = subst (λ b. IsRefusal (first_fault (cond b (Some opening.BadDrives) None) None) fault) many r in
         subst (λ f. IsStartRefusal g (host_error_of_opening f)) (sym is) (short, few_given g.drives (ltb-false 4 _ many))
-
-    none : first_fault (drives_fault (length (drives_or_blank g.drives))) rest ≡ None
-    none = sym (ap (λ q. cond (not (eqb q 256)) (Some opening.BadQuota) (first_fault (drives_fault (length o.drives.items)) rest)) quota
-        ∙ ap (λ ds. first_fault (drives_fault (length ds)) rest) drives) ∙ h
-
-    go : (f : Option OpenError) → drives_fault (length (drives_or_blank g.drives)) ≡ f → None ≡ drives_fault (length (drives_or_blank g.drives))
-    go None is = sym is
-    go (Some fault) is = absurd (none-some fault (sym (sym (ap (λ f. first_fault f rest) is) ∙ none)))
