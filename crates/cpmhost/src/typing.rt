@@ -76,9 +76,7 @@ pub fn tell_quit(rt: &impl Eprint) {
 #[inline(never)]
 pub fn tell_full(rt: &impl Eprint, keys: usize, most_keys: usize) {
     if keys >= most_keys {
-        let _ = eprintln!(rt;
-            "cpmhost: the record is completely full with {keys} keys, so that no more is typed"
-        );
+        let _ = eprintln!(rt; "cpmhost: the record is full with {keys} keys, so no more is typed");
     }
 }
 
