@@ -137,17 +137,14 @@ fn run_soak(rt: &HostRuntime, words: &[&str]) -> Option<()> {
     }
 }
 
-/// Does what the words ask for, and gives the number to print.
-fn measure(rt: &HostRuntime, words: &[&str]) -> Option<u64> {
+/// Runs a program by one grant of a machine, where the words ask for it.
+fn measure_machine(rt: &HostRuntime, words: &[&str]) -> Option<u64> {
     match words {
-        ["sessions", number] => share(rt, number.parse().ok()?),
-        ["flats", number] => own(rt, number.parse().ok()?),
-        ["forks", file, times] => fork_and_close(
-            rt.alloc(),
-            drive_of(rt, file)?,
-            times.parse().ok()?,
-        ),
-        ["machine", cpu, file, steps, image] => {
+        [cpu, file, steps] => {
+            let program = fs::read(rt, file).ok()?;
+            run_machine(rt.alloc(), cpu_of(cpu)?, program, steps.parse().ok()?)
+        }
+        [cpu, file, steps, image] => {
             let program = fs::read(rt, file).ok()?;
             let drive = drive_of(rt, image)?;
             run_machine_with(
@@ -158,26 +155,55 @@ fn measure(rt: &HostRuntime, words: &[&str]) -> Option<u64> {
                 drive,
             )
         }
-        ["machine", cpu, file, steps] => {
-            let program = fs::read(rt, file).ok()?;
-            run_machine(rt.alloc(), cpu_of(cpu)?, program, steps.parse().ok()?)
+        _ => None,
+    }
+}
+
+/// How many sessions of a host run by grants in turn, where four words say it.
+fn turns_of(words: &[&str]) -> Option<Turns> {
+    let [sessions, quota, steps, rounds] = words else {
+        return None;
+    };
+    Some(Turns {
+        sessions: sessions.parse().ok()?,
+        quota: quota.parse().ok()?,
+        steps: steps.parse().ok()?,
+        rounds: rounds.parse().ok()?,
+    })
+}
+
+/// Runs sessions of a host by grants in turn, where the words ask for it.
+fn measure_host(rt: &HostRuntime, words: &[&str]) -> Option<u64> {
+    let [cpu, file, rest @ ..] = words else {
+        return None;
+    };
+    let turns = turns_of(rest)?;
+    run_host(rt.alloc(), cpu_of(cpu)?, drive_of(rt, file)?, &turns)
+}
+
+/// Runs one session in turn with sessions that wait, where the words ask for it.
+fn measure_waiting(rt: &HostRuntime, words: &[&str]) -> Option<u64> {
+    let [file, waiting, steps, rounds] = words else {
+        return None;
+    };
+    let waiting = waiting.parse().ok()?;
+    let steps = steps.parse().ok()?;
+    let rounds = rounds.parse().ok()?;
+    run_beside(rt.alloc(), drive_of(rt, file)?, waiting, steps, rounds)
+}
+
+/// Does what the words ask for, and gives the number to print.
+fn measure(rt: &HostRuntime, words: &[&str]) -> Option<u64> {
+    match words {
+        ["sessions", number] => share(rt, number.parse().ok()?),
+        ["flats", number] => own(rt, number.parse().ok()?),
+        ["machine", rest @ ..] => measure_machine(rt, rest),
+        ["host", rest @ ..] => measure_host(rt, rest),
+        ["waiting", rest @ ..] => measure_waiting(rt, rest),
+        ["forks", file, times] => {
+            let times = times.parse().ok()?;
+            fork_and_close(rt.alloc(), drive_of(rt, file)?, times)
         }
-        ["host", cpu, file, sessions, quota, steps, rounds] => {
-            let turns = Turns {
-                sessions: sessions.parse().ok()?,
-                quota: quota.parse().ok()?,
-                steps: steps.parse().ok()?,
-                rounds: rounds.parse().ok()?,
-            };
-            run_host(rt.alloc(), cpu_of(cpu)?, drive_of(rt, file)?, &turns)
-        }
-        ["waiting", file, waiting, steps, rounds] => run_beside(
-            rt.alloc(),
-            drive_of(rt, file)?,
-            waiting.parse().ok()?,
-            steps.parse().ok()?,
-            rounds.parse().ok()?,
-        ),
         ["looks", times] => look_often(rt.alloc(), times.parse().ok()?),
         ["slots", times] => open_and_close(rt.alloc(), times.parse().ok()?),
         ["openings", times] => make_openings(rt.alloc(), times.parse().ok()?),

@@ -1,7 +1,8 @@
 //! Command lines: the tasks that they name, and the words that ask for help.
 
+use crate::named::names_task;
 use crate::same::same_at;
-use cpm_command::{HELP_TEXT, RunTask, Task, command, help};
+use cpm_command::{HELP_TEXT, RunTask, Task, help};
 use cpm_flags::Cpu;
 
 /// Lines with a configuration, the session that gets the keys of standard input, the script that these
@@ -64,15 +65,18 @@ const CONFIGURATIONS: [(&[&str], Option<&str>, Option<&str>, bool); 7] = [
 #[test]
 fn takes_a_configuration(rt: HostRuntime) {
     for (words, keyboard, record, has_progress) in CONFIGURATIONS {
-        let wanted = Ok(Task::Run(RunTask {
-            config: "a.toml",
-            keyboard,
-            record,
-            has_progress,
-            stops_idle: false,
-            scripts: None,
-        }));
-        assert_eq!(rt; command(rt.alloc(), words), wanted, "at {words:?}");
+        names_task(
+            &rt,
+            words,
+            Task::Run(RunTask {
+                config: "a.toml",
+                keyboard,
+                record,
+                has_progress,
+                stops_idle: false,
+                scripts: None,
+            }),
+        );
     }
 }
 
@@ -146,15 +150,18 @@ const SCRIPTED: [(&[&str], Option<&str>, bool, Option<&str>); 7] = [
 #[test]
 fn takes_scripts_of_a_configuration(rt: HostRuntime) {
     for (words, keyboard, stops_idle, scripts) in SCRIPTED {
-        let wanted = Ok(Task::Run(RunTask {
-            config: "a.toml",
-            keyboard,
-            record: None,
-            has_progress: false,
-            stops_idle,
-            scripts,
-        }));
-        assert_eq!(rt; command(rt.alloc(), words), wanted, "at {words:?}");
+        names_task(
+            &rt,
+            words,
+            Task::Run(RunTask {
+                config: "a.toml",
+                keyboard,
+                record: None,
+                has_progress: false,
+                stops_idle,
+                scripts,
+            }),
+        );
     }
 }
 
@@ -174,15 +181,18 @@ const ALL_OF_RUN: &[&str] = &[
 
 #[test]
 fn takes_all_of_run(rt: HostRuntime) {
-    let wanted = Ok(Task::Run(RunTask {
-        config: "a.toml",
-        keyboard: Some("ann"),
-        record: Some("a.keys"),
-        has_progress: false,
-        stops_idle: true,
-        scripts: Some("keys"),
-    }));
-    assert_eq!(rt; command(rt.alloc(), ALL_OF_RUN), wanted);
+    names_task(
+        &rt,
+        ALL_OF_RUN,
+        Task::Run(RunTask {
+            config: "a.toml",
+            keyboard: Some("ann"),
+            record: Some("a.keys"),
+            has_progress: false,
+            stops_idle: true,
+            scripts: Some("keys"),
+        }),
+    );
 }
 
 /// Lines with a program to debug, its processor and its listing.
@@ -210,12 +220,15 @@ const DEBUGGED: [(&[&str], Cpu, Option<&str>); 6] = [
 #[test]
 fn takes_a_program_to_debug(rt: HostRuntime) {
     for (words, cpu, list) in DEBUGGED {
-        let wanted = Ok(Task::Debug {
-            file: "a.com",
-            cpu,
-            list,
-        });
-        assert_eq!(rt; command(rt.alloc(), words), wanted, "at {words:?}");
+        names_task(
+            &rt,
+            words,
+            Task::Debug {
+                file: "a.com",
+                cpu,
+                list,
+            },
+        );
     }
 }
 
@@ -244,12 +257,15 @@ const SOURCES: [(&[&str], Option<&str>); 6] = [
 #[test]
 fn takes_a_source(rt: HostRuntime) {
     for (words, list) in SOURCES {
-        let wanted = Ok(Task::Asm {
-            source: "a.asm",
-            out: "a.com",
-            list,
-        });
-        assert_eq!(rt; command(rt.alloc(), words), wanted, "at {words:?}");
+        names_task(
+            &rt,
+            words,
+            Task::Asm {
+                source: "a.asm",
+                out: "a.com",
+                list,
+            },
+        );
     }
 }
 
@@ -264,15 +280,17 @@ const LISTED: [(&[&str], Cpu); 4] = [
 #[test]
 fn takes_a_program_to_list(rt: HostRuntime) {
     for (words, cpu) in LISTED {
-        let wanted = Ok(Task::List { file: "a.com", cpu });
-        assert_eq!(rt; command(rt.alloc(), words), wanted, "at {words:?}");
+        names_task(&rt, words, Task::List { file: "a.com", cpu });
     }
 }
 
 #[test]
 fn takes_an_image_to_check(rt: HostRuntime) {
-    let wanted = Ok(Task::Check { image: "a.img" });
-    assert_eq!(rt; command(rt.alloc(), &["cpmhost", "check", "a.img"]), wanted);
+    names_task(
+        &rt,
+        &["cpmhost", "check", "a.img"],
+        Task::Check { image: "a.img" },
+    );
 }
 
 #[test]

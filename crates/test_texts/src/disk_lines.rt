@@ -1,12 +1,7 @@
 //! Command lines of `disk`: the tasks that they name.
 
-use cpm_command::{DiskTask, Task, command};
-use std::process::Abort;
-
-/// Owned words.
-fn owned<'a>(rt: &(impl Abort + AllocGlobal), words: &[&'a str]) -> Vec<&'a str> {
-    Vec::from_slice(rt.alloc(), words).expect(rt, "memory")
-}
+use crate::named::{names_task, owned};
+use cpm_command::{DiskTask, Task};
 
 /// Lines that make an image, and whether it is a large one.
 const NEW: [(&[&str], bool); 4] = [
@@ -19,11 +14,14 @@ const NEW: [(&[&str], bool); 4] = [
 #[test]
 fn takes_a_new_image(rt: HostRuntime) {
     for (words, is_large) in NEW {
-        let wanted = Ok(Task::Disk(DiskTask::New {
-            image: "a.img",
-            is_large,
-        }));
-        assert_eq!(rt; command(rt.alloc(), words), wanted, "at {words:?}");
+        names_task(
+            &rt,
+            words,
+            Task::Disk(DiskTask::New {
+                image: "a.img",
+                is_large,
+            }),
+        );
     }
 }
 
@@ -46,11 +44,14 @@ const LISTED: [(&[&str], Option<u8>); 6] = [
 #[test]
 fn takes_an_image_to_list(rt: HostRuntime) {
     for (words, user) in LISTED {
-        let wanted = Ok(Task::Disk(DiskTask::List {
-            image: "a.img",
-            user,
-        }));
-        assert_eq!(rt; command(rt.alloc(), words), wanted, "at {words:?}");
+        names_task(
+            &rt,
+            words,
+            Task::Disk(DiskTask::List {
+                image: "a.img",
+                user,
+            }),
+        );
     }
 }
 
@@ -121,15 +122,18 @@ const PUT: [(&[&str], &[&str], u8, [bool; 3]); 6] = [
 #[test]
 fn takes_files_to_put(rt: HostRuntime) {
     for (words, files, user, [is_text, is_read_only, is_system]) in PUT {
-        let wanted = Ok(Task::Disk(DiskTask::Put {
-            image: "a.img",
-            files: owned(&rt, files),
-            user,
-            is_text,
-            is_read_only,
-            is_system,
-        }));
-        assert_eq!(rt; command(rt.alloc(), words), wanted, "at {words:?}");
+        names_task(
+            &rt,
+            words,
+            Task::Disk(DiskTask::Put {
+                image: "a.img",
+                files: owned(&rt, files),
+                user,
+                is_text,
+                is_read_only,
+                is_system,
+            }),
+        );
     }
 }
 
@@ -164,14 +168,17 @@ const GOT: [(&[&str], &[&str], u8, bool, Option<&str>); 3] = [
 #[test]
 fn takes_files_to_get(rt: HostRuntime) {
     for (words, names, user, is_text, to) in GOT {
-        let wanted = Ok(Task::Disk(DiskTask::Get {
-            image: "a.img",
-            names: owned(&rt, names),
-            user,
-            is_text,
-            to,
-        }));
-        assert_eq!(rt; command(rt.alloc(), words), wanted, "at {words:?}");
+        names_task(
+            &rt,
+            words,
+            Task::Disk(DiskTask::Get {
+                image: "a.img",
+                names: owned(&rt, names),
+                user,
+                is_text,
+                to,
+            }),
+        );
     }
 }
 
@@ -194,12 +201,15 @@ const REMOVED: [(&[&str], &[&str], u8); 2] = [
 #[test]
 fn takes_files_to_remove(rt: HostRuntime) {
     for (words, names, user) in REMOVED {
-        let wanted = Ok(Task::Disk(DiskTask::Remove {
-            image: "a.img",
-            names: owned(&rt, names),
-            user,
-        }));
-        assert_eq!(rt; command(rt.alloc(), words), wanted, "at {words:?}");
+        names_task(
+            &rt,
+            words,
+            Task::Disk(DiskTask::Remove {
+                image: "a.img",
+                names: owned(&rt, names),
+                user,
+            }),
+        );
     }
 }
 
@@ -223,11 +233,14 @@ const RENAMED: [(&[&str], u8); 2] = [
 #[test]
 fn takes_a_file_to_rename(rt: HostRuntime) {
     for (words, user) in RENAMED {
-        let wanted = Ok(Task::Disk(DiskTask::Rename {
-            image: "a.img",
-            change: "B.TXT=A.TXT",
-            user,
-        }));
-        assert_eq!(rt; command(rt.alloc(), words), wanted, "at {words:?}");
+        names_task(
+            &rt,
+            words,
+            Task::Disk(DiskTask::Rename {
+                image: "a.img",
+                change: "B.TXT=A.TXT",
+                user,
+            }),
+        );
     }
 }

@@ -19,6 +19,8 @@ mod key_scripts;
 #[cfg(test)]
 mod lines;
 #[cfg(test)]
+mod named;
+#[cfg(test)]
 mod places;
 #[cfg(test)]
 mod program_lines;

@@ -1,6 +1,7 @@
 //! Command lines of `com`: the tasks that they name.
 
-use cpm_command::{ComTask, Task, command};
+use crate::named::{names_task, owned};
+use cpm_command::{ComTask, Task};
 use cpm_flags::Cpu;
 use std::process::Abort;
 
@@ -35,31 +36,29 @@ pub const PLAIN: Program = Program {
     stops_idle: false,
 };
 
-/// Owned words.
-fn owned<'a>(rt: &(impl Abort + AllocGlobal), words: &[&'a str]) -> Vec<&'a str> {
-    Vec::from_slice(rt.alloc(), words).expect(rt, "memory")
-}
-
 /// Fails unless the words name this program.
 pub fn names_program(
     rt: &(impl Abort + AllocGlobal),
     words: &'static [&'static str],
     program: &Program,
 ) {
-    let wanted = Ok(Task::Com(ComTask {
-        file: program.file,
-        tail: owned(rt, program.tail),
-        cpu: program.cpu,
-        steps: program.steps,
-        keys: program.keys,
-        drives: owned(rt, program.drives),
-        outs: owned(rt, program.outs),
-        is_live: program.is_live,
-        record: program.record,
-        has_progress: program.has_progress,
-        stops_idle: program.stops_idle,
-    }));
-    assert_eq!(rt; command(rt.alloc(), words), wanted, "at {words:?}");
+    names_task(
+        rt,
+        words,
+        Task::Com(ComTask {
+            file: program.file,
+            tail: owned(rt, program.tail),
+            cpu: program.cpu,
+            steps: program.steps,
+            keys: program.keys,
+            drives: owned(rt, program.drives),
+            outs: owned(rt, program.outs),
+            is_live: program.is_live,
+            record: program.record,
+            has_progress: program.has_progress,
+            stops_idle: program.stops_idle,
+        }),
+    );
 }
 
 /// Lines with a program, and how many steps it may do.
