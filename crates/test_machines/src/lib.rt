@@ -33,3 +33,5 @@ mod tails;
 mod to_wait;
 #[cfg(test)]
 mod waits;
+#[cfg(test)]
+mod z80;

@@ -1,5 +1,5 @@
-//! Worked texts: sources, expressions, command lines, configurations, key scripts and lines of output, and the files of a
-//! host.
+//! Worked texts: sources, expressions, command lines, configurations, key scripts and lines of output, the files of a
+//! host, and those on disk images by the words of the commands on disks.
 #![tactic(auto)]
 
 #[cfg(test)]
@@ -12,6 +12,8 @@ mod configurations;
 mod disk_lines;
 #[cfg(test)]
 mod expressions;
+#[cfg(test)]
+mod filing;
 #[cfg(test)]
 mod key_lines;
 #[cfg(test)]

@@ -1,6 +1,6 @@
 //! Rotates, shifts and bits.
 
-use crate::trial::{Case, check};
+use super::trial::{Case, check};
 use std::test::Fail;
 
 const SHIFTS: [Case; 11] = [

@@ -1,7 +1,7 @@
 //! Block moves, searches, input and output, one repetition a step.
 
+use super::trial::{CLEAR, Case, Trial, check};
 use crate::same::same;
-use crate::trial::{CLEAR, Case, Trial, check};
 use cpm_decode::Ran;
 use cpm_flags::Flags;
 use cpm_memory::{FlatMemory, Memory, has_room, set_byte};

@@ -1,6 +1,6 @@
 //! Sixteen-bit arithmetic and moves.
 
-use crate::trial::{Case, check};
+use super::trial::{Case, check};
 use std::test::Fail;
 
 const SUMS: [Case; 11] = [

@@ -1,6 +1,6 @@
 //! Eight-bit arithmetic.
 
-use crate::trial::{Case, check};
+use super::trial::{Case, check};
 use std::test::Fail;
 
 const SUMS: [Case; 10] = [

@@ -1,6 +1,6 @@
 //! Jumps, calls and returns.
 
-use crate::trial::{Case, check};
+use super::trial::{Case, check};
 use std::test::Fail;
 
 const JUMPS: [Case; 9] = [

@@ -1,7 +1,7 @@
 //! Whole programs, and instructions that are none.
 
+use super::trial::{Case, Trial, check};
 use crate::same::same;
-use crate::trial::{Case, Trial, check};
 use cpm_decode::{DecodedZ80, ExtendedOp, OpZ80, Ran};
 use cpm_execz80::execz80;
 use cpm_memory::{Memory, has_room};

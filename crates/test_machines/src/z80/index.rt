@@ -1,6 +1,6 @@
 //! The byte at an index register and a displacement, and the registers I and R.
 
-use crate::trial::{Case, check};
+use super::trial::{Case, check};
 use std::test::Fail;
 
 const INDEXED: [Case; 8] = [
