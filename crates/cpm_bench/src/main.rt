@@ -113,24 +113,26 @@ fn drive_of(rt: &HostRuntime, file: &str) -> Option<Image> {
     Image::from_bytes(fs::read(rt, file).ok()?).ok()
 }
 
+/// The steps of a turn, where they are told.
+fn quantum_of(words: &[&str]) -> Option<Option<u64>> {
+    match words {
+        [] => Some(None),
+        [quantum] => Some(Some(quantum.parse().ok()?)),
+        _ => None,
+    }
+}
+
 /// Runs the sessions of a folder, where the words ask for it.
 fn run_soak(rt: &HostRuntime, words: &[&str]) -> Option<()> {
     match words {
-        [folder, number, steps] => soak(
-            rt,
-            folder,
-            number.parse().ok()?,
-            steps.parse().ok()?,
-            None,
-        ),
-        [folder, number, steps, quantum] => {
-            let quantum = quantum.parse().ok()?;
+        [folder, number, steps, rest @ ..] => {
+            let quantum = quantum_of(rest)?;
             soak(
                 rt,
                 folder,
                 number.parse().ok()?,
                 steps.parse().ok()?,
-                Some(quantum),
+                quantum,
             )
         }
         _ => None,
@@ -192,21 +194,35 @@ fn measure_waiting(rt: &HostRuntime, words: &[&str]) -> Option<u64> {
     run_beside(rt.alloc(), drive_of(rt, file)?, waiting, steps, rounds)
 }
 
+/// Forks and closes sessions, where the words ask for it.
+fn measure_forks(rt: &HostRuntime, words: &[&str]) -> Option<u64> {
+    let [file, times] = words else {
+        return None;
+    };
+    let times = times.parse().ok()?;
+    fork_and_close(rt.alloc(), drive_of(rt, file)?, times)
+}
+
+/// Makes one of what it names so many times.
+fn make(rt: &HostRuntime, what: &str, times: &str) -> Option<u64> {
+    match what {
+        "sessions" => share(rt, times.parse().ok()?),
+        "flats" => own(rt, times.parse().ok()?),
+        "looks" => look_often(rt.alloc(), times.parse().ok()?),
+        "slots" => open_and_close(rt.alloc(), times.parse().ok()?),
+        "openings" => make_openings(rt.alloc(), times.parse().ok()?),
+        _ => hold(rt, &[what, times]),
+    }
+}
+
 /// Does what the words ask for, and gives the number to print.
 fn measure(rt: &HostRuntime, words: &[&str]) -> Option<u64> {
     match words {
-        ["sessions", number] => share(rt, number.parse().ok()?),
-        ["flats", number] => own(rt, number.parse().ok()?),
         ["machine", rest @ ..] => measure_machine(rt, rest),
         ["host", rest @ ..] => measure_host(rt, rest),
         ["waiting", rest @ ..] => measure_waiting(rt, rest),
-        ["forks", file, times] => {
-            let times = times.parse().ok()?;
-            fork_and_close(rt.alloc(), drive_of(rt, file)?, times)
-        }
-        ["looks", times] => look_often(rt.alloc(), times.parse().ok()?),
-        ["slots", times] => open_and_close(rt.alloc(), times.parse().ok()?),
-        ["openings", times] => make_openings(rt.alloc(), times.parse().ok()?),
+        ["forks", rest @ ..] => measure_forks(rt, rest),
+        [what, times] => make(rt, what, times),
         words => hold(rt, words),
     }
 }
@@ -217,21 +233,26 @@ fn print_measure(rt: &HostRuntime, words: &[&str]) -> Option<()> {
     println!(rt; "{done}").ok()
 }
 
-/// Does what the words of the command line behind the program's own name ask for.
-fn do_words(rt: &HostRuntime) -> Option<()> {
-    let words: Vec<String> = env::args(rt).ok()?.skip(1).collect(rt.alloc()).ok()?;
-    let mut texts = Vec::new(rt.alloc());
-    for word in &words {
-        texts.push(word.as_str()).ok()?;
-    }
-    match texts.as_slice() {
+/// Does what the words behind the program's own name ask for.
+fn do_words(rt: &HostRuntime, words: &[&str]) -> Option<()> {
+    match words {
         ["soak", rest @ ..] => run_soak(rt, rest),
         words => print_measure(rt, words),
     }
 }
 
+/// Does what the command line asks for.
+fn do_line(rt: &HostRuntime) -> Option<()> {
+    let words: Vec<String> = env::args(rt).ok()?.skip(1).collect(rt.alloc()).ok()?;
+    let mut texts = Vec::new(rt.alloc());
+    for word in &words {
+        texts.push(word.as_str()).ok()?;
+    }
+    do_words(rt, texts.as_slice())
+}
+
 fn main(rt: HostRuntime) -> ExitCode {
-    match do_words(&rt) {
+    match do_line(&rt) {
         Some(()) => ExitCode::SUCCESS,
         None => ExitCode::from(1),
     }

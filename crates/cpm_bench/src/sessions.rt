@@ -55,18 +55,23 @@ pub fn run_machine_with(
     Some(machine.grant(&system, steps).executed)
 }
 
+/// Four blank drives of this format.
+fn four_drives(alloc: Global, format: Format) -> Option<Vec<Image>> {
+    let mut drives = Vec::new(alloc);
+    for _ in 0..4 {
+        drives.push(Image::blank(alloc, format).ok()?).ok()?;
+    }
+    Some(drives)
+}
+
 /// A host with so many sessions, each with four blank drives of this format and a quota of 16 pages.
 pub fn host_of_drives(alloc: Global, format: Format, sessions: u16) -> Option<Host> {
     let mut host = host_of(alloc, Image::blank(alloc, Format::Ibm3740).ok()?, 4)?;
     for _ in 0..sessions {
-        let mut drives = Vec::new(alloc);
-        for _ in 0..4 {
-            drives.push(Image::blank(alloc, format).ok()?).ok()?;
-        }
         let opening = Opening {
             cpu: Cpu::I8080,
             quota: 16,
-            drives,
+            drives: four_drives(alloc, format)?,
         };
         host.open(alloc, opening).ok()?;
     }
@@ -90,6 +95,18 @@ pub(crate) fn start(alloc: Global, host: &mut Host, cpu: Cpu, quota: u16) -> Opt
     Some(id)
 }
 
+/// Grants each of these sessions so many steps, so many times, and says how many were executed in all.
+fn in_turn(host: &mut Host, slots: &[SlotId], steps: u64, rounds: u64) -> Option<u64> {
+    let mut total = 0u64;
+    for _ in 0..rounds {
+        for id in slots {
+            let granted = host.grant(*id, steps).ok()?;
+            total = total.saturating_add(granted.executed);
+        }
+    }
+    Some(total)
+}
+
 /// Runs the program RUN.COM of the system drive in sessions in turn, and says how many steps were executed in all.
 pub fn run_host(alloc: Global, cpu: Cpu, system: Image, turns: &Turns) -> Option<u64> {
     let mut host = host_of(alloc, system, turns.sessions)?;
@@ -97,12 +114,32 @@ pub fn run_host(alloc: Global, cpu: Cpu, system: Image, turns: &Turns) -> Option
     for _ in 0..turns.sessions {
         slots.push(start(alloc, &mut host, cpu, turns.quota)?).ok()?;
     }
+    in_turn(&mut host, slots.as_slice(), turns.steps, turns.rounds)
+}
+
+/// So many sessions that come to their prompts.
+fn prompts(alloc: Global, host: &mut Host, count: u16) -> Option<Vec<SlotId>> {
+    let mut slots = Vec::new(alloc);
+    for _ in 0..count {
+        let opening = opening_of(alloc, Cpu::I8080, 256)?;
+        slots.push(host.open(alloc, opening).ok()?).ok()?;
+    }
+    Some(slots)
+}
+
+/// Grants a session so many steps and then each of the others, so many times, and says how many that session executed.
+fn beside(
+    host: &mut Host,
+    worker: SlotId,
+    others: &[SlotId],
+    steps: u64,
+    rounds: u64,
+) -> Option<u64> {
     let mut total = 0u64;
-    for _ in 0..turns.rounds {
-        for id in &slots {
-            let granted = host.grant(*id, turns.steps).ok()?;
-            total = total.saturating_add(granted.executed);
-        }
+    for _ in 0..rounds {
+        let granted = host.grant(worker, steps).ok()?;
+        total = total.saturating_add(granted.executed);
+        in_turn(host, others, steps, 1)?;
     }
     Some(total)
 }
@@ -120,20 +157,8 @@ pub fn run_beside(
     }
     let mut host = host_of(alloc, system, waiting + 1)?;
     let worker = start(alloc, &mut host, Cpu::I8080, 256)?;
-    let mut others = Vec::new(alloc);
-    for _ in 0..waiting {
-        let opening = opening_of(alloc, Cpu::I8080, 256)?;
-        others.push(host.open(alloc, opening).ok()?).ok()?;
-    }
-    let mut total = 0u64;
-    for _ in 0..rounds {
-        let granted = host.grant(worker, steps).ok()?;
-        total = total.saturating_add(granted.executed);
-        for id in &others {
-            host.grant(*id, steps).ok()?;
-        }
-    }
-    Some(total)
+    let others = prompts(alloc, &mut host, waiting)?;
+    beside(&mut host, worker, others.as_slice(), steps, rounds)
 }
 
 /// Looks at a session so many times.

@@ -1,5 +1,7 @@
 //! The lines of a list of calls.
 
+use std::str::SplitWhitespace;
+
 /// A call of the BDOS, and what is put into memory before it.
 #[derive(Clone, Copy, Debug, PartialEq, Eq)]
 pub struct Call {
@@ -35,18 +37,27 @@ impl Line {
                 Line::Images
             }
             "session" => Line::Session(count_of(words.next()?)?),
-            "call" => Line::Call(Call {
-                function: byte_of(words.next()?)?,
-                parameter: word_of(words.next()?)?,
-                fcb: put_of(words.next()?)?,
-                record: record_of(words.next()?)?,
-            }),
+            "call" => Line::Call(Call::of(&mut words)?),
             _ => return None,
         };
         if words.next().is_some() {
             return None;
         }
         Some(line)
+    }
+}
+
+impl Call {
+    /// The call that the next four words tell, if they do.
+    fn of(words: &mut SplitWhitespace<'_>) -> Option<Call> {
+        let function = byte_of(words.next()?)?;
+        let parameter = word_of(words.next()?)?;
+        Some(Call {
+            function,
+            parameter,
+            fcb: put_of(words.next()?)?,
+            record: record_of(words.next()?)?,
+        })
     }
 }
 

@@ -119,6 +119,39 @@ fn do_line(
     }
 }
 
+/// Does the lines of a list one by one.
+fn do_lines(
+    rt: &(impl Print + AllocGlobal),
+    sessions: &mut Sessions,
+    text: &str,
+) -> Result<(), InteropError>
+    ensures { IfErr result IsCallsRefusal }
+{
+    for (place, line) in text.lines().enumerate() {
+        if do_line(rt, sessions, line)?.is_none() {
+            return Err(InteropError::NoCall(place));
+        }
+    }
+    Ok(())
+}
+
+/// Does the calls of a list, and writes back the images.
+fn run_list(
+    rt: &(impl Files + Print + AllocGlobal),
+    text: &str,
+    images: &str,
+) -> Result<(), InteropError>
+    ensures { IfErr result IsCallsRefusal }
+{
+    let Some(letters) = letters_of(text.lines().next().unwrap_or("")) else {
+        return Err(InteropError::NoCall(0));
+    };
+    let mut sessions = Sessions::new(rt.alloc(), read_images(rt, images, letters)?)?;
+    do_lines(rt, &mut sessions, text)?;
+    sessions.end()?;
+    write_file(rt, images, sessions.after.as_slice())
+}
+
 /// Does the calls of a list, prints what each left, and then writes back the images of the sessions that were begun; the first
 /// image is the system drive of all, and is not written back.
 pub fn run_calls(
@@ -129,15 +162,5 @@ pub fn run_calls(
     ensures { IfErr result IsCallsRefusal }
 {
     let text = fs::read_to_string(rt, list).map_err(InteropError::Unreadable)?;
-    let Some(letters) = letters_of(text.as_str().lines().next().unwrap_or("")) else {
-        return Err(InteropError::NoCall(0));
-    };
-    let mut sessions = Sessions::new(rt.alloc(), read_images(rt, images, letters)?)?;
-    for (place, line) in text.as_str().lines().enumerate() {
-        if do_line(rt, &mut sessions, line)?.is_none() {
-            return Err(InteropError::NoCall(place));
-        }
-    }
-    sessions.end()?;
-    write_file(rt, images, sessions.after.as_slice())
+    run_list(rt, text.as_str(), images)
 }

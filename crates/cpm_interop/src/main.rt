@@ -15,6 +15,7 @@ mod trial;
 
 use archive::Archive;
 use calls::run_calls;
+use cpm_geom::Image;
 use error::InteropError;
 use files::{read_file, read_image, write_file};
 use std::env;
@@ -58,6 +59,22 @@ fn get(
     write_file(rt, out, bytes.as_slice())
 }
 
+/// The image after a file is put on it.
+fn with_file(
+    archive: Archive,
+    user: &str,
+    name: &str,
+    bytes: &[u8],
+    attributes: &[&str],
+) -> Result<Image, InteropError> {
+    let mut archive = archive;
+    archive.put(user_of(user)?, name, bytes, attributes)?;
+    match archive.into_image() {
+        Some(after) => Ok(after),
+        None => Err(InteropError::NoImage),
+    }
+}
+
 fn put(
     rt: &(impl Files + AllocGlobal),
     image: &str,
@@ -66,23 +83,15 @@ fn put(
     file: &str,
     attributes: &[&str],
 ) -> Result<(), InteropError> {
-    let mut archive = Archive::of(rt.alloc(), read_image(rt, image)?)?;
+    let archive = Archive::of(rt.alloc(), read_image(rt, image)?)?;
     let bytes = read_file(rt, file)?;
-    archive.put(user_of(user)?, name, bytes.as_slice(), attributes)?;
-    let Some(after) = archive.into_image() else {
-        return Err(InteropError::NoImage);
-    };
+    let after = with_file(archive, user, name, bytes.as_slice(), attributes)?;
     write_file(rt, image, after.into_bytes().as_slice())
 }
 
-/// Does what the words of the command line ask for.
-fn run(rt: &(impl Env + Files + Print + AllocGlobal)) -> Result<(), InteropError> {
-    let words = words(rt)?;
-    let mut texts = Vec::new(rt.alloc());
-    for word in &words {
-        texts.push(word.as_str())?;
-    }
-    match texts.as_slice() {
+/// Does what the words behind the program's name ask for.
+fn run(rt: &(impl Files + Print + AllocGlobal), words: &[&str]) -> Result<(), InteropError> {
+    match words {
         ["calls", list, images] => run_calls(rt, list, images),
         ["names", image] => names(rt, image),
         ["get", image, user, name, out] => get(rt, image, user, name, out),
@@ -93,8 +102,18 @@ fn run(rt: &(impl Env + Files + Print + AllocGlobal)) -> Result<(), InteropError
     }
 }
 
+/// Does what the command line asks for.
+fn run_line(rt: &(impl Env + Files + Print + AllocGlobal)) -> Result<(), InteropError> {
+    let words = words(rt)?;
+    let mut texts = Vec::new(rt.alloc());
+    for word in &words {
+        texts.push(word.as_str())?;
+    }
+    run(rt, texts.as_slice())
+}
+
 fn main(rt: HostRuntime) -> ExitCode {
-    match run(&rt) {
+    match run_line(&rt) {
         Ok(()) => ExitCode::SUCCESS,
         Err(error) => {
             let _ = eprintln!(rt; "cpm_interop: {error}");

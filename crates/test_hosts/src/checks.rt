@@ -13,7 +13,7 @@ const ENTRY: [u8; 16] = [
 /// A blank disk of 256,256 bytes, whose directory begins at track 2, with these entries: the first number of each one's map and the second.
 fn disk(rt: &(impl Abort + AllocGlobal), entries: &[(u8, u8)]) -> Vec<u8> {
     let mut bytes = Vec::new(rt.alloc());
-    bytes.resize(2 * 26 * 128, 0xE5).expect(rt, "memory");
+    bytes.resize(DIRECTORY, 0xE5).expect(rt, "memory");
     for (first, second) in entries {
         bytes.extend_from_slice(&ENTRY).expect(rt, "memory");
         bytes.push(*first).expect(rt, "memory");
@@ -79,15 +79,23 @@ fn checks_a_directory(rt: HostRuntime) {
     }
 }
 
+/// Where the directory begins: behind two tracks of 26 sectors of 128 bytes.
+const DIRECTORY: usize = 2 * 26 * 128;
+
+/// What makes the first of two entries that of user 1's `U.TXT`, and gives the second one a name with a byte that isn't shown.
+const OTHER_NAMES: [(usize, u8); 4] = [
+    (DIRECTORY, 1),
+    (DIRECTORY + 1, b'U' | 0x80),
+    (DIRECTORY + 32 + 2, 0x01),
+    (DIRECTORY + 32 + 4, b'X'),
+];
+
 #[test]
 fn names_who_has_a_block_too(rt: HostRuntime) {
-    // The directory begins behind two tracks of 26 sectors of 128 bytes.
     let mut bytes = disk(&rt, &[(12, 0), (12, 0)]);
-    let first = 2 * 26 * 128;
-    put(&rt, &mut bytes, first, 1);
-    put(&rt, &mut bytes, first + 1, b'U' | 0x80);
-    put(&rt, &mut bytes, first + 32 + 2, 0x01);
-    put(&rt, &mut bytes, first + 32 + 4, b'X');
+    for (place, value) in &OTHER_NAMES {
+        put(&rt, &mut bytes, *place, *value);
+    }
     let text = checked(&rt, bytes);
     let wanted =
         "HO6 'd.img': directory entry 1, T??X.TXT of user 0, has block 12, which entry 0, U.TXT of user 1, has too";

@@ -155,20 +155,32 @@ fn stops_where_the_writer_fails(rt: HostRuntime) {
     same(&rt, end.count, 1);
 }
 
+/// A program of so many bytes, each of them 0.
+fn zeros(rt: &(impl Abort + AllocGlobal), count: usize) -> Vec<u8> {
+    let mut bytes = Vec::new(rt.alloc());
+    bytes.resize(count, 0).expect(rt, "memory");
+    bytes
+}
+
+/// The text of a program's refusal, before which nothing is written.
+fn refusal_text(rt: &(impl Abort + AllocGlobal), program: &[u8]) -> String {
+    let mut out = Recorder::new(rt.alloc());
+    let error = refusal(rt, program, &mut out);
+    same(rt, out.bytes.len(), 0);
+    error.to_string(rt.alloc()).expect(rt, "memory")
+}
+
 #[test]
 fn refuses_a_program_that_is_too_long(rt: HostRuntime) {
-    let mut bytes = Vec::new(rt.alloc());
-    bytes.resize(58_113, 0).expect(&rt, "memory");
+    let text = refusal_text(&rt, zeros(&rt, 58_113).as_slice());
+    let wanted = "HO9 the program has 58113 bytes, and a machine takes at most 58112";
+    same(&rt, text.as_str(), wanted);
+}
+
+#[test]
+fn takes_the_longest_program(rt: HostRuntime) {
     let mut out = Recorder::new(rt.alloc());
-    let error = refusal(&rt, bytes.as_slice(), &mut out);
-    let text = error.to_string(rt.alloc()).expect(&rt, "memory");
-    same(
-        &rt,
-        text.as_str(),
-        "HO9 the program has 58113 bytes, and a machine takes at most 58112",
-    );
-    same(&rt, out.bytes.len(), 0);
-    let end = ending(&rt, &bytes.as_slice()[1..], 10, &mut out);
+    let end = ending(&rt, zeros(&rt, 58_112).as_slice(), 10, &mut out);
     same(&rt, end.count, 10);
 }
 
@@ -210,9 +222,7 @@ fn refuses_a_script_behind_a_program_that_is_too_long(rt: HostRuntime) {
     let shown = with_script(&rt, KEY, b"5 A\n4 B\n", &mut out);
     let wanted = "HO3 'a.keys', line 2: the count is less than the one before it";
     same(&rt, shown.as_str(), wanted);
-    let mut long = Vec::new(rt.alloc());
-    long.resize(58_113, 0).expect(&rt, "memory");
-    let shown = with_script(&rt, long.as_slice(), b"x", &mut out);
+    let shown = with_script(&rt, zeros(&rt, 58_113).as_slice(), b"x", &mut out);
     let wanted = "HO9 the program has 58113 bytes, and a machine takes at most 58112";
     same(&rt, shown.as_str(), wanted);
     same(&rt, out.bytes.len(), 0);
@@ -237,48 +247,47 @@ fn is_refused(rt: &(impl Abort + AllocGlobal), source: &[u8], wanted: &str) {
     same(rt, text.as_str(), wanted);
 }
 
-#[test]
-fn names_the_line_and_what_stands_there(rt: HostRuntime) {
-    is_refused(
-        &rt,
+/// Sources, and the refusal of each.
+const REFUSED: [(&[u8], &str); 8] = [
+    (
         b" JMP Q1",
         "HO7 line 1, 'JMP Q1': AS2: a name in an operand is defined nowhere",
-    );
-    is_refused(
-        &rt,
+    ),
+    (
         b"L1:\tNOP\r\nL1:\tNOP ; again\r\n RET\r\n",
         "HO7 line 2, 'L1: NOP ; again': AS3: the label is defined by an earlier statement too",
-    );
-    is_refused(
-        &rt,
+    ),
+    (
         b" NOP\n\n ORG 0\n",
         "HO7 line 3, 'ORG 0': AS6: ORG is below the present address",
-    );
-    is_refused(
-        &rt,
+    ),
+    (
         b" DS X\nX EQU 1",
         "HO7 line 1, 'DS X': AS5: a name in ORG, EQU, IF or DS has to be defined by an earlier statement",
-    );
-    is_refused(
-        &rt,
+    ),
+    (
         b" DB '\xE9\x01",
         "HO7 line 1, 'DB '\u{E9}?': AS1: syntax: [label[:]] [operation [operands]] is wanted, each IF with its ENDIF, at most 8 deep",
-    );
-    is_refused(
-        &rt,
+    ),
+    (
         b" NOP\n\nl : NOP",
         "HO7 line 3, 'l : NOP': AS1: a label that is a register's name (A B C D E H L M SP PSW)",
-    );
-    is_refused(
-        &rt,
+    ),
+    (
         b"PSW EQU 5",
         "HO7 line 1, 'PSW EQU 5': AS1: a label that is a register's name (A B C D E H L M SP PSW)",
-    );
-    is_refused(
-        &rt,
+    ),
+    (
         b" DB 'AB",
         "HO7 line 1, 'DB 'AB': AS1: syntax: [label[:]] [operation [operands]] is wanted, each IF with its ENDIF, at most 8 deep",
-    );
+    ),
+];
+
+#[test]
+fn names_the_line_and_what_stands_there(rt: HostRuntime) {
+    for (source, wanted) in &REFUSED {
+        is_refused(&rt, source, wanted);
+    }
 }
 
 /// What is listed of a program.

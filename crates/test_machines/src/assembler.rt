@@ -346,15 +346,22 @@ fn listed_lines_assemble_to_the_same_bytes(rt: HostRuntime) {
     }
 }
 
+/// A source whose first line is refused.
+fn is_refused(rt: &(impl Abort + AllocGlobal), source: &str) {
+    let wanted = AsmError {
+        line: 1,
+        kind: AsmErrorKind::Syntax,
+    };
+    match assemble(rt.alloc(), source.as_bytes()) {
+        Ok(_) => panic!(rt; "taken: {source}"),
+        Err(error) => same_at(rt, source, error, wanted),
+    }
+}
+
 #[test]
 fn a_register_is_no_name(rt: HostRuntime) {
     for source in ["L: DS L", "B EQU 1", " LXI H,PSW", "SP: NOP", " DW M"] {
-        let wanted = Err(AsmError {
-            line: 1,
-            kind: AsmErrorKind::Syntax,
-        });
-        let found = assemble(rt.alloc(), source.as_bytes());
-        assert!(rt; found.map(|_| ()) == wanted, "at {source}");
+        is_refused(&rt, source);
     }
     check(
         &rt,

@@ -118,11 +118,16 @@ fn lists_nothing(
     for _ in 0..grants {
         machine.grant(system, steps);
     }
+    shows_no_file(rt, &mut machine);
+    Ok(())
+}
+
+/// The drive was listed in 50 steps, and has no file.
+fn shows_no_file(rt: &impl Abort, machine: &mut Machine) {
     let look = machine.look();
     same(rt, look.ended, End::Running);
     same(rt, look.count, 50);
-    shows(rt, &mut machine, b"\r\nA>DIR\r\r\nNO FILE\r\nA>");
-    Ok(())
+    shows(rt, machine, b"\r\nA>DIR\r\r\nNO FILE\r\nA>");
 }
 
 #[test]
@@ -141,15 +146,20 @@ fn a_program_comes_to_its_quota(rt: HostRuntime) -> Result<(), Fail> {
     let system = blank(rt.alloc())?;
     let image = disk_of(&rt, rt.alloc(), b"W       COM", PAGES)?;
     let mut machine = machine_on(rt.alloc(), 16, image)?;
-    press(&rt, &mut machine, b"W\r");
-    let granted = machine.grant(&system, 1000);
-    same(&rt, granted.executed, 26);
-    same(&rt, granted.why, Why::Stopped);
-    let look = machine.look();
-    same(&rt, look.ended, End::Quota);
-    same(&rt, look.pages, 9);
-    same(&rt, (look.regs.h, look.regs.l), (0x26, 0x00));
+    comes_to_its_quota(&rt, &mut machine, &system);
     Ok(())
+}
+
+/// Runs `W.COM` in 26 steps up to the quota of its pages.
+fn comes_to_its_quota(rt: &impl Abort, machine: &mut Machine, system: &Image) {
+    press(rt, machine, b"W\r");
+    let granted = machine.grant(system, 1000);
+    same(rt, granted.executed, 26);
+    same(rt, granted.why, Why::Stopped);
+    let look = machine.look();
+    same(rt, look.ended, End::Quota);
+    same(rt, look.pages, 9);
+    same(rt, (look.regs.h, look.regs.l), (0x26, 0x00));
 }
 
 #[test]

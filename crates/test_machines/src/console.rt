@@ -3,6 +3,7 @@
 use crate::run::{blank, machine_of};
 use crate::same::same;
 use cpm_flags::Cpu;
+use cpm_geom::Image;
 use cpm_slots::{End, KeysFull, Machine, Why};
 use std::process::Abort;
 use std::test::Fail;
@@ -122,15 +123,25 @@ fn waits_for_a_key(rt: HostRuntime) -> Result<(), Fail> {
 fn keeps_4096_keys_and_refuses_the_next(rt: HostRuntime) -> Result<(), Fail> {
     let system = blank(rt.alloc())?;
     let mut machine = machine_of(rt.alloc(), Cpu::I8080, READS)?;
-    for number in 0..4096u16 {
-        same(&rt, machine.key((number % 64) as u8 + 0x20), Ok(()));
-    }
-    same(&rt, machine.key(b'!'), Err(KeysFull));
-    same(&rt, machine.look().keys, 4096);
-    machine.grant(&system, 100);
-    same(&rt, machine.look().keys, 4095);
-    same(&rt, machine.key(b'!'), Ok(()));
-    same(&rt, machine.look().keys, 4096);
+    press_4096_keys(&rt, &mut machine);
+    has_room_behind_a_read(&rt, &mut machine, &system);
     same(&rt, machine.look().ended, End::Exited);
     Ok(())
+}
+
+/// Presses as many keys as are kept, and one more.
+fn press_4096_keys(rt: &impl Abort, machine: &mut Machine) {
+    for number in 0..4096u16 {
+        same(rt, machine.key((number % 64) as u8 + 0x20), Ok(()));
+    }
+    same(rt, machine.key(b'!'), Err(KeysFull));
+    same(rt, machine.look().keys, 4096);
+}
+
+/// Where a key is read, one more is kept.
+fn has_room_behind_a_read(rt: &impl Abort, machine: &mut Machine, system: &Image) {
+    machine.grant(system, 100);
+    same(rt, machine.look().keys, 4095);
+    same(rt, machine.key(b'!'), Ok(()));
+    same(rt, machine.look().keys, 4096);
 }

@@ -3,7 +3,9 @@
 use crate::run::{blank, machine_of};
 use crate::same::same;
 use cpm_flags::Cpu;
-use cpm_slots::End;
+use cpm_geom::Image;
+use cpm_slots::{End, Machine};
+use std::process::Abort;
 use std::test::Fail;
 
 /// A program that meets a fault, the message, and how many steps it makes.
@@ -36,15 +38,20 @@ fn faults_show_their_message_and_boot(rt: HostRuntime) -> Result<(), Fail> {
     let system = blank(rt.alloc())?;
     for row in &FAULTY {
         let mut machine = machine_of(rt.alloc(), Cpu::I8080, row.program)?;
-        same(&rt, machine.key(0x20), Ok(()));
-        let granted = machine.grant(&system, 1_000_000);
-        same(&rt, granted.executed, row.executed);
-        same(&rt, machine.look().ended, End::Exited);
-        let mut out = [0; 32];
-        let count = machine.take(&mut out);
-        same(&rt, &out[..count], row.shown);
+        shows_its_fault(&rt, &mut machine, &system, row);
     }
     Ok(())
+}
+
+/// Runs the program of a row, with a key for its fault.
+fn shows_its_fault(rt: &impl Abort, machine: &mut Machine, system: &Image, row: &Faulty) {
+    same(rt, machine.key(0x20), Ok(()));
+    let granted = machine.grant(system, 1_000_000);
+    same(rt, granted.executed, row.executed);
+    same(rt, machine.look().ended, End::Exited);
+    let mut out = [0; 32];
+    let count = machine.take(&mut out);
+    same(rt, &out[..count], row.shown);
 }
 
 /// Makes a file, writes the record at 0080h, which begins with an A, and closes the file.

@@ -3,6 +3,7 @@
 use crate::run::{blank, opening_of};
 use crate::same::same;
 use cpm_flags::Cpu;
+use cpm_geom::Image;
 use cpm_slots::{End, Machine, OpenError, Opening, Tail, Why};
 use std::alloc::Global;
 use std::process::Abort;
@@ -108,12 +109,17 @@ fn gives_the_drives_back(rt: HostRuntime) -> Result<(), Fail> {
     for (place, drive) in machine.finish().drives.into_iter().enumerate() {
         same(&rt, drive.is_some(), place < 2);
         if let Some(image) = drive {
-            let bytes = image.into_bytes();
-            same(&rt, bytes.len(), 256_256);
-            assert!(rt; bytes.iter().all(|byte| *byte == 0xE5));
+            is_blank(&rt, image);
         }
     }
     Ok(())
+}
+
+/// The image of a disk is as it was.
+fn is_blank(rt: &impl Abort, image: Image) {
+    let bytes = image.into_bytes();
+    same(rt, bytes.len(), 256_256);
+    assert!(rt; bytes.iter().all(|byte| *byte == 0xE5));
 }
 
 #[test]

@@ -3,8 +3,9 @@
 use crate::run::{Left, blank, halts, machine_of, run};
 use crate::same::same;
 use cpm_flags::Cpu;
-use cpm_slots::{End, Why};
+use cpm_slots::{End, Machine, Why};
 use std::alloc::Global;
+use std::process::Abort;
 use std::test::Fail;
 
 /// What a program shows, how many steps it makes and how it ends.
@@ -80,16 +81,21 @@ fn shows_and_ends(rt: HostRuntime) -> Result<(), Fail> {
         let mut ran = run(rt.alloc(), Cpu::I8080, row.program)?;
         same(&rt, ran.granted.executed, row.executed);
         same(&rt, ran.granted.why, Why::Stopped);
-        let look = ran.machine.look();
-        same(&rt, look.ended, row.ended);
-        same(&rt, look.count, row.executed);
-        let mut out = [0; 64];
-        let count = ran.machine.take(&mut out);
-        same(&rt, count, row.shown.len());
-        same(&rt, &out[..count], row.shown);
-        same(&rt, ran.machine.take_list(&mut out), 0);
+        shows_and_ended(&rt, &mut ran.machine, row);
     }
     Ok(())
+}
+
+/// The machine ended as the row says, and shows its bytes.
+fn shows_and_ended(rt: &impl Abort, machine: &mut Machine, row: &Row) {
+    let look = machine.look();
+    same(rt, look.ended, row.ended);
+    same(rt, look.count, row.executed);
+    let mut out = [0; 64];
+    let count = machine.take(&mut out);
+    same(rt, count, row.shown.len());
+    same(rt, &out[..count], row.shown);
+    same(rt, machine.take_list(&mut out), 0);
 }
 
 #[test]
@@ -100,6 +106,11 @@ fn ends_where_it_should(rt: HostRuntime) -> Result<(), Fail> {
         &[0x0E, 0x02, 0x1E, 0x41, 0xCD, 0x05, 0x00, 0xC9],
     )?;
     same(&rt, exited.machine.look().regs.pc, 0xE406);
+    Ok(())
+}
+
+#[test]
+fn ends_at_a_byte_that_is_no_instruction(rt: HostRuntime) -> Result<(), Fail> {
     let illegal = run(rt.alloc(), Cpu::I8080, &[0x08])?;
     same(&rt, illegal.machine.look().regs.pc, 0x0100);
     let closed = illegal.machine.finish();

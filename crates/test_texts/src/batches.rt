@@ -145,12 +145,17 @@ fn check_forked(
     let config = config_of(rt, sessions);
     let inputs = read(rt, &config, &mut filled_for_fork(rt, own)).expect(rt, "inputs");
     let last = inputs.sessions.last().expect(rt, "a session");
-    same(rt, last.session.name.as_str(), "forked");
-    match &last.start {
+    check_fork(rt, last, place);
+    check_keys(rt, last, wanted);
+}
+
+/// Fails unless this is the forked session, from that at this place, at the count 7.
+fn check_fork(rt: &impl Abort, input: &Input<'_>, place: usize) {
+    same(rt, input.session.name.as_str(), "forked");
+    match &input.start {
         Start::Forked { parent, at } => same(rt, (*parent, *at), (place, 7)),
         Start::Opened { .. } => panic!(rt; "opened"),
     }
-    check_keys(rt, last, wanted);
 }
 
 #[test]
