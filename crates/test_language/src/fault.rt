@@ -1,0 +1,45 @@
+//! Why a row fails before anything is compared.
+
+use std::alloc::{AllocError, AllocFailed};
+use thiserror::Error;
+
+/// Why a line can't be done.
+#[derive(Clone, Copy, Debug, PartialEq, Eq, Drop, Error)]
+pub enum Fault {
+    /// Its first word is none that rows of this kind have.
+    #[error("no line of these rows begins so")]
+    Unknown,
+    /// Behind its first word stand too few words, too many, or others.
+    #[error("the words behind the first one are not those of this line")]
+    Words,
+    /// A decimal number is wanted, of at most 64 bits.
+    #[error("a decimal number is wanted")]
+    Number,
+    /// Two hexadecimal digits are wanted, or four.
+    #[error("two hexadecimal digits are wanted for a byte, four for an address")]
+    Digits,
+    /// Bytes are wanted.
+    #[error("bytes are wanted: digits, texts in quotes, and each so often, as 3*1A")]
+    Bytes,
+    /// What the line works on was not made before, or has another name.
+    #[error("what this line works on is not there")]
+    Absent,
+    /// A condition of the call doesn't hold.
+    #[error("the call can't be made here: a condition of it doesn't hold")]
+    Unready,
+    /// Memory was refused.
+    #[error("out of memory")]
+    OutOfMemory,
+}
+
+impl From<AllocError> for Fault {
+    fn from(_error: AllocError) -> Fault {
+        Fault::OutOfMemory
+    }
+}
+
+impl<T: Drop> From<AllocFailed<T>> for Fault {
+    fn from(_error: AllocFailed<T>) -> Fault {
+        Fault::OutOfMemory
+    }
+}

@@ -1,0 +1,18 @@
+//! The language of the rows: texts that say what is done and what must come. `docs/ROWS.md` describes it.
+#![tactic(auto)]
+
+mod answer;
+mod bytes;
+mod fault;
+mod line;
+mod runner;
+mod scene;
+mod word;
+
+pub use answer::Answer;
+pub use bytes::{bytes_of, write_bytes};
+pub use fault::Fault;
+pub use line::Line;
+pub use runner::{Tally, run_rows};
+pub use scene::Scene;
+pub use word::{Word, address, byte, count, number};

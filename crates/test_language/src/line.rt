@@ -1,0 +1,80 @@
+//! A line of a row.
+
+use crate::bytes::bytes_of;
+use crate::fault::Fault;
+use crate::word::{Word, words_of};
+use std::alloc::{AllocError, Global};
+
+/// What a line must answer.
+#[derive(Clone, Copy, Debug, PartialEq, Eq)]
+pub enum Wanted<'a> {
+    /// Anything but a refusal.
+    Nothing,
+    /// These words, or the bytes that they stand for.
+    Words(&'a str),
+    /// The text between the marks behind the line.
+    Text,
+}
+
+/// A line of a row: its words, and what it must answer.
+#[derive(Debug, Drop)]
+pub struct Line<'a> {
+    /// Its place in the file, counted from 1.
+    pub number: usize,
+    /// The words before the equals sign.
+    pub words: Vec<Word<'a>>,
+    /// What must come.
+    pub wanted: Wanted<'a>,
+    /// The text between the marks behind it, each of its lines with its end.
+    pub text: String,
+    /// Whether such a text follows.
+    pub has_text: bool,
+}
+
+impl<'a> Line<'a> {
+    /// The line of this text, whose own text between marks is still to be read.
+    pub fn of(alloc: Global, number: usize, text: &'a str) -> Result<Line<'a>, AllocError> {
+        let (done, has_text) = match text.strip_suffix(" <<") {
+            Some(done) => (done, true),
+            None => (text, false),
+        };
+        let (done, wanted) = match done.split_once(" = ") {
+            Some((done, wanted)) => (done, Wanted::Words(wanted)),
+            None => match done.strip_suffix(" =") {
+                Some(done) => (done, Wanted::Text),
+                None => (done, Wanted::Nothing),
+            },
+        };
+        Ok(Line {
+            number,
+            words: words_of(alloc, done)?,
+            wanted,
+            text: String::new(alloc),
+            has_text,
+        })
+    }
+
+    /// The first word.
+    pub fn verb(&self) -> &'a str {
+        match self.words.as_slice() {
+            [first, ..] => first.text,
+            [] => "",
+        }
+    }
+
+    /// The words behind the first one.
+    pub fn arguments(&self) -> &[Word<'a>] {
+        match self.words.as_slice() {
+            [_, rest @ ..] => rest,
+            [] => &[],
+        }
+    }
+
+    /// The bytes of what is given: the text between the marks behind the line, or those that words of it stand for.
+    pub fn given(&self, alloc: Global, words: &[Word<'_>]) -> Result<Vec<u8>, Fault> {
+        if self.has_text && !matches!(self.wanted, Wanted::Text) {
+            return Ok(Vec::from_slice(alloc, self.text.as_bytes())?);
+        }
+        bytes_of(alloc, words)
+    }
+}

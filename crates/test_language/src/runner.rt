@@ -1,0 +1,210 @@
+//! Runs the rows of a file.
+
+use crate::answer::Answer;
+use crate::fault::Fault;
+use crate::line::{Line, Wanted};
+use crate::scene::Scene;
+use std::alloc::{AllocError, Global};
+
+/// How many rows there were, how many of them are not as they should be, and how many expectations they had.
+#[derive(Clone, Copy, Debug, Default, PartialEq, Eq)]
+pub struct Tally {
+    pub rows: u64,
+    pub failed: u64,
+    pub expectations: u64,
+}
+
+/// The row that is being done.
+#[derive(Drop)]
+struct Row<'a, S: Scene> {
+    name: &'a str,
+    scene: S,
+    has_expectation: bool,
+    has_failed: bool,
+}
+
+/// The rows of a file, line by line.
+#[derive(Drop)]
+struct Runner<'a, S: Scene> {
+    alloc: Global,
+    file: &'a str,
+    /// Whether each row is wrong, and must fail.
+    are_wrong: bool,
+    row: Option<Row<'a, S>>,
+    /// The line whose text is being read.
+    line: Option<Line<'a>>,
+    tally: Tally,
+    /// What is told of rows that are not as they should be.
+    told: String,
+}
+
+impl<'a, S: Scene> Runner<'a, S> {
+    /// Takes a line of the file.
+    fn take(&mut self, number: usize, text: &'a str) -> Result<(), AllocError> {
+        match self.line.take() {
+            Some(line) => self.take_text(line, text),
+            None => self.take_line(number, text),
+        }
+    }
+
+    /// Takes a line of the text that belongs to a line, or its end.
+    fn take_text(&mut self, line: Line<'a>, text: &str) -> Result<(), AllocError> {
+        if text == ">>" {
+            return self.act(&line);
+        }
+        let mut line = line;
+        line.text.push_str(text)?;
+        line.text.push('\n')?;
+        self.line = Some(line);
+        Ok(())
+    }
+
+    /// Takes a line that is no part of a text.
+    fn take_line(&mut self, number: usize, text: &'a str) -> Result<(), AllocError> {
+        if text.is_empty() || text.starts_with('#') {
+            return Ok(());
+        }
+        if !text.starts_with("  ") {
+            self.end_row()?;
+            return self.begin_row(text);
+        }
+        let line = Line::of(self.alloc, number, text)?;
+        if line.has_text {
+            self.line = Some(line);
+            return Ok(());
+        }
+        self.act(&line)
+    }
+
+    /// Begins a row.
+    fn begin_row(&mut self, name: &'a str) -> Result<(), AllocError> {
+        self.row = Some(Row {
+            name,
+            scene: S::new(self.alloc)?,
+            has_expectation: false,
+            has_failed: false,
+        });
+        Ok(())
+    }
+
+    /// Does a line of the row, unless the row has failed.
+    fn act(&mut self, line: &Line<'_>) -> Result<(), AllocError> {
+        let alloc = self.alloc;
+        let Some(row) = &mut self.row else {
+            return self.tell("", line.number, "a line stands before the first row");
+        };
+        if row.has_failed {
+            return Ok(());
+        }
+        if !matches!(line.wanted, Wanted::Nothing) {
+            row.has_expectation = true;
+            self.tally.expectations = self.tally.expectations.saturating_add(1);
+        }
+        let answer = row.scene.act(alloc, line);
+        if let Some(came) = came_wrongly(alloc, line, answer)? {
+            row.has_failed = true;
+            let name = row.name;
+            self.fail(name, line, came.as_str())?;
+        }
+        Ok(())
+    }
+
+    /// Ends the row, if there is one.
+    fn end_row(&mut self) -> Result<(), AllocError> {
+        let Some(row) = self.row.take() else {
+            return Ok(());
+        };
+        self.tally.rows = self.tally.rows.saturating_add(1);
+        let has_failed = row.has_failed || !row.has_expectation;
+        if has_failed != self.are_wrong {
+            self.tally.failed = self.tally.failed.saturating_add(1);
+        }
+        if self.are_wrong && !has_failed {
+            return self.tell(row.name, 0, "the row is wrong, and passes");
+        }
+        if !self.are_wrong && !row.has_failed && has_failed {
+            return self.tell(row.name, 0, "the row expects nothing");
+        }
+        Ok(())
+    }
+
+    /// Tells of a line that didn't answer what it must, where the row should be right.
+    fn fail(&mut self, name: &str, line: &Line<'_>, came: &str) -> Result<(), AllocError> {
+        if self.are_wrong {
+            return Ok(());
+        }
+        self.tell(name, line.number, came)?;
+        match line.wanted {
+            Wanted::Nothing => Ok(()),
+            Wanted::Words(wanted) => self.tell_wanted(wanted),
+            Wanted::Text => self.tell_wanted(line.text.as_str()),
+        }
+    }
+
+    fn tell_wanted(&mut self, wanted: &str) -> Result<(), AllocError> {
+        self.told.push_str("    wanted: ")?;
+        self.told.push_str(wanted)?;
+        self.told.push('\n')
+    }
+
+    /// Tells of a row, with the line in the file where there is one.
+    fn tell(&mut self, name: &str, number: usize, what: &str) -> Result<(), AllocError> {
+        let file = self.file;
+        let line = if number == 0 {
+            format!(in self.alloc; "{file}: {name}: {what}\n")?
+        } else {
+            format!(in self.alloc; "{file}:{number}: {name}\n    came: {what}\n")?
+        };
+        self.told.push_str(line.as_str())
+    }
+}
+
+/// What came of a line, in words, where it is not what must come.
+fn came_wrongly(
+    alloc: Global,
+    line: &Line<'_>,
+    answer: Result<Answer, Fault>,
+) -> Result<Option<String>, AllocError> {
+    match answer {
+        Ok(answer) => match answer.is(alloc, line) {
+            Ok(true) => Ok(None),
+            Ok(false) => {
+                let mut came = String::new(alloc);
+                answer.write(alloc, &mut came)?;
+                Ok(Some(came))
+            }
+            Err(fault) => Ok(Some(format!(in alloc; "{fault}")?)),
+        },
+        Err(fault) => Ok(Some(format!(in alloc; "{fault}")?)),
+    }
+}
+
+/// Runs the rows of a file, of which the first line was read, and adds to a text what is told of those that are not as they should
+/// be. With `are_wrong` each row must fail.
+pub fn run_rows<'a, S: Scene>(
+    alloc: Global,
+    file: &'a str,
+    text: &'a str,
+    are_wrong: bool,
+    told: &mut String,
+) -> Result<Tally, AllocError> {
+    let mut runner: Runner<'a, S> = Runner {
+        alloc,
+        file,
+        are_wrong,
+        row: None,
+        line: None,
+        tally: Tally::default(),
+        told: String::new(alloc),
+    };
+    for (place, line) in text.lines().enumerate().skip(1) {
+        runner.take(place.saturating_add(1), line)?;
+    }
+    if let Some(line) = runner.line.take() {
+        runner.tell("", line.number, "the text behind this line has no end")?;
+        runner.tally.failed = runner.tally.failed.saturating_add(1);
+    }
+    runner.end_row()?;
+    told.push_str(runner.told.as_str())?;
+    Ok(runner.tally)
+}

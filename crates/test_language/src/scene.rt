@@ -1,0 +1,15 @@
+//! What the rows of a file are about.
+
+use crate::answer::Answer;
+use crate::fault::Fault;
+use crate::line::Line;
+use std::alloc::{AllocError, Global};
+
+/// What the lines of a row work on: each kind of rows has one, which each row begins with anew.
+pub trait Scene: Drop {
+    /// Before the first line of a row.
+    fn new(alloc: Global) -> Result<Self, AllocError>;
+
+    /// Does a line, and gives its answer.
+    fn act(&mut self, alloc: Global, line: &Line<'_>) -> Result<Answer, Fault>;
+}

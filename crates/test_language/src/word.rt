@@ -1,0 +1,73 @@
+//! Words of a line, and the numbers that they are.
+
+use crate::fault::Fault;
+use std::alloc::{AllocError, Global};
+
+/// A word of a line: what stands between spaces, or between quotes.
+#[derive(Clone, Copy, Debug, PartialEq, Eq)]
+pub struct Word<'a> {
+    /// The characters, without the quotes.
+    pub text: &'a str,
+    /// Whether they stood between quotes.
+    pub is_quoted: bool,
+}
+
+/// The words of a text, where every second part between quotes is one word.
+pub fn words_of(alloc: Global, text: &str) -> Result<Vec<Word<'_>>, AllocError> {
+    let mut words = Vec::new(alloc);
+    let mut is_quoted = false;
+    for part in text.split('"') {
+        if is_quoted {
+            words.push(Word {
+                text: part,
+                is_quoted,
+            })?;
+        } else {
+            add_plain(&mut words, part)?;
+        }
+        is_quoted = !is_quoted;
+    }
+    Ok(words)
+}
+
+/// Adds the words between the spaces of a part.
+fn add_plain<'a>(words: &mut Vec<Word<'a>>, part: &'a str) -> Result<(), AllocError> {
+    for text in part.split_whitespace() {
+        words.push(Word {
+            text,
+            is_quoted: false,
+        })?;
+    }
+    Ok(())
+}
+
+/// A decimal number.
+pub fn number(word: Word<'_>) -> Result<u64, Fault> {
+    word.text.parse::<u64>().map_err(|_| Fault::Number)
+}
+
+/// A decimal number of things.
+pub fn count(word: Word<'_>) -> Result<usize, Fault> {
+    word.text.parse::<usize>().map_err(|_| Fault::Number)
+}
+
+/// The bytes that so many pairs of hexadecimal digits are.
+fn digits<const N: usize>(word: Word<'_>) -> Result<[u8; N], Fault> {
+    let mut bytes = [0; N];
+    match hex::decode_to_slice(word.text, &mut bytes) {
+        Ok(()) => Ok(bytes),
+        Err(_) => Err(Fault::Digits),
+    }
+}
+
+/// A byte: two hexadecimal digits.
+pub fn byte(word: Word<'_>) -> Result<u8, Fault> {
+    let [byte] = digits::<1>(word)?;
+    Ok(byte)
+}
+
+/// An address, or any number of 16 bits: four hexadecimal digits.
+pub fn address(word: Word<'_>) -> Result<u16, Fault> {
+    let [high, low] = digits::<2>(word)?;
+    Ok(256 * u16::from(high) + u16::from(low))
+}
