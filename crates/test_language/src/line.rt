@@ -6,7 +6,7 @@ use crate::word::{Word, words_of};
 use std::alloc::{AllocError, Global};
 
 /// What a line must answer.
-#[derive(Clone, Copy, Debug, PartialEq, Eq)]
+#[derive(Clone, Copy)]
 pub enum Wanted<'a> {
     /// Anything but a refusal.
     Nothing,
@@ -17,7 +17,7 @@ pub enum Wanted<'a> {
 }
 
 /// A line of a row: its words, and what it must answer.
-#[derive(Debug, Drop)]
+#[derive(Drop)]
 pub struct Line<'a> {
     /// Its place in the file, counted from 1.
     pub number: usize,

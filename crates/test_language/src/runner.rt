@@ -7,7 +7,7 @@ use crate::scene::Scene;
 use std::alloc::{AllocError, Global};
 
 /// How many rows there were, how many of them are not as they should be, and how many expectations they had.
-#[derive(Clone, Copy, Debug, Default, PartialEq, Eq)]
+#[derive(Clone, Copy, Default)]
 pub struct Tally {
     pub rows: u64,
     pub failed: u64,
