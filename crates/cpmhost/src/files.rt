@@ -5,9 +5,9 @@ ghost use Rattle.cpm_store.specs.Files.{CountsFailure};
 
 use crate::output::Outputs;
 use crate::place::script_paths;
-use crate::refused::Behind;
+use crate::refused::{Behind, Refused};
 use crate::rehearse::Rehearsals;
-use cpm_host::{Config, HostError, Store, StoreError, read_whole, shown};
+use cpm_host::{Config, HostError, RunError, Store, StoreError, read_whole, shown};
 use std::alloc::Global;
 use std::io::ErrorKind;
 use std::rt::Files;
@@ -179,11 +179,14 @@ impl<'a, R: Files + AllocGlobal> MachineFiles<'a, R> {
         }
     }
 
-    /// What is said behind the refusal of a run that the last call ended: why that failed, if it did.
-    pub fn behind(&self) -> Behind {
-        match self.reason {
-            Some(reason) => Behind::Reason(reason),
-            None => Behind::Nothing,
+    /// The refusal of a run that the last call ended, and why that failed, if it did.
+    pub fn refused(&self, error: RunError) -> Refused {
+        Refused {
+            error: HostError::from(error),
+            behind: match self.reason {
+                Some(reason) => Behind::Reason(reason),
+                None => Behind::Nothing,
+            },
         }
     }
 

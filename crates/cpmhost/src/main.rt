@@ -102,10 +102,7 @@ fn play_sessions(
     teller.end();
     let report = match ran {
         Ok(report) => report,
-        Err(error) => {
-            let behind = files.behind();
-            return Err(Refused { error, behind });
-        }
+        Err(error) => return Err(files.refused(error)),
     };
     for (place, session) in report.iter().enumerate() {
         let word = waiting_word(rehearsals.is_idle(place));
@@ -157,7 +154,8 @@ fn list(rt: &(impl Files + Print + AllocGlobal), file: &str, cpu: Cpu) -> Result
 /// Prints that the image in a file is in order.
 fn check(rt: &(impl Files + Print + AllocGlobal), file: &str) -> Result<(), HostError> {
     let bytes = read_file(rt, file)?;
-    run_check(file, bytes, &mut io::writer(rt))
+    run_check(file, bytes, &mut io::writer(rt))?;
+    Ok(())
 }
 
 /// Runs the program in a file as the lines of standard input say, and prints what is answered.

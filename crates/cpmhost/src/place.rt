@@ -3,7 +3,7 @@
 use crate::disk::Taken;
 use crate::output::target_of;
 use crate::refused::{Behind, Refused};
-use cpm_host::{ComTask, Config, HostError, Origin, RunTask, shown};
+use cpm_host::{ComTask, Config, HostError, Origin, RunError, RunTask, shown};
 use std::alloc::{AllocError, Global};
 use std::fs;
 use std::io::ErrorKind;
@@ -133,7 +133,7 @@ impl<'a> Looked<'a> {
 /// The refusal of an output that is another file too.
 fn twin(name: &str, behind: Behind) -> Refused {
     Refused {
-        error: HostError::WriteFault(shown(name)),
+        error: HostError::from(RunError::WriteFault(shown(name))),
         behind,
     }
 }
