@@ -10,6 +10,7 @@ use std::env::Env;
 use std::fs;
 use std::process::ExitCode;
 use std::rt::Files;
+use test_bdos_rows::{Calls, Commands, Consoles, EditedLines};
 use test_language::{Tally, run_rows};
 
 /// What came of a file: its rows, and what is told of those that are not as they should be.
@@ -29,6 +30,10 @@ fn run_subject(
 ) -> Result<Option<Tally>, AllocError> {
     let are_wrong = header.are_wrong;
     let tally = match header.subject {
+        "calls" => run_rows::<Calls>(alloc, file, text, are_wrong, told)?,
+        "commands" => run_rows::<Commands>(alloc, file, text, are_wrong, told)?,
+        "consoles" => run_rows::<Consoles>(alloc, file, text, are_wrong, told)?,
+        "edited-lines" => run_rows::<EditedLines>(alloc, file, text, are_wrong, told)?,
         _ => return Ok(None),
     };
     Ok(Some(tally))
