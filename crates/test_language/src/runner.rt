@@ -100,8 +100,7 @@ impl<'a, S: Scene> Runner<'a, S> {
             row.has_expectation = true;
             self.tally.expectations = self.tally.expectations.saturating_add(1);
         }
-        let answer = row.scene.act(alloc, line);
-        if let Some(came) = came_wrongly(alloc, line, answer)? {
+        if let Some(came) = done_wrongly(alloc, &mut row.scene, line)? {
             row.has_failed = true;
             let name = row.name;
             self.fail(name, line, came.as_str())?;
@@ -157,6 +156,21 @@ impl<'a, S: Scene> Runner<'a, S> {
         };
         self.told.push_str(line.as_str())
     }
+}
+
+/// Does a line, as often as it says. What came of it, in words, where once it is not what must come.
+fn done_wrongly<S: Scene>(
+    alloc: Global,
+    scene: &mut S,
+    line: &Line<'_>,
+) -> Result<Option<String>, AllocError> {
+    for _ in 0..line.times() {
+        let answer = scene.act(alloc, line);
+        if let Some(came) = came_wrongly(alloc, line, answer)? {
+            return Ok(Some(came));
+        }
+    }
+    Ok(None)
 }
 
 /// What came of a line, in words, where it is not what must come.
