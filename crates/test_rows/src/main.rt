@@ -5,13 +5,14 @@ mod header;
 
 use header::Header;
 use std::alloc::{AllocError, Global};
-use std::env;
 use std::env::Env;
-use std::fs;
 use std::process::ExitCode;
 use std::rt::Files;
+use std::{env, fs};
 use test_bdos_rows::{Calls, Commands, Consoles, EditedLines};
 use test_language::{Tally, run_rows};
+use test_machine_rows::{Hosts, Machines};
+use test_memory_rows::{Instructions, Memories};
 
 /// What came of a file: its rows, and what is told of those that are not as they should be.
 #[derive(Drop)]
@@ -34,6 +35,10 @@ fn run_subject(
         "commands" => run_rows::<Commands>(alloc, file, text, are_wrong, told)?,
         "consoles" => run_rows::<Consoles>(alloc, file, text, are_wrong, told)?,
         "edited-lines" => run_rows::<EditedLines>(alloc, file, text, are_wrong, told)?,
+        "memories" => run_rows::<Memories>(alloc, file, text, are_wrong, told)?,
+        "instructions" => run_rows::<Instructions>(alloc, file, text, are_wrong, told)?,
+        "machines" => run_rows::<Machines>(alloc, file, text, are_wrong, told)?,
+        "hosts" => run_rows::<Hosts>(alloc, file, text, are_wrong, told)?,
         _ => return Ok(None),
     };
     Ok(Some(tally))
