@@ -10,7 +10,10 @@ use std::env::Env;
 use std::fs;
 use std::process::ExitCode;
 use std::rt::Files;
+use test_filing_rows::{Batches, DiskCommands, Stores};
 use test_language::{Tally, run_rows};
+use test_listing_rows::{Listings, Sources};
+use test_text_rows::{CommandLines, Configurations, Scripts};
 
 /// What came of a file: its rows, and what is told of those that are not as they should be.
 #[derive(Drop)]
@@ -29,6 +32,14 @@ fn run_subject(
 ) -> Result<Option<Tally>, AllocError> {
     let are_wrong = header.are_wrong;
     let tally = match header.subject {
+        "listings" => run_rows::<Listings>(alloc, file, text, are_wrong, told)?,
+        "sources" => run_rows::<Sources>(alloc, file, text, are_wrong, told)?,
+        "scripts" => run_rows::<Scripts>(alloc, file, text, are_wrong, told)?,
+        "configurations" => run_rows::<Configurations>(alloc, file, text, are_wrong, told)?,
+        "command-lines" => run_rows::<CommandLines>(alloc, file, text, are_wrong, told)?,
+        "stores" => run_rows::<Stores>(alloc, file, text, are_wrong, told)?,
+        "batches" => run_rows::<Batches>(alloc, file, text, are_wrong, told)?,
+        "disk-commands" => run_rows::<DiskCommands>(alloc, file, text, are_wrong, told)?,
         _ => return Ok(None),
     };
     Ok(Some(tally))
