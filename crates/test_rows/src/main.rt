@@ -10,9 +10,12 @@ use std::process::ExitCode;
 use std::rt::Files;
 use std::{env, fs};
 use test_bdos_rows::{Calls, Commands, Consoles, EditedLines};
+use test_filing_rows::{Batches, DiskCommands, Stores};
 use test_language::{Tally, run_rows};
+use test_listing_rows::{Listings, Sources};
 use test_machine_rows::{Hosts, Machines};
 use test_memory_rows::{Instructions, Memories};
+use test_text_rows::{CommandLines, Configurations, Scripts};
 
 /// What came of a file: its rows, and what is told of those that are not as they should be.
 #[derive(Drop)]
@@ -39,6 +42,14 @@ fn run_subject(
         "instructions" => run_rows::<Instructions>(alloc, file, text, are_wrong, told)?,
         "machines" => run_rows::<Machines>(alloc, file, text, are_wrong, told)?,
         "hosts" => run_rows::<Hosts>(alloc, file, text, are_wrong, told)?,
+        "listings" => run_rows::<Listings>(alloc, file, text, are_wrong, told)?,
+        "sources" => run_rows::<Sources>(alloc, file, text, are_wrong, told)?,
+        "scripts" => run_rows::<Scripts>(alloc, file, text, are_wrong, told)?,
+        "configurations" => run_rows::<Configurations>(alloc, file, text, are_wrong, told)?,
+        "command-lines" => run_rows::<CommandLines>(alloc, file, text, are_wrong, told)?,
+        "stores" => run_rows::<Stores>(alloc, file, text, are_wrong, told)?,
+        "batches" => run_rows::<Batches>(alloc, file, text, are_wrong, told)?,
+        "disk-commands" => run_rows::<DiskCommands>(alloc, file, text, are_wrong, told)?,
         _ => return Ok(None),
     };
     Ok(Some(tally))
