@@ -10,6 +10,7 @@ use std::env::Env;
 use std::fs;
 use std::process::ExitCode;
 use std::rt::Files;
+use test_disk_rows::{Directories, Drives, ImageFiles, ImageLines, OneDrive};
 use test_language::{Tally, run_rows};
 
 /// What came of a file: its rows, and what is told of those that are not as they should be.
@@ -29,6 +30,11 @@ fn run_subject(
 ) -> Result<Option<Tally>, AllocError> {
     let are_wrong = header.are_wrong;
     let tally = match header.subject {
+        "drives" => run_rows::<Drives>(alloc, file, text, are_wrong, told)?,
+        "one-drive" => run_rows::<OneDrive>(alloc, file, text, are_wrong, told)?,
+        "directories" => run_rows::<Directories>(alloc, file, text, are_wrong, told)?,
+        "images" => run_rows::<ImageLines>(alloc, file, text, are_wrong, told)?,
+        "image-files" => run_rows::<ImageFiles>(alloc, file, text, are_wrong, told)?,
         _ => return Ok(None),
     };
     Ok(Some(tally))
