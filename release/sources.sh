@@ -1,9 +1,9 @@
-# What the program is made from. Read by ./cpmhost, .ci/run, release/make and release/test, each of which sets `here` to the
-# top of the repository before.
+# What a program of the release is made from, cpmhost unless another is named. Read by ./cpmhost, .ci/run, release/make and release/test, each
+# of which sets `here` to the top of the repository before.
 
 # The program's crates, as crates.txt has them, each after those that it stands on.
 crates() {
-    crates_up_to cpmhost
+    crates_up_to "${1:-cpmhost}"
 }
 
 # The crates that a crate stands on, in the same order.
@@ -35,7 +35,7 @@ crates_up_to() {
 # The file and the folders that the program is made from, in one line.
 sources() {
     printf 'crates.txt'
-    for crate in $(crates); do
+    for crate in $(crates "$@"); do
         for part in src specs proofs; do
             [ ! -d "$here/crates/$crate/$part" ] || printf ' crates/%s/%s' "$crate" "$part"
         done

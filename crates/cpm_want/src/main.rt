@@ -1,5 +1,5 @@
 //! Makes the calls that take memory, `cpm_want` all of them and `cpm_want NAME` one, and prints what came of each: `made`; `refused`, where
-//! memory was refused, what was passed by value came back and all else was as before; or `wrong`. For `examples/allocations`, which refuses
+//! memory was refused, what was passed by value came back and all else was as before; or `wrong`. For `tests/allocations`, which refuses
 //! each of their allocations in turn.
 #![tactic(auto)]
 

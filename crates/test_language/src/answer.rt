@@ -8,7 +8,7 @@ use std::alloc::{AllocError, Global};
 use std::fmt::{Debug, Display};
 
 /// What a line answers.
-#[derive(Debug, Drop)]
+#[derive(Drop)]
 pub enum Answer {
     /// It was done, and there is nothing to compare.
     Done,

@@ -6,7 +6,7 @@ use crate::word::{Word, words_of};
 use std::alloc::{AllocError, Global};
 
 /// What a line must answer.
-#[derive(Clone, Copy, Debug, PartialEq, Eq)]
+#[derive(Clone, Copy)]
 pub enum Wanted<'a> {
     /// Anything but a refusal.
     Nothing,
@@ -17,7 +17,7 @@ pub enum Wanted<'a> {
 }
 
 /// A line of a row: its words, and what it must answer.
-#[derive(Debug, Drop)]
+#[derive(Drop)]
 pub struct Line<'a> {
     /// Its place in the file, counted from 1.
     pub number: usize,
@@ -54,9 +54,25 @@ impl<'a> Line<'a> {
         })
     }
 
+    /// How often it is done: as often as a first word says that is a number and `*`, else once.
+    pub fn times(&self) -> u64 {
+        match self.words.as_slice() {
+            [first, ..] => times_of(*first).unwrap_or(1),
+            [] => 1,
+        }
+    }
+
+    /// The words behind such a number.
+    fn plain_words(&self) -> &[Word<'a>] {
+        match self.words.as_slice() {
+            [first, rest @ ..] if times_of(*first).is_some() => rest,
+            words => words,
+        }
+    }
+
     /// The first word.
     pub fn verb(&self) -> &'a str {
-        match self.words.as_slice() {
+        match self.plain_words() {
             [first, ..] => first.text,
             [] => "",
         }
@@ -64,7 +80,7 @@ impl<'a> Line<'a> {
 
     /// The words behind the first one.
     pub fn arguments(&self) -> &[Word<'a>] {
-        match self.words.as_slice() {
+        match self.plain_words() {
             [_, rest @ ..] => rest,
             [] => &[],
         }
@@ -77,4 +93,13 @@ impl<'a> Line<'a> {
         }
         bytes_of(alloc, words)
     }
+}
+
+/// How often a line is done that begins with this word, where it is a number above 0 and `*`.
+fn times_of(word: Word<'_>) -> Option<u64> {
+    let times = word.text.strip_suffix('*')?.parse::<u64>().ok()?;
+    if word.is_quoted || times == 0 {
+        return None;
+    }
+    Some(times)
 }

@@ -7,7 +7,7 @@ use crate::scene::Scene;
 use std::alloc::{AllocError, Global};
 
 /// How many rows there were, how many of them are not as they should be, and how many expectations they had.
-#[derive(Clone, Copy, Debug, Default, PartialEq, Eq)]
+#[derive(Clone, Copy, Default)]
 pub struct Tally {
     pub rows: u64,
     pub failed: u64,
@@ -91,7 +91,7 @@ impl<'a, S: Scene> Runner<'a, S> {
     fn act(&mut self, line: &Line<'_>) -> Result<(), AllocError> {
         let alloc = self.alloc;
         let Some(row) = &mut self.row else {
-            return self.tell("", line.number, "a line stands before the first row");
+            return self.fail_file(line.number, "this line stands before the first row");
         };
         if row.has_failed {
             return Ok(());
@@ -100,8 +100,7 @@ impl<'a, S: Scene> Runner<'a, S> {
             row.has_expectation = true;
             self.tally.expectations = self.tally.expectations.saturating_add(1);
         }
-        let answer = row.scene.act(alloc, line);
-        if let Some(came) = came_wrongly(alloc, line, answer)? {
+        if let Some(came) = done_wrongly(alloc, &mut row.scene, line)? {
             row.has_failed = true;
             let name = row.name;
             self.fail(name, line, came.as_str())?;
@@ -120,10 +119,10 @@ impl<'a, S: Scene> Runner<'a, S> {
             self.tally.failed = self.tally.failed.saturating_add(1);
         }
         if self.are_wrong && !has_failed {
-            return self.tell(row.name, 0, "the row is wrong, and passes");
+            return self.tell(row.name, "the row is wrong, and passes");
         }
         if !self.are_wrong && !row.has_failed && has_failed {
-            return self.tell(row.name, 0, "the row expects nothing");
+            return self.tell(row.name, "the row expects nothing");
         }
         Ok(())
     }
@@ -133,12 +132,21 @@ impl<'a, S: Scene> Runner<'a, S> {
         if self.are_wrong {
             return Ok(());
         }
-        self.tell(name, line.number, came)?;
+        let number = line.number;
+        let told = format!(in self.alloc; "{}:{number}: {name}\n    came:   {came}\n", self.file)?;
+        self.told.push_str(told.as_str())?;
         match line.wanted {
             Wanted::Nothing => Ok(()),
             Wanted::Words(wanted) => self.tell_wanted(wanted),
             Wanted::Text => self.tell_wanted(line.text.as_str()),
         }
+    }
+
+    /// Tells of a line of the file that belongs to no row.
+    fn fail_file(&mut self, number: usize, what: &str) -> Result<(), AllocError> {
+        self.tally.failed = self.tally.failed.saturating_add(1);
+        let line = format!(in self.alloc; "{}:{number}: {what}\n", self.file)?;
+        self.told.push_str(line.as_str())
     }
 
     fn tell_wanted(&mut self, wanted: &str) -> Result<(), AllocError> {
@@ -147,16 +155,26 @@ impl<'a, S: Scene> Runner<'a, S> {
         self.told.push('\n')
     }
 
-    /// Tells of a row, with the line in the file where there is one.
-    fn tell(&mut self, name: &str, number: usize, what: &str) -> Result<(), AllocError> {
-        let file = self.file;
-        let line = if number == 0 {
-            format!(in self.alloc; "{file}: {name}: {what}\n")?
-        } else {
-            format!(in self.alloc; "{file}:{number}: {name}\n    came: {what}\n")?
-        };
+    /// Tells of a row as a whole.
+    fn tell(&mut self, name: &str, what: &str) -> Result<(), AllocError> {
+        let line = format!(in self.alloc; "{}: {name}: {what}\n", self.file)?;
         self.told.push_str(line.as_str())
     }
+}
+
+/// Does a line, as often as it says. What came of it, in words, where once it is not what must come.
+fn done_wrongly<S: Scene>(
+    alloc: Global,
+    scene: &mut S,
+    line: &Line<'_>,
+) -> Result<Option<String>, AllocError> {
+    for _ in 0..line.times() {
+        let answer = scene.act(alloc, line);
+        if let Some(came) = came_wrongly(alloc, line, answer)? {
+            return Ok(Some(came));
+        }
+    }
+    Ok(None)
 }
 
 /// What came of a line, in words, where it is not what must come.
@@ -201,8 +219,7 @@ pub fn run_rows<'a, S: Scene>(
         runner.take(place.saturating_add(1), line)?;
     }
     if let Some(line) = runner.line.take() {
-        runner.tell("", line.number, "the text behind this line has no end")?;
-        runner.tally.failed = runner.tally.failed.saturating_add(1);
+        runner.fail_file(line.number, "the text behind this line has no end")?;
     }
     runner.end_row()?;
     told.push_str(runner.told.as_str())?;

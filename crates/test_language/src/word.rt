@@ -4,7 +4,7 @@ use crate::fault::Fault;
 use std::alloc::{AllocError, Global};
 
 /// A word of a line: what stands between spaces, or between quotes.
-#[derive(Clone, Copy, Debug, PartialEq, Eq)]
+#[derive(Clone, Copy)]
 pub struct Word<'a> {
     /// The characters, without the quotes.
     pub text: &'a str,
