@@ -10,6 +10,7 @@ use std::process::ExitCode;
 use std::rt::Files;
 use std::{env, fs};
 use test_bdos_rows::{Calls, Commands, Consoles, EditedLines};
+use test_disk_rows::{Directories, Drives, ImageFiles, ImageLines, OneDrive};
 use test_filing_rows::{Batches, DiskCommands, Stores};
 use test_language::{Tally, run_rows};
 use test_listing_rows::{Listings, Sources};
@@ -38,6 +39,11 @@ fn run_subject(
         "commands" => run_rows::<Commands>(alloc, file, text, are_wrong, told)?,
         "consoles" => run_rows::<Consoles>(alloc, file, text, are_wrong, told)?,
         "edited-lines" => run_rows::<EditedLines>(alloc, file, text, are_wrong, told)?,
+        "drives" => run_rows::<Drives>(alloc, file, text, are_wrong, told)?,
+        "one-drive" => run_rows::<OneDrive>(alloc, file, text, are_wrong, told)?,
+        "directories" => run_rows::<Directories>(alloc, file, text, are_wrong, told)?,
+        "images" => run_rows::<ImageLines>(alloc, file, text, are_wrong, told)?,
+        "image-files" => run_rows::<ImageFiles>(alloc, file, text, are_wrong, told)?,
         "memories" => run_rows::<Memories>(alloc, file, text, are_wrong, told)?,
         "instructions" => run_rows::<Instructions>(alloc, file, text, are_wrong, told)?,
         "machines" => run_rows::<Machines>(alloc, file, text, are_wrong, told)?,
