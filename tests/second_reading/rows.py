@@ -29,6 +29,7 @@ class Word(NamedTuple):
 
 class Line(NamedTuple):
     number: int
+    times: int  # how often it is done
     verb: str
     arguments: list
     wanted: Optional[str]  # the words that must come
@@ -81,10 +82,13 @@ def line_of(number, text):
     done, wanted = (text[:-2], None) if is_text_wanted else (text, None)
     if not is_text_wanted and " = " in text:
         done, wanted = text.split(" = ", 1)
-    words = words_of(done)
+    words, times = words_of(done), 1
+    first = TIMES.fullmatch(words[0].text) if words and not words[0].is_quoted else None
+    if first and not first[2] and int(first[1]) > 0:
+        words, times = words[1:], int(first[1])
     if not words or words[0].is_quoted:
         raise Wrong("a line begins with a word")
-    return Line(number, words[0].text, words[1:], wanted, "" if has_text else None, is_text_wanted)
+    return Line(number, times, words[0].text, words[1:], wanted, "" if has_text else None, is_text_wanted)
 
 
 def read(path):
@@ -244,6 +248,18 @@ class Outcome(NamedTuple):
     wrong: Optional[str]
 
 
+AGREES = object()
+
+
+def done_wrongly(scene, line):
+    """Does a line, as often as it says, and gives the answer that isn't what it must be; or AGREES."""
+    for _ in range(line.times):
+        answer = scene.act(line)
+        if not agrees(answer, line):
+            return answer
+    return AGREES
+
+
 def play(scene, row):
     """Plays a row until a line isn't played, or disagrees. The lines behind one that isn't played must be of the language all the same."""
     agreed, number, not_played = 0, row.number, None
@@ -257,11 +273,11 @@ def play(scene, row):
             if not_played:
                 continue
             try:
-                answer = scene.act(line)
+                answer = done_wrongly(scene, line)
             except NotPlayed as verb:
                 not_played = str(verb)
                 continue
-            if not agrees(answer, line):
+            if answer is not AGREES:
                 return Outcome(agreed, None, f"{number}: the reading says {told(answer)}, the row {line.shown}")
             agreed += line.is_expectation
     except Wrong as wrong:
