@@ -2,11 +2,14 @@
 import os
 import shutil
 import subprocess
-
-from disk import SMALL, Disk
+import sys
 
 BENCH = os.path.dirname(os.path.realpath(__file__))
-CRATE = f"{os.path.dirname(BENCH)}/crates/cpm_bench"
+TOP = os.path.dirname(BENCH)
+sys.path.insert(0, f"{TOP}/tests")
+from second_reading.disk import SMALL, Disk  # noqa: E402
+
+CRATE = f"{TOP}/crates/cpm_bench"
 FIRST_BLOCK = 2
 
 

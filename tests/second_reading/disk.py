@@ -12,6 +12,8 @@ class Format:
         self.sectors = sectors  # records of a track, by their sectors in order
         self.first = first  # the number of a track's first sector
         self.size = 128 * tracks * len(sectors)
+        self.tracks = tracks
+        self.records = (tracks - off) * len(sectors)
         self.table = table  # where the sectors' table lies in memory, 0 for none
         self.in_block = 1 << shift  # records of a block
         self.extents = extents  # of 128 records, in an entry
@@ -60,7 +62,13 @@ class Disk:
 
     def at(self, record):
         it = self.format
-        track, sector = it.off + record // len(it.sectors), it.sectors[record % len(it.sectors)]
+        return self.sector_at(it.off + record // len(it.sectors), it.sectors[record % len(it.sectors)])
+
+    def sector_at(self, track, sector):
+        """Where a sector lies in the image, if it is there."""
+        it = self.format
+        if track >= it.tracks or not 0 <= sector - it.first < len(it.sectors):
+            return None
         return (len(it.sectors) * track + sector - it.first) * 128
 
     def read(self, record):

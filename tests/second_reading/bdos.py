@@ -3,7 +3,7 @@
 One bytearray stands for the memory and one for each disk; there is no cache, and nothing is shared with the Rattle code.
 """
 
-from disk import ANY, LARGE, P, SKEW, SMALL, UNUSED, Disk, extent_number, name_matches
+from .disk import ANY, LARGE, P, SKEW, SMALL, UNUSED, Disk, extent_number, name_matches
 
 # the formats in the order of their tables in memory, which lie 16 bytes apart
 TABLES = (SMALL, LARGE)
@@ -13,6 +13,11 @@ FCB_CALLS = {15, 16, 17, 18, 19, 20, 21, 22, 23, 30, 33, 34, 35, 36, 40}
 
 class Fault(Exception):
     """A fault of the disk system: its name and the number of the drive."""
+
+    def __init__(self, name, drive):
+        super().__init__(name, drive)
+        self.name = name
+        self.message = f"\r\nBdos Err On {chr(65 + drive % 16)}: {name}".encode()
 
 
 def memory_at_opening():
@@ -46,6 +51,28 @@ class Session:
         self.dma = 0x80
         self.search = None
 
+    def lend(self, system):
+        """Another system drive. The marks of the one before stay with it."""
+        before, self.disks[P] = self.disks[P], Disk(system)
+        self.disks[P].is_in, self.disks[P].reserved = before.is_in, before.reserved
+
+    # ---- sectors, as the BIOS has them
+
+    def read_sector(self, drive, track, sector):
+        """The bytes of a sector, or None where it isn't there."""
+        disk = self.disks.get(drive)
+        at = disk.sector_at(track, sector) if disk else None
+        return None if at is None else bytes(disk.image[at : at + 128])
+
+    def write_sector(self, drive, track, sector, data):
+        """Whether it is written: the system drive never is."""
+        disk = self.disks.get(drive)
+        at = disk.sector_at(track, sector) if disk and drive != P else None
+        if at is None:
+            return False
+        disk.image[at : at + 128] = data
+        return True
+
     # ---- memory
 
     def load(self, at, count):
@@ -57,23 +84,13 @@ class Session:
 
     # ---- a call
 
-    def call(self, function, de, fcb, record):
-        """What the program has to print of this call."""
-        dma = self.dma
-        if fcb is not None:
-            self.store(de, fcb)
-        if record is not None:
-            self.store(dma, record)
+    def call(self, function, de):
+        """What HL has of this call; or its fault, after which the session is booted."""
         try:
-            answer = f"{self.answer(function, de):04x}"
-            left = self.load(de, 36).hex(), self.load(dma, 128).hex()
-        except Fault as fault:
-            name, drive = fault.args
-            shown = b"\r\nBdos Err On " + bytes([65 + drive % 16]) + b": " + name
-            answer = "!" + shown.ljust(64, b"\0").hex()
-            left = self.load(de, 36).hex(), self.load(dma, 128).hex()
+            return self.answer(function, de)
+        except Fault:
             self.warm_boot()
-        return " ".join((answer, *left))
+            raise
 
     def warm_boot(self):
         self.store(0, b"\xc3\x03\xfa")
@@ -87,19 +104,14 @@ class Session:
         if function in FCB_CALLS:
             return self.file_call(function, de)
         e = de % 256
-        vector = lambda marked: sum(1 << number for number, disk in self.disks.items() if marked(disk))
+        if function == 12:
+            return 0x0022
         if function == 13:
-            for disk in self.disks.values():
-                disk.unmark()
-            self.current, self.dma = 0, 0x80
-            self.disks[0].use()
+            self.reset()
         elif function == 14:
-            if e not in self.disks:
-                raise Fault(b"Select", e)
-            self.disks[e].use()
-            self.current = e
+            self.select(e)
         elif function == 24:
-            return vector(lambda disk: disk.is_in)
+            return self.vector(lambda disk: disk.is_in)
         elif function == 25:
             return self.current
         elif function == 26:
@@ -109,7 +121,7 @@ class Session:
         elif function == 28:
             self.disks[self.current].is_protected = True
         elif function == 29:
-            return vector(lambda disk: disk.is_protected) | 0x8000
+            return self.vector(lambda disk: disk.is_protected) | 0x8000
         elif function == 31:
             return 0xFC20 + 16 * TABLES.index(self.disks[self.current].format)
         elif function == 32:
@@ -117,19 +129,53 @@ class Session:
                 return self.user
             self.user = e % 32
         elif function == 37:
-            for number, disk in self.disks.items():
-                if de >> number & 1:
-                    disk.unmark()
+            self.reset_drives(de)
         return 0
 
-    def allocation(self):
+    def vector(self, is_marked):
+        """A bit for each drive that is marked so."""
+        return sum(1 << number for number, disk in self.disks.items() if is_marked(disk))
+
+    def reset(self):
+        for disk in self.disks.values():
+            disk.unmark()
+        self.current, self.dma = 0, 0x80
+        self.disks[0].use()
+
+    def select(self, drive):
+        if drive not in self.disks:
+            raise Fault("Select", drive)
+        self.disks[drive].use()
+        self.current = drive
+
+    def reset_drives(self, vector):
+        for number, disk in self.disks.items():
+            if vector >> number & 1:
+                disk.unmark()
+
+    def allocation_vector(self):
+        """A bit for each block of the current drive, the first the highest of its byte."""
         disk = self.disks[self.current]
         disk.use()
-        at = 0xFE00 + 64 * (4 if self.current == P else self.current)
         bits = "".join("1" if block in disk.reserved else "0" for block in range(disk.format.dsm + 1))
         bits += "0" * (-len(bits) % 8)
-        self.store(at, bytes(int(bits[place : place + 8], 2) for place in range(0, len(bits), 8)))
+        return bytes(int(bits[place : place + 8], 2) for place in range(0, len(bits), 8))
+
+    def allocation(self):
+        at = 0xFE00 + 64 * self.place(self.current)
+        self.store(at, self.allocation_vector())
         return at
+
+    @staticmethod
+    def place(drive):
+        """Where the tables of a drive lie among those of all: A to D, and P."""
+        return 4 if drive == P else drive
+
+    def header(self, drive):
+        """Where the parameter header of a drive lies, by the format of its disk; 0 where it isn't there."""
+        if drive not in self.disks:
+            return 0
+        return 0xFC40 + 32 * self.place(drive) + 16 * TABLES.index(self.disks[drive].format)
 
     # ---- files
 
@@ -146,6 +192,7 @@ class Session:
                     self.memory[(de + place) % 65536] = self.fcb[place]
 
     def with_fcb(self, function):
+        """A function on the file control block and the buffer."""
         if function == 18:
             return self.search_next()
         named = self.fcb[0]
@@ -153,14 +200,14 @@ class Session:
         if function == 17 and named == ANY:
             self.number = self.current
         if self.number not in self.disks:
-            raise Fault(b"Select", self.number)
+            raise Fault("Select", self.number)
         self.disk = self.disks[self.number]
         self.form = self.disk.format
         self.disk.use()
         if function in {19, 21, 22, 23, 30, 34, 40} and self.is_read_only():
-            raise Fault(b"R/O", self.number)
+            raise Fault("R/O", self.number)
         if function in {21, 34, 40} and self.fcb[9] >= 128:
-            raise Fault(b"File R/O", self.number)
+            raise Fault("File R/O", self.number)
         return {
             15: lambda: self.code(self.open(self.fcb[12] % 32, to_read=True)),
             16: lambda: self.code(self.close()),
@@ -224,7 +271,7 @@ class Session:
             return None
         ours = self.form.numbers(self.fcb)
         if any(number > self.form.dsm for number in ours):
-            raise Fault(b"Bad Sector", self.number)
+            raise Fault("Bad Sector", self.number)
         entry = self.disk.entry(index)
         pairs = list(zip(ours, self.form.numbers(entry)))
         if any(a and b and a != b for a, b in pairs):
@@ -236,7 +283,7 @@ class Session:
         after[16:32] = merged
         if after != entry:
             if self.is_read_only():
-                raise Fault(b"R/O", self.number)
+                raise Fault("R/O", self.number)
             self.disk.put_entry(index, after)
         self.fcb[16:32] = merged
         return index
@@ -278,7 +325,7 @@ class Session:
     def changeable(self):
         found = list(self.named())
         if any(self.disk.entry(index)[9] >= 128 for index in found):
-            raise Fault(b"File R/O", self.number)
+            raise Fault("File R/O", self.number)
         return found
 
     def erase(self):
@@ -344,7 +391,7 @@ class Session:
         place = record // self.form.in_block
         number = self.form.numbers(self.fcb)[place]
         if number > self.form.dsm:
-            raise Fault(b"Bad Sector", self.number)
+            raise Fault("Bad Sector", self.number)
         return place, number
 
     def in_block(self, number):
