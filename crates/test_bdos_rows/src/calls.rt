@@ -92,7 +92,7 @@ impl Session {
             "call" => self.call(arguments),
             "come" => self.come_to(arguments),
             "step" => self.next_step(alloc),
-            "commands" => self.commands(alloc, arguments),
+            "commands" => self.commands(alloc),
             "type" => self.type_keys(alloc, arguments),
             "load" => self.load(alloc),
             "fault" => self.fault(alloc, arguments),
