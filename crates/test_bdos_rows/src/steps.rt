@@ -35,9 +35,7 @@ impl Session {
         if !self.cpm.console.has_room() || !has_room(&self.memory) {
             return Err(Fault::Unready);
         }
-        Ok(self
-            .cpm
-            .bios_step(&mut self.memory, &self.system, function))
+        Ok(self.cpm.bios_step(&mut self.memory, &self.system, function))
     }
 
     /// One step of the command processor, or of a call that it has in progress.
