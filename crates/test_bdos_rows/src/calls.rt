@@ -52,7 +52,10 @@ impl Calls {
         record[..bytes.len()].copy_from_slice(bytes.as_slice());
         let mut image = self.images.copy(alloc, name.text)?;
         for place in 0..times {
-            if image.put_record(first.wrapping_add(place), &record).is_err() {
+            if image
+                .put_record(first.wrapping_add(place), &record)
+                .is_err()
+            {
                 return Err(Fault::Absent);
             }
         }
@@ -92,7 +95,7 @@ impl Session {
             "call" => self.call(arguments),
             "come" => self.come_to(arguments),
             "step" => self.next_step(alloc),
-            "commands" => self.commands(alloc, arguments),
+            "commands" => self.commands(alloc),
             "type" => self.type_keys(alloc, arguments),
             "load" => self.load(alloc),
             "fault" => self.fault(alloc, arguments),

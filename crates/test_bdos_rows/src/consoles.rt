@@ -1,7 +1,7 @@
 //! Rows of keys that wait to be read, bytes that wait to be taken, and the column of the cursor.
 
 use crate::text::{key_answer, list_echo, press, small, taken};
-use cpm_console::{Console, RING};
+use cpm_console::{Console, Device, RING};
 use std::alloc::{AllocError, Global};
 use test_language::{Answer, Fault, Line, Scene, Word, bytes_of, count};
 
@@ -113,7 +113,7 @@ impl Consoles {
     fn take(
         &mut self,
         alloc: Global,
-        is_list: bool,
+        device: Device,
         arguments: &[Word<'_>],
     ) -> Result<Answer, Fault> {
         let [most] = arguments else {
@@ -124,11 +124,7 @@ impl Consoles {
             return Err(Fault::Number);
         }
         let mut out = vec![in alloc; UNTOUCHED; most]?;
-        let count = if is_list {
-            self.console.take_list(out.as_mut_slice())
-        } else {
-            self.console.take(out.as_mut_slice())
-        };
+        let count = self.console.take_from(device, out.as_mut_slice());
         if out[count..].iter().any(|byte| *byte != UNTOUCHED) {
             return Answer::refused_text(alloc, "more bytes were moved than it says");
         }
@@ -160,8 +156,8 @@ impl Scene for Consoles {
         match line.verb() {
             "console" => self.begin(alloc, line.arguments()),
             "read" => self.read(alloc, line.arguments()),
-            "take" => self.take(alloc, false, line.arguments()),
-            "take-list" => self.take(alloc, true, line.arguments()),
+            "take" => self.take(alloc, Device::Console, line.arguments()),
+            "take-list" => self.take(alloc, Device::List, line.arguments()),
             "list-echo" => list_echo(alloc, &mut self.console, line.arguments()),
             "first-key" => key_answer(alloc, self.console.first_key()),
             "pending" => Answer::words(alloc, self.console.pending()),

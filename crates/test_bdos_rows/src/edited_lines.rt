@@ -1,7 +1,7 @@
 //! Rows of a line that is being typed.
 
 use crate::consoles::console_at;
-use crate::text::{small, taken, taken_list, times_of};
+use crate::text::{small, taken, taken_list};
 use cpm_console::{Console, Line as Draft, Progress};
 use std::alloc::{AllocError, Global};
 use test_language::{Answer, Fault, Line, Scene, Word, byte};
@@ -27,29 +27,18 @@ impl EditedLines {
         Ok(Answer::Done)
     }
 
-    /// Types a key, and gives what it shows.
-    fn type_key(&mut self, alloc: Global, key: u8) -> Result<Vec<u8>, Fault> {
+    /// `key HH`: types a key, and answers what it shows.
+    fn key(&mut self, alloc: Global, arguments: &[Word<'_>]) -> Result<Answer, Fault> {
+        let [key] = arguments else {
+            return Err(Fault::Words);
+        };
+        let key = byte(*key)?;
         let is_open = self.draft.characters().len() < usize::from(self.draft.limit());
         if !is_open || self.progress != Progress::GoesOn || !self.console.has_room() {
             return Err(Fault::Unready);
         }
         self.progress = self.draft.key_into_line(&mut self.console, key);
-        Ok(taken(alloc, &mut self.console)?)
-    }
-
-    /// `key HH`: types a key, once or so many times alike, and answers what it shows.
-    fn key(&mut self, alloc: Global, arguments: &[Word<'_>]) -> Result<Answer, Fault> {
-        let [key, times @ ..] = arguments else {
-            return Err(Fault::Words);
-        };
-        let key = byte(*key)?;
-        let shown = self.type_key(alloc, key)?;
-        for _ in 1..times_of(times)? {
-            if self.type_key(alloc, key)?.as_slice() != shown.as_slice() {
-                return Answer::refused_text(alloc, "not each time the same");
-            }
-        }
-        Answer::bytes(alloc, shown.as_slice())
+        Answer::bytes(alloc, taken(alloc, &mut self.console)?.as_slice())
     }
 }
 

@@ -110,9 +110,9 @@ impl Session {
             "D" => 3,
             _ => return Err(Fault::Words),
         };
-        match &self.cpm.disks.drives[place] {
-            Some(drive) => drive.image.record(number).map_err(|_| Fault::Absent),
-            None => Err(Fault::Absent),
+        match self.cpm.disks.drives.get(place) {
+            Some(Some(drive)) => drive.image.record(number).map_err(|_| Fault::Absent),
+            _ => Err(Fault::Absent),
         }
     }
 

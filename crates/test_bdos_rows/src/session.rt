@@ -100,22 +100,17 @@ impl Session {
         Ok(Answer::Done)
     }
 
-    /// Comes to the BDOS with a function and its parameter.
-    pub fn come_to_bdos(&mut self, function: u8, parameter: u16) -> Result<(), Fault> {
-        self.come(BDOS)?;
-        let regs = &mut self.cpm.regs;
-        regs.c = function;
-        regs.d = (parameter >> 8) as u8;
-        regs.e = (parameter & 0xff) as u8;
-        Ok(())
-    }
-
     /// `call FUNCTION HHHH`: comes to the BDOS with a function and its parameter.
     pub fn call(&mut self, arguments: &[Word<'_>]) -> Result<Answer, Fault> {
         let [function, parameter] = arguments else {
             return Err(Fault::Words);
         };
-        self.come_to_bdos(small(*function)?, address(*parameter)?)?;
+        let (function, parameter) = (small(*function)?, address(*parameter)?);
+        self.come(BDOS)?;
+        let regs = &mut self.cpm.regs;
+        regs.c = function;
+        regs.d = (parameter >> 8) as u8;
+        regs.e = (parameter & 0xff) as u8;
         Ok(Answer::Done)
     }
 }

@@ -1,13 +1,13 @@
 //! The steps of a session: calls of the BDOS and the BIOS, and parts of the command processor.
 
 use crate::session::{BACK, Session};
-use crate::text::{add_quoted, small, taken, times_of};
+use crate::text::{add_quoted, small, taken};
 use cpm_bdos::{Mode, Went};
 use cpm_ccp::{ccp_step, load_step};
 use cpm_files::Fault as DiskFault;
 use cpm_memory::has_room;
 use std::alloc::Global;
-use test_language::{Answer, Fault, Word, address, bytes_of, number};
+use test_language::{Answer, Fault, Word, address, bytes_of};
 
 /// Where the command processor is called.
 const PROMPT: u16 = 0xE406;
@@ -20,15 +20,6 @@ const RETURNED: u16 = 0xEBFE;
 
 /// The most steps that keys at a prompt may take.
 const MOST_STEPS: u32 = 10_000;
-
-/// How the first step of a call ended.
-#[derive(Clone, Copy, PartialEq, Eq)]
-enum Ended {
-    /// It returned this.
-    Returned(u16),
-    /// It goes on, waits or boots; or it returned with other registers than a call does.
-    Went(Went),
-}
 
 impl Session {
     /// One step of the BDOS.
@@ -44,9 +35,7 @@ impl Session {
         if !self.cpm.console.has_room() || !has_room(&self.memory) {
             return Err(Fault::Unready);
         }
-        Ok(self
-            .cpm
-            .bios_step(&mut self.memory, &self.system, function))
+        Ok(self.cpm.bios_step(&mut self.memory, &self.system, function))
     }
 
     /// One step of the command processor, or of a call that it has in progress.
@@ -101,35 +90,14 @@ impl Session {
             && !self.cpm.console.list_echo()
     }
 
-    /// Calls a function of one step.
-    fn called(&mut self, function: u8, parameter: u16) -> Result<Ended, Fault> {
-        self.come_to_bdos(function, parameter)?;
-        let went = self.step()?;
-        match self.result() {
-            Some(result) if went == Went::Returned => Ok(Ended::Returned(result)),
-            _ => Ok(Ended::Went(went)),
-        }
-    }
-
-    /// `bdos FUNCTION HHHH`: calls a function of one step, once or so many times alike, and answers what it gave. A fault shows its
-    /// message, which is the refusal, and boots by a key.
+    /// `bdos FUNCTION HHHH`: calls a function of one step, and answers what it gave. A fault shows its message, which is the refusal,
+    /// and boots by a key.
     pub fn bdos(&mut self, alloc: Global, arguments: &[Word<'_>]) -> Result<Answer, Fault> {
-        let [function, parameter, times @ ..] = arguments else {
-            return Err(Fault::Words);
-        };
-        let (function, parameter) = (small(*function)?, address(*parameter)?);
-        let mut ended = self.called(function, parameter)?;
-        for _ in 1..times_of(times)? {
-            let first = ended;
-            ended = self.called(function, parameter)?;
-            if ended != first {
-                return Answer::refused_text(alloc, "not each time the same");
-            }
-        }
-        match ended {
-            Ended::Returned(result) => Answer::address(alloc, result),
-            Ended::Went(Went::GoesOn) if self.cpm.mode == Mode::Fault => self.boot_by_key(alloc),
-            Ended::Went(went) => Answer::refused(alloc, went),
+        self.call(arguments)?;
+        match self.step()? {
+            Went::Returned => self.returned(alloc),
+            Went::GoesOn if self.cpm.mode == Mode::Fault => self.boot_by_key(alloc),
+            went => Answer::refused(alloc, went),
         }
     }
 
@@ -203,13 +171,9 @@ impl Session {
         Ok(())
     }
 
-    /// `commands`: one step of the command processor or of a call that it has in progress, or so many times one.
-    pub fn commands(&mut self, alloc: Global, arguments: &[Word<'_>]) -> Result<Answer, Fault> {
-        let mut went = self.command_step()?;
-        for _ in 1..times_of(arguments)? {
-            went = self.command_step()?;
-        }
-        Answer::name(alloc, went)
+    /// `commands`: one step of the command processor, or of a call that it has in progress.
+    pub fn commands(&mut self, alloc: Global) -> Result<Answer, Fault> {
+        Answer::name(alloc, self.command_step()?)
     }
 
     /// `type BYTES`: presses keys, and answers the number of steps until a program runs or a key is waited for.

@@ -2,7 +2,7 @@
 
 use cpm_console::Console;
 use std::alloc::{AllocError, Global};
-use test_language::{Answer, Fault, Word, number};
+use test_language::{Answer, Fault, Word};
 
 /// A decimal number of 8 bits.
 pub fn small(word: Word<'_>) -> Result<u8, Fault> {
@@ -12,15 +12,6 @@ pub fn small(word: Word<'_>) -> Result<u8, Fault> {
 /// A decimal number of 16 bits.
 pub fn middle(word: Word<'_>) -> Result<u16, Fault> {
     word.text.parse::<u16>().map_err(|_| Fault::Number)
-}
-
-/// How often something is done: once, or as words say: `129 times`.
-pub fn times_of(words: &[Word<'_>]) -> Result<u64, Fault> {
-    match words {
-        [] => Ok(1),
-        [count, times] if times.text == "times" => number(*count),
-        _ => Err(Fault::Words),
-    }
 }
 
 /// Adds bytes to a text, between quotes.
