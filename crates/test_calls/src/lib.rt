@@ -1,7 +1,9 @@
-//! Calls of the crates that no row can make: they are of types, of what is handed back, and of laws.
+//! Calls that no row of text can make: they are of what is handed back with a refusal, of want of memory, of readers and writers that fail, and of laws.
 #![tactic(auto)]
 
 #[cfg(test)]
 mod bdos;
+#[cfg(test)]
+mod machines;
 #[cfg(test)]
 mod same;

@@ -1,4 +1,4 @@
-//! Worked runs: the commands of a host over readers, writers and stores that may fail, its sessions, and its debugger.
+//! Worked runs: the commands of a host over readers, writers and stores that may fail, and its debugger.
 #![tactic(auto)]
 
 #[cfg(test)]
@@ -11,8 +11,6 @@ mod damaged;
 mod debugger;
 #[cfg(test)]
 mod forked;
-#[cfg(test)]
-mod hosts;
 #[cfg(test)]
 mod illegal;
 #[cfg(test)]
@@ -27,8 +25,6 @@ mod refusals;
 mod runs;
 #[cfg(test)]
 mod same;
-#[cfg(test)]
-mod scratch;
 #[cfg(test)]
 mod started;
 #[cfg(test)]

@@ -1,0 +1,241 @@
+//! Memories, machines and hosts.
+
+ghost use Rattle.std.specs.Prelude.{IfOk};
+ghost use Rattle.cpm_turns.specs.Playing.{IsFresh};
+
+use crate::same::same;
+use cpm_flags::Cpu;
+use cpm_geom::{Format, Image};
+use cpm_memory::FrameStore;
+use cpm_sessions::{ForkError, Host, SlotId};
+use cpm_slots::{Machine, OpenError, Opening, Tail};
+use cpm_turns::{LiveError, play_live};
+use std::alloc::Global;
+use std::io;
+use std::io::{ErrorKind, Read, Write};
+use std::process::Abort;
+use std::test::Fail;
+
+/// A blank drive.
+fn blank(alloc: Global) -> Result<Image, Fail> {
+    Ok(Image::blank(alloc, Format::Ibm3740)?)
+}
+
+/// An opening with so many blank drives.
+fn opening_of(alloc: Global, quota: u16, count: usize) -> Result<Opening, Fail> {
+    let mut drives = Vec::with_capacity(alloc, count)?;
+    for _ in 0..count {
+        drives.push(blank(alloc)?)?;
+    }
+    Ok(Opening {
+        cpu: Cpu::Z80,
+        quota,
+        drives,
+    })
+}
+
+/// What was handed back is such an opening.
+fn is_handed_back(rt: &impl Abort, back: &Opening, quota: u16, count: usize) {
+    same(rt, back.cpu, Cpu::Z80);
+    same(rt, back.quota, quota);
+    same(rt, back.drives.len(), count);
+}
+
+/// With no memory `new` answers so, and else the store serves.
+#[test]
+fn a_store_answers_want_of_memory(rt: HostRuntime) -> Result<(), Fail> {
+    if let Ok(mut store) = FrameStore::new(rt.alloc(), 4) {
+        assert!(rt; store.taken() < 64);
+        assert!(rt; store.reserve(4).is_ok());
+    }
+    Ok(())
+}
+
+#[test]
+fn a_refused_machine_hands_its_opening_back(rt: HostRuntime) -> Result<(), Fail> {
+    let opening = opening_of(rt.alloc(), 257, 5)?;
+    let Err((back, error)) = Machine::new(rt.alloc(), opening) else {
+        panic!(rt; "257 pages and 5 drives are taken");
+    };
+    same(&rt, error, OpenError::BadQuota);
+    is_handed_back(&rt, &back, 257, 5);
+    Ok(())
+}
+
+/// A machine with a program is refused for its length, and what was given comes back.
+fn hands_the_program_back(
+    rt: &impl Abort,
+    made: Result<Machine, (Opening, Vec<u8>, OpenError)>,
+) -> (Opening, Vec<u8>) {
+    let Err((back, bytes, error)) = made else {
+        panic!(rt; "58,113 bytes are taken");
+    };
+    same(rt, error, OpenError::ProgramTooLong);
+    is_handed_back(rt, &back, 256, 1);
+    same(rt, bytes.len(), 58_113);
+    assert!(rt; bytes.iter().all(|byte| *byte == 7));
+    (back, bytes)
+}
+
+#[test]
+fn a_refused_program_is_handed_back(rt: HostRuntime) -> Result<(), Fail> {
+    let tail = Tail::new(b" X").expect(&rt, "a tail");
+    let opening = opening_of(rt.alloc(), 256, 1)?;
+    let program = vec![in rt.alloc(); 7u8; 58_113]?;
+    let made = Machine::with_program(rt.alloc(), opening, program);
+    let (opening, program) = hands_the_program_back(&rt, made);
+    let made = Machine::with_command(rt.alloc(), opening, program, &tail);
+    let _given = hands_the_program_back(&rt, made);
+    Ok(())
+}
+
+/// A host with a blank system drive.
+fn host_of(alloc: Global) -> Result<Host, Fail> {
+    match Host::new(alloc, blank(alloc)?, 32) {
+        Ok(host) => Ok(host),
+        Err((_, error)) => Err(Fail::from(error)),
+    }
+}
+
+/// Passes with any one allocation refused: the drive comes back, and can be used again.
+#[test]
+fn want_of_memory_hands_the_system_drive_back(rt: HostRuntime) -> Result<(), Fail> {
+    let Err((system, error)) = Host::new(rt.alloc(), blank(rt.alloc())?, 32) else {
+        return Ok(());
+    };
+    same(&rt, error, OpenError::OutOfMemory);
+    match Host::new(rt.alloc(), system, 32) {
+        Ok(_) => Ok(()),
+        Err((_, again)) => Err(Fail::from(again)),
+    }
+}
+
+/// Passes with any one allocation refused: the opening comes back, and can be tried again.
+fn hands_the_opening_back(rt: &(impl Abort + AllocGlobal), host: &mut Host) -> Result<(), Fail> {
+    let opening = opening_of(rt.alloc(), 16, 2)?;
+    if let Err((back, error)) = host.open(rt.alloc(), opening) {
+        same(rt, error, OpenError::OutOfMemory);
+        is_handed_back(rt, &back, 16, 2);
+        if let Err((_, again)) = host.open(rt.alloc(), back) {
+            return Err(Fail::from(again));
+        }
+    }
+    same(rt, host.look(SlotId(0))?.count, 0);
+    Ok(())
+}
+
+#[test]
+fn want_of_memory_hands_the_opening_back(rt: HostRuntime) -> Result<(), Fail> {
+    let mut host = host_of(rt.alloc())?;
+    hands_the_opening_back(&rt, &mut host)
+}
+
+/// An opening that is refused for its drives comes back too.
+#[test]
+fn a_refused_slot_hands_its_opening_back(rt: HostRuntime) -> Result<(), Fail> {
+    let mut host = host_of(rt.alloc())?;
+    let Err((back, error)) = host.open(rt.alloc(), opening_of(rt.alloc(), 16, 5)?) else {
+        panic!(rt; "5 drives are taken");
+    };
+    same(&rt, error, OpenError::BadDrives);
+    is_handed_back(&rt, &back, 16, 5);
+    Ok(())
+}
+
+/// Passes with any one allocation refused: nothing is changed, and the fork can be tried again.
+fn forks(rt: &(impl Abort + AllocGlobal), host: &mut Host) -> Result<(), Fail> {
+    if let Err((_, error)) = host.open(rt.alloc(), opening_of(rt.alloc(), 16, 1)?) {
+        return Err(Fail::from(error));
+    }
+    same(rt, host.grant(SlotId(0), 20)?.executed, 20);
+    let look = host.look(SlotId(0))?;
+    if let Err(error) = host.fork(rt.alloc(), SlotId(0)) {
+        same(rt, error, ForkError::OutOfMemory);
+        same(rt, host.look(SlotId(0))?, look);
+        host.fork(rt.alloc(), SlotId(0))?;
+    }
+    same(rt, host.look(SlotId(0))?, look);
+    same(rt, host.look(SlotId(1))?, look);
+    Ok(())
+}
+
+#[test]
+fn want_of_memory_leaves_the_forked_slot(rt: HostRuntime) -> Result<(), Fail> {
+    let mut host = host_of(rt.alloc())?;
+    forks(&rt, &mut host)
+}
+
+/// Reads two keys, each with its echo.
+const READS: &[u8] = &[
+    0x0E, 0x01, 0xCD, 0x05, 0x00, 0x0E, 0x01, 0xCD, 0x05, 0x00, 0xC9,
+];
+
+/// A reader and writer that always fails.
+#[derive(Drop)]
+struct Broken;
+
+impl Read for Broken {
+    fn read(&mut self, _buf: &mut [u8]) -> io::Result<usize> {
+        Err(io::Error::from(ErrorKind::BrokenPipe))
+    }
+}
+
+impl Write for Broken {
+    fn write(&mut self, _buf: &[u8]) -> io::Result<usize> {
+        Err(io::Error::from(ErrorKind::StorageFull))
+    }
+
+    fn flush(&mut self) -> io::Result<()> {
+        Ok(())
+    }
+}
+
+/// A machine with a program that reads two keys.
+fn reading(alloc: Global) -> Result<Machine, Fail>
+    ensures { IfOk result IsFresh }
+{
+    let bytes = Vec::from_slice(alloc, READS)?;
+    match Machine::with_program(alloc, opening_of(alloc, 256, 1)?, bytes) {
+        Ok(machine) => Ok(machine),
+        Err((_, _, error)) => Err(Fail::from(error)),
+    }
+}
+
+/// The kind of the error with which a session of two keys ends, and whose it is.
+fn fault<I: Read, W: Write, S: Write>(
+    alloc: Global,
+    input: &mut I,
+    out: &mut W,
+    record: &mut S,
+) -> Result<(&'static str, Option<ErrorKind>), Fail> {
+    let system = blank(alloc)?;
+    let mut machine = reading(alloc)?;
+    Ok(
+        match play_live(alloc, &system, &mut machine, 100, 10, input, out, record) {
+            Ok(_) => ("played", None),
+            Err(LiveError::Unreadable(error)) => ("unreadable", Some(error.kind())),
+            Err(LiveError::Unwritable(error)) => ("unwritable", Some(error.kind())),
+            Err(LiveError::Unrecorded(error)) => ("unrecorded", Some(error.kind())),
+            Err(LiveError::OutOfMemory) => ("out of memory", None),
+        },
+    )
+}
+
+#[test]
+fn a_live_session_names_what_failed(rt: HostRuntime) -> Result<(), Fail> {
+    let mut text = Vec::new(rt.alloc());
+    let mut lines = Vec::new(rt.alloc());
+    let mut typed: &[u8] = b"ab";
+    let found = fault(rt.alloc(), &mut Broken, &mut text, &mut lines)?;
+    same(&rt, found, ("unreadable", Some(ErrorKind::BrokenPipe)));
+    same(&rt, text.len(), 0);
+    same(&rt, lines.len(), 0);
+    // The echo of the first key can't be written; the key was recorded.
+    let found = fault(rt.alloc(), &mut typed, &mut Broken, &mut lines)?;
+    same(&rt, found, ("unwritable", Some(ErrorKind::StorageFull)));
+    same(&rt, lines.as_slice(), b"3 a\n".as_slice());
+    let found = fault(rt.alloc(), &mut typed, &mut text, &mut Broken)?;
+    same(&rt, found, ("unrecorded", Some(ErrorKind::StorageFull)));
+    same(&rt, text.len(), 0);
+    Ok(())
+}
