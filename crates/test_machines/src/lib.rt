@@ -2,8 +2,6 @@
 #![tactic(auto)]
 
 #[cfg(test)]
-mod assembler;
-#[cfg(test)]
 mod commands;
 #[cfg(test)]
 mod console;
