@@ -7,3 +7,5 @@ mod bdos;
 mod machines;
 #[cfg(test)]
 mod same;
+#[cfg(test)]
+mod texts;

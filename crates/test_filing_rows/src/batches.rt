@@ -1,7 +1,7 @@
 //! What a run reads for the sessions of a configuration, and what it writes after them.
 
 use crate::stores::Stores;
-use cpm_batch::{Input, ReadError, SessionFiles, Start, outputs_of, read_inputs};
+use cpm_batch::{Input, SessionFiles, Start, outputs_of, read_inputs};
 use cpm_config::Config;
 use cpm_geom::Image;
 use cpm_script::Key;
@@ -75,13 +75,14 @@ impl Batches {
         let Some(config) = &self.config else {
             return Err(Fault::Absent);
         };
-        if config.fork_fault().is_some() {
-            return Err(Fault::Unready);
-        }
-        match read_inputs(alloc, config, &mut self.files.store) {
+        let inputs = match config.fork_fault() {
+            None => read_inputs(alloc, config, &mut self.files.store),
+            Some(_) => return Err(Fault::Unready),
+        };
+        match inputs {
             Ok(inputs) => shown_inputs(alloc, inputs.sessions.as_slice()),
             Err(error) => {
-                self.status = Some(ReadError::status(error));
+                self.status = Some(error.status());
                 Answer::refused_text(alloc, error)
             }
         }

@@ -101,29 +101,36 @@ impl DiskCommands {
         let [image, rest @ ..] = line.arguments() else {
             return Err(Fault::Words);
         };
-        let image = image.text;
-        let changed = match (line.verb(), rest) {
-            ("new", []) => new_image(alloc, false),
-            ("new", [size]) if size.text == "large" => new_image(alloc, true),
-            ("image-of", bytes) => image_of(image, line.given(alloc, bytes)?),
-            ("put", [name, bytes @ ..]) => {
-                let bytes = line.given(alloc, bytes)?;
-                self.put(alloc, image, *name, false, bytes.as_slice())?
-            }
-            ("put-text", [name, bytes @ ..]) => {
-                let bytes = line.given(alloc, bytes)?;
-                self.put(alloc, image, *name, true, bytes.as_slice())?
-            }
-            ("remove", [name]) => self.remove(alloc, image, *name)?,
-            ("rename", [old, new]) => self.rename(alloc, image, *old, *new)?,
-            _ => return Err(Fault::Words),
-        };
-        match changed {
+        match self.changed(alloc, line, image.text, rest)? {
             Ok(changed) => {
-                self.images.put(alloc, image, changed)?;
+                self.images.put(alloc, image.text, changed)?;
                 Ok(Answer::Done)
             }
             Err(error) => self.refused(alloc, error),
+        }
+    }
+
+    /// The image that such a line makes.
+    fn changed(
+        &self,
+        alloc: Global,
+        line: &Line<'_>,
+        image: &str,
+        rest: &[Word<'_>],
+    ) -> Result<Result<Image, FilingError>, Fault> {
+        match (line.verb(), rest) {
+            ("new", []) => Ok(new_image(alloc, false)),
+            ("new", [size]) if size.text == "large" => Ok(new_image(alloc, true)),
+            ("image-of", bytes) => Ok(image_of(image, line.given(alloc, bytes)?)),
+            ("put", [name, bytes @ ..]) => {
+                self.put(alloc, image, *name, false, line.given(alloc, bytes)?)
+            }
+            ("put-text", [name, bytes @ ..]) => {
+                self.put(alloc, image, *name, true, line.given(alloc, bytes)?)
+            }
+            ("remove", [name]) => self.remove(alloc, image, *name),
+            ("rename", [old, new]) => self.rename(alloc, image, *old, *new),
+            _ => Err(Fault::Words),
         }
     }
 
@@ -134,11 +141,11 @@ impl DiskCommands {
         image: &str,
         name: Word<'_>,
         is_text: bool,
-        bytes: &[u8],
+        bytes: Vec<u8>,
     ) -> Result<Result<Image, FilingError>, Fault> {
         let before = self.images.get(image)?;
         match self.file(alloc, name)? {
-            Ok(file) => Ok(put_file(alloc, before, image, &file, is_text, bytes)),
+            Ok(file) => Ok(put_file(alloc, before, image, &file, is_text, bytes.as_slice())),
             Err(error) => Ok(Err(error)),
         }
     }
@@ -228,14 +235,15 @@ impl DiskCommands {
         let [image, pattern] = arguments else {
             return Err(Fault::Words);
         };
-        if self.user >= 16 {
+        let user = self.user;
+        if user >= 16 {
             return Err(Fault::Unready);
         }
         let from = self.images.get(image.text)?;
         let found = match list_files(alloc, from, image.text) {
             Ok(shelf) => {
                 let files = shelf.files.as_slice();
-                matching_files(alloc, files, image.text, self.user, pattern.text)
+                matching_files(alloc, files, image.text, user, pattern.text)
             }
             Err(error) => Err(error),
         };

@@ -92,7 +92,7 @@ impl Configurations {
         for number in 1..=MOST_COPIES {
             add_copy(alloc, &mut self.text, copy, number)?;
             if let Err(error) = Config::read(alloc, self.text.as_slice()) {
-                let (taken, refusal) = (number - 1, shown_refusal(alloc, error)?);
+                let (taken, refusal) = (number.saturating_sub(1), shown_refusal(alloc, error)?);
                 return Answer::words(alloc, format!(in alloc; "{taken} taken, then {refusal}")?);
             }
         }

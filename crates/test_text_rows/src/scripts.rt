@@ -110,10 +110,12 @@ impl Scripts {
             return Err(Fault::Words);
         };
         let at = number(*at)?;
-        let before = match read_keys(alloc, self.parent.as_slice()) {
-            Ok(before) if before.len() <= MOST_KEYS => before,
-            _ => return Err(Fault::Unready),
+        let Ok(before) = read_keys(alloc, self.parent.as_slice()) else {
+            return Err(Fault::Unready);
         };
+        if before.len() > MOST_KEYS {
+            return Err(Fault::Unready);
+        }
         match read_forked_keys(alloc, self.script.as_slice(), at, before) {
             Ok(keys) => shown_keys(alloc, keys.as_slice()),
             Err(error) => self.refused(alloc, error),

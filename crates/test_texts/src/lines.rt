@@ -1,6 +1,0 @@
-//! Lines worked by hand.
-
-mod dump;
-mod listing;
-mod listing_z80;
-mod registers;
