@@ -6,6 +6,8 @@ mod bdos;
 #[cfg(test)]
 mod machines;
 #[cfg(test)]
+mod runs;
+#[cfg(test)]
 mod same;
 #[cfg(test)]
 mod texts;

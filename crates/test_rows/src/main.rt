@@ -16,6 +16,7 @@ use test_language::{Tally, run_rows};
 use test_listing_rows::{Listings, Sources};
 use test_machine_rows::{Hosts, Machines};
 use test_memory_rows::{Instructions, Memories};
+use test_run_rows::{Programs, Runs};
 use test_text_rows::{CommandLines, Configurations, Scripts};
 
 /// What came of a file: its rows, and what is told of those that are not as they should be.
@@ -56,6 +57,8 @@ fn run_subject(
         "stores" => run_rows::<Stores>(alloc, file, text, are_wrong, told)?,
         "batches" => run_rows::<Batches>(alloc, file, text, are_wrong, told)?,
         "disk-commands" => run_rows::<DiskCommands>(alloc, file, text, are_wrong, told)?,
+        "programs" | "debugger" => run_rows::<Programs>(alloc, file, text, are_wrong, told)?,
+        "runs" => run_rows::<Runs>(alloc, file, text, are_wrong, told)?,
         _ => return Ok(None),
     };
     Ok(Some(tally))
