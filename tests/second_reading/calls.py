@@ -2,7 +2,7 @@
 
 from .bdos import Fault, Session
 from .images import Images, blank
-from .rows import NotPlayed, Refused, Wrong, Word, address_of, bytes_of, digits_of, filled, number_of, quoted, some
+from .rows import NotPlayed, Refused, Wrong, address_of, bytes_of, digits_of, filled, number_of, quoted, some
 
 # what a call by a row's line comes from, and its stack
 BACK = 0x1234
@@ -85,19 +85,11 @@ class Calls:
         self.is_booted = False
 
     def bdos(self, arguments):
-        """A function with its parameter, once or so many times, which must all answer the same."""
-        function, parameter, *times = some(arguments, 2, 4)
+        """A function with its parameter: HL, or a refusal: the message of its fault."""
+        function, parameter = some(arguments, 2)
         function, parameter = number_of(function, 255), address_of(parameter)
-        if times and (len(times) != 2 or times[1] != Word("times")):
-            raise Wrong("so many times are wanted")
         if function in CONSOLE_FUNCTIONS:
             raise NotPlayed(f"bdos {function}")
-        answers = [self.call(function, parameter) for _ in range(number_of(times[0]) if times else 1)]
-        if len(answers) > 1 and any(isinstance(answer, Refused) for answer in answers):
-            raise NotPlayed("bdos, a refusal so many times")
-        return answers[0] if len(set(answers)) == 1 else Refused("not each time the same")
-
-    def call(self, function, parameter):
         self.come()
         if function == 0:
             self.session.warm_boot()
