@@ -80,6 +80,10 @@ class Disk:
     def entry(self, index):
         return bytearray(self.read(index // 4)[32 * (index % 4) : 32 * (index % 4) + 32])
 
+    def group(self, entry):
+        """The number of an entry's group of extents."""
+        return extent_number(entry[12], entry[14]) // self.format.extents
+
     def put_entry(self, index, entry):
         start = self.at(index // 4) + 32 * (index % 4)
         self.image[start : start + 32] = entry
