@@ -6,6 +6,7 @@ from .images import ENTRY, Images
 from .one_drive import find
 from .rows import NotPlayed, Refused, Wrong, bytes_of, filled, number_of, some
 
+DIRECTORY_BLOCKS = {0, 1}
 NAMES = {"Ibm3740": SMALL, "Large": LARGE}
 
 
@@ -28,11 +29,34 @@ def text_of(data):
     return '"' + "".join(chr(byte) if 0x20 <= byte < 0x7F and byte not in b'"\\' else f"\\x{byte:02X}" for byte in data) + '"'
 
 
+def fault_of(disk):
+    """What is wrong with a directory, if anything: in the first entry that has a fault the first of a number that no file can have, a block that
+    stands twice, and an entry that stands twice."""
+    owners, files = {}, {}
+    for index in range(disk.format.entries):
+        entry = disk.entry(index)
+        if entry[0] == UNUSED:
+            continue
+        numbers = [number for number in disk.format.numbers(entry) if number]
+        for number in numbers:
+            if number in DIRECTORY_BLOCKS or number > disk.format.dsm:
+                return f"BadBlock {{ entry: {index}, block: {number} }}"
+        for number in numbers:
+            if number in owners:
+                return f"TwiceBlock {{ entry: {index}, block: {number}, owner: {owners[number]} }}"
+            owners[number] = index
+        file = entry[0], bytes(byte % 128 for byte in entry[1:12]), disk.group(entry)
+        if file in files:
+            return f"TwiceEntry {{ entry: {index}, earlier: {files[file]} }}"
+        files[file] = index
+    return None
+
+
 class Directories:
     """The scene of a row."""
 
-    # whether a directory is sound, and the names of command lines
-    NOT_PLAYED = {"check", "parse", "fcb-again"}
+    # the names of command lines, and what a file control block is to the program
+    NOT_PLAYED = {"parse", "fcb-again"}
 
     def __init__(self):
         self.images = Images()
@@ -43,6 +67,7 @@ class Directories:
             **self.images.verbs,
             **self.fcb.verbs,
             "put-entry": self.put_entry,
+            "check": self.check,
             "look": self.look,
             "users": self.users,
             "find": self.find,
@@ -64,6 +89,10 @@ class Directories:
         if line.verb in self.NOT_PLAYED:
             raise NotPlayed(line.verb)
         return self.verbs[line.verb](line.arguments)
+
+    def check(self, arguments):
+        fault = fault_of(self.images.look(*some(arguments, 1)))
+        return Refused(fault) if fault else "sound"
 
     # ---- entries
 
