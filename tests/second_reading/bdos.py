@@ -11,6 +11,10 @@ TABLES = (SMALL, LARGE)
 FCB_CALLS = {15, 16, 17, 18, 19, 20, 21, 22, 23, 30, 33, 34, 35, 36, 40}
 
 
+# the drives that a session has besides P, A to D
+OWN = 4
+
+
 class Fault(Exception):
     """A fault of the disk system: its name and the number of the drive."""
 
@@ -44,7 +48,7 @@ class Session:
     """A session as the function table says it."""
 
     def __init__(self, images, system):
-        self.disks = dict(enumerate(map(Disk, images)))
+        self.disks = dict(enumerate(map(Disk, images[:OWN])))
         self.disks[P] = Disk(system)
         self.memory = memory_at_opening()
         self.current = self.user = 0

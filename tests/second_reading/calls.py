@@ -2,7 +2,7 @@
 
 from .bdos import Fault, Session
 from .images import Images, blank
-from .rows import NotPlayed, Refused, Wrong, Word, address_of, bytes_of, digits_of, filled, number_of, quoted, some
+from .rows import NotPlayed, Refused, Wrong, address_of, bytes_of, digits_of, filled, number_of, quoted, some
 
 # what a call by a row's line comes from, and its stack
 BACK = 0x1234
@@ -13,8 +13,8 @@ PAIR = 0x5555
 DRIVES = "ABCD"
 # what stands in a line of the language that is not played here: consoles, lines, command processors, and steps one by one
 NOT_PLAYED = {
-    "call", "come", "fault", "step", "commands", "type", "load", "tail", "register", "mode", "press", "next-key", "first-key", "pending",
-    "column", "list-echo", "shows", "lists", "returned", "waits", "pages",
+    "come", "fault", "commands", "type", "load", "tail", "register", "mode", "press", "next-key", "first-key", "pending", "column", "shows",
+    "lists", "waits", "pages",
 }
 CONSOLE_FUNCTIONS = range(1, 12)
 CONSOLE_BIOS = range(2, 6)
@@ -36,7 +36,11 @@ class Calls:
             "session": self.begin,
             "system": self.system,
             "bdos": self.bdos,
+            "call": self.come_to,
+            "step": self.step,
+            "returned": self.returned,
             "bios": self.bios,
+            "list-echo": self.list_echo,
             "booted": self.booted,
             "store": self.store,
             "fcb": self.fcb,
@@ -63,7 +67,8 @@ class Calls:
     def begin(self, names):
         self.session = Session(self.images.copies(names), blank())
         self.sector = {"drive": 0, "track": 0, "sector": 1, "buffer": 0x80}
-        self.is_booted = False
+        self.is_booted = self.is_echoed = False
+        self.coming = self.result = None
 
     def system(self, arguments):
         (name,) = some(arguments, 1)
@@ -85,29 +90,56 @@ class Calls:
         self.is_booted = False
 
     def bdos(self, arguments):
-        """A function with its parameter, once or so many times, which must all answer the same."""
-        function, parameter, *times = some(arguments, 2, 4)
+        """A function with its parameter: HL, or a refusal: the message of its fault."""
+        function, parameter = some(arguments, 2)
         function, parameter = number_of(function, 255), address_of(parameter)
-        if times and (len(times) != 2 or times[1] != Word("times")):
-            raise Wrong("so many times are wanted")
         if function in CONSOLE_FUNCTIONS:
             raise NotPlayed(f"bdos {function}")
-        answers = [self.call(function, parameter) for _ in range(number_of(times[0]) if times else 1)]
-        if len(answers) > 1 and any(isinstance(answer, Refused) for answer in answers):
-            raise NotPlayed("bdos, a refusal so many times")
-        return answers[0] if len(set(answers)) == 1 else Refused("not each time the same")
-
-    def call(self, function, parameter):
         self.come()
         if function == 0:
-            self.session.warm_boot()
-            self.is_booted = True
-            return Refused("Reboot")
+            return Refused(self.boot())
         try:
             return f"{self.session.call(function, parameter):04X}"
         except Fault as fault:
-            self.is_booted = True
+            self.boot()
             return Refused(quoted(fault.message))
+
+    def boot(self):
+        self.session.warm_boot()
+        self.is_booted, self.is_echoed = True, False
+        return "Reboot"
+
+    def come_to(self, arguments):
+        """A function to which the next step belongs."""
+        function, parameter = some(arguments, 2)
+        self.come()
+        self.coming, self.result = (number_of(function, 255), address_of(parameter)), None
+
+    def step(self, arguments):
+        some(arguments, 0)
+        if self.coming is None or self.coming[0] in CONSOLE_FUNCTIONS:
+            raise NotPlayed("step")
+        (function, parameter), self.coming = self.coming, None
+        if function == 0:
+            return self.boot()
+        try:
+            self.result = self.session.call(function, parameter)
+        except Fault as fault:
+            raise NotPlayed("step into a fault") from fault
+        return "Returned"
+
+    def returned(self, arguments):
+        some(arguments, 0)
+        return Refused("not returned") if self.result is None else f"{self.result:04X}"
+
+    def list_echo(self, arguments):
+        """Whether the list device gets what the console shows, which a boot ends."""
+        if not some(arguments, 0, 1):
+            return "yes" if self.is_echoed else "no"
+        if arguments[0].text not in ("yes", "no"):
+            raise Wrong("yes or no is wanted")
+        self.is_echoed = arguments[0].text == "yes"
+        return None
 
     def buffer(self, arguments):
         if not some(arguments, 0, 1):
@@ -125,11 +157,9 @@ class Calls:
         bc, de = ([address_of(word) for word in words] + [PAIR, PAIR])[:2]
         self.come()
         if function < 2:
-            self.session.warm_boot()
             if function == 0:
                 self.session.store(3, bytes(2))
-            self.is_booted = True
-            return "Reboot"
+            return self.boot()
         a, hl = self.sectors(function, bc, de)
         return f"{a:02X} {hl:04X}"
 

@@ -80,6 +80,15 @@ class Disk:
     def entry(self, index):
         return bytearray(self.read(index // 4)[32 * (index % 4) : 32 * (index % 4) + 32])
 
+    @staticmethod
+    def extent(entry):
+        """The number of an entry's last extent."""
+        return extent_number(entry[12], entry[14])
+
+    def group(self, entry):
+        """The number of its group of extents."""
+        return self.extent(entry) // self.format.extents
+
     def put_entry(self, index, entry):
         start = self.at(index // 4) + 32 * (index % 4)
         self.image[start : start + 32] = entry

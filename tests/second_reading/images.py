@@ -1,11 +1,12 @@
 """Images by their names, as rows make them and look at them."""
 
 from .disk import LARGE, SMALL, Disk
-from .rows import NotPlayed, Wrong, filled, number_of, some
+from .rows import NotPlayed, Refused, Wrong, filled, number_of, some
 
 BLANKS = {"blank": SMALL, "blank-large": LARGE}
 ENTRY = 32
 RECORD = 128
+MISSING = Refused("NoSuchSector")
 
 
 def blank(form=SMALL):
@@ -35,6 +36,10 @@ class Images:
     def put(self, word, image):
         self.named[word.text] = Disk(image)
 
+    def look(self, word):
+        """An image that is looked at alone."""
+        return Disk(self.copy(word)) if word.text in BLANKS and word.text not in self.named else self.get(word)
+
     def image(self, arguments):
         name, other = some(arguments, 2)
         self.put(name, self.copy(other))
@@ -50,7 +55,8 @@ class Images:
     def record(self, arguments):
         name, number, *given = some(arguments, 2, len(arguments))
         disk, number = self.get(name), number_of(number)
-        there(disk, number)
+        if number >= disk.format.records:
+            return MISSING
         if not given:
             return disk.read(number)
         return disk.write(number, filled(given, RECORD))
@@ -68,7 +74,7 @@ class Images:
         disk = self.get(name)
         at = disk.sector_at(number_of(track), number_of(sector))
         if at is None:
-            raise NotPlayed("sector that isn't there")
+            return MISSING
         if not given:
             return bytes(disk.image[at : at + RECORD])
         disk.image[at : at + RECORD] = filled(given, RECORD)
