@@ -55,13 +55,14 @@ impl Scene for Runs {
 /// Runs the sessions of a configuration.
 fn run(alloc: Global, config: &[u8], store: &mut MemoryStore) -> Result<Report, HostError> {
     let config = Config::read(alloc, config)?;
-    run_host(alloc, &config, store, &mut Unwatched)
+    Ok(run_host(alloc, &config, store, &mut Unwatched)?)
 }
 
 /// Judges a configuration.
 fn judge(alloc: Global, config: &[u8], store: &mut MemoryStore) -> Result<(), HostError> {
     let config = Config::read(alloc, config)?;
-    judge_host(alloc, &config, store)
+    judge_host(alloc, &config, store)?;
+    Ok(())
 }
 
 /// The lines of a report.

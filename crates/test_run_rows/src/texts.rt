@@ -69,7 +69,7 @@ impl Programs {
     fn check(&mut self, alloc: Global, line: &Line<'_>) -> Result<Answer, Fault> {
         let bytes = bytes_given(alloc, &self.images, line, line.arguments())?;
         let outcome = run_check("d.img", bytes, &mut self.out);
-        self.wrote(alloc, outcome)
+        self.wrote(alloc, outcome.map_err(HostError::from))
     }
 
     /// `debug BYTES`: what the debugger answers to these orders, with the program and its listing. Without bytes: to those given by `orders`.
