@@ -1,35 +1,9 @@
-//! Worked runs: the commands of a host over readers, writers and stores that may fail, its sessions, and its debugger.
+//! Worked sessions of a host, and copies of a table's memory.
 #![tactic(auto)]
 
 #[cfg(test)]
-mod checks;
-#[cfg(test)]
-mod commands;
-#[cfg(test)]
-mod damaged;
-#[cfg(test)]
-mod debugger;
-#[cfg(test)]
-mod forked;
-#[cfg(test)]
 mod hosts;
-#[cfg(test)]
-mod illegal;
-#[cfg(test)]
-mod lab;
-#[cfg(test)]
-mod large;
-#[cfg(test)]
-mod listings;
-#[cfg(test)]
-mod refusals;
-#[cfg(test)]
-mod runs;
 #[cfg(test)]
 mod same;
 #[cfg(test)]
 mod scratch;
-#[cfg(test)]
-mod started;
-#[cfg(test)]
-mod waiting;

@@ -5,12 +5,12 @@ mod header;
 
 use header::Header;
 use std::alloc::{AllocError, Global};
-use std::env;
 use std::env::Env;
-use std::fs;
 use std::process::ExitCode;
 use std::rt::Files;
+use std::{env, fs};
 use test_language::{Tally, run_rows};
+use test_run_rows::{Programs, Runs};
 
 /// What came of a file: its rows, and what is told of those that are not as they should be.
 #[derive(Drop)]
@@ -29,6 +29,8 @@ fn run_subject(
 ) -> Result<Option<Tally>, AllocError> {
     let are_wrong = header.are_wrong;
     let tally = match header.subject {
+        "programs" | "debugger" => run_rows::<Programs>(alloc, file, text, are_wrong, told)?,
+        "runs" => run_rows::<Runs>(alloc, file, text, are_wrong, told)?,
         _ => return Ok(None),
     };
     Ok(Some(tally))
@@ -40,21 +42,23 @@ fn run_text(alloc: Global, file: &str, text: &str) -> Result<Outcome, AllocError
     let mut failed = 1;
     let mut tally = Tally::default();
     match Header::of(text) {
-        None => told.push_str(
-            format!(in alloc; "{file}:1: the first line is no 'N rows of SUBJECT'\n")?.as_str(),
-        )?,
+        None => told.push_str(format!(in alloc;
+            "{file}:1: the first line is no 'N rows of SUBJECT'\n"
+        )?.as_str())?,
         Some(header) => match run_subject(alloc, file, text, &header, &mut told)? {
-            None => told.push_str(
-                format!(in alloc; "{file}:1: no rows are of '{}'\n", header.subject)?.as_str(),
-            )?,
+            None => told.push_str(format!(in alloc;
+                "{file}:1: no rows are of '{}'\n",
+                header.subject
+            )?.as_str())?,
             Some(found) => {
                 tally = found;
                 failed = found.failed;
                 if found.rows != header.rows {
                     failed = failed.saturating_add(1);
-                    told.push_str(
-                        format!(in alloc; "{file}:1: there are {} rows\n", found.rows)?.as_str(),
-                    )?;
+                    told.push_str(format!(in alloc;
+                        "{file}:1: there are {} rows\n",
+                        found.rows
+                    )?.as_str())?;
                 }
             }
         },
@@ -93,7 +97,9 @@ fn run_all(rt: &(impl Files + Print + AllocGlobal), files: &[String]) -> Result<
         failed,
         expectations,
     } = all;
-    let said = println!(rt; "{rows} rows of {count} files with {expectations} expectations, {failed} failed");
+    let said = println!(rt;
+        "{rows} rows of {count} files with {expectations} expectations, {failed} failed"
+    );
     Ok(failed == 0 && rows > 0 && said.is_ok())
 }
 

@@ -1,11 +1,17 @@
-//! Reading readers that fail or never end, and the texts and statuses of refusals.
+//! Readers that fail or never end, configurations that no text writes, and the texts and statuses of refusals.
 
 use crate::same::{same, same_at};
 use cpm_asm::AsmErrorKind;
-use cpm_host::{DebugError, Fault, HostError, MOST_FILE, UsageError, read_whole, shown};
+use cpm_flags::Cpu;
+use cpm_geom::{Format, Image};
+use cpm_host::{
+    Config, DebugError, Fault, HostError, MOST_FILE, MemoryStore, Origin, Store, Unwatched,
+    UsageError, read_whole, run_debug, run_host, shown,
+};
 use cpm_slots::OpenError;
 use std::io;
-use std::io::{ErrorKind, Read};
+use std::io::{BufReader, ErrorKind, Read};
+use std::process::Abort;
 
 /// Gives zeros without end, and counts them, but fails once at the read that begins at `fails_at`.
 #[derive(Drop)]
@@ -125,4 +131,110 @@ fn names_code_and_status(rt: HostRuntime) {
         let text = error.to_string(rt.alloc()).expect(&rt, "memory");
         same(&rt, text.as_str(), wanted);
     }
+}
+
+/// Gives two orders and the beginning of a third, and then fails.
+#[derive(Drop)]
+struct Broken {
+    is_read: bool,
+}
+
+impl Read for Broken {
+    fn read(&mut self, buf: &mut [u8]) -> io::Result<usize> {
+        if self.is_read {
+            return Err(io::Error::other("the line is dead"));
+        }
+        self.is_read = true;
+        let orders = b"S 2\nL 0104\nS ";
+        let count = orders.len().min(buf.len());
+        buf[..count].copy_from_slice(&orders[..count]);
+        Ok(count)
+    }
+}
+
+/// Prints `A` and returns.
+const LETTER: &[u8] = &[0x0E, 0x02, 0x1E, 0x41, 0xCD, 0x05, 0x00, 0xC9];
+
+#[test]
+fn answers_what_was_read_before_a_fault(rt: HostRuntime) {
+    let mut input = BufReader::new(rt.alloc(), Broken { is_read: false }).expect(&rt, "memory");
+    let mut out: Vec<u8> = Vec::new(rt.alloc());
+    let program = Vec::from_slice(rt.alloc(), LETTER).expect(&rt, "memory");
+    match run_debug(rt.alloc(), Cpu::I8080, program, &[], &mut input, &mut out) {
+        Ok(()) => panic!(&rt; "not refused"),
+        Err(error) => {
+            let text = error.to_string(rt.alloc()).expect(&rt, "memory");
+            same(&rt, text.as_str(), "can't read orders: the line is dead");
+        }
+    }
+    let wanted: &[u8] = b"2 All\n0104  CD 05 00  CALL 00005H\n";
+    same(&rt, out.as_slice(), wanted);
+}
+
+/// One session on blank drives, and another that is forked from it.
+const FORKED: &str = "frames = 64
+quantum = 1
+system = \"p.img\"
+
+[[session]]
+name = \"one\"
+cpu = \"8080\"
+quota = 16
+steps = 50
+drives = [\"a.img\"]
+console = \"one.txt\"
+keys = \"one.keys\"
+
+[[session]]
+name = \"two\"
+fork = \"one\"
+at = 7
+steps = 20
+console = \"two.txt\"
+keys = \"two.keys\"
+";
+
+/// A store with the files of both.
+fn filled(rt: &(impl Abort + AllocGlobal)) -> MemoryStore {
+    let mut store = MemoryStore::new(rt.alloc());
+    let blank = Image::blank(rt.alloc(), Format::Ibm3740).expect(rt, "memory");
+    let bytes = blank.into_bytes();
+    same(rt, store.write("p.img", bytes.as_slice()), Ok(()));
+    same(rt, store.write("a.img", bytes.as_slice()), Ok(()));
+    same(rt, store.write("one.keys", b"0 DIR^M"), Ok(()));
+    same(rt, store.write("two.keys", b"60 X^M"), Ok(()));
+    store
+}
+
+/// The configuration.
+fn config(rt: &(impl Abort + AllocGlobal)) -> Config {
+    Config::read(rt.alloc(), FORKED.as_bytes()).expect(rt, "a configuration")
+}
+
+/// Fails unless a run is refused, before it writes anything.
+fn is_refused(rt: &(impl Abort + AllocGlobal), config: &Config) {
+    let mut store = filled(rt);
+    match run_host(rt.alloc(), config, &mut store, &mut Unwatched) {
+        Ok(_) => panic!(rt; "run"),
+        Err(error) => same(rt, error.status(), 2),
+    }
+    assert!(rt; store.file("one.txt").is_none());
+}
+
+#[test]
+fn refuses_what_no_host_has(rt: HostRuntime) {
+    let mut config = config(&rt);
+    config.frames = 15;
+    is_refused(&rt, &config);
+}
+
+#[test]
+fn a_fork_that_no_configuration_has_is_refused(rt: HostRuntime) {
+    let mut config = config(&rt);
+    for session in config.sessions.iter_mut() {
+        if let Origin::Forked { at, .. } = &mut session.origin {
+            *at = 51;
+        }
+    }
+    is_refused(&rt, &config);
 }

@@ -1,0 +1,160 @@
+//! Programs that are run, typed at, and played again.
+
+use crate::programs::Programs;
+use cpm_geom::Image;
+use cpm_host::{
+    Cued, HostError, Script, Start, Typed, Unwatched, cues_of, run_com, run_live, run_waiting,
+};
+use std::alloc::Global;
+use test_language::{Answer, Fault, Line, Word};
+
+/// The most keys that are typed.
+const MOST_KEYS: usize = 4096;
+
+/// The file of the key script.
+pub(crate) const KEYS: &str = "a.keys";
+
+/// The script of this text in the file of this name.
+pub(crate) fn script_of<'a>(name: &'a str, text: &'a [u8]) -> Script<'a> {
+    Script { name, text }
+}
+
+impl Programs {
+    /// Does a line that plays a program or a session, or reads the script of a fork.
+    pub(crate) fn play(&mut self, alloc: Global, line: &Line<'_>) -> Result<Answer, Fault> {
+        match line.verb() {
+            "com" => self.com(alloc, line.arguments()),
+            "type" => self.type_keys(alloc, line),
+            "replay" => self.replay(alloc),
+            "fork-keys" => self.fork_keys(alloc, line.arguments()),
+            "session" => self.session(alloc, line),
+            _ => self.rehearse(alloc, line.arguments()),
+        }
+    }
+
+    /// Copies of the drives.
+    pub(crate) fn drives(&self, alloc: Global) -> Result<Vec<Image>, Fault> {
+        let mut drives = Vec::new(alloc);
+        for drive in &self.drives {
+            drives.push(drive.copy(alloc)?)?;
+        }
+        Ok(drives)
+    }
+
+    /// What a program runs with.
+    fn start(&self, alloc: Global) -> Result<Start, Fault> {
+        Ok(Start {
+            cpu: self.cpu,
+            program: Vec::from_slice(alloc, self.program.as_slice())?,
+            tail: self.tail.clone()?,
+            drives: self.drives(alloc)?,
+        })
+    }
+
+    /// Keeps what came of a program or a session, and answers how it ended.
+    pub(crate) fn keep(
+        &mut self,
+        alloc: Global,
+        outcome: Result<Typed, HostError>,
+    ) -> Result<Answer, Fault> {
+        match outcome {
+            Ok(typed) => {
+                let ending = typed.ran.ending;
+                self.played = Some(typed);
+                self.status = 0;
+                Answer::words(alloc, ending)
+            }
+            Err(error) => self.refuse(alloc, error),
+        }
+    }
+
+    /// `com`: runs the program by the keys of the script. `com waiting`: the script may wait. `com stop-idle`: and the program stops where it waits for a
+    /// key and none will come. How it ended.
+    fn com(&mut self, alloc: Global, arguments: &[Word<'_>]) -> Result<Answer, Fault> {
+        let start = self.start(alloc)?;
+        self.out.bytes.clear();
+        self.record.clear();
+        let outcome = match arguments {
+            [] => self.run(alloc, start),
+            [word] if word.text == "waiting" => self.run_waiting(alloc, start, false),
+            [word] if word.text == "stop-idle" => self.run_waiting(alloc, start, true),
+            _ => return Err(Fault::Words),
+        };
+        self.keep(alloc, outcome)
+    }
+
+    /// Runs the program by the keys of the script.
+    fn run(&mut self, alloc: Global, start: Start) -> Result<Typed, HostError> {
+        let script = if self.keys.is_empty() {
+            None
+        } else {
+            Some(script_of(KEYS, &self.keys))
+        };
+        let ran = run_com(
+            alloc,
+            start,
+            script,
+            self.steps,
+            &mut self.out,
+            &mut Unwatched,
+        )?;
+        Ok(Typed {
+            steps: ran.ending.count,
+            ran,
+            keys: Vec::new(alloc),
+            waits: false,
+        })
+    }
+
+    /// Runs the program by the script, which may wait.
+    fn run_waiting(
+        &mut self,
+        alloc: Global,
+        start: Start,
+        stops_idle: bool,
+    ) -> Result<Typed, HostError> {
+        let cues = cues_of(alloc, script_of(KEYS, &self.keys))?;
+        let cued = Cued {
+            cues: cues.as_slice(),
+            waits_from: 0,
+            stops_idle,
+        };
+        let (out, record) = (&mut self.out, &mut self.record);
+        run_waiting(alloc, start, self.steps, cued, out, record, &mut Unwatched)
+    }
+
+    /// `type BYTES`: these keys are typed at the program. How it ended.
+    fn type_keys(&mut self, alloc: Global, line: &Line<'_>) -> Result<Answer, Fault> {
+        let keys = line.given(alloc, line.arguments())?;
+        let start = self.start(alloc)?;
+        self.out.bytes.clear();
+        self.record.clear();
+        let mut input = keys.as_slice();
+        let (out, record) = (&mut self.out, &mut self.record);
+        let outcome = run_live(alloc, start, self.steps, MOST_KEYS, &mut input, out, record);
+        self.keep(alloc, outcome)
+    }
+
+    /// `replay`: whether the record of the keys, as a script, gives the same end and the same text.
+    fn replay(&mut self, alloc: Global) -> Result<Answer, Fault> {
+        let start = self.start(alloc)?;
+        let script = script_of("record", &self.record);
+        let typed = self.played()?;
+        let mut again: Vec<u8> = Vec::new(alloc);
+        match run_com(
+            alloc,
+            start,
+            Some(script),
+            typed.steps,
+            &mut again,
+            &mut Unwatched,
+        ) {
+            Ok(ran) => {
+                let is_same = ran.ending == typed.ran.ending
+                    && again.as_slice() == self.out.bytes.as_slice();
+                Answer::truth(alloc, is_same)
+            }
+            Err(error) => self.refuse(alloc, error),
+        }
+    }
+}

@@ -1,0 +1,112 @@
+//! The rows of programs and of the debugger.
+
+use crate::given::{count_of, cpu_of};
+use crate::recorder::Recorder;
+use cpm_flags::Cpu;
+use cpm_geom::Image;
+use cpm_host::{HostError, Tail, Typed};
+use std::alloc::{AllocError, Global};
+use test_images::Images;
+use test_language::{Answer, Fault, Line, Scene};
+
+/// How many steps a program has where no line says it.
+const STEPS: u64 = 1_000_000;
+
+/// What a command is given, and what came of the last one.
+#[derive(Drop)]
+pub struct Programs {
+    pub(crate) images: Images,
+    pub(crate) cpu: Cpu,
+    pub(crate) program: Vec<u8>,
+    pub(crate) source: Vec<u8>,
+    pub(crate) listing: Vec<u8>,
+    pub(crate) orders: Vec<u8>,
+    pub(crate) keys: Vec<u8>,
+    pub(crate) parent: Vec<u8>,
+    pub(crate) tail: Option<Tail>,
+    pub(crate) drives: Vec<Image>,
+    pub(crate) steps: u64,
+    /// What the last command wrote.
+    pub(crate) out: Recorder,
+    /// The record of the keys.
+    pub(crate) record: Vec<u8>,
+    pub(crate) played: Option<Typed>,
+    /// The exit status of the last command.
+    pub(crate) status: u8,
+}
+
+impl Scene for Programs {
+    fn new(alloc: Global) -> Result<Programs, AllocError> {
+        Ok(Programs {
+            images: Images::new(alloc),
+            cpu: Cpu::I8080,
+            program: Vec::new(alloc),
+            source: Vec::new(alloc),
+            listing: Vec::new(alloc),
+            orders: Vec::new(alloc),
+            keys: Vec::new(alloc),
+            parent: Vec::new(alloc),
+            tail: None,
+            drives: Vec::new(alloc),
+            steps: STEPS,
+            out: Recorder::new(alloc),
+            record: Vec::new(alloc),
+            played: None,
+            status: 0,
+        })
+    }
+
+    fn act(&mut self, alloc: Global, line: &Line<'_>) -> Result<Answer, Fault> {
+        match line.verb() {
+            "cpu"
+            | "program"
+            | "source"
+            | "listing"
+            | "orders"
+            | "keys"
+            | "parent"
+            | "tail"
+            | "drives"
+            | "steps"
+            | "room"
+            | "chunk" => self.give(alloc, line),
+            "shown" | "status" | "ended" | "illegal" | "at-pc" | "pressed" | "waits" | "early" => {
+                self.look(alloc, line)
+            }
+            "left" => self.left(alloc, line.arguments()),
+            "asm" | "asm-listed" | "list" | "check" | "debug" => self.write(alloc, line),
+            "com" | "type" | "replay" | "fork-keys" | "session" | "rehearse" => {
+                self.play(alloc, line)
+            }
+            _ => self.images.act(alloc, line),
+        }
+    }
+}
+
+impl Programs {
+    /// Does a line that gives something to the commands.
+    fn give(&mut self, alloc: Global, line: &Line<'_>) -> Result<Answer, Fault> {
+        let arguments = line.arguments();
+        match line.verb() {
+            "cpu" => self.cpu = cpu_of(arguments)?,
+            "program" => self.program = line.given(alloc, arguments)?,
+            "source" => self.source = line.given(alloc, arguments)?,
+            "listing" => return self.listing(alloc, line),
+            "orders" => self.orders = line.given(alloc, arguments)?,
+            "keys" => self.keys = line.given(alloc, arguments)?,
+            "parent" => self.parent = line.given(alloc, arguments)?,
+            "tail" => return self.tail(alloc, arguments),
+            "drives" => self.drives = self.images.copies(alloc, arguments)?,
+            "steps" => return self.steps(alloc, arguments),
+            "room" => self.out.fails_at = Some(count_of(arguments)?),
+            _ => self.out.most = count_of(arguments)?,
+        }
+        Ok(Answer::Done)
+    }
+
+    /// Keeps the status of a refusal, and answers its text.
+    pub(crate) fn refuse(&mut self, alloc: Global, error: HostError) -> Result<Answer, Fault> {
+        self.status = error.status();
+        Answer::refused_text(alloc, error)
+    }
+}

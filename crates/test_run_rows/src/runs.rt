@@ -1,0 +1,224 @@
+//! The rows of runs: sessions of a configuration over files in memory.
+
+use crate::config::changed;
+use crate::given::{bytes_given, count_of};
+use cpm_geom::Image;
+use cpm_host::{Config, HostError, MemoryStore, Report, Store, Unwatched, judge_host, run_host};
+use std::alloc::{AllocError, Global};
+use test_images::Images;
+use test_language::{Answer, Fault, Line, Scene, Word, number};
+
+/// The exit status of a configuration that is refused.
+const CONFIG_REFUSED: u8 = 2;
+
+/// The files and the configuration of a run, and what came of the last one.
+#[derive(Drop)]
+pub struct Runs {
+    images: Images,
+    store: MemoryStore,
+    config: String,
+    report: Report,
+    status: u8,
+}
+
+impl Scene for Runs {
+    fn new(alloc: Global) -> Result<Runs, AllocError> {
+        Ok(Runs {
+            images: Images::new(alloc),
+            store: MemoryStore::new(alloc),
+            config: String::new(alloc),
+            report: Vec::new(alloc),
+            status: 0,
+        })
+    }
+
+    fn act(&mut self, alloc: Global, line: &Line<'_>) -> Result<Answer, Fault> {
+        let arguments = line.arguments();
+        match line.verb() {
+            "config" => self.add(line),
+            "set" => self.set(alloc, arguments),
+            "file" => self.file(alloc, line),
+            "length" => self.length(alloc, arguments),
+            "same" => self.same(alloc, arguments),
+            "load" => self.load(alloc, arguments),
+            "fail-call" => self.fail_call(arguments),
+            "run" => self.run(alloc),
+            "judge" => self.judge(alloc),
+            "cuts" => self.cuts(alloc),
+            "illegal" => self.illegal(alloc, arguments),
+            "status" => Answer::words(alloc, self.status),
+            _ => self.images.act(alloc, line),
+        }
+    }
+}
+
+/// Runs the sessions of a configuration.
+fn run(alloc: Global, config: &[u8], store: &mut MemoryStore) -> Result<Report, HostError> {
+    let config = Config::read(alloc, config)?;
+    run_host(alloc, &config, store, &mut Unwatched)
+}
+
+/// Judges a configuration.
+fn judge(alloc: Global, config: &[u8], store: &mut MemoryStore) -> Result<(), HostError> {
+    let config = Config::read(alloc, config)?;
+    judge_host(alloc, &config, store)
+}
+
+/// The lines of a report.
+fn report_lines(alloc: Global, report: &Report) -> Result<String, Fault> {
+    let mut lines = String::new(alloc);
+    for session in report {
+        if !lines.as_str().is_empty() {
+            lines.push('\n')?;
+        }
+        lines.push_str(session.to_string(alloc)?.as_str())?;
+    }
+    Ok(lines)
+}
+
+impl Runs {
+    /// `config`, with lines behind it: adds them to the configuration.
+    fn add(&mut self, line: &Line<'_>) -> Result<Answer, Fault> {
+        self.config.push_str(line.text.as_str())?;
+        Ok(Answer::Done)
+    }
+
+    /// `set KEY VALUE`: the first line of the configuration with this key gives it this value.
+    fn set(&mut self, alloc: Global, arguments: &[Word<'_>]) -> Result<Answer, Fault> {
+        let [key, value @ ..] = arguments else {
+            return Err(Fault::Words);
+        };
+        match changed(alloc, self.config.as_str(), key.text, value)? {
+            Some(config) => {
+                self.config = config;
+                Ok(Answer::Done)
+            }
+            None => Err(Fault::Absent),
+        }
+    }
+
+    /// `file NAME BYTES`, or `file NAME image IMAGE`: the file of this name. Without bytes: what it holds, or `none`.
+    fn file(&mut self, alloc: Global, line: &Line<'_>) -> Result<Answer, Fault> {
+        let [name, words @ ..] = line.arguments() else {
+            return Err(Fault::Words);
+        };
+        let given = bytes_given(alloc, &self.images, line, words)?;
+        if words.is_empty() && given.is_empty() {
+            return match self.store.file(name.text) {
+                Some(bytes) => Answer::bytes(alloc, bytes),
+                None => Answer::words(alloc, "none"),
+            };
+        }
+        match self.store.write(name.text, given.as_slice()) {
+            Ok(()) => Ok(Answer::Done),
+            Err(error) => Answer::refused(alloc, error),
+        }
+    }
+
+    /// The bytes of a file.
+    fn bytes_of(&self, name: Word<'_>) -> Result<&[u8], Fault> {
+        match self.store.file(name.text) {
+            Some(bytes) => Ok(bytes),
+            None => Err(Fault::Absent),
+        }
+    }
+
+    /// `length NAME`: how many bytes a file has.
+    fn length(&self, alloc: Global, arguments: &[Word<'_>]) -> Result<Answer, Fault> {
+        let [name] = arguments else {
+            return Err(Fault::Words);
+        };
+        Answer::words(alloc, self.bytes_of(*name)?.len())
+    }
+
+    /// `same NAME OTHER`: whether two files hold the same bytes.
+    fn same(&self, alloc: Global, arguments: &[Word<'_>]) -> Result<Answer, Fault> {
+        let [name, other] = arguments else {
+            return Err(Fault::Words);
+        };
+        Answer::truth(alloc, self.bytes_of(*name)? == self.bytes_of(*other)?)
+    }
+
+    /// `load IMAGE NAME`: the image is the one that the file holds.
+    fn load(&mut self, alloc: Global, arguments: &[Word<'_>]) -> Result<Answer, Fault> {
+        let [image, name] = arguments else {
+            return Err(Fault::Words);
+        };
+        let bytes = Vec::from_slice(alloc, self.bytes_of(*name)?)?;
+        match Image::from_bytes(bytes) {
+            Ok(loaded) => self.images.put(alloc, image.text, loaded)?,
+            Err(_) => return Err(Fault::Absent),
+        }
+        Ok(Answer::Done)
+    }
+
+    /// `fail-call N`: the Nth call of the store from here on fails.
+    fn fail_call(&mut self, arguments: &[Word<'_>]) -> Result<Answer, Fault> {
+        let [call] = arguments else {
+            return Err(Fault::Words);
+        };
+        let call = number(*call)?;
+        if call == 0 {
+            return Err(Fault::Unready);
+        }
+        self.store.fail_call(call);
+        Ok(Answer::Done)
+    }
+
+    /// Keeps the status of a refusal, and answers its text.
+    fn refuse(&mut self, alloc: Global, error: HostError) -> Result<Answer, Fault> {
+        self.status = error.status();
+        Answer::refused_text(alloc, error)
+    }
+
+    /// `run`: runs the sessions. The line that reports each.
+    fn run(&mut self, alloc: Global) -> Result<Answer, Fault> {
+        match run(alloc, self.config.as_bytes(), &mut self.store) {
+            Ok(report) => {
+                self.report = report;
+                self.status = 0;
+                Ok(Answer::Words(report_lines(alloc, &self.report)?))
+            }
+            Err(error) => self.refuse(alloc, error),
+        }
+    }
+
+    /// `judge`: judges the configuration, and plays nothing: `judged`.
+    fn judge(&mut self, alloc: Global) -> Result<Answer, Fault> {
+        match judge(alloc, self.config.as_bytes(), &mut self.store) {
+            Ok(()) => {
+                self.status = 0;
+                Answer::words(alloc, "judged")
+            }
+            Err(error) => self.refuse(alloc, error),
+        }
+    }
+
+    /// `cuts`: runs each beginning of the configuration, from no byte up to all. How many were run, and how many refused as configurations.
+    fn cuts(&mut self, alloc: Global) -> Result<Answer, Fault> {
+        let (mut runs, mut refusals) = (0u64, 0u64);
+        let bytes = self.config.as_bytes();
+        for end in 0..=bytes.len() {
+            match run(alloc, &bytes[..end], &mut self.store) {
+                Ok(_) => runs = runs.saturating_add(1),
+                Err(error) if error.status() == CONFIG_REFUSED => {
+                    refusals = refusals.saturating_add(1);
+                }
+                Err(error) => return self.refuse(alloc, error),
+            }
+        }
+        Ok(Answer::Words(format!(in alloc; "{runs} run, {refusals} refused")?))
+    }
+
+    /// `illegal N`: the bytes that are no instruction at which the Nth session ended, or `none`.
+    fn illegal(&self, alloc: Global, arguments: &[Word<'_>]) -> Result<Answer, Fault> {
+        let place = count_of(arguments)?.saturating_sub(1);
+        match self.report.get(place) {
+            Some(session) => match session.illegal() {
+                Some(bytes) => Answer::words(alloc, bytes),
+                None => Answer::words(alloc, "none"),
+            },
+            None => Err(Fault::Absent),
+        }
+    }
+}

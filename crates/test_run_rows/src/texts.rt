@@ -1,0 +1,92 @@
+//! The commands that write texts: the assembler, the lister, the check and the debugger.
+
+use crate::given::bytes_given;
+use crate::programs::Programs;
+use cpm_host::{HostError, run_asm, run_asm_listed, run_check, run_debug, run_list};
+use std::alloc::Global;
+use test_language::{Answer, Fault, Line};
+
+impl Programs {
+    /// Does a line that runs such a command.
+    pub(crate) fn write(&mut self, alloc: Global, line: &Line<'_>) -> Result<Answer, Fault> {
+        self.out.bytes.clear();
+        match line.verb() {
+            "asm" => self.asm(alloc),
+            "asm-listed" => self.asm_listed(alloc),
+            "list" => self.list(alloc),
+            "check" => self.check(alloc, line),
+            _ => self.debug(alloc, line),
+        }
+    }
+
+    /// `asm`: assembles the source. The program's bytes.
+    fn asm(&mut self, alloc: Global) -> Result<Answer, Fault> {
+        match run_asm(alloc, self.source.as_slice()) {
+            Ok(image) => {
+                self.program = image;
+                self.assembled(alloc)
+            }
+            Err(error) => self.refuse(alloc, error),
+        }
+    }
+
+    /// `asm-listed`: the same, and `listing` is the listing of the source.
+    fn asm_listed(&mut self, alloc: Global) -> Result<Answer, Fault> {
+        match run_asm_listed(alloc, self.source.as_slice()) {
+            Ok(listed) => {
+                self.program = listed.image;
+                self.listing = listed.listing;
+                self.assembled(alloc)
+            }
+            Err(error) => self.refuse(alloc, error),
+        }
+    }
+
+    /// The program's bytes.
+    fn assembled(&mut self, alloc: Global) -> Result<Answer, Fault> {
+        self.status = 0;
+        Answer::bytes(alloc, self.program.as_slice())
+    }
+
+    /// What the command wrote, if it wasn't refused.
+    fn wrote(&mut self, alloc: Global, outcome: Result<(), HostError>) -> Result<Answer, Fault> {
+        match outcome {
+            Ok(()) => {
+                self.status = 0;
+                Answer::bytes(alloc, self.out.bytes.as_slice())
+            }
+            Err(error) => self.refuse(alloc, error),
+        }
+    }
+
+    /// `list`: the program's instructions.
+    fn list(&mut self, alloc: Global) -> Result<Answer, Fault> {
+        let outcome = run_list(self.cpu, self.program.as_slice(), &mut self.out);
+        self.wrote(alloc, outcome)
+    }
+
+    /// `check BYTES`, or `check image NAME`: checks an image in the file `d.img`.
+    fn check(&mut self, alloc: Global, line: &Line<'_>) -> Result<Answer, Fault> {
+        let bytes = bytes_given(alloc, &self.images, line, line.arguments())?;
+        let outcome = run_check("d.img", bytes, &mut self.out);
+        self.wrote(alloc, outcome)
+    }
+
+    /// `debug BYTES`: what the debugger answers to these orders, with the program and its listing. Without bytes: to those given by `orders`.
+    fn debug(&mut self, alloc: Global, line: &Line<'_>) -> Result<Answer, Fault> {
+        let arguments = line.arguments();
+        if !arguments.is_empty() {
+            self.orders = line.given(alloc, arguments)?;
+        }
+        let program = Vec::from_slice(alloc, self.program.as_slice())?;
+        let mut input = self.orders.as_slice();
+        let listing = self.listing.as_slice();
+        match run_debug(alloc, self.cpu, program, listing, &mut input, &mut self.out) {
+            Ok(()) => self.wrote(alloc, Ok(())),
+            Err(error) => {
+                self.status = HostError::from(error).status();
+                Answer::refused_text(alloc, error)
+            }
+        }
+    }
+}
