@@ -1,14 +1,8 @@
 pub mod AsmLemmas
 pub mod AsmListingLemmas
-pub mod AtPcLemmas
 pub mod CuedLemmas
-pub mod FinishLemmas
 pub mod InputLemmas
 pub mod ListLemmas
-pub mod PlayLemmas
-pub mod PrepareLemmas
-pub mod RunLemmas
 pub mod ScriptLemmas
-pub mod SlotLemmas
 pub mod StartLemmas
 pub mod TailLemmas

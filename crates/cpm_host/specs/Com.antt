@@ -14,12 +14,13 @@ use Rattle.cpm_script.specs.declared.script.Key.{Key}
 use Rattle.cpm_slots.specs.MachineState.{MachineState, opened_with, with_tail}
 use Rattle.cpm_slots.specs.declared.opening.OpenError.TheVariants.{BadDrives}
 use Rattle.cpm_turns.specs.Playing.{HasText, alone_by}
-use Rattle.cpm_host.specs.Illegal.{bytes_at_pc}
+use Rattle.cpm_run.specs.Illegal.{bytes_at_pc}
 use Rattle.cpm_host.specs.declared.com.Script.{Script}
 use Rattle.cpm_host.specs.declared.com.Start.{Start}
 use Rattle.cpm_host.specs.declared.ending.Ending.{Ending}
 use Rattle.cpm_host.specs.declared.error.HostError.{HostError}
-use Rattle.cpm_host.specs.declared.error.HostError.TheVariants.{FileRefused, OpeningRefused, OutputUnwritable, OutOfMemory, ProgramTooLong}
+use Rattle.cpm_host.specs.declared.error.HostError.TheVariants.{OpeningRefused, OutputUnwritable, OutOfMemory, ProgramTooLong, RunRefused}
+use Rattle.cpm_run.specs.declared.error.RunError.TheVariants.{FileRefused}
 
 -- the console bytes of a machine from which none was taken
 abbrev pub text_of : MachineState → List ℕ
@@ -84,14 +85,14 @@ ran_alone g keys steps = alone_by (blank_disk Ibm3740) keys steps (machine_of g)
 
 -- what is told of a script that is refused, in the file of this name
 abbrev pub IsScriptTold : (name : List ℕ) → ScriptError → HostError → Type 0
-IsScriptTold name (Line number fault) (FileRefused (read.Script shown line told)) =
+IsScriptTold name (Line number fault) (RunRefused (FileRefused (read.Script shown line told))) =
     (shown.bytes ≡ shown_of (chars name)) × (line ≡ number) × (told ≡ fault)
 IsScriptTold name (Line number fault) _ = ⊥
 IsScriptTold name script_error.OutOfMemory e = e ≡ OutOfMemory
 
 -- how a script is refused
 abbrev pub IsScriptRefusal : Option Script → HostError → Type 0
-IsScriptRefusal script (FileRefused (read.Script shown line fault)) = IsBadLine script shown.bytes line fault
+IsScriptRefusal script (RunRefused (FileRefused (read.Script shown line fault))) = IsBadLine script shown.bytes line fault
 IsScriptRefusal script OutOfMemory = ⊤
 IsScriptRefusal script _ = ⊥
 
@@ -107,7 +108,7 @@ IsStartRefusal g _ = ⊥
 abbrev pub IsComRefusal : {W : Type 0} → Given → Option Script → ℕ → HostError → W → W → Type 0
 IsComRefusal {W} g script steps (ProgramTooLong count) old new = IsStartRefusal g (ProgramTooLong count) × (new ≡ old)
 IsComRefusal {W} g script steps (OpeningRefused fault) old new = IsStartRefusal g (OpeningRefused fault) × (new ≡ old)
-IsComRefusal {W} g script steps (FileRefused (read.Script shown line fault)) old new =
+IsComRefusal {W} g script steps (RunRefused (FileRefused (read.Script shown line fault))) old new =
     (length g.program ≤ 58112) × (length g.drives ≤ 4) × IsBadLine script shown.bytes line fault × (new ≡ old)
 IsComRefusal {W} g script steps OutOfMemory old new = (length g.program ≤ 58112) × (length g.drives ≤ 4) × (new ≡ old)
 IsComRefusal {W} g script steps (OutputUnwritable reason) old new =

@@ -27,7 +27,8 @@ use Rattle.cpm_host.specs.declared.cued.ForkedCues.{ForkedCues}
 use Rattle.cpm_host.specs.declared.live.SessionStart.{SessionStart}
 use Rattle.cpm_host.specs.declared.live.Typed.{Typed}
 use Rattle.cpm_host.specs.declared.error.HostError.{HostError}
-use Rattle.cpm_host.specs.declared.error.HostError.TheVariants.{FileRefused, OutOfMemory}
+use Rattle.cpm_host.specs.declared.error.HostError.TheVariants.{OutOfMemory, RunRefused}
+use Rattle.cpm_run.specs.declared.error.RunError.TheVariants.{FileRefused}
 
 -- a machine takes all keys of a script
 pub record AreFit (cues : List Cue) : Type 0 where
@@ -36,7 +37,7 @@ pub record AreFit (cues : List Cue) : Type 0 where
 
 -- how a script is refused that may wait
 abbrev pub IsCueRefusal : Script → HostError → Type 0
-IsCueRefusal s (FileRefused (read.Script shown line fault)) =
+IsCueRefusal s (RunRefused (FileRefused (read.Script shown line fault))) =
     (shown.bytes ≡ shown_of (chars s.name.now)) × (cues s.text.now ≡ Err (line, fault))
 IsCueRefusal s OutOfMemory = ⊤
 IsCueRefusal s _ = ⊥
@@ -52,7 +53,7 @@ pub record AreForked (parent own : List ℕ) (at : ℕ) (f : ForkedCues) : Type 
 
 -- how the scripts of a forked session are refused: its parent's, and then its own
 abbrev pub IsForkedRefusal : (parent own : Script) → ℕ → HostError → Type 0
-IsForkedRefusal parent own at (FileRefused (read.Script shown line fault)) =
+IsForkedRefusal parent own at (RunRefused (FileRefused (read.Script shown line fault))) =
     ((shown.bytes ≡ shown_of (chars parent.name.now)) × (script parent.text.now ≡ Err (line, fault)))
     ⊎ ((shown.bytes ≡ shown_of (chars own.name.now))
     × ((keys : List Key) × (script parent.text.now ≡ Ok keys) × (forked_cues at (length (keys_before at keys)) own.text.now ≡ Err (line, fault))))

@@ -1,12 +1,8 @@
 pub mod Asm
 pub mod AsmListing
-pub mod Check
 pub mod Com
 pub mod Cued
-pub mod Illegal
 pub mod Listing
 pub mod Live
-pub mod Playing
 pub mod Refusals
-pub mod Run
 pub mod Tails

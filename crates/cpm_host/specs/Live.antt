@@ -19,7 +19,8 @@ use Rattle.cpm_host.specs.Refusals.{host_error_of_live}
 use Rattle.cpm_host.specs.declared.live.SessionStart.{SessionStart}
 use Rattle.cpm_host.specs.declared.live.Typed.{Typed}
 use Rattle.cpm_host.specs.declared.error.HostError.{HostError}
-use Rattle.cpm_host.specs.declared.error.HostError.TheVariants.{OutOfMemory, SessionRefused}
+use Rattle.cpm_host.specs.declared.error.HostError.TheVariants.{OutOfMemory, RunRefused}
+use Rattle.cpm_run.specs.declared.error.RunError.TheVariants.{SessionRefused}
 
 -- what a reader had and has still to give, what a writer had got and has got, and what a record had and has
 pub record Streams : Type 0 where
@@ -71,7 +72,7 @@ begun s = opened_machine s.opening.cpu s.opening.quota s.opening.drives.items
 
 -- the opening of a session of this name has such a fault, or memory was refused
 abbrev pub IsOpeningRefused : (name : List ℕ) → Option OpenError → HostError → Type 0
-IsOpeningRefused name fault (SessionRefused shown told) = (shown.bytes ≡ shown_of (chars name)) × (fault ≡ Some told)
+IsOpeningRefused name fault (RunRefused (SessionRefused shown told)) = (shown.bytes ≡ shown_of (chars name)) × (fault ≡ Some told)
 IsOpeningRefused name fault OutOfMemory = ⊤
 IsOpeningRefused name fault _ = ⊥
 

@@ -3,10 +3,10 @@ use Rattle.std.specs.Prelude.{⊤, ℕ}
 use Rattle.cpm_command.specs.declared.fault.UsageError.{UsageError}
 use Rattle.cpm_command.specs.declared.fault.UsageError.TheVariants as usage
 use Rattle.cpm_host.specs.declared.error.HostError.{HostError}
-use Rattle.cpm_host.specs.declared.error.HostError.TheVariants.{Usage, NotText, ConfigRefused, DiskRefused, FileRefused, FileUnreadable, FileUnwritable, FramesExceeded, ImageDamaged, InputUnreadable, NoSession, NotAFolder, NotOpened, OutputUnwritable, SessionRefused, SourceRefused, OutOfMemory, OpeningRefused, ProgramTooLong, RecordUnwritable, TailRefused, WriteFault}
-use Rattle.cpm_batch.specs.Inputs.{status_of_reading}
-use Rattle.cpm_batch.specs.declared.error.ReadError.{ReadError}
-use Rattle.cpm_batch.specs.declared.error.ReadError.TheVariants as read
+use Rattle.cpm_host.specs.declared.error.HostError.TheVariants.{Usage, NotText, CheckRefused, DiskRefused, FileUnreadable, FileUnwritable, InputUnreadable, NoSession, NotAFolder, NotOpened, OutputUnwritable, SourceRefused, OutOfMemory, OpeningRefused, ProgramTooLong, RecordUnwritable, RunRefused, TailRefused}
+use Rattle.cpm_check.specs.Check.{status_of as status_of_check}
+use Rattle.cpm_check.specs.declared.error.CheckError.{CheckError}
+use Rattle.cpm_check.specs.declared.error.CheckError.TheVariants as check
 use Rattle.cpm_config.specs.declared.fault.ConfigError.{ConfigError}
 use Rattle.cpm_config.specs.declared.fault.ConfigError.TheVariants as config
 use Rattle.cpm_debug.specs.declared.error.DebugError.{DebugError}
@@ -14,6 +14,9 @@ use Rattle.cpm_debug.specs.declared.error.DebugError.TheVariants as debug
 use Rattle.cpm_filing.specs.Refusals.{status_of as status_of_filing}
 use Rattle.cpm_filing.specs.declared.error.FilingError.{FilingError}
 use Rattle.cpm_filing.specs.declared.error.FilingError.TheVariants as filing
+use Rattle.cpm_run.specs.Refusals.{status_of as status_of_run}
+use Rattle.cpm_run.specs.declared.error.RunError.{RunError}
+use Rattle.cpm_run.specs.declared.error.RunError.TheVariants as run
 use Rattle.cpm_slots.specs.declared.opening.OpenError.{OpenError}
 use Rattle.cpm_slots.specs.declared.opening.OpenError.TheVariants as opening
 use Rattle.cpm_turns.specs.declared.live.LiveError.{LiveError}
@@ -26,22 +29,18 @@ status_of NotText = 1
 status_of (NoSession name) = 1
 status_of (NotOpened name) = 1
 status_of (TailRefused word) = 1
-status_of (ConfigRefused fault) = 2
+status_of (RunRefused e) = status_of_run e
 status_of (DiskRefused e) = status_of_filing e
-status_of (FileRefused e) = status_of_reading e
+status_of (CheckRefused e) = status_of_check e
 status_of (FileUnreadable name reason) = 4
 status_of (InputUnreadable reason) = 4
 status_of (OutputUnwritable reason) = 5
 status_of (FileUnwritable name reason) = 5
 status_of (RecordUnwritable reason) = 5
 status_of (NotAFolder name) = 5
-status_of (WriteFault name) = 5
-status_of (ImageDamaged name damage) = 6
 status_of (SourceRefused line kind found) = 7
 status_of OutOfMemory = 8
 status_of (OpeningRefused fault) = 9
-status_of (SessionRefused name fault) = 9
-status_of (FramesExceeded name quotas frames) = 9
 status_of (ProgramTooLong count) = 9
 
 -- what a file that is not read comes to
@@ -68,10 +67,10 @@ host_error_of usage.OutOfMemory = OutOfMemory
 
 -- what a refused configuration comes to
 abbrev pub host_error_of_config : ConfigError → HostError
-host_error_of_config (config.Text line fault) = ConfigRefused (config.Text line fault)
-host_error_of_config (config.Key fault) = ConfigRefused (config.Key fault)
-host_error_of_config (config.Range place) = ConfigRefused (config.Range place)
-host_error_of_config (config.Twice place) = ConfigRefused (config.Twice place)
+host_error_of_config (config.Text line fault) = RunRefused (run.ConfigRefused (config.Text line fault))
+host_error_of_config (config.Key fault) = RunRefused (run.ConfigRefused (config.Key fault))
+host_error_of_config (config.Range place) = RunRefused (run.ConfigRefused (config.Range place))
+host_error_of_config (config.Twice place) = RunRefused (run.ConfigRefused (config.Twice place))
 host_error_of_config config.OutOfMemory = OutOfMemory
 
 -- what a refused command on disk images comes to
@@ -88,12 +87,20 @@ host_error_of_filing (filing.NoHostName image file) = DiskRefused (filing.NoHost
 host_error_of_filing (filing.OutputUnwritable reason) = OutputUnwritable reason
 host_error_of_filing filing.OutOfMemory = OutOfMemory
 
--- what a refused file of a run comes to
-abbrev pub host_error_of_reading : ReadError → HostError
-host_error_of_reading (read.File name) = FileRefused (read.File name)
-host_error_of_reading (read.Image name count) = FileRefused (read.Image name count)
-host_error_of_reading (read.Script name line fault) = FileRefused (read.Script name line fault)
-host_error_of_reading read.OutOfMemory = OutOfMemory
+-- what a refused run comes to
+abbrev pub host_error_of_run : RunError → HostError
+host_error_of_run (run.ConfigRefused fault) = RunRefused (run.ConfigRefused fault)
+host_error_of_run (run.FileRefused e) = RunRefused (run.FileRefused e)
+host_error_of_run (run.WriteFault name) = RunRefused (run.WriteFault name)
+host_error_of_run run.OutOfMemory = OutOfMemory
+host_error_of_run (run.SessionRefused name fault) = RunRefused (run.SessionRefused name fault)
+host_error_of_run (run.FramesExceeded name quotas frames) = RunRefused (run.FramesExceeded name quotas frames)
+
+-- what a refused check of an image comes to
+abbrev pub host_error_of_check : CheckError → HostError
+host_error_of_check (check.FileRefused e) = CheckRefused (check.FileRefused e)
+host_error_of_check (check.ImageDamaged name damage) = CheckRefused (check.ImageDamaged name damage)
+host_error_of_check (check.OutputUnwritable reason) = OutputUnwritable reason
 
 -- what a refused dialog comes to
 abbrev pub host_error_of_debug : DebugError → HostError

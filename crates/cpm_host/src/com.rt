@@ -13,6 +13,7 @@ use cpm_batch::ReadError;
 use cpm_command::shown;
 use cpm_flags::Cpu;
 use cpm_geom::{Format, Image};
+use cpm_run::RunError;
 use cpm_script::{Key, ScriptError, read_keys};
 use cpm_slots::{Closed, MOST_DRIVES, MOST_PROGRAM, MOST_QUOTA, Machine, OpenError, Opening, Tail};
 use cpm_turns::{Watcher, play_machine};
@@ -31,11 +32,13 @@ pub(crate) fn script_refused(name: &str, error: ScriptError) -> HostError
     ensures { IsScriptTold name.now error result }
 {
     match error {
-        ScriptError::Line { number, fault } => HostError::FileRefused(ReadError::Script {
-            name: shown(name),
-            line: number,
-            fault,
-        }),
+        ScriptError::Line { number, fault } => {
+            HostError::RunRefused(RunError::FileRefused(ReadError::Script {
+                name: shown(name),
+                line: number,
+                fault,
+            }))
+        }
         ScriptError::OutOfMemory => HostError::OutOfMemory,
     }
 }

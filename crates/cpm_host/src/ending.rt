@@ -1,10 +1,10 @@
 //! How the run of a program ended.
 ghost use Rattle.std.specs.Prelude.{◌≡◌};
 ghost use Rattle.cpm_host.specs.Com.{ending_of};
-ghost use Rattle.cpm_host.specs.Illegal.{illegal_of};
+ghost use Rattle.cpm_run.specs.Illegal.{illegal_of};
 
 use crate::at_pc::bytes_of_machine;
-use crate::illegal::IllegalBytes;
+use cpm_run::IllegalBytes;
 use cpm_slots::{End, Machine};
 use std::fmt;
 

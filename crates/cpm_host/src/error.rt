@@ -1,14 +1,15 @@
 //! Why a command is refused.
 ghost use Rattle.std.specs.Prelude.{◌≡◌};
 ghost use Rattle.cpm_host.specs.declared.error.HostError.TheVariants.{OutOfMemory};
-ghost use Rattle.cpm_host.specs.Refusals.{status_of, host_error_of, host_error_of_config, host_error_of_debug, host_error_of_filing, host_error_of_live, host_error_of_opening, host_error_of_reading};
+ghost use Rattle.cpm_host.specs.Refusals.{status_of, host_error_of, host_error_of_check, host_error_of_config, host_error_of_debug, host_error_of_filing, host_error_of_live, host_error_of_opening, host_error_of_run};
 
 use cpm_asm::AsmErrorKind;
-use cpm_batch::ReadError;
+use cpm_check::CheckError;
 use cpm_command::{Fault, UsageError, Word};
 use cpm_config::ConfigError;
 use cpm_debug::DebugError;
-use cpm_filing::{Damage, FilingError};
+use cpm_filing::FilingError;
+use cpm_run::RunError;
 use cpm_slots::OpenError;
 use cpm_turns::LiveError;
 use std::alloc::{AllocError, AllocFailed};
@@ -16,7 +17,7 @@ use std::{fmt, io};
 use thiserror::Error;
 
 /// Why a command is refused. Its text is one line that begins with its code.
-#[derive(Clone, Copy, Debug, Drop, Error)]
+#[derive(Clone, Copy, Drop, Error)]
 pub enum HostError {
     /// The words of the command line name no task.
     #[error("HO1 {0}")]
@@ -33,21 +34,15 @@ pub enum HostError {
     /// A word is no part of a command's tail.
     #[error("HO1 '{0}' is no part of a command's tail: characters from ' ' to '~' are wanted, and at most 126 in all")]
     TailRefused(Word),
-    /// The configuration is refused.
-    #[error("HO2 {0}")]
-    ConfigRefused(ConfigError),
-    /// The directory of the image in a file doesn't agree with itself.
-    #[error("HO6 '{name}': {damage}")]
-    ImageDamaged {
-        name: Word,
-        damage: Damage,
-    },
+    /// A run is refused, or what one has too: HO2 a configuration, HO3 a key script, HO4, HO5, HO6 a file, HO9 a session.
+    #[error("{0}")]
+    RunRefused(RunError),
     /// A command on disk images is refused: HO1 a name, HO6 an image or what was asked of it.
     #[error("{0}")]
     DiskRefused(FilingError),
-    /// A file of a run is refused: HO3 a key script, HO4 what can't be read, HO6 an image.
+    /// A file that is checked is refused: HO6, it is no image or a damaged one.
     #[error("{0}")]
-    FileRefused(ReadError),
+    CheckRefused(CheckError),
     /// A file can't be read.
     #[error("HO4 can't read '{name}': {reason}")]
     FileUnreadable {
@@ -72,9 +67,6 @@ pub enum HostError {
     /// Several files were to go to this file.
     #[error("HO5 can't write several files to '{0}': it is no folder")]
     NotAFolder(Word),
-    /// A file of a run can't be written.
-    #[error("HO5 can't write '{0}'")]
-    WriteFault(Word),
     /// The source has a fault in this line, where this was found.
     #[error("HO7 line {line}, '{found}': {reason}", reason = SourceFault {kind: *.kind, found: *.found})]
     SourceRefused {
@@ -88,22 +80,15 @@ pub enum HostError {
     /// The machine can't be made so.
     #[error("HO9 {0}")]
     OpeningRefused(OpenError),
-    /// The session of this name can't be opened so.
-    #[error("HO9 session '{name}': {fault}")]
-    SessionRefused {
-        name: Word,
-        fault: OpenError,
-    },
-    /// The session of this name can't be opened: the quotas of all sessions are more pages than there are frames.
-    #[error("HO9 session '{name}': quotas of {quotas} pages in all, and frames = {frames}")]
-    FramesExceeded {
-        name: Word,
-        quotas: u128,
-        frames: u16,
-    },
     /// The program has this many bytes, which is more than a machine takes.
     #[error("HO9 the program has {0} bytes, and a machine takes at most 58112")]
     ProgramTooLong(usize),
+}
+
+impl fmt::Debug for HostError {
+    fn fmt<W: fmt::Write>(&self, f: &mut fmt::Formatter<W>) -> fmt::Result {
+        write!(f, "{self}")
+    }
 }
 
 /// What is wrong with a statement, with what stands in its line.
@@ -153,22 +138,17 @@ impl HostError {
             | HostError::NoSession(_)
             | HostError::NotOpened(_)
             | HostError::TailRefused(_) => 1,
-            HostError::ConfigRefused(_) => 2,
+            HostError::RunRefused(error) => error.status(),
             HostError::DiskRefused(error) => error.status(),
-            HostError::FileRefused(error) => error.status(),
+            HostError::CheckRefused(error) => error.status(),
             HostError::FileUnreadable { .. } | HostError::InputUnreadable(_) => 4,
             HostError::OutputUnwritable(_)
             | HostError::RecordUnwritable(_)
             | HostError::FileUnwritable { .. }
-            | HostError::NotAFolder(_)
-            | HostError::WriteFault(_) => 5,
-            HostError::ImageDamaged { .. } => 6,
+            | HostError::NotAFolder(_) => 5,
             HostError::SourceRefused { .. } => 7,
             HostError::OutOfMemory => 8,
-            HostError::OpeningRefused(_)
-            | HostError::SessionRefused { .. }
-            | HostError::FramesExceeded { .. }
-            | HostError::ProgramTooLong(_) => 9,
+            HostError::OpeningRefused(_) | HostError::ProgramTooLong(_) => 9,
         }
     }
 }
@@ -190,7 +170,7 @@ impl From<ConfigError> for HostError {
     fn from(error: ConfigError) -> HostError {
         match error {
             ConfigError::OutOfMemory => HostError::OutOfMemory,
-            fault => HostError::ConfigRefused(fault),
+            fault => HostError::RunRefused(RunError::ConfigRefused(fault)),
         }
     }
 }
@@ -220,13 +200,24 @@ impl From<LiveError> for HostError {
     }
 }
 
-impl From<ReadError> for HostError {
-    ghost from_gives = { λ r e. e ≡ host_error_of_reading r };
+impl From<RunError> for HostError {
+    ghost from_gives = { λ r e. e ≡ host_error_of_run r };
 
-    fn from(error: ReadError) -> HostError {
+    fn from(error: RunError) -> HostError {
         match error {
-            ReadError::OutOfMemory => HostError::OutOfMemory,
-            fault => HostError::FileRefused(fault),
+            RunError::OutOfMemory => HostError::OutOfMemory,
+            fault => HostError::RunRefused(fault),
+        }
+    }
+}
+
+impl From<CheckError> for HostError {
+    ghost from_gives = { λ c e. e ≡ host_error_of_check c };
+
+    fn from(error: CheckError) -> HostError {
+        match error {
+            CheckError::OutputUnwritable(reason) => HostError::OutputUnwritable(reason),
+            fault => HostError::CheckRefused(fault),
         }
     }
 }

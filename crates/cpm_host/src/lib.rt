@@ -5,30 +5,25 @@
 mod asm;
 mod asm_listing;
 mod at_pc;
-mod check;
 mod com;
 mod cued;
 mod ending;
 mod error;
-mod illegal;
 mod input;
 mod list;
 mod live;
-mod play;
-mod quotas;
-mod report;
-mod run;
 mod tail;
 
 pub use asm::{Listed, run_asm, run_asm_listed};
-pub use check::run_check;
 pub use com::{Ran, Script, Start, run_com};
 pub use cpm_batch::ReadError;
+pub use cpm_check::{CheckError, run_check};
 pub use cpm_command::{
     ComTask, DiskTask, Fault, HELP_TEXT, RunTask, Task, UsageError, Word, command, help, shown,
 };
 pub use cpm_config::{Config, ConfigError, Origin, Session};
 pub use cpm_debug::{DebugError, run_debug};
+pub use cpm_run::{IllegalBytes, Report, RunError, SessionReport, judge_host, run_host};
 pub use cpm_script::{Cue, Key, LineFault, ScriptError, key_line, read_keys};
 pub use cpm_slots::{End, Opening, Tail};
 pub use cpm_store::{MemoryStore, Store, StoreError};
@@ -36,10 +31,7 @@ pub use cpm_turns::{Cued, Progress, Unwatched, Watcher};
 pub use cued::{ForkedCues, cues_of, forked_cues_of, rehearse_session, run_waiting};
 pub use ending::Ending;
 pub use error::HostError;
-pub use illegal::IllegalBytes;
 pub use input::{MOST_FILE, read_whole};
 pub use list::run_list;
 pub use live::{MOST_SCRIPT, SessionStart, Typed, run_live, type_session};
-pub use report::{Report, SessionReport};
-pub use run::{judge_host, run_host};
 pub use tail::tail_of;

@@ -12,6 +12,7 @@ use crate::com::{Ran, Start, left_of, machine_of};
 use crate::error::HostError;
 use cpm_command::shown;
 use cpm_geom::{Format, Image};
+use cpm_run::RunError;
 use cpm_script::Key;
 use cpm_script::laws::recorded_keys;
 use cpm_slots::{Machine, OpenError, Opening};
@@ -108,10 +109,10 @@ pub(crate) fn opening_refused(name: &str, fault: OpenError) -> HostError
 {
     match fault {
         OpenError::OutOfMemory => HostError::OutOfMemory,
-        fault => HostError::SessionRefused {
+        fault => HostError::RunRefused(RunError::SessionRefused {
             name: shown(name),
             fault,
-        },
+        }),
     }
 }
 

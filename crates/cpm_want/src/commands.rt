@@ -7,8 +7,8 @@ use crate::texts::{CONFIG, KEYS, SOURCE};
 use cpm_flags::Cpu;
 use cpm_geom::{Format, Image};
 use cpm_host::{
-    Config, DebugError, HostError, MemoryStore, Script, Start, Tail, Unwatched, judge_host,
-    run_asm, run_com, run_debug, run_host, run_list, run_live, tail_of,
+    Config, DebugError, HostError, MemoryStore, RunError, Script, Start, Tail, Unwatched,
+    judge_host, run_asm, run_com, run_debug, run_host, run_list, run_live, tail_of,
 };
 use std::alloc::{AllocError, Global};
 use std::io;
@@ -149,7 +149,7 @@ fn run_over(alloc: Global, config: &Config, store: &mut MemoryStore, blank: &[u8
     let is_right = are_written_in_order(store, blank);
     match answer {
         Ok(_) if is_right && store.file("two.txt").is_some() => Outcome::Made,
-        Err(HostError::OutOfMemory) => {
+        Err(RunError::OutOfMemory) => {
             Outcome::refused_if(is_right && store.file("two.txt").is_none())
         }
         _ => Outcome::Wrong,
@@ -174,7 +174,7 @@ fn judge_over(alloc: Global, config: &Config, store: &mut MemoryStore) -> Outcom
     let is_unwritten = store.file("one.txt").is_none() && store.file("two.txt").is_none();
     match answer {
         Ok(()) => Outcome::made_if(is_unwritten),
-        Err(HostError::OutOfMemory) => Outcome::refused_if(is_unwritten),
+        Err(RunError::OutOfMemory) => Outcome::refused_if(is_unwritten),
         Err(_) => Outcome::Wrong,
     }
 }

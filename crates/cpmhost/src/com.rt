@@ -1,5 +1,7 @@
 //! The command `com`: a program is run by the keys of a script, or as they are typed.
 
+ghost use Rattle.cpm_host.specs.Cued.{AreFit};
+
 use crate::disk::read_image;
 use crate::files::{check_file, read_file, write_file};
 use crate::output::Outputs;
@@ -12,11 +14,11 @@ use crate::typing::{Terminals, record_in, tell_full, tell_quit};
 use crate::waiting_word;
 use cpm_geom::Image;
 use cpm_host::{
-    ComTask, Cued, Ending, HostError, Ran, Script, Start, cues_of, run_com, run_live, run_waiting,
-    tail_of,
+    ComTask, Cued, Ending, HostError, Ran, Script, Start, Tail, Typed, cues_of, run_com, run_live,
+    run_waiting, tail_of,
 };
 use std::io;
-use std::io::BufReader;
+use std::io::{BufReader, Write};
 use std::rt::Files;
 
 /// How many steps a program has at most where nobody says.
@@ -31,9 +33,7 @@ pub fn com(
 ) -> Result<(), Refused> {
     let start = start_of(rt, task)?;
     check_com(rt, task)?;
-    for out in &task.outs {
-        check_file(rt, outputs, out)?;
-    }
+    check_outs(rt, outputs, &task.outs)?;
     // (before a file is emptied in which keys are recorded)
     start.check()?;
     let (ran, waits) = if task.is_live {
@@ -41,29 +41,52 @@ pub fn com(
     } else {
         play_script(rt, task, start, terminals)?
     };
+    let ending = ran.ending;
     write_drives(rt, outputs, &task.outs, ran.drives)?;
-    tell(rt, ran.ending, waits && task.stops_idle);
+    tell(rt, ending, waits && task.stops_idle);
+    Ok(())
+}
+
+/// Fails where one of the files of these names can't be written.
+fn check_outs(
+    rt: &(impl Files + AllocGlobal),
+    outputs: Outputs,
+    outs: &[&str],
+) -> Result<(), HostError> {
+    for out in outs {
+        check_file(rt, outputs, out)?;
+    }
     Ok(())
 }
 
 /// What the program runs with.
 fn start_of(rt: &(impl Files + AllocGlobal), task: &ComTask<'_>) -> Result<Start, Refused> {
     let program = read_file(rt, task.file)?;
-    let tail = if task.tail.is_empty() && task.drives.is_empty() {
-        None
-    } else {
-        Some(tail_of(rt.alloc(), &task.tail)?)
-    };
-    let mut drives = Vec::new(rt.alloc());
-    for name in &task.drives {
-        drives.push(read_image(rt, name)?)?;
-    }
+    let tail = tail_if_any(rt, task)?;
+    let drives = drives_of(rt, &task.drives)?;
     Ok(Start {
         cpu: task.cpu,
         program,
         tail,
         drives,
     })
+}
+
+/// The tail that is left in the memory: none where there is neither a word of it nor a disk.
+fn tail_if_any(rt: &impl AllocGlobal, task: &ComTask<'_>) -> Result<Option<Tail>, HostError> {
+    if task.tail.is_empty() && task.drives.is_empty() {
+        return Ok(None);
+    }
+    Ok(Some(tail_of(rt.alloc(), &task.tail)?))
+}
+
+/// The images in the files of these names.
+fn drives_of(rt: &(impl Files + AllocGlobal), names: &[&str]) -> Result<Vec<Image>, Refused> {
+    let mut drives = Vec::new(rt.alloc());
+    for name in names {
+        drives.push(read_image(rt, name)?)?;
+    }
+    Ok(drives)
 }
 
 /// Runs a program by the keys of the script in a file, if there is one, and says whether it then waits for a key, where that is known.
@@ -82,9 +105,10 @@ fn play_script(
         text: text.as_slice(),
     };
     if task.stops_idle || task.record.is_some() || waits_in(script.text) {
-        return play_waiting(rt, task, start, script, terminals);
+        play_waiting(rt, task, start, script, terminals)
+    } else {
+        play(rt, task, start, script, terminals)
     }
-    Ok((play(rt, task, start, script, terminals)?, false))
 }
 
 /// Runs a program by a script that may wait for it, records its keys if that is asked, and says whether it then waits for a key. With `--stop-idle` it stops
@@ -102,72 +126,79 @@ fn play_waiting(
         waits_from: 0,
         stops_idle: task.stops_idle,
     };
-    let mut record = record_in(rt, task.record)?;
-    let steps = task.steps.unwrap_or(STEPS);
-    let form = Form::of(task.has_progress, terminals.is_error_terminal);
-    let mut teller = Teller::new(rt, Told::Program, form);
-    let played = if terminals.is_screen {
-        let mut out = Screen::new(io::writer(rt));
-        run_waiting(
-            rt.alloc(),
-            start,
-            steps,
-            cued,
-            &mut out,
-            &mut record,
-            &mut teller,
-        )
+    let typed = if terminals.is_screen {
+        let mut screen = Screen::new(io::writer(rt));
+        play_cued(rt, task, start, cued, &mut screen, terminals)?
     } else {
-        let mut out = io::writer(rt);
-        run_waiting(
-            rt.alloc(),
-            start,
-            steps,
-            cued,
-            &mut out,
-            &mut record,
-            &mut teller,
-        )
+        play_cued(rt, task, start, cued, &mut io::writer(rt), terminals)?
     };
-    teller.end();
-    let typed = played?;
     Ok((typed.ran, typed.waits))
 }
 
-/// Runs a program by the keys of a script. A screen gets its control bytes as text.
+/// Runs a program by what its script says, and records its keys if that is asked.
+fn play_cued<W: Write>(
+    rt: &(impl Files + Eprint + AllocGlobal),
+    task: &ComTask<'_>,
+    start: Start,
+    cued: Cued<'_>,
+    out: &mut W,
+    terminals: Terminals,
+) -> Result<Typed, Refused>
+    requires { AreFit cued.cues.now }
+{
+    let mut record = record_in(rt, task.record)?;
+    let steps = task.steps.unwrap_or(STEPS);
+    let mut teller = teller_of(rt, task, terminals);
+    let played = run_waiting(
+        rt.alloc(),
+        start,
+        steps,
+        cued,
+        out,
+        &mut record,
+        &mut teller,
+    );
+    teller.end();
+    Ok(played?)
+}
+
+/// Tells how far a program is, if that is asked.
+fn teller_of<'a, R: Eprint>(rt: &'a R, task: &ComTask<'_>, terminals: Terminals) -> Teller<'a, R> {
+    let form = Form::of(task.has_progress, terminals.is_error_terminal);
+    Teller::new(rt, Told::Program, form)
+}
+
+/// Runs a program by the keys of a script, and says nothing of whether it then waits. A screen gets its control bytes as text.
 fn play(
     rt: &(impl Print + Eprint + AllocGlobal),
     task: &ComTask<'_>,
     start: Start,
     script: Script<'_>,
     terminals: Terminals,
-) -> Result<Ran, Refused> {
-    let steps = task.steps.unwrap_or(STEPS);
-    let form = Form::of(task.has_progress, terminals.is_error_terminal);
-    let mut teller = Teller::new(rt, Told::Program, form);
+) -> Result<(Ran, bool), Refused> {
     let ran = if terminals.is_screen {
         let mut screen = Screen::new(io::writer(rt));
-        run_com(
-            rt.alloc(),
-            start,
-            Some(script),
-            steps,
-            &mut screen,
-            &mut teller,
-        )
+        play_to(rt, task, start, script, &mut screen, terminals)?
     } else {
-        let mut out = io::writer(rt);
-        run_com(
-            rt.alloc(),
-            start,
-            Some(script),
-            steps,
-            &mut out,
-            &mut teller,
-        )
+        play_to(rt, task, start, script, &mut io::writer(rt), terminals)?
     };
+    Ok((ran, false))
+}
+
+/// Runs a program by the keys of a script, and writes what it shows.
+fn play_to<W: Write>(
+    rt: &(impl Eprint + AllocGlobal),
+    task: &ComTask<'_>,
+    start: Start,
+    script: Script<'_>,
+    out: &mut W,
+    terminals: Terminals,
+) -> Result<Ran, HostError> {
+    let steps = task.steps.unwrap_or(STEPS);
+    let mut teller = teller_of(rt, task, terminals);
+    let ran = run_com(rt.alloc(), start, Some(script), steps, out, &mut teller);
     teller.end();
-    Ok(ran?)
+    ran
 }
 
 /// Runs a program by the keys of standard input, records them if that is asked, and says whether it then waits for a key.
@@ -179,36 +210,32 @@ fn play_keyboard(
 ) -> Result<(Ran, bool), Refused> {
     let mut record = record_in(rt, task.record)?;
     let most_keys = record.most_keys();
-    let steps = task.steps.unwrap_or(u64::MAX);
     tell_quit(rt);
-    let Ok(mut input) = BufReader::new(rt.alloc(), rt.reader()) else {
-        return Err(Refused::from(HostError::OutOfMemory));
-    };
     let typed = if terminals.is_screen {
         let mut screen = Screen::new(io::writer(rt));
-        run_live(
-            rt.alloc(),
-            start,
-            steps,
-            most_keys,
-            &mut input,
-            &mut screen,
-            &mut record,
-        )?
+        play_live(rt, task, start, most_keys, &mut screen, &mut record)?
     } else {
         let mut out = io::writer(rt);
-        run_live(
-            rt.alloc(),
-            start,
-            steps,
-            most_keys,
-            &mut input,
-            &mut out,
-            &mut record,
-        )?
+        play_live(rt, task, start, most_keys, &mut out, &mut record)?
     };
     tell_full(rt, typed.keys.len(), most_keys);
     Ok((typed.ran, typed.waits))
+}
+
+/// Runs a program by the keys of standard input.
+fn play_live<W: Write, S: Write>(
+    rt: &(impl Input + AllocGlobal),
+    task: &ComTask<'_>,
+    start: Start,
+    most_keys: usize,
+    out: &mut W,
+    record: &mut S,
+) -> Result<Typed, HostError> {
+    let steps = task.steps.unwrap_or(u64::MAX);
+    match BufReader::new(rt.alloc(), rt.reader()) {
+        Ok(mut input) => run_live(rt.alloc(), start, steps, most_keys, &mut input, out, record),
+        Err(_) => Err(HostError::OutOfMemory),
+    }
 }
 
 /// Writes the first drives to files, as many as these are.

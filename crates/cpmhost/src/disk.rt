@@ -14,6 +14,7 @@ use cpm_filing::{
 use cpm_geom::Image;
 use cpm_host::{DiskTask, HostError, shown};
 use cpm_shelf::FileName;
+use std::alloc::AllocError;
 use std::io::ErrorKind;
 use std::path::Path;
 use std::rt::Files;
@@ -135,14 +136,42 @@ fn put(
     let mut image = read_image(rt, name)?;
     let mut files: Vec<FileName> = Vec::new(rt.alloc());
     for word in words {
-        let (path, inside) = split_pair(word).unwrap_or((word, base_name(word)));
-        let file = file_name(inside, user, how.is_read_only, how.is_system)?;
-        check_new(&files, &file, word)?;
-        let bytes = read_file(rt, path)?;
-        image = put_file(rt.alloc(), &image, name, &file, how.is_text, &bytes)?;
-        files.push(file)?;
+        image = put_word(rt, &image, name, &mut files, word, user, how)?;
     }
     write_image(rt, outputs, name, image)
+}
+
+/// An image with one more file, which is none of those that were put before it.
+fn put_word(
+    rt: &(impl Files + AllocGlobal),
+    image: &Image,
+    name: &str,
+    files: &mut Vec<FileName>,
+    word: &str,
+    user: u8,
+    how: Putting,
+) -> Result<Image, Refused>
+    requires { user < 16 }
+{
+    let (path, inside) = split_pair(word).unwrap_or((word, base_name(word)));
+    let file = file_name(inside, user, how.is_read_only, how.is_system)?;
+    check_new(files, &file, word)?;
+    let image = put_path(rt, image, name, &file, path, how.is_text)?;
+    files.push(file)?;
+    Ok(image)
+}
+
+/// An image with one more file, which has what the file of a path has.
+fn put_path(
+    rt: &(impl Files + AllocGlobal),
+    image: &Image,
+    name: &str,
+    file: &FileName,
+    path: &str,
+    is_text: bool,
+) -> Result<Image, Refused> {
+    let bytes = read_file(rt, path)?;
+    Ok(put_file(rt.alloc(), image, name, file, is_text, &bytes)?)
 }
 
 /// The files of a user whose names match one of these patterns, each once.
@@ -158,13 +187,20 @@ fn files_named(
     let shelf = list_files(rt.alloc(), image, name)?;
     let mut files: Vec<FileName> = Vec::new(rt.alloc());
     for pattern in patterns {
-        for file in &matching_files(rt.alloc(), &shelf.files, name, user, pattern)? {
-            if !files.contains(file) {
-                files.push(*file)?;
-            }
-        }
+        let matching = matching_files(rt.alloc(), &shelf.files, name, user, pattern)?;
+        add_new(&mut files, &matching)?;
     }
     Ok(files)
+}
+
+/// Adds those of the files that aren't there yet.
+fn add_new(files: &mut Vec<FileName>, others: &[FileName]) -> Result<(), AllocError> {
+    for file in others {
+        if !files.contains(file) {
+            files.push(*file)?;
+        }
+    }
+    Ok(())
 }
 
 /// A file that was taken out of an image, and where it is to go.
@@ -189,36 +225,72 @@ fn get(
 {
     let image = read_image(rt, name)?;
     let files = files_named(rt, &image, name, patterns, user)?;
+    let all = take_all(rt, &image, name, &files, is_text, to)?;
+    check_taken(rt, name, &all)?;
+    write_all(rt, outputs, &all)
+}
+
+/// Takes files out of an image, of which there is at most one where they are to go to a file.
+fn take_all(
+    rt: &(impl Files + AllocGlobal),
+    image: &Image,
+    name: &str,
+    files: &[FileName],
+    is_text: bool,
+    to: Option<&str>,
+) -> Result<Vec<Taken>, Refused> {
     let is_to_file = to.is_some_and(|path| !Path::new(path).is_dir(rt));
     if is_to_file && files.len() > 1 {
         return Err(Refused::from(HostError::NotAFolder(shown(to.unwrap_or("")))));
     }
     let mut all = Vec::new(rt.alloc());
-    for file in &files {
-        let path = match to {
-            Some(path) if is_to_file => String::from_str(rt.alloc(), path)?,
-            folder => path_in(rt, folder, host_name(name, file)?.as_str())?,
-        };
-        let bytes = get_file(rt.alloc(), &image, name, file, is_text)?;
+    for file in files {
+        let path = path_of(rt, name, file, to, is_to_file)?;
+        let bytes = get_file(rt.alloc(), image, name, file, is_text)?;
         all.push(Taken { path, bytes })?;
     }
-    check_taken(rt, name, &all)?;
-    for taken in &all {
+    Ok(all)
+}
+
+/// Writes files that were taken out of an image, where each of them can be written.
+fn write_all(
+    rt: &(impl Files + AllocGlobal),
+    outputs: Outputs,
+    all: &[Taken],
+) -> Result<(), Refused> {
+    for taken in all {
         check_file(rt, outputs, taken.path.as_str())?;
     }
-    for taken in &all {
+    for taken in all {
         write_file(rt, outputs, taken.path.as_str(), &taken.bytes)?;
     }
     Ok(())
 }
 
+/// Where a file goes that is taken out of an image: to the file of this path, or by its own name into the folder.
+fn path_of(
+    rt: &impl AllocGlobal,
+    name: &str,
+    file: &FileName,
+    to: Option<&str>,
+    is_to_file: bool,
+) -> Result<String, Refused> {
+    match to {
+        Some(path) if is_to_file => Ok(String::from_str(rt.alloc(), path)?),
+        folder => {
+            let inside = host_name(name, file)?;
+            Ok(path_in(rt, folder, inside.as_str())?)
+        }
+    }
+}
+
 /// The path of a file in a folder, or in the current one.
-fn path_in(rt: &impl AllocGlobal, folder: Option<&str>, name: &str) -> Result<String, Refused> {
+fn path_in(rt: &impl AllocGlobal, folder: Option<&str>, name: &str) -> Result<String, AllocError> {
     match folder {
-        None => Ok(String::from_str(rt.alloc(), name)?),
+        None => String::from_str(rt.alloc(), name),
         Some(folder) => {
             let path = Path::new(folder).join(rt.alloc(), name)?;
-            Ok(String::from_str(rt.alloc(), path.as_path().as_str())?)
+            String::from_str(rt.alloc(), path.as_path().as_str())
         }
     }
 }

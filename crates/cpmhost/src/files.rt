@@ -5,10 +5,10 @@ ghost use Rattle.cpm_store.specs.Files.{CountsFailure};
 
 use crate::output::Outputs;
 use crate::place::script_paths;
-use crate::refused::Behind;
+use crate::refused::{Behind, Refused};
 use crate::rehearse::Rehearsals;
-use cpm_host::{Config, HostError, Store, StoreError, read_whole, shown};
-use std::alloc::Global;
+use cpm_host::{Config, HostError, RunError, Session, Store, StoreError, read_whole, shown};
+use std::alloc::{AllocError, Global};
 use std::io::ErrorKind;
 use std::rt::Files;
 use std::{fs, io};
@@ -67,15 +67,39 @@ pub fn check_outputs(
     ensures refusal { IfErr result (λ e. IsOutRefusal e ⊎ (e ≡ HostError.OutOfMemory)) }
 {
     for session in &config.sessions {
-        check_file(rt, outputs, session.console.as_str())?;
-        if let Some(list) = &session.list {
-            check_file(rt, outputs, list.as_str())?;
-        }
-        if let Some(images) = &session.out {
-            for out in images {
-                check_file(rt, outputs, out.as_str())?;
-            }
-        }
+        check_session(rt, outputs, session)?;
+    }
+    Ok(())
+}
+
+/// Fails where one of the files that a session is to write can't be written.
+fn check_session(
+    rt: &(impl Files + AllocGlobal),
+    outputs: Outputs,
+    session: &Session,
+) -> Result<(), HostError>
+    ensures refusal { IfErr result (λ e. IsOutRefusal e ⊎ (e ≡ HostError.OutOfMemory)) }
+{
+    check_file(rt, outputs, session.console.as_str())?;
+    if let Some(list) = &session.list {
+        check_file(rt, outputs, list.as_str())?;
+    }
+    match &session.out {
+        Some(images) => check_files(rt, outputs, images),
+        None => Ok(()),
+    }
+}
+
+/// Fails where one of the files of these names can't be written.
+fn check_files(
+    rt: &(impl Files + AllocGlobal),
+    outputs: Outputs,
+    names: &[String],
+) -> Result<(), HostError>
+    ensures refusal { IfErr result (λ e. IsOutRefusal e ⊎ (e ≡ HostError.OutOfMemory)) }
+{
+    for name in names {
+        check_file(rt, outputs, name.as_str())?;
     }
     Ok(())
 }
@@ -87,10 +111,8 @@ pub fn check_scripts(
     config: &Config,
     folder: Option<&str>,
 ) -> Result<(), HostError> {
-    for script in &script_paths(rt.alloc(), config, folder)? {
-        check_file(rt, outputs, script.as_str())?;
-    }
-    Ok(())
+    let scripts = script_paths(rt.alloc(), config, folder)?;
+    check_files(rt, outputs, &scripts)
 }
 
 /// Writes for each session a script by which it does the same, if that is asked: that by which it was played by itself, or else its own.
@@ -103,16 +125,33 @@ pub fn write_scripts(
 ) -> Result<(), HostError> {
     let scripts = script_paths(rt.alloc(), config, folder)?;
     for (place, (session, script)) in config.sessions.iter().zip(&scripts).enumerate() {
-        match (rehearsals.script_at(place), &session.keys) {
-            (Some(text), _) => write_file(rt, outputs, script.as_str(), text)?,
-            (None, Some(name)) => {
-                let text = read_file(rt, name.as_str())?;
-                write_file(rt, outputs, script.as_str(), text.as_slice())?;
-            }
-            (None, None) => write_file(rt, outputs, script.as_str(), &[])?,
-        }
+        write_script(
+            rt,
+            outputs,
+            rehearsals.script_at(place),
+            session,
+            script.as_str(),
+        )?;
     }
     Ok(())
+}
+
+/// Writes to a file the script by which a session was played by itself, or else its own.
+fn write_script(
+    rt: &(impl Files + AllocGlobal),
+    outputs: Outputs,
+    rehearsed: Option<&[u8]>,
+    session: &Session,
+    to: &str,
+) -> Result<(), HostError> {
+    match (rehearsed, &session.keys) {
+        (Some(text), _) => write_file(rt, outputs, to, text),
+        (None, Some(name)) => {
+            let text = read_file(rt, name.as_str())?;
+            write_file(rt, outputs, to, text.as_slice())
+        }
+        (None, None) => write_file(rt, outputs, to, &[]),
+    }
 }
 
 /// Why a file was not written.
@@ -144,14 +183,10 @@ fn unreadable(name: &str, reason: io::Error) -> HostError
 }
 
 /// These bytes once more.
-fn copied(alloc: Global, bytes: &[u8]) -> Result<Vec<u8>, StoreError>
-    ensures { IfErr result (λ e. e ≡ StoreError.OutOfMemory) }
-{
+pub fn copied(alloc: Global, bytes: &[u8]) -> Result<Vec<u8>, AllocError> {
     let mut copy = Vec::new(alloc);
-    match copy.extend_from_slice(bytes) {
-        Ok(()) => Ok(copy),
-        Err(_) => Err(StoreError::OutOfMemory),
-    }
+    copy.extend_from_slice(bytes)?;
+    Ok(copy)
 }
 
 /// The files of the machine as a store. It doesn't tell what they hold, since others can write them.
@@ -179,11 +214,14 @@ impl<'a, R: Files + AllocGlobal> MachineFiles<'a, R> {
         }
     }
 
-    /// What is said behind the refusal of a run that the last call ended: why that failed, if it did.
-    pub fn behind(&self) -> Behind {
-        match self.reason {
-            Some(reason) => Behind::Reason(reason),
-            None => Behind::Nothing,
+    /// The refusal of a run that the last call ended, and why that failed, if it did.
+    pub fn refused(&self, error: RunError) -> Refused {
+        Refused {
+            error: HostError::from(error),
+            behind: match self.reason {
+                Some(reason) => Behind::Reason(reason),
+                None => Behind::Nothing,
+            },
         }
     }
 
@@ -212,7 +250,7 @@ impl<R: Files + AllocGlobal> Store for MachineFiles<'_, R> {
 
     fn read(&mut self, alloc: Global, name: &str) -> Result<Vec<u8>, StoreError> {
         if let Some(script) = self.rehearsals.script_named(name) {
-            return copied(alloc, script);
+            return copied(alloc, script).map_err(|_| StoreError::OutOfMemory);
         }
         match whole_file(self.rt, alloc, name) {
             Ok(bytes) => Ok(bytes),

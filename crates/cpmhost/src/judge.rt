@@ -19,7 +19,6 @@ pub fn judge(
     let rehearsals = Rehearsals::new(rt);
     let mut files = MachineFiles::new(rt, outputs, &rehearsals);
     let judged = judge_host(rt.alloc(), config, &mut files);
-    let behind = files.behind();
     for (session, keys) in config.sessions.iter_mut().zip(aside) {
         if keys.is_some() {
             session.keys = keys;
@@ -27,7 +26,7 @@ pub fn judge(
     }
     match judged {
         Ok(()) => Ok(()),
-        Err(error) => Err(Refused { error, behind }),
+        Err(error) => Err(files.refused(error)),
     }
 }
 

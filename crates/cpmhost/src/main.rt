@@ -2,6 +2,7 @@
 #![tactic(auto)]
 
 ghost use Rattle.std.specs.Prelude.{IfErr};
+ghost use Rattle.cpm_command.specs.Line.{HasUsers};
 ghost use Rattle.cpm_host.specs.Refusals.{IsWordRefusal};
 
 mod com;
@@ -19,8 +20,8 @@ mod typing;
 use com::com;
 use cpm_flags::Cpu;
 use cpm_host::{
-    Config, HostError, RunTask, Task, command, help, run_asm, run_asm_listed, run_check, run_debug,
-    run_host, run_list,
+    Config, HostError, RunTask, SessionReport, Task, command, help, run_asm, run_asm_listed,
+    run_check, run_debug, run_host, run_list,
 };
 use disk::do_disk;
 use files::{
@@ -33,8 +34,9 @@ use progress::{Form, Teller, Told};
 use refused::{Behind, Refused};
 use rehearse::{Rehearsals, rehearse_all};
 use screen::Screen;
+use std::alloc::{AllocError, Global};
 use std::env::Env;
-use std::io::{BufReader, BufWriter, ErrorKind, IsTerminal};
+use std::io::{BufReader, BufWriter, ErrorKind, IsTerminal, Write};
 use std::process::{self, ExitCode};
 use std::rt::Files;
 use std::{env, io};
@@ -63,18 +65,35 @@ fn run_sessions(
     task: &RunTask<'_>,
     terminals: Terminals,
 ) -> Result<(), Refused> {
-    let text = read_file(rt, task.config)?;
-    let mut config = Config::read(rt.alloc(), text.as_slice()).map_err(HostError::from)?;
-    check_outputs(rt, outputs, &config)?;
-    check_scripts(rt, outputs, &config, task.scripts)?;
-    check_apart(rt, task.config, &config, task)?;
+    let mut config = read_config(rt, task.config)?;
     let mut rehearsals = Rehearsals::new(rt);
+    run_config(rt, outputs, &mut config, &mut rehearsals, task, terminals)
+}
+
+/// The configuration in a file.
+fn read_config(rt: &(impl Files + AllocGlobal), file: &str) -> Result<Config, HostError> {
+    let text = read_file(rt, file)?;
+    Ok(Config::read(rt.alloc(), text.as_slice())?)
+}
+
+/// Runs the sessions of a configuration, of which none was played yet.
+fn run_config(
+    rt: &(impl Files + Input + Print + Eprint + AllocGlobal),
+    outputs: Outputs,
+    config: &mut Config,
+    rehearsals: &mut Rehearsals,
+    task: &RunTask<'_>,
+    terminals: Terminals,
+) -> Result<(), Refused> {
+    check_outputs(rt, outputs, config)?;
+    check_scripts(rt, outputs, config, task.scripts)?;
+    check_apart(rt, task.config, config, task)?;
     if let Some(name) = task.keyboard {
-        judge(rt, outputs, &mut config, name)?;
+        judge(rt, outputs, config, name)?;
         type_in(
             rt,
-            &mut config,
-            &mut rehearsals,
+            config,
+            rehearsals,
             name,
             task.record,
             task.stops_idle,
@@ -82,9 +101,9 @@ fn run_sessions(
         )?;
     }
     let form = Form::of(task.has_progress, terminals.is_error_terminal);
-    rehearse_all(rt, &mut config, &mut rehearsals, task.stops_idle, form)?;
-    play_sessions(rt, outputs, &config, &rehearsals, form)?;
-    write_scripts(rt, outputs, &config, &rehearsals, task.scripts)?;
+    rehearse_all(rt, config, rehearsals, task.stops_idle, form)?;
+    play_sessions(rt, outputs, config, rehearsals, form)?;
+    write_scripts(rt, outputs, config, rehearsals, task.scripts)?;
     Ok(())
 }
 
@@ -100,20 +119,35 @@ fn play_sessions(
     let mut teller = Teller::new(rt, Told::Sessions(config), form);
     let ran = run_host(rt.alloc(), config, &mut files, &mut teller);
     teller.end();
-    let report = match ran {
-        Ok(report) => report,
-        Err(error) => {
-            let behind = files.behind();
-            return Err(Refused { error, behind });
-        }
-    };
+    match ran {
+        Ok(report) => Ok(print_report(rt, rehearsals, &report)?),
+        Err(error) => Err(files.refused(error)),
+    }
+}
+
+/// Prints how each session ended.
+fn print_report(
+    rt: &(impl Print + Eprint),
+    rehearsals: &Rehearsals,
+    report: &[SessionReport],
+) -> Result<(), HostError> {
     for (place, session) in report.iter().enumerate() {
         let word = waiting_word(rehearsals.is_idle(place));
-        println!(rt; "{session}{word}").map_err(HostError::OutputUnwritable)?;
-        if let Some(illegal) = session.illegal() {
-            let name = session.name.as_str();
-            let _ = eprintln!(rt; "{name} {illegal}");
-        }
+        print_session(rt, session, word)?;
+    }
+    Ok(())
+}
+
+/// Prints how a session ended, with a last word.
+fn print_session(
+    rt: &(impl Print + Eprint),
+    session: &SessionReport,
+    word: &str,
+) -> Result<(), HostError> {
+    println!(rt; "{session}{word}").map_err(HostError::OutputUnwritable)?;
+    if let Some(illegal) = session.illegal() {
+        let name = session.name.as_str();
+        let _ = eprintln!(rt; "{name} {illegal}");
     }
     Ok(())
 }
@@ -133,16 +167,36 @@ fn asm(
 ) -> Result<(), Refused> {
     let text = read_file(rt, source)?;
     check_asm(rt, source, out, list)?;
-    let Some(list) = list else {
-        let image = run_asm(rt.alloc(), text.as_slice())?;
-        write_file(rt, outputs, out, image.as_slice())?;
-        return Ok(());
-    };
-    check_file(rt, outputs, list)?;
-    let listed = run_asm_listed(rt.alloc(), text.as_slice())?;
-    write_file(rt, outputs, out, listed.image.as_slice())?;
-    write_file(rt, outputs, list, listed.listing.as_slice())?;
+    match list {
+        Some(list) => asm_listed(rt, outputs, text.as_slice(), out, list)?,
+        None => asm_alone(rt, outputs, text.as_slice(), out)?,
+    }
     Ok(())
+}
+
+/// Assembles a source, and writes its image to a file.
+fn asm_alone(
+    rt: &(impl Files + AllocGlobal),
+    outputs: Outputs,
+    text: &[u8],
+    out: &str,
+) -> Result<(), HostError> {
+    let image = run_asm(rt.alloc(), text)?;
+    write_file(rt, outputs, out, image.as_slice())
+}
+
+/// Assembles a source, and writes its image and its listing to files.
+fn asm_listed(
+    rt: &(impl Files + AllocGlobal),
+    outputs: Outputs,
+    text: &[u8],
+    out: &str,
+    list: &str,
+) -> Result<(), HostError> {
+    check_file(rt, outputs, list)?;
+    let listed = run_asm_listed(rt.alloc(), text)?;
+    write_file(rt, outputs, out, listed.image.as_slice())?;
+    write_file(rt, outputs, list, listed.listing.as_slice())
 }
 
 /// Prints the program in a file as instructions of a processor.
@@ -157,7 +211,8 @@ fn list(rt: &(impl Files + Print + AllocGlobal), file: &str, cpu: Cpu) -> Result
 /// Prints that the image in a file is in order.
 fn check(rt: &(impl Files + Print + AllocGlobal), file: &str) -> Result<(), HostError> {
     let bytes = read_file(rt, file)?;
-    run_check(file, bytes, &mut io::writer(rt))
+    run_check(file, bytes, &mut io::writer(rt))?;
+    Ok(())
 }
 
 /// Runs the program in a file as the lines of standard input say, and prints what is answered.
@@ -173,18 +228,25 @@ fn debug(
         Some(list) => read_file(rt, list)?,
         None => Vec::new(rt.alloc()),
     };
-    let listing = listing.as_slice();
-    let Ok(mut input) = BufReader::new(rt.alloc(), rt.reader()) else {
-        return Err(HostError::OutOfMemory);
-    };
     if is_screen {
-        let mut screen = Screen::new(io::writer(rt));
-        run_debug(rt.alloc(), cpu, program, listing, &mut input, &mut screen)?;
+        debug_to(rt, cpu, program, &listing, &mut Screen::new(io::writer(rt)))
     } else {
-        let mut out = io::writer(rt);
-        run_debug(rt.alloc(), cpu, program, listing, &mut input, &mut out)?;
+        debug_to(rt, cpu, program, &listing, &mut io::writer(rt))
     }
-    Ok(())
+}
+
+/// Runs a program as the lines of standard input say, and writes what is answered.
+fn debug_to<W: Write>(
+    rt: &(impl Input + AllocGlobal),
+    cpu: Cpu,
+    program: Vec<u8>,
+    listing: &[u8],
+    out: &mut W,
+) -> Result<(), HostError> {
+    match BufReader::new(rt.alloc(), rt.reader()) {
+        Ok(mut input) => Ok(run_debug(rt.alloc(), cpu, program, listing, &mut input, out)?),
+        Err(_) => Err(HostError::OutOfMemory),
+    }
 }
 
 /// Whether a word is `--raw` behind `com` or `run`, given the words before it, and none of the words of a tail behind `--`.
@@ -204,24 +266,38 @@ fn do_words(
     terminals: Terminals,
 ) -> Result<(), Refused> {
     if let Some(text) = help(words) {
-        rt.print(text).map_err(HostError::OutputUnwritable)?;
-        rt.print(HELP_ON_RAW).map_err(HostError::OutputUnwritable)?;
-        return Ok(());
+        return Ok(print_help(rt, text)?);
     }
-    let task = match command(rt.alloc(), words) {
-        Ok(task) => task,
-        Err(error) => return Err(Refused::from(HostError::from(error))),
-    };
+    match command(rt.alloc(), words) {
+        Ok(task) => do_task(rt, outputs, &task, terminals),
+        Err(error) => Err(Refused::from(HostError::from(error))),
+    }
+}
+
+/// Prints the help.
+fn print_help(rt: &impl Print, text: &str) -> Result<(), HostError> {
+    rt.print(text).map_err(HostError::OutputUnwritable)?;
+    rt.print(HELP_ON_RAW).map_err(HostError::OutputUnwritable)
+}
+
+/// Does a task.
+fn do_task(
+    rt: &(impl Files + Input + Print + Eprint + AllocGlobal),
+    outputs: Outputs,
+    task: &Task<'_>,
+    terminals: Terminals,
+) -> Result<(), Refused>
+    requires { HasUsers task.now }
+{
     match task {
-        Task::Com(task) => com(rt, outputs, &task, terminals)?,
-        Task::Asm { source, out, list } => asm(rt, outputs, source, out, list)?,
-        Task::List { file, cpu } => list(rt, file, cpu)?,
-        Task::Check { image } => check(rt, image)?,
-        Task::Run(task) => run_sessions(rt, outputs, &task, terminals)?,
-        Task::Debug { file, cpu, list } => debug(rt, file, cpu, list, terminals.is_screen)?,
-        Task::Disk(task) => do_disk(rt, outputs, &task)?,
+        Task::Com(task) => com(rt, outputs, task, terminals),
+        Task::Asm { source, out, list } => asm(rt, outputs, source, out, *list),
+        Task::List { file, cpu } => Ok(list(rt, file, *cpu)?),
+        Task::Check { image } => Ok(check(rt, image)?),
+        Task::Run(task) => run_sessions(rt, outputs, task, terminals),
+        Task::Debug { file, cpu, list } => Ok(debug(rt, file, *cpu, *list, terminals.is_screen)?),
+        Task::Disk(task) => do_disk(rt, outputs, task),
     }
-    Ok(())
 }
 
 /// Does what the words of the command line ask for.
@@ -231,16 +307,26 @@ fn run(
     terminals: Terminals,
 ) -> Result<(), Refused> {
     let words = arguments(rt)?;
-    let mut texts = Vec::new(rt.alloc());
     let mut terminals = terminals;
-    for word in &words {
+    let texts = texts_of(rt.alloc(), &words, &mut terminals)?;
+    do_words(rt, outputs, texts.as_slice(), terminals)
+}
+
+/// The texts of words, but for `--raw`, with which standard output is no screen.
+fn texts_of<'a>(
+    alloc: Global,
+    words: &'a [String],
+    terminals: &mut Terminals,
+) -> Result<Vec<&'a str>, AllocError> {
+    let mut texts = Vec::new(alloc);
+    for word in words {
         if is_raw(texts.as_slice(), word.as_str()) {
             terminals.is_screen = false;
         } else {
             texts.push(word.as_str())?;
         }
     }
-    do_words(rt, outputs, texts.as_slice(), terminals)
+    Ok(texts)
 }
 
 fn main(rt: HostRuntime) -> ExitCode {

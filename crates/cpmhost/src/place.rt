@@ -3,7 +3,7 @@
 use crate::disk::Taken;
 use crate::output::target_of;
 use crate::refused::{Behind, Refused};
-use cpm_host::{ComTask, Config, HostError, Origin, RunTask, shown};
+use cpm_host::{ComTask, Config, HostError, Origin, RunError, RunTask, Session, shown};
 use std::alloc::{AllocError, Global};
 use std::fs;
 use std::io::ErrorKind;
@@ -108,24 +108,148 @@ impl<'a> Looked<'a> {
         name: &'a str,
         is_image: bool,
     ) -> Result<(), Refused> {
-        let Some(place) = place_of(rt, name)? else {
-            return Ok(());
-        };
-        for other in &self.outputs {
-            if other.place == place {
-                return Err(twin(other.name, Behind::Output(shown(name))));
-            }
+        if let Some(place) = place_of(rt, name)? {
+            self.check_new(&place, name, is_image)?;
+            self.outputs.push(Named {
+                name,
+                place,
+                is_image,
+            })?;
+        }
+        Ok(())
+    }
+
+    /// Refuses an output at a place that is an output before it, or an input; but an image may take the place of one that was read.
+    fn check_new(&self, place: &Place, name: &str, is_image: bool) -> Result<(), Refused> {
+        if let Some(other) = self.outputs.iter().find(|other| other.place == *place) {
+            return Err(twin(other.name, Behind::Output(shown(name))));
         }
         for input in &self.inputs {
-            if input.place == place && !(is_image && input.is_image) {
+            if input.place == *place && !(is_image && input.is_image) {
                 return Err(twin(name, Behind::Input(shown(input.name))));
             }
         }
-        self.outputs.push(Named {
-            name,
-            place,
-            is_image,
-        })?;
+        Ok(())
+    }
+
+    /// Adds what a run reads and writes.
+    fn add_run(
+        &mut self,
+        rt: &(impl Files + AllocGlobal),
+        file: &'a str,
+        config: &'a Config,
+        record: Option<&'a str>,
+        scripts: &'a [String],
+    ) -> Result<(), Refused> {
+        self.add_input(rt, file, false)?;
+        self.add_input(rt, config.system.as_str(), true)?;
+        for session in &config.sessions {
+            self.add_inputs_of(rt, session)?;
+        }
+        for session in &config.sessions {
+            self.add_outputs_of(rt, session)?;
+        }
+        if let Some(record) = record {
+            self.add_output(rt, record, false)?;
+        }
+        self.add_outputs(rt, scripts, false)
+    }
+
+    /// Adds what a program reads and writes.
+    fn add_program(
+        &mut self,
+        rt: &(impl Files + AllocGlobal),
+        task: &'a ComTask<'a>,
+    ) -> Result<(), Refused> {
+        self.add_input(rt, task.file, false)?;
+        if let Some(keys) = task.keys {
+            self.add_input(rt, keys, false)?;
+        }
+        for drive in &task.drives {
+            self.add_input(rt, drive, true)?;
+        }
+        for out in &task.outs {
+            self.add_output(rt, out, true)?;
+        }
+        match task.record {
+            Some(record) => self.add_output(rt, record, false),
+            None => Ok(()),
+        }
+    }
+
+    /// Adds a source and what is written of it.
+    fn add_source(
+        &mut self,
+        rt: &(impl Files + AllocGlobal),
+        source: &'a str,
+        out: &'a str,
+        list: Option<&'a str>,
+    ) -> Result<(), Refused> {
+        self.add_input(rt, source, false)?;
+        self.add_output(rt, out, false)?;
+        match list {
+            Some(list) => self.add_output(rt, list, false),
+            None => Ok(()),
+        }
+    }
+
+    /// Adds an image and the files that were taken out of it.
+    fn add_taken(
+        &mut self,
+        rt: &(impl Files + AllocGlobal),
+        image: &'a str,
+        all: &'a [Taken],
+    ) -> Result<(), Refused> {
+        self.add_input(rt, image, true)?;
+        for taken in all {
+            self.add_output(rt, taken.path.as_str(), false)?;
+        }
+        Ok(())
+    }
+
+    /// Adds what a session reads.
+    fn add_inputs_of(
+        &mut self,
+        rt: &(impl Files + AllocGlobal),
+        session: &'a Session,
+    ) -> Result<(), Refused> {
+        if let Origin::Opened { drives, .. } = &session.origin {
+            for drive in drives {
+                self.add_input(rt, drive.as_str(), true)?;
+            }
+        }
+        match &session.keys {
+            Some(keys) => self.add_input(rt, keys.as_str(), false),
+            None => Ok(()),
+        }
+    }
+
+    /// Adds what a session writes.
+    fn add_outputs_of(
+        &mut self,
+        rt: &(impl Files + AllocGlobal),
+        session: &'a Session,
+    ) -> Result<(), Refused> {
+        self.add_output(rt, session.console.as_str(), false)?;
+        if let Some(list) = &session.list {
+            self.add_output(rt, list.as_str(), false)?;
+        }
+        match &session.out {
+            Some(images) => self.add_outputs(rt, images, true),
+            None => Ok(()),
+        }
+    }
+
+    /// Adds outputs.
+    fn add_outputs(
+        &mut self,
+        rt: &(impl Files + AllocGlobal),
+        names: &'a [String],
+        are_images: bool,
+    ) -> Result<(), Refused> {
+        for name in names {
+            self.add_output(rt, name.as_str(), are_images)?;
+        }
         Ok(())
     }
 }
@@ -133,31 +257,9 @@ impl<'a> Looked<'a> {
 /// The refusal of an output that is another file too.
 fn twin(name: &str, behind: Behind) -> Refused {
     Refused {
-        error: HostError::WriteFault(shown(name)),
+        error: HostError::from(RunError::WriteFault(shown(name))),
         behind,
     }
-}
-
-/// The files that a run reads.
-fn inputs_of<'a>(
-    rt: &(impl Files + AllocGlobal),
-    file: &'a str,
-    config: &'a Config,
-) -> Result<Looked<'a>, Refused> {
-    let mut looked = Looked::new(rt.alloc());
-    looked.add_input(rt, file, false)?;
-    looked.add_input(rt, config.system.as_str(), true)?;
-    for session in &config.sessions {
-        if let Origin::Opened { drives, .. } = &session.origin {
-            for drive in drives {
-                looked.add_input(rt, drive.as_str(), true)?;
-            }
-        }
-        if let Some(keys) = &session.keys {
-            looked.add_input(rt, keys.as_str(), false)?;
-        }
-    }
-    Ok(looked)
 }
 
 /// Refuses a run of the configuration in a file, with this record of typed keys, that would write one file twice, or write over what it reads, under whatever names. An
@@ -169,25 +271,8 @@ pub fn check_apart(
     task: &RunTask<'_>,
 ) -> Result<(), Refused> {
     let scripts = script_paths(rt.alloc(), config, task.scripts)?;
-    let mut looked = inputs_of(rt, file, config)?;
-    for session in &config.sessions {
-        looked.add_output(rt, session.console.as_str(), false)?;
-        if let Some(list) = &session.list {
-            looked.add_output(rt, list.as_str(), false)?;
-        }
-        if let Some(images) = &session.out {
-            for out in images {
-                looked.add_output(rt, out.as_str(), true)?;
-            }
-        }
-    }
-    if let Some(record) = task.record {
-        looked.add_output(rt, record, false)?;
-    }
-    for script in &scripts {
-        looked.add_output(rt, script.as_str(), false)?;
-    }
-    Ok(())
+    let mut looked = Looked::new(rt.alloc());
+    looked.add_run(rt, file, config, task.record, &scripts)
 }
 
 /// The files in a folder to which the scripts of the sessions are written, in their order; none where there is no folder.
@@ -214,12 +299,7 @@ pub fn check_asm(
     list: Option<&str>,
 ) -> Result<(), Refused> {
     let mut looked = Looked::new(rt.alloc());
-    looked.add_input(rt, source, false)?;
-    looked.add_output(rt, out, false)?;
-    if let Some(list) = list {
-        looked.add_output(rt, list, false)?;
-    }
-    Ok(())
+    looked.add_source(rt, source, out, list)
 }
 
 /// Refuses files taken out of an image that would be written over it, or over each other.
@@ -229,28 +309,11 @@ pub fn check_taken(
     all: &[Taken],
 ) -> Result<(), Refused> {
     let mut looked = Looked::new(rt.alloc());
-    looked.add_input(rt, image, true)?;
-    for taken in all {
-        looked.add_output(rt, taken.path.as_str(), false)?;
-    }
-    Ok(())
+    looked.add_taken(rt, image, all)
 }
 
 /// Refuses a program's run that would write over what it reads, or one file twice. An image may be written where one was read.
 pub fn check_com(rt: &(impl Files + AllocGlobal), task: &ComTask<'_>) -> Result<(), Refused> {
     let mut looked = Looked::new(rt.alloc());
-    looked.add_input(rt, task.file, false)?;
-    if let Some(keys) = task.keys {
-        looked.add_input(rt, keys, false)?;
-    }
-    for drive in &task.drives {
-        looked.add_input(rt, drive, true)?;
-    }
-    for out in &task.outs {
-        looked.add_output(rt, out, true)?;
-    }
-    if let Some(record) = task.record {
-        looked.add_output(rt, record, false)?;
-    }
-    Ok(())
+    looked.add_program(rt, task)
 }

@@ -70,24 +70,45 @@ impl<'a, R: Eprint> Teller<'a, R> {
             Form::InPlace => ("\r", "\x1b[K"),
             _ => ("", "\n"),
         };
-        let _ = match self.whom {
-            Told::Program => eprint!(self.rt; "{before}progress {percent}%{behind}"),
-            Told::Alone(name) => {
-                eprint!(self.rt; "{before}progress {percent}% of {name} by itself{behind}")
-            }
-            Told::Sessions(config) => {
-                let (ended, sessions) = (progress.ended, progress.sessions);
-                match config.sessions.get(progress.slowest) {
-                    Some(slowest) if ended < sessions => eprint!(self.rt;
-                        "{before}progress {percent}%: {ended} of {sessions} sessions have ended, {} has the most left{behind}",
-                        slowest.name
-                    ),
-                    _ => eprint!(self.rt;
-                        "{before}progress {percent}%: {ended} of {sessions} sessions have ended{behind}"
-                    ),
+        match self.whom {
+            Told::Program => self.tell_program(before, percent, behind),
+            Told::Alone(name) => self.tell_alone(before, percent, name, behind),
+            Told::Sessions(config) => match config.sessions.get(progress.slowest) {
+                Some(slowest) if progress.ended < progress.sessions => {
+                    self.tell_slowest(before, percent, progress, slowest.name.as_str(), behind);
                 }
-            }
-        };
+                _ => self.tell_ended(before, percent, progress, behind),
+            },
+        }
+    }
+
+    fn tell_program(&self, before: &str, percent: u128, behind: &str) {
+        let _ = eprint!(self.rt; "{before}progress {percent}%{behind}");
+    }
+
+    fn tell_alone(&self, before: &str, percent: u128, name: &str, behind: &str) {
+        let _ = eprint!(self.rt; "{before}progress {percent}% of {name} by itself{behind}");
+    }
+
+    fn tell_ended(&self, before: &str, percent: u128, progress: Progress, behind: &str) {
+        let (ended, sessions) = (progress.ended, progress.sessions);
+        let _ = eprint!(self.rt;
+            "{before}progress {percent}%: {ended} of {sessions} sessions have ended{behind}"
+        );
+    }
+
+    fn tell_slowest(
+        &self,
+        before: &str,
+        percent: u128,
+        progress: Progress,
+        slowest: &str,
+        behind: &str,
+    ) {
+        let (ended, sessions) = (progress.ended, progress.sessions);
+        let _ = eprint!(self.rt;
+            "{before}progress {percent}%: {ended} of {sessions} sessions have ended, {slowest} has the most left{behind}"
+        );
     }
 }
 

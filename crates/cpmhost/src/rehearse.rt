@@ -5,15 +5,15 @@ ghost use Rattle.std.specs.Prelude.{◌<◌, IfOk, IfSome, length};
 ghost use Rattle.cpm_host.specs.Cued.{AreFit};
 
 use crate::disk::read_image;
-use crate::files::read_file;
+use crate::files::{copied, read_file};
 use crate::progress::{Form, Teller, Told};
 use crate::refused::Refused;
 use cpm_geom::Image;
 use cpm_host::{
-    Config, Cue, Cued, Opening, Origin, Script, Session, SessionStart, Typed, cues_of,
-    forked_cues_of, key_line, rehearse_session,
+    Config, Cue, Cued, ForkedCues, HostError, Key, Opening, Origin, Script, Session, SessionStart,
+    Typed, cues_of, forked_cues_of, key_line, rehearse_session,
 };
-use std::alloc::AllocError;
+use std::alloc::{AllocError, Global};
 use std::rt::Files;
 
 /// A session that was played by itself.
@@ -77,14 +77,9 @@ impl Rehearsals {
         before: usize,
         is_idle: bool,
     ) -> Result<String, AllocError> {
-        let name = format!(in rt.alloc(); "\0{place}")?;
+        let name = name_at(rt.alloc(), place)?;
         let again = String::from_str(rt.alloc(), name.as_str())?;
-        let mut script = Vec::new(rt.alloc());
-        for key in typed.keys.iter().skip(before) {
-            if let Some(line) = key_line(*key) {
-                script.extend_from_slice(line.as_bytes())?;
-            }
-        }
+        let script = script_behind(rt.alloc(), &typed.keys, before)?;
         self.all.push(Rehearsal {
             place,
             name,
@@ -93,6 +88,22 @@ impl Rehearsals {
         })?;
         Ok(again)
     }
+}
+
+/// The name by which the script of the session at a place is found.
+fn name_at(alloc: Global, place: usize) -> Result<String, AllocError> {
+    format!(in alloc; "\0{place}")
+}
+
+/// The script of the keys behind so many.
+fn script_behind(alloc: Global, keys: &[Key], before: usize) -> Result<Vec<u8>, AllocError> {
+    let mut script = Vec::new(alloc);
+    for key in keys.iter().skip(before) {
+        if let Some(line) = key_line(*key) {
+            script.extend_from_slice(line.as_bytes())?;
+        }
+    }
+    Ok(script)
 }
 
 /// Plays the sessions by themselves whose scripts wait, or all where they are to stop idle.
@@ -179,20 +190,29 @@ fn rehearse(
     if !stops_idle && !waits_in(text.as_slice()) {
         return Ok(None);
     }
-    let Some(part) = part_of(rt, config, all, session, text.as_slice())? else {
-        return Ok(None);
-    };
+    match part_of(rt, config, all, session, text.as_slice())? {
+        Some(part) => Ok(Some(play_part(rt, config, session, part, stops_idle, form)?)),
+        None => Ok(None),
+    }
+}
+
+/// Plays a session by itself, by what its script says.
+fn play_part(
+    rt: &(impl Files + Eprint + AllocGlobal),
+    config: &Config,
+    session: &Session,
+    part: Part,
+    stops_idle: bool,
+    form: Form,
+) -> Result<Played, Refused>
+    requires { AreFit part.cues.items }
+{
     let Part {
         opening,
         cues,
         before,
         forked_at,
     } = part;
-    let cued = Cued {
-        cues: cues.as_slice(),
-        waits_from: forked_at,
-        stops_idle,
-    };
     let system = read_image(rt, config.system.as_str())?;
     let name = session.name.as_str();
     let start = SessionStart {
@@ -200,18 +220,36 @@ fn rehearse(
         opening,
         steps: session.steps,
     };
-    let mut teller = Teller::new(rt, Told::Alone(name), form);
-    let played = rehearse_session(rt.alloc(), &system, start, cued, &mut teller);
-    teller.end();
-    let typed = played?;
+    let cued = Cued {
+        cues: cues.as_slice(),
+        waits_from: forked_at,
+        stops_idle,
+    };
+    let typed = play_alone(rt, &system, start, cued, form)?;
     let is_idle = stops_idle && typed.waits;
     let steps = typed.steps.max(forked_at).max(last_fork(config, name));
-    Ok(Some(Played {
+    Ok(Played {
         typed,
         before,
         is_idle,
         steps,
-    }))
+    })
+}
+
+/// Plays a session by itself, and tells how far it is.
+fn play_alone(
+    rt: &(impl Eprint + AllocGlobal),
+    system: &Image,
+    start: SessionStart<'_>,
+    cued: Cued<'_>,
+    form: Form,
+) -> Result<Typed, HostError>
+    requires { AreFit cued.cues.now }
+{
+    let mut teller = Teller::new(rt, Told::Alone(start.name), form);
+    let played = rehearse_session(rt.alloc(), system, start, cued, &mut teller);
+    teller.end();
+    played
 }
 
 /// What a session of this script is played by; none where it is forked from what it can't be, which the run then refuses.
@@ -266,15 +304,28 @@ fn forked_part(
     let Some(opening) = opening_of(rt, parent)? else {
         return Ok(None);
     };
-    let text = script_of(rt, all, parent)?;
-    let had = script_with(parent, text.as_slice());
-    let forked = forked_cues_of(rt.alloc(), had, at, script)?;
+    let forked = forked_cues(rt, all, parent, at, script)?;
     Ok(Some(Part {
         opening,
         cues: forked.cues,
         before: forked.before,
         forked_at: at,
     }))
+}
+
+/// What a session plays that is forked after so many steps: first what its parent's script says up to there.
+fn forked_cues(
+    rt: &(impl Files + AllocGlobal),
+    all: &Rehearsals,
+    parent: &Session,
+    at: u64,
+    script: Script<'_>,
+) -> Result<ForkedCues, Refused>
+    ensures { IfOk result (λ forked. AreFit forked.cues.items) }
+{
+    let text = script_of(rt, all, parent)?;
+    let had = script_with(parent, text.as_slice());
+    Ok(forked_cues_of(rt.alloc(), had, at, script)?)
 }
 
 /// Whether a line of a script's text begins as one that waits.
@@ -293,11 +344,7 @@ fn script_of(
         return Ok(Vec::new(rt.alloc()));
     };
     match all.script_named(name.as_str()) {
-        Some(script) => {
-            let mut text = Vec::new(rt.alloc());
-            text.extend_from_slice(script)?;
-            Ok(text)
-        }
+        Some(script) => Ok(copied(rt.alloc(), script)?),
         None => Ok(read_file(rt, name.as_str())?),
     }
 }
@@ -329,15 +376,21 @@ pub fn opening_of(
     let Origin::Opened { cpu, quota, drives } = &session.origin else {
         return Ok(None);
     };
-    let mut images: Vec<Image> = Vec::new(rt.alloc());
-    for drive in drives {
-        images.push(read_image(rt, drive.as_str())?)?;
-    }
+    let drives = images_of(rt, drives)?;
     Ok(Some(Opening {
         cpu: *cpu,
         quota: *quota,
-        drives: images,
+        drives,
     }))
+}
+
+/// The images in the files of these names.
+fn images_of(rt: &(impl Files + AllocGlobal), names: &[String]) -> Result<Vec<Image>, Refused> {
+    let mut images = Vec::new(rt.alloc());
+    for name in names {
+        images.push(read_image(rt, name.as_str())?)?;
+    }
+    Ok(images)
 }
 
 /// The greatest count at which a session is forked from the one of this name.

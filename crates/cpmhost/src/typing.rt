@@ -1,5 +1,7 @@
 //! Keys that are typed on standard input, and where they are recorded.
 
+ghost use Rattle.std.specs.Prelude.{◌<◌, length};
+
 use crate::disk::read_image;
 use crate::files::{read_file, unwritable};
 use crate::refused::Refused;
@@ -94,16 +96,7 @@ pub fn type_in(
     let Some(place) = place_of(config, name) else {
         return Err(Refused::from(HostError::NoSession(shown(name))));
     };
-    let system = read_image(rt, config.system.as_str())?;
-    let Some(opening) = opening_of(rt, &config.sessions[place])? else {
-        return Err(Refused::from(HostError::NotOpened(shown(name))));
-    };
-    let start = SessionStart {
-        name,
-        opening,
-        steps: u64::MAX,
-    };
-    let typed = typed_by(rt, &system, start, record, is_screen)?;
+    let typed = type_at(rt, config, place, record, is_screen)?;
     tell_full(rt, typed.keys.len(), MOST_SCRIPT);
     let steps = typed.steps.max(last_fork(config, name));
     let is_idle = stops_idle && typed.waits;
@@ -112,6 +105,30 @@ pub fn type_in(
     session.keys = Some(script);
     session.steps = steps;
     Ok(())
+}
+
+/// Plays the session at a place by itself, by the keys of standard input, without a limit of steps.
+fn type_at(
+    rt: &(impl Files + Input + Print + Eprint + AllocGlobal),
+    config: &Config,
+    place: usize,
+    record: Option<&str>,
+    is_screen: bool,
+) -> Result<Typed, Refused>
+    requires { place < length config.now.sessions.items }
+{
+    let session = &config.sessions[place];
+    let name = session.name.as_str();
+    let system = read_image(rt, config.system.as_str())?;
+    let Some(opening) = opening_of(rt, session)? else {
+        return Err(Refused::from(HostError::NotOpened(shown(name))));
+    };
+    let start = SessionStart {
+        name,
+        opening,
+        steps: u64::MAX,
+    };
+    typed_by(rt, &system, start, record, is_screen)
 }
 
 /// Plays a session by itself, by the keys of standard input.
@@ -124,22 +141,25 @@ fn typed_by(
 ) -> Result<Typed, Refused> {
     let mut record = record_in(rt, record)?;
     tell_quit(rt);
-    let Ok(mut input) = BufReader::new(rt.alloc(), rt.reader()) else {
-        return Err(Refused::from(HostError::OutOfMemory));
-    };
     let typed = if is_screen {
         let mut screen = Screen::new(io::writer(rt));
-        type_session(
-            rt.alloc(),
-            system,
-            start,
-            &mut input,
-            &mut screen,
-            &mut record,
-        )?
+        typed_to(rt, system, start, &mut screen, &mut record)?
     } else {
-        let mut out = io::writer(rt);
-        type_session(rt.alloc(), system, start, &mut input, &mut out, &mut record)?
+        typed_to(rt, system, start, &mut io::writer(rt), &mut record)?
     };
     Ok(typed)
+}
+
+/// Plays a session by itself, by the keys of standard input, and writes what it shows and its keys.
+fn typed_to<W: Write, S: Write>(
+    rt: &(impl Input + AllocGlobal),
+    system: &Image,
+    start: SessionStart<'_>,
+    out: &mut W,
+    record: &mut S,
+) -> Result<Typed, HostError> {
+    match BufReader::new(rt.alloc(), rt.reader()) {
+        Ok(mut input) => type_session(rt.alloc(), system, start, &mut input, out, record),
+        Err(_) => Err(HostError::OutOfMemory),
+    }
 }

@@ -2,7 +2,7 @@
 
 use crate::same::{same, same_at};
 use cpm_geom::{Format, Image};
-use cpm_host::{Config, HostError, MemoryStore, Report, Store, Unwatched, judge_host, run_host};
+use cpm_host::{Config, MemoryStore, Report, RunError, Store, Unwatched, judge_host, run_host};
 use std::process::Abort;
 
 /// One session on blank drives, which is asked for its files.
@@ -67,7 +67,7 @@ pub fn run(
     rt: &(impl Abort + AllocGlobal),
     text: &str,
     store: &mut MemoryStore,
-) -> Result<Report, HostError> {
+) -> Result<Report, RunError> {
     let config = Config::read(rt.alloc(), text.as_bytes()).expect(rt, "a good configuration");
     run_host(rt.alloc(), &config, store, &mut Unwatched)
 }

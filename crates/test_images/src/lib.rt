@@ -111,7 +111,7 @@ impl Images {
         }
         let bytes = bytes_of(alloc, bytes)?;
         record[place..place + ENTRY].copy_from_slice(&filled::<ENTRY>(bytes.as_slice())?);
-        put_record(image, number / 4, &record)
+        put_record(alloc, image, number / 4, &record)
     }
 
     /// `record NAME NUMBER BYTES`: the record begins so, and else has zeros. Without bytes: what it is.
@@ -128,7 +128,7 @@ impl Images {
             };
         }
         let bytes = bytes_of(alloc, bytes)?;
-        put_record(image, number, &filled::<RECORD>(bytes.as_slice())?)
+        put_record(alloc, image, number, &filled::<RECORD>(bytes.as_slice())?)
     }
 
     /// `sector NAME TRACK SECTOR BYTES`: the sector begins so, and else has zeros. Without bytes: what it is.
@@ -178,9 +178,14 @@ fn record_of(image: &Image, number: u16) -> Result<[u8; RECORD], Fault> {
 }
 
 /// Puts a record.
-fn put_record(image: &mut Image, number: u16, record: &[u8; RECORD]) -> Result<Answer, Fault> {
+fn put_record(
+    alloc: Global,
+    image: &mut Image,
+    number: u16,
+    record: &[u8; RECORD],
+) -> Result<Answer, Fault> {
     match image.put_record(number, record) {
         Ok(()) => Ok(Answer::Done),
-        Err(_) => Err(Fault::Absent),
+        Err(error) => Answer::refused(alloc, error),
     }
 }

@@ -5,12 +5,18 @@ mod header;
 
 use header::Header;
 use std::alloc::{AllocError, Global};
-use std::env;
 use std::env::Env;
-use std::fs;
 use std::process::ExitCode;
 use std::rt::Files;
+use std::{env, fs};
+use test_bdos_rows::{Calls, Commands, Consoles, EditedLines};
+use test_disk_rows::{Directories, Drives, ImageFiles, ImageLines, OneDrive};
+use test_filing_rows::{Batches, DiskCommands, Stores};
 use test_language::{Tally, run_rows};
+use test_listing_rows::{Listings, Sources};
+use test_machine_rows::{Hosts, Machines};
+use test_memory_rows::{Instructions, Memories};
+use test_text_rows::{CommandLines, Configurations, Scripts};
 
 /// What came of a file: its rows, and what is told of those that are not as they should be.
 #[derive(Drop)]
@@ -29,6 +35,27 @@ fn run_subject(
 ) -> Result<Option<Tally>, AllocError> {
     let are_wrong = header.are_wrong;
     let tally = match header.subject {
+        "calls" => run_rows::<Calls>(alloc, file, text, are_wrong, told)?,
+        "commands" => run_rows::<Commands>(alloc, file, text, are_wrong, told)?,
+        "consoles" => run_rows::<Consoles>(alloc, file, text, are_wrong, told)?,
+        "edited-lines" => run_rows::<EditedLines>(alloc, file, text, are_wrong, told)?,
+        "drives" => run_rows::<Drives>(alloc, file, text, are_wrong, told)?,
+        "one-drive" => run_rows::<OneDrive>(alloc, file, text, are_wrong, told)?,
+        "directories" => run_rows::<Directories>(alloc, file, text, are_wrong, told)?,
+        "images" => run_rows::<ImageLines>(alloc, file, text, are_wrong, told)?,
+        "image-files" => run_rows::<ImageFiles>(alloc, file, text, are_wrong, told)?,
+        "memories" => run_rows::<Memories>(alloc, file, text, are_wrong, told)?,
+        "instructions" => run_rows::<Instructions>(alloc, file, text, are_wrong, told)?,
+        "machines" => run_rows::<Machines>(alloc, file, text, are_wrong, told)?,
+        "hosts" => run_rows::<Hosts>(alloc, file, text, are_wrong, told)?,
+        "listings" => run_rows::<Listings>(alloc, file, text, are_wrong, told)?,
+        "sources" => run_rows::<Sources>(alloc, file, text, are_wrong, told)?,
+        "scripts" => run_rows::<Scripts>(alloc, file, text, are_wrong, told)?,
+        "configurations" => run_rows::<Configurations>(alloc, file, text, are_wrong, told)?,
+        "command-lines" => run_rows::<CommandLines>(alloc, file, text, are_wrong, told)?,
+        "stores" => run_rows::<Stores>(alloc, file, text, are_wrong, told)?,
+        "batches" => run_rows::<Batches>(alloc, file, text, are_wrong, told)?,
+        "disk-commands" => run_rows::<DiskCommands>(alloc, file, text, are_wrong, told)?,
         _ => return Ok(None),
     };
     Ok(Some(tally))

@@ -1,6 +1,0 @@
-use Rattle.cpm_host.proofs.SlotLemmas.{fault_of}
-use Rattle.cpm_sessions.specs.Host.{refusal_of}
-use Rattle.cpm_host.proofs.play.refused.Goals as goal
-
-pub returns-in_default : goal.returns-in_default
-returns-in_default c = λ h o r. fault_of (refusal_of h o) c.args.fault r c.in_default.not-OutOfMemory

@@ -1,0 +1,221 @@
+-- What is reported and written once sessions were played.
+use Rattle.std.proofs.Common.{◌≡◌, ◌≢◌, ◌∙◌, ◌≤◌, ◌<◌, ◌+◌, ℕ, zero, suc, List, [], ◌∷◌, ◌++◌, Option, Some, None, length, map, take, drop, get_or, ap, subst, sym, refl, arith, append-nil}
+use Rattle.std.specs.Prelude.{string_bytes}
+use Rattle.std.proofs.lemmas.List.{drop_all, length-map, map-append, take_all}
+use Rattle.cpm_batch.specs.Inputs.{SessionInput}
+use Rattle.cpm_batch.specs.Outputs.{SessionOutput, left_by}
+use Rattle.cpm_batch.specs.declared.output.SessionFiles.{SessionFiles}
+use Rattle.cpm_config.specs.declared.config.Session.{Session}
+use Rattle.cpm_disks.specs.Disks.{images_of}
+use Rattle.cpm_flags.specs.declared.regs.Regs.{Regs}
+use Rattle.cpm_geom.specs.Disk.{Disk}
+use Rattle.cpm_memory.specs.Contents.{Contents, run_at}
+use Rattle.cpm_sessions.specs.Host.{Host, SlotState, slot_at}
+use Rattle.cpm_slots.specs.MachineState.{MachineState}
+use Rattle.cpm_slots.specs.Serve.{look_of}
+use Rattle.cpm_slots.specs.declared.reply.Closed.{Closed}
+use Rattle.cpm_slots.specs.declared.reply.End.{End}
+use Rattle.cpm_slots.specs.declared.reply.Look.{Look}
+use Rattle.cpm_turns.specs.Players.{AllDiffer, AllPlayed, ids_of}
+use Rattle.cpm_turns.specs.ScriptedSlots.{IsNone}
+use Rattle.cpm_turns.specs.Playing.{IsPlayed}
+use Rattle.cpm_turns.specs.declared.player.Player.{Player}
+use Rattle.cpm_turns.specs.declared.player.Player.TheVariants.{Playing}
+use Rattle.cpm_turns.specs.declared.scripted_slot.ScriptedSlot.{ScriptedSlot}
+use Rattle.cpm_run.proofs.PlayLemmas.{all_ended}
+use Rattle.cpm_run.specs.Illegal.{bytes_at_pc}
+use Rattle.cpm_run.specs.Playing.{AllEnded, AreFinished, HavePlayers, IsClosed, files_by, report_by}
+use Rattle.cpm_run.specs.Run.{Reported, files_left, left_of, report_view, reported_of, reports_of, run_of, start_of}
+use Rattle.cpm_run.specs.declared.report.SessionReport.{SessionReport}
+
+-- ---- one session
+
+abbrev reported : Session → End → ℕ → ℕ → ℕ → List ℕ → Reported
+reported s ended count bytes pc at_pc = record { name = string_bytes s.name; ended = ended; count = count; bytes = bytes; pc = pc; at_pc = at_pc }
+
+-- the same registers, and the same memory
+bytes_are : (s t : MachineState) → s.cpm.regs ≡ t.cpm.regs → s.memory ≡ t.memory → bytes_at_pc s ≡ bytes_at_pc t
+bytes_are s t regs memory = ap (λ (m : Contents). run_at m s.cpm.regs.pc 4) memory ∙ ap (λ (r : Regs). run_at t.memory r.pc 4) regs
+
+report_is : (system : Disk) (is : List SessionInput) (i : SessionInput) (s : Session) (p : ScriptedSlot) (closed : Closed) (last : MachineState) → i.session ≡ s → closed.look ≡ look_of last
+    → IsPlayed system i.keys i.session.steps (start_of is i) last p.console.items p.list.items → report_by s p closed (bytes_at_pc last) ≡ reported_of i.session (run_of system is i)
+unfolding look_of run_of
+report_is system is i s p closed last same look played =
+    let ended = ap (λ (l : Look). l.ended) look ∙ played.ended in
+    let count = ap (λ (l : Look). l.count) look ∙ played.count in
+    let pc = ap (λ (l : Look). l.regs.pc) look ∙ ap (λ (r : Regs). r.pc) played.regs in
+    let t = run_of system is i in
+    let at_pc = bytes_are last t played.regs played.memory in
+    ap (λ (x : Session). reported x closed.look.ended closed.look.count (length p.console.items) closed.look.regs.pc (bytes_at_pc last)) (sym same)
+    ∙ ap (λ (e : End). reported i.session e closed.look.count (length p.console.items) closed.look.regs.pc (bytes_at_pc last)) ended
+    ∙ ap (λ (n : ℕ). reported i.session t.ended n (length p.console.items) closed.look.regs.pc (bytes_at_pc last)) count
+    ∙ ap (λ (xs : List ℕ). reported i.session t.ended t.count (length xs) closed.look.regs.pc (bytes_at_pc last)) played.screen
+    ∙ ap (λ (n : ℕ). reported i.session t.ended t.count (length t.cpm.console.screen) n (bytes_at_pc last)) pc
+    ∙ ap (λ (xs : List ℕ). reported i.session t.ended t.count (length t.cpm.console.screen) t.cpm.regs.pc xs) at_pc
+
+abbrev output : Session → List ℕ → List ℕ → List (Option Disk) → SessionOutput
+output s console list drives = record { session = s; console = console; list = list; drives = drives }
+
+files_is : (system : Disk) (is : List SessionInput) (i : SessionInput) (s : Session) (p : ScriptedSlot) (closed : Closed) (last : MachineState) → i.session ≡ s → closed.drives ≡ images_of last.cpm.disks
+    → IsPlayed system i.keys i.session.steps (start_of is i) last p.console.items p.list.items → files_by s p closed ≡ left_of i.session (run_of system is i)
+unfolding run_of
+files_is system is i s p closed last same drives played =
+    ap (λ (t : Session). output t p.console.items p.list.items closed.drives) (sym same)
+    ∙ ap (λ (xs : List ℕ). output i.session xs p.list.items closed.drives) played.screen
+    ∙ ap (λ (xs : List ℕ). output i.session (run_of system is i).cpm.console.screen xs closed.drives) played.printer
+    ∙ ap (λ (ds : List (Option Disk)). output i.session (run_of system is i).cpm.console.screen (run_of system is i).cpm.console.printer ds) (drives ∙ ap images_of played.disks)
+
+-- ---- one after another
+
+-- the input in turn, and the place behind it
+record IsAt (is : List SessionInput) (k next : ℕ) (s : Session) : Type 0 where
+  input : SessionInput
+  first : drop k is ≡ input ∷ drop next is
+  more : take next is ≡ take k is ++ input ∷ []
+  session : input.session ≡ s
+
+later : (i : SessionInput) (is : List SessionInput) (k : ℕ) (s : Session) → IsAt is k (suc k) s → IsAt (i ∷ is) (suc k) (suc (suc k)) s
+later i is k s at = record { input = at.input; first = at.first; more = ap (λ (xs : List SessionInput). i ∷ xs) at.more; session = at.session }
+
+there : (is : List SessionInput) (sessions : List Session) (k : ℕ) (s : Session) → map (λ i. i.session) is ≡ sessions → k < length sessions → s ≡ get_or sessions k s → IsAt is k (suc k) s
+there [] sessions k s same below found = absurd (let none : length sessions ≡ 0 = ap length (sym same) in omega (arith, below, none))
+there (i ∷ is) [] k s same below found = absurd (omega (arith, below))
+there (i ∷ is) (t ∷ ts) zero s same below found = record { input = i; first = refl; more = refl; session = let h : i.session ≡ t = cc in h ∙ sym found }
+there (i ∷ is) (t ∷ ts) (suc k) s same below found = later i is k s (there is ts k s (let rest : map (λ j. j.session) is ≡ ts = cc in rest) (omega (arith, below)) found)
+
+is_at : (is : List SessionInput) (sessions : List Session) (k : ℕ) (s : Session) → map (λ i. i.session) is ≡ sessions → k < length sessions → s ≡ get_or sessions k s → IsAt is k (k + 1) s
+is_at is sessions k s same below found =
+    let next : suc k ≡ k + 1 = omega arith in
+    subst (λ (n : ℕ). IsAt is k n s) next (there is sessions k s same below found)
+
+-- the scripted slot, what is left of its slot, and the bytes at its program counter
+who_of : ScriptedSlot → Option (ScriptedSlot × Closed × List ℕ) → ScriptedSlot
+who_of p None = p
+who_of p (Some x) = x.0
+
+what_of : Closed → Option (ScriptedSlot × Closed × List ℕ) → Closed
+what_of c None = c
+what_of c (Some x) = x.1
+
+bytes_of : List ℕ → Option (ScriptedSlot × Closed × List ℕ) → List ℕ
+bytes_of xs None = xs
+bytes_of xs (Some x) = x.2
+
+not_both : (x : ScriptedSlot × Closed × List ℕ) → None ≡ Some x → ⊥
+not_both x same = cc
+
+pub none_there : (r : Option (ScriptedSlot × Closed × List ℕ)) → ((x : ScriptedSlot × Closed × List ℕ) → r ≡ Some x → ⊥) → r ≡ None
+none_there None none = refl
+none_there (Some x) none = absurd (none x refl)
+
+-- the other slots stay as they were
+ended_kept : (system : Disk) (all : List SessionInput) (p : ScriptedSlot) (old new : List SlotState) (is : List SessionInput) (ps : List Player) → ((id : ℕ) → id ≢ p.id.0 → slot_at id new ≡ slot_at id old)
+    → IsNone p.id.0 (ids_of ps) → AllEnded system all old is ps → AllEnded system all new is ps
+ended_kept system all p old new [] [] others apart ended = tt
+ended_kept system all p old new [] (q ∷ ps) others apart ended = absurd ended
+ended_kept system all p old new (i ∷ is) [] others apart ended = absurd ended
+ended_kept system all p old new (i ∷ is) (q ∷ ps) others apart ended =
+    let e = ended.0 in
+    let none = subst (λ (x : Player). IsNone p.id.0 (ids_of (x ∷ ps))) e.plays apart in
+    (record { slot = e.slot; plays = e.plays; last = e.last; stands = others e.slot.id.0 none.0 ∙ e.stands; played = e.played }, ended_kept system all p old new is ps others none.1 ended.1)
+
+-- the first of the sessions are reported, and the rest have ended
+pub record IsFinishedTo (system : Disk) (is : List SessionInput) (k : ℕ) (now : List SlotState) (rest : List Player) (reports : List SessionReport) (files : List SessionFiles) : Type 0 where
+  pub differ : AllDiffer rest
+  pub ended : AllEnded system is now (drop k is) rest
+  pub rows : map report_view reports ≡ map (λ i. reported_of i.session (run_of system is i)) (take k is)
+  pub outputs : map left_by files ≡ map (λ i. left_of i.session (run_of system is i)) (take k is)
+
+abbrev pub IsFinishing : List Session → ℕ → List SlotState → List SlotState → List Player → List Player → List SessionReport → List SessionFiles → Type 0
+IsFinishing sessions k start now players rest reports files = (system : Disk) (is : List SessionInput) → map (λ i. i.session) is ≡ sessions → AllEnded system is start is players
+    → IsFinishedTo system is k now rest reports files
+
+-- what closing the next slot says
+abbrev pub Closing : Host → Host → List Player → Option (ScriptedSlot × Closed × List ℕ) → List Player → Type 0
+Closing old new rest r left = (p : ScriptedSlot) (ps : List Player) (s : MachineState) → rest ≡ Playing p ∷ ps → slot_at p.id.0 old.slots ≡ Some s → IsClosed p ps s old new r left
+
+module _ (sessions : List Session) (k : ℕ) (s : Session) (start : List SlotState) (old new : Host) (players : List Player) (r : Option (ScriptedSlot × Closed × List ℕ)) (left : List Player) (below : k < length sessions) (at : s ≡ get_or sessions k s) where
+  finish_one : (q : ScriptedSlot) (closed : Closed) (bytes : List ℕ) (rest : List Player) (reports : List SessionReport) (files : List SessionFiles) (report : SessionReport) (file : SessionFiles) (system : Disk) (is : List SessionInput)
+      → map (λ i. i.session) is ≡ sessions → IsFinishedTo system is k old.slots rest reports files → Closing old new rest r left → r ≡ Some (q, closed, bytes) → report_view report ≡ report_by s q closed bytes
+      → left_by file ≡ files_by s q closed → IsFinishedTo system is (k + 1) new.slots left (reports ++ report ∷ []) (files ++ file ∷ [])
+  unfolding who_of what_of bytes_of
+  finish_one q closed bytes rest reports files report file system is same h closing got one other =
+      let a = is_at is sessions k s same below at in
+      go a rest h.differ (subst (λ (xs : List SessionInput). AllEnded system is old.slots xs rest) a.first h.ended) closing
+    where
+      go : (a : IsAt is k (k + 1) s) (now : List Player) → AllDiffer now → AllEnded system is old.slots (a.input ∷ drop (k + 1) is) now → Closing old new now r left
+          → IsFinishedTo system is (k + 1) new.slots left (reports ++ report ∷ []) (files ++ file ∷ [])
+      go a [] differ all close = absurd all
+      go a (x ∷ ps) differ all close =
+          let e = all.0 in
+          let p = e.slot in
+          let apart : AllDiffer (Playing p ∷ ps) = subst (λ (y : Player). AllDiffer (y ∷ ps)) e.plays differ in
+          let c = close p ps e.last (ap (λ (y : Player). y ∷ ps) e.plays) e.stands in
+          let pair : Some (q, closed, bytes) ≡ Some (p, c.closed, bytes_at_pc e.last) = sym got ∙ c.result in
+          let who : q ≡ p = ap (who_of q) pair in
+          let what : closed ≡ c.closed = ap (what_of closed) pair in
+          let which : bytes ≡ bytes_at_pc e.last = ap (bytes_of bytes) pair in
+          let row : report_view report ≡ reported_of a.input.session (run_of system is a.input) =
+          one ∙ ap (λ (x : ScriptedSlot). report_by s x closed bytes) who ∙ ap (λ (x : Closed). report_by s p x bytes) what ∙ ap (λ (xs : List ℕ). report_by s p c.closed xs) which
+          ∙ report_is system is a.input s p c.closed e.last a.session c.look e.played in
+          let out : left_by file ≡ left_of a.input.session (run_of system is a.input) =
+          other ∙ ap (λ (x : ScriptedSlot). files_by s x closed) who ∙ ap (λ (x : Closed). files_by s p x) what ∙ files_is system is a.input s p c.closed e.last a.session c.drives e.played in
+          record {
+            differ = subst (λ (xs : List Player). AllDiffer xs) (sym c.left) apart.1;
+            ended = subst (λ (xs : List Player). AllEnded system is new.slots (drop (k + 1) is) xs) (sym c.left) (ended_kept system is p old.slots new.slots (drop (k + 1) is) ps c.others apart.0 all.1);
+            rows = map-append report_view reports (report ∷ []) ∙ ap (λ xs. xs ++ report_view report ∷ []) h.rows ∙ ap (λ x. map (λ i. reported_of i.session (run_of system is i)) (take k is) ++ x ∷ []) row
+                ∙ sym (map-append (λ i. reported_of i.session (run_of system is i)) (take k is) (a.input ∷ [])) ∙ ap (map (λ i. reported_of i.session (run_of system is i))) (sym a.more);
+            outputs = map-append left_by files (file ∷ []) ∙ ap (λ xs. xs ++ left_by file ∷ []) h.outputs ∙ ap (λ x. map (λ i. left_of i.session (run_of system is i)) (take k is) ++ x ∷ []) out
+                ∙ sym (map-append (λ i. left_of i.session (run_of system is i)) (take k is) (a.input ∷ [])) ∙ ap (map (λ i. left_of i.session (run_of system is i))) (sym a.more);
+          }
+
+  pub finishing_more : (q : ScriptedSlot) (closed : Closed) (bytes : List ℕ) (rest : List Player) (reports more : List SessionReport) (files others : List SessionFiles) (report : SessionReport) (file : SessionFiles)
+      → IsFinishing sessions k start old.slots players rest reports files → Closing old new rest r left → r ≡ Some (q, closed, bytes) → report_view report ≡ report_by s q closed bytes → left_by file ≡ files_by s q closed
+      → more ≡ reports ++ report ∷ [] → others ≡ files ++ file ∷ [] → IsFinishing sessions (k + 1) start new.slots players left more others
+  finishing_more q closed bytes rest reports more files others report file h closing got one other pushed added = λ system is same all.
+      subst (λ (xs : List SessionReport). IsFinishedTo system is (k + 1) new.slots left xs others) (sym pushed)
+      (subst (λ (xs : List SessionFiles). IsFinishedTo system is (k + 1) new.slots left (reports ++ report ∷ []) xs) (sym added)
+      (finish_one q closed bytes rest reports files report file system is same (h system is same all) closing got one other))
+
+  -- where a session is left, its player is there, and its slot is closed
+  pub finished_early : (rest : List Player) (reports : List SessionReport) (files : List SessionFiles) → IsFinishing sessions k start old.slots players rest reports files → Closing old new rest r left → r ≡ None
+      → AreFinished sessions start players reports files
+  finished_early rest reports files h closing none = λ system is same all.
+      let f = h system is same all in
+      let a = is_at is sessions k s same below at in
+      absurd (go system is a rest (subst (λ (xs : List SessionInput). AllEnded system is old.slots xs rest) a.first f.ended) closing)
+    where
+      go : (system : Disk) (is : List SessionInput) (a : IsAt is k (k + 1) s) (now : List Player) → AllEnded system is old.slots (a.input ∷ drop (k + 1) is) now → Closing old new now r left → ⊥
+      go system is a [] all close = all
+      go system is a (x ∷ ps) all close =
+          let e = all.0 in
+          let c = close e.slot ps e.last (ap (λ (y : Player). y ∷ ps) e.plays) e.stands in
+          not_both (e.slot, c.closed, bytes_at_pc e.last) (sym none ∙ c.result)
+
+pub finished : (sessions : List Session) (k : ℕ) (start now : List SlotState) (players rest : List Player) (reports : List SessionReport) (files : List SessionFiles) → length sessions ≤ k
+    → IsFinishing sessions k start now players rest reports files → AreFinished sessions start players reports files
+finished sessions k start now players rest reports files all h = λ system is same ended.
+    let f = h system is same ended in
+    let long : length is ≤ k = let m = length-map is (λ i. i.session) in let e = ap length same in omega (arith, all, m, e) in
+    let whole : take k is ≡ is = take_all k is long in
+    (f.rows ∙ ap (map (λ i. reported_of i.session (run_of system is i))) whole, f.outputs ∙ ap (map (λ i. left_of i.session (run_of system is i))) whole)
+
+-- ---- all of it
+
+-- the players that have played, in the vector that they came from
+pub written_back : (n : ℕ) (ps begun played : List Player) → n ≡ length ps → begun ≡ ps → length played ≡ length begun → take n (played ++ drop (length played) ps) ≡ played
+written_back n ps begun played whole first long =
+    let same : length played ≡ length ps = long ∙ ap length first in
+    let none : drop (length played) ps ≡ [] = drop_all (length played) ps (omega (arith, same)) in
+    ap (λ (xs : List Player). take n (played ++ xs)) none ∙ ap (λ (xs : List Player). take n xs) (append-nil played) ∙ take_all n played (omega (arith, whole, same))
+
+-- sessions that had players and were played are reported, and leave their files, as their machines alone
+pub all_finished : (system : Disk) (old new : Host) (sessions slice : List Session) (is : List SessionInput) (ps begun played qs : List Player) (reports : List SessionReport)
+    (files : List SessionFiles) → old.system ≡ system → slice ≡ sessions → begun ≡ ps → qs ≡ played → map (λ i. i.session) is ≡ sessions → HavePlayers old.slots is ps
+    → AllPlayed old new begun played → AreFinished slice new.slots qs reports files → (map report_view reports ≡ reports_of system is) × (map left_by files ≡ files_left system is)
+all_finished system old new sessions slice is ps begun played qs reports files drive whole first last inputs slots h all =
+    let from : AllPlayed old new ps played = subst (λ (xs : List Player). AllPlayed old new xs played) first h in
+    let ended : AllEnded old.system is new.slots is played = all_ended old.system old.slots new.slots is ps slots played from.long from.each in
+    let here : AllEnded system is new.slots is qs =
+    subst (λ (xs : List Player). AllEnded system is new.slots is xs) (sym last) (subst (λ (d : Disk). AllEnded d is new.slots is played) drive ended) in
+    all system is (inputs ∙ sym whole) here

@@ -1,0 +1,200 @@
+-- Sessions that are prepared one after another: opened, or to be forked.
+use Rattle.std.proofs.Common.{◌≡◌, ◌∙◌, inl, inr, ◌<◌, ◌+◌, ℕ, List, [], ◌∷◌, ◌++◌, Some, map, ap, refl, subst, sym, arith, append_assoc}
+use Rattle.std.specs.Prelude.{⊤}
+use Rattle.cpm_batch.specs.Inputs.{Forks, Opens, SessionInput, StartInput, given, start_view}
+use Rattle.cpm_batch.specs.declared.input.Input.{Input}
+use Rattle.cpm_batch.specs.declared.input.Start.{Start}
+use Rattle.cpm_batch.specs.declared.input.Start.TheVariants as start
+use Rattle.cpm_config.specs.declared.config.Session.{Session}
+use Rattle.cpm_flags.specs.declared.regs.Cpu.{Cpu}
+use Rattle.cpm_geom.specs.Disk.{Disk}
+use Rattle.cpm_script.specs.declared.script.Key.{Key}
+use Rattle.cpm_sessions.specs.Host.{AllBelow, Host, SlotState, opened_slot, slot_at, with_opened}
+use Rattle.cpm_sessions.proofs.SlotLaws.{AllBelow-added, slot_at-added, slot_at-new}
+use Rattle.cpm_slots.specs.MachineState.{MachineState, opened_machine}
+use Rattle.cpm_slots.specs.declared.opening.OpenError.{OpenError}
+use Rattle.cpm_slots.specs.declared.opening.Opening.{Opening}
+use Rattle.cpm_turns.specs.Players.{AllDiffer, ids_of}
+use Rattle.cpm_turns.specs.ScriptedSlots.{AreDifferent, IsNone}
+use Rattle.cpm_turns.specs.declared.player.Fork.{Fork}
+use Rattle.cpm_turns.specs.declared.player.Player.{Player}
+use Rattle.cpm_turns.specs.declared.player.Player.TheVariants.{Playing, Waiting}
+use Rattle.cpm_turns.specs.declared.scripted_slot.ScriptedSlot.{ScriptedSlot}
+use Rattle.cpm_run.specs.Playing.{HasPlayer, HasPlayerBy, HasSlot, HavePlayers, IsForkFor, IsOpeningRefusal, IsPrepared, IsPreparedBy, IsSlotRefusal, IsStartRefusal, OpensSlot}
+use Rattle.cpm_run.specs.declared.error.RunError.{RunError}
+use Rattle.cpm_run.specs.declared.error.RunError.TheVariants as refusal
+use Rattle.cpm_run.specs.Run.{AllAccepted, AreOpenable, IsFirstRefused, IsOpening}
+
+-- ---- numbers of slots
+
+-- each was given before
+abbrev pub AllNumbered : ℕ → List ℕ → Type 0
+AllNumbered n [] = ⊤
+AllNumbered n (id ∷ ids) = (id < n) × AllNumbered n ids
+
+numbered_more : (n : ℕ) (ids : List ℕ) → AllNumbered n ids → AllNumbered (n + 1) (ids ++ n ∷ [])
+numbered_more n [] all = (omega arith, tt)
+numbered_more n (id ∷ ids) all = (omega (arith, all.0), numbered_more n ids all.1)
+
+none_more : (id n : ℕ) (ids : List ℕ) → id < n → IsNone id ids → IsNone id (ids ++ n ∷ [])
+none_more id n [] below none = ((λ h. omega (arith, h, below)), tt)
+none_more id n (x ∷ ids) below none = (none.0, none_more id n ids below none.1)
+
+differ_more : (n : ℕ) (ids : List ℕ) → AllNumbered n ids → AreDifferent ids → AreDifferent (ids ++ n ∷ [])
+differ_more n [] numbered all = (tt, tt)
+differ_more n (id ∷ ids) numbered all = (none_more id n ids numbered.0 all.0, differ_more n ids numbered.1 all.1)
+
+ids_playing : (ps : List Player) (p : ScriptedSlot) (n : ℕ) → p.id.0 ≡ n → ids_of (ps ++ Playing p ∷ []) ≡ ids_of ps ++ n ∷ []
+ids_playing [] p n is = ap (λ (id : ℕ). id ∷ []) is
+ids_playing (Playing q ∷ ps) p n is = ap (λ (ids : List ℕ). q.id.0 ∷ ids) (ids_playing ps p n is)
+ids_playing (Waiting fork ∷ ps) p n is = ids_playing ps p n is
+
+ids_waiting : (ps : List Player) (fork : Fork) → ids_of (ps ++ Waiting fork ∷ []) ≡ ids_of ps
+ids_waiting [] fork = refl
+ids_waiting (Playing q ∷ ps) fork = ap (λ (ids : List ℕ). q.id.0 ∷ ids) (ids_waiting ps fork)
+ids_waiting (Waiting other ∷ ps) fork = ids_waiting ps fork
+
+-- ---- players
+
+slot_later : (slots : List SlotState) (new : SlotState) (start : MachineState) (i : SessionInput) (p : ScriptedSlot) → p.id.0 < new.id → HasSlot slots start i p → HasSlot (slots ++ new ∷ []) start i p
+slot_later slots new start i p below s = record { slot = slot_at-added p.id.0 new slots below ∙ s.slot; keys = s.keys; steps = s.steps; unplayed = s.unplayed }
+
+-- a player stays one when another slot is opened
+player_later : (slots : List SlotState) (new : SlotState) (b : StartInput) (i : SessionInput) (p : Player) → AllNumbered new.id (ids_of (p ∷ [])) → HasPlayerBy slots b i p
+    → HasPlayerBy (slots ++ new ∷ []) b i p
+player_later slots new (Opens cpu quota drives) i (Playing q) below h = slot_later slots new (opened_machine cpu quota drives) i q below.0 h
+player_later slots new (Opens cpu quota drives) i (Waiting fork) below h = absurd h
+player_later slots new (Forks parent at) i (Playing q) below h = absurd h
+player_later slots new (Forks parent at) i (Waiting fork) below h = h
+
+first_numbered : (n : ℕ) (p : Player) (ps : List Player) → AllNumbered n (ids_of (p ∷ ps)) → AllNumbered n (ids_of (p ∷ [])) × AllNumbered n (ids_of ps)
+first_numbered n (Playing q) ps h = ((h.0, tt), h.1)
+first_numbered n (Waiting fork) ps h = (tt, h)
+
+players_later : (slots : List SlotState) (new : SlotState) (is : List SessionInput) (ps : List Player) → AllNumbered new.id (ids_of ps) → HavePlayers slots is ps → HavePlayers (slots ++ new ∷ []) is ps
+players_later slots new [] [] numbered all = tt
+players_later slots new [] (p ∷ ps) numbered all = absurd all
+players_later slots new (i ∷ is) [] numbered all = absurd all
+players_later slots new (i ∷ is) (p ∷ ps) numbered all =
+    let first = first_numbered new.id p ps numbered in
+    (player_later slots new i.start i p first.0 all.0, players_later slots new is ps first.1 all.1)
+
+players_more : (slots : List SlotState) (is : List SessionInput) (ps : List Player) (i : SessionInput) (p : Player) → HavePlayers slots is ps → HasPlayer slots i p
+    → HavePlayers slots (is ++ i ∷ []) (ps ++ p ∷ [])
+players_more slots [] [] i p all one = (one, tt)
+players_more slots [] (q ∷ ps) i p all one = absurd all
+players_more slots (j ∷ is) [] i p all one = absurd all
+players_more slots (j ∷ is) (q ∷ ps) i p all one = (all.0, players_more slots is ps i p all.1 one)
+
+-- ---- one session
+
+-- where its slot was opened
+pub opens_slot : (x : Input) (o : Opening) (old new : Host) (slot : ScriptedSlot) → x.start ≡ start.Opened o.cpu o.quota o.drives → OpensSlot o x.keys.items x.session.now.steps old new slot
+    → IsPrepared (given x) old new (Playing slot)
+opens_slot x o old new slot is h =
+    subst (λ (b : Start). IsPreparedBy (start_view b) (given x) old new (Playing slot)) (sym is) (o, record { cpu = refl; quota = refl; drives = refl }, h)
+
+-- where it was refused
+pub start_refused : (x : Input) (o : Opening) (h : Host) (e : RunError) → x.start ≡ start.Opened o.cpu o.quota o.drives → IsOpeningRefusal h o e → IsStartRefusal h (given x).start e
+start_refused x o h e is r = subst (λ (b : Start). IsStartRefusal h (start_view b) e) (sym is) (o, record { cpu = refl; quota = refl; drives = refl }, r)
+
+-- where it is to be forked
+pub waits : (x : Input) (fork : Fork) (h : Host) → x.start ≡ start.Forked fork.parent fork.at → IsForkFor (given x) fork.parent fork.at fork → IsPrepared (given x) h h (Waiting fork)
+waits x fork h is for = subst (λ (b : Start). IsPreparedBy (start_view b) (given x) h h (Waiting fork)) (sym is) (for, refl)
+
+-- ---- one after another
+
+-- the first sessions have their players, and the rest are still to come; what holds of all that are given is kept
+pub record IsPreparedTo (start now : Host) (all rest : List SessionInput) (ps : List Player) : Type 0 where
+  pub done : List SessionInput
+  pub parts : done ++ rest ≡ all
+  pub players : HavePlayers now.slots done ps
+  pub below : AllBelow now.openings now.slots
+  pub numbered : AllNumbered now.openings (ids_of ps)
+  pub differ : AllDiffer ps
+  pub system : now.system ≡ start.system
+  pub refused : (whole : List SessionInput) (fault : OpenError) → IsFirstRefused whole now rest fault → IsFirstRefused whole start all fault
+  pub accepted : (whole : List SessionInput) → AllAccepted whole now rest → AllAccepted whole start all
+  pub openable : AreOpenable now rest → AreOpenable start all
+
+abbrev input_of : Session → StartInput → List Key → SessionInput
+input_of session b keys = record { session = session; start = b; keys = keys }
+
+-- the next of those still to come
+pub prepared_next : (start now : Host) (all : List SessionInput) (rest more : List Input) (x : Input) (ps : List Player) → rest ≡ x ∷ more → IsPreparedTo start now all (map given rest) ps
+    → IsPreparedTo start now all (given x ∷ map given more) ps
+prepared_next start now all rest more x ps steps h = subst (λ (xs : List Input). IsPreparedTo start now all (map given xs) ps) steps h
+
+-- one that is opened
+opened_more : (start now new : Host) (all rest : List SessionInput) (session : Session) (cpu : Cpu) (quota : ℕ) (drives : List Disk) (keys : List Key) (ps : List Player) (p : ScriptedSlot) (o : Opening)
+    → IsPreparedTo start now all (input_of session (Opens cpu quota drives) keys ∷ rest) ps → IsOpening cpu quota drives o → OpensSlot o keys session.steps now new p
+    → IsPreparedTo start new all rest (ps ++ Playing p ∷ [])
+opened_more start now new all rest session cpu quota drives keys ps p o h is open_slot =
+    let n = now.openings in
+    let i = input_of session (Opens cpu quota drives) keys in
+    let next = with_opened now o in
+    let opening : opened_slot o ≡ opened_machine cpu quota drives =
+    ap (λ cpu. opened_machine cpu o.quota o.drives.items) is.cpu ∙ ap (λ quota. opened_machine cpu quota o.drives.items) is.quota ∙ ap (λ drives. opened_machine cpu quota drives) is.drives in
+    let at : slot_at p.id.0 next.slots ≡ Some (opened_machine cpu quota drives) =
+    ap (λ id. slot_at id next.slots) open_slot.id ∙ slot_at-new n (opened_slot o) now.slots h.below ∙ ap (λ (s : MachineState). Some s) opening in
+    let one : HasPlayer next.slots i (Playing p) = record { slot = at; keys = open_slot.keys; steps = open_slot.steps; unplayed = open_slot.unplayed } in
+    let ids = ids_playing ps p n open_slot.id in
+    let made : IsPreparedTo start next all rest (ps ++ Playing p ∷ []) = record {
+      done = h.done ++ i ∷ [];
+      parts = append_assoc h.done (i ∷ []) rest ∙ h.parts;
+      players = players_more next.slots h.done ps i (Playing p) (players_later now.slots (record { id = n; state = opened_slot o }) h.done ps h.numbered h.players) one;
+      below = AllBelow-added n (opened_slot o) now.slots h.below;
+      numbered = subst (λ (xs : List ℕ). AllNumbered (n + 1) xs) (sym ids) (numbered_more n (ids_of ps) h.numbered);
+      differ = subst AreDifferent (sym ids) (differ_more n (ids_of ps) h.numbered h.differ);
+      system = h.system;
+      refused = λ whole fault f. h.refused whole fault (o, is, inr (open_slot.accepted, f));
+      accepted = λ whole more. h.accepted whole (o, is, open_slot.accepted, more);
+      openable = λ more. h.openable (o, is, open_slot.accepted, more);
+    } in
+    subst (λ (host : Host). IsPreparedTo start host all rest (ps ++ Playing p ∷ [])) (sym open_slot.host) made
+
+-- one that is to be forked
+forked_more : (start now new : Host) (all rest : List SessionInput) (session : Session) (parent at : ℕ) (keys : List Key) (ps : List Player) (fork : Fork)
+    → IsPreparedTo start now all (input_of session (Forks parent at) keys ∷ rest) ps → IsForkFor (input_of session (Forks parent at) keys) parent at fork → new ≡ now
+    → IsPreparedTo start new all rest (ps ++ Waiting fork ∷ [])
+forked_more start now new all rest session parent at keys ps fork h is same =
+    let i = input_of session (Forks parent at) keys in
+    let ids = ids_waiting ps fork in
+    let made : IsPreparedTo start now all rest (ps ++ Waiting fork ∷ []) = record {
+      done = h.done ++ i ∷ [];
+      parts = append_assoc h.done (i ∷ []) rest ∙ h.parts;
+      players = players_more now.slots h.done ps i (Waiting fork) h.players is;
+      below = h.below;
+      numbered = subst (λ (xs : List ℕ). AllNumbered now.openings xs) (sym ids) h.numbered;
+      differ = subst AreDifferent (sym ids) h.differ;
+      system = h.system;
+      refused = h.refused;
+      accepted = h.accepted;
+      openable = h.openable;
+    } in
+    subst (λ (host : Host). IsPreparedTo start host all rest (ps ++ Waiting fork ∷ [])) (sym same) made
+
+more_by : (start now new : Host) (all rest : List SessionInput) (session : Session) (b : StartInput) (keys : List Key) (ps : List Player) (p : Player)
+    → IsPreparedTo start now all (input_of session b keys ∷ rest) ps → IsPreparedBy b (input_of session b keys) now new p → IsPreparedTo start new all rest (ps ++ p ∷ [])
+more_by start now new all rest session (Opens cpu quota drives) keys ps (Playing slot) h r = opened_more start now new all rest session cpu quota drives keys ps slot r.0 h r.1 r.2
+more_by start now new all rest session (Opens cpu quota drives) keys ps (Waiting fork) h r = absurd r
+more_by start now new all rest session (Forks parent at) keys ps (Playing slot) h r = absurd r
+more_by start now new all rest session (Forks parent at) keys ps (Waiting fork) h r = forked_more start now new all rest session parent at keys ps fork h r.0 r.1
+
+-- one player more
+pub prepared_more : (start now new : Host) (all rest : List SessionInput) (i : SessionInput) (ps more : List Player) (p : Player) → IsPreparedTo start now all (i ∷ rest) ps
+    → IsPreparedBy i.start i now new p → more ≡ ps ++ p ∷ [] → IsPreparedTo start new all rest more
+prepared_more start now new all rest i ps more p h r pushed =
+    subst (λ (qs : List Player). IsPreparedTo start new all rest qs) (sym pushed) (more_by start now new all rest i.session i.start i.keys ps p h r)
+
+refused_by : (start now : Host) (all rest : List SessionInput) (session : Session) (b : StartInput) (keys : List Key) (ps : List Player) (e : RunError) (whole : List SessionInput)
+    → IsPreparedTo start now all (input_of session b keys ∷ rest) ps → IsStartRefusal now b e → IsSlotRefusal whole start all e
+refused_by start now all rest session (Opens cpu quota drives) keys ps (refusal.SessionRefused name fault) whole h r = h.refused whole fault (r.0, r.1, inl r.2)
+refused_by start now all rest session (Opens cpu quota drives) keys ps refusal.OutOfMemory whole h r = tt
+refused_by start now all rest session (Opens cpu quota drives) keys ps _ whole h r = absurd r.2
+refused_by start now all rest session (Forks parent at) keys ps e whole h r = absurd r
+
+-- an opening that is refused
+pub prepare_refused : (start now : Host) (all rest : List SessionInput) (i : SessionInput) (ps : List Player) (e : RunError) → IsPreparedTo start now all (i ∷ rest) ps
+    → IsStartRefusal now i.start e → (whole : List SessionInput) → IsSlotRefusal whole start all e
+prepare_refused start now all rest i ps e h r whole = refused_by start now all rest i.session i.start i.keys ps e whole h r

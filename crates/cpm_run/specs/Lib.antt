@@ -1,0 +1,4 @@
+pub mod Illegal
+pub mod Playing
+pub mod Refusals
+pub mod Run

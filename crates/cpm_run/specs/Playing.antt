@@ -1,0 +1,180 @@
+-- Sessions of a configuration in the slots of a host. All of it is own.
+use Rattle.std.specs.Prelude.{⊤, ◌≡◌, ◌≢◌, ℕ, List, [], ◌∷◌, ◌++◌, ◌≤◌, length, map, slice_get, Option, Some, None, IfSome, string_bytes}
+use Rattle.cpm_batch.specs.Inputs.{Forks, IsOpened, Opens, SessionInput, StartInput}
+use Rattle.cpm_batch.specs.Outputs.{SessionOutput, left_by}
+use Rattle.cpm_batch.specs.declared.output.SessionFiles.{SessionFiles}
+use Rattle.cpm_config.specs.declared.config.Config.{Config}
+use Rattle.cpm_config.specs.declared.config.Session.{Session}
+use Rattle.cpm_disks.specs.Disks.{images_of}
+use Rattle.cpm_geom.specs.Disk.{Disk}
+use Rattle.cpm_script.specs.Fork.{keys_before}
+use Rattle.cpm_script.specs.declared.script.Key.{Key}
+use Rattle.cpm_sessions.specs.Host.{Host, SlotState, refusal_of, slot_at, with_opened}
+use Rattle.cpm_slots.specs.MachineState.{MachineState, opened_machine}
+use Rattle.cpm_slots.specs.Serve.{look_of}
+use Rattle.cpm_slots.specs.declared.opening.Opening.{Opening}
+use Rattle.cpm_slots.specs.declared.opening.OpenError.TheVariants.{NoFrames}
+use Rattle.cpm_slots.specs.declared.reply.Closed.{Closed}
+use Rattle.cpm_turns.specs.Playing.{IsInOrder, IsPlayed}
+use Rattle.cpm_turns.specs.ScriptedSlots.{IsNew, keys_of, steps_of}
+use Rattle.cpm_turns.specs.declared.player.Fork.{Fork}
+use Rattle.cpm_turns.specs.declared.player.Player.{Player}
+use Rattle.cpm_turns.specs.declared.player.Player.TheVariants.{Playing, Waiting}
+use Rattle.cpm_turns.specs.declared.scripted_slot.ScriptedSlot.{ScriptedSlot}
+use Rattle.cpm_run.specs.Run.{IsFirstRefused, IsOpening, IsShortFor, Reported, files_left, quotas_of, report_view, reports_of, start_of}
+use Rattle.cpm_run.specs.Illegal.{bytes_at_pc}
+use Rattle.cpm_run.specs.declared.report.SessionReport.{SessionReport}
+use Rattle.cpm_run.specs.declared.error.RunError.{RunError}
+use Rattle.cpm_run.specs.declared.error.RunError.TheVariants as refusal
+
+-- ---- before they are played
+
+-- a slot was opened so, and the scripted slot is to play it by these keys for so many steps
+pub record OpensSlot (opening : Opening) (all : List Key) (count : ℕ) (old new : Host) (p : ScriptedSlot) : Type 0 where
+  pub accepted : refusal_of old opening ≡ None
+  pub host : new ≡ with_opened old opening
+  pub id : p.id.0 ≡ old.openings
+  pub keys : keys_of p ≡ all
+  pub steps : steps_of p ≡ count
+  pub unplayed : IsNew p
+
+-- what is to be forked for a session
+pub record IsForkFor (i : SessionInput) (place count : ℕ) (fork : Fork) : Type 0 where
+  pub parent : fork.parent ≡ place
+  pub at : fork.at ≡ count
+  pub keys : fork.keys.items ≡ i.keys
+  pub steps : fork.steps ≡ i.session.steps
+
+-- a session that begins so is prepared: its slot was opened, or is to be forked
+abbrev pub IsPreparedBy : StartInput → SessionInput → Host → Host → Player → Type 0
+IsPreparedBy (Opens cpu quota drives) i old new (Playing slot) = (o : Opening) × IsOpening cpu quota drives o × OpensSlot o i.keys i.session.steps old new slot
+IsPreparedBy (Forks parent at) i old new (Waiting fork) = IsForkFor i parent at fork × (new ≡ old)
+IsPreparedBy _ i old new _ = ⊥
+
+abbrev pub IsPrepared : SessionInput → Host → Host → Player → Type 0
+IsPrepared i old new p = IsPreparedBy i.start i old new p
+
+-- the scripted slot is to play a session, whose slot is at its opening
+pub record HasSlot (slots : List SlotState) (start : MachineState) (i : SessionInput) (p : ScriptedSlot) : Type 0 where
+  pub slot : slot_at p.id.0 slots ≡ Some start
+  pub keys : keys_of p ≡ i.keys
+  pub steps : steps_of p ≡ i.session.steps
+  pub unplayed : IsNew p
+
+-- the player is to play a session that begins so
+abbrev pub HasPlayerBy : List SlotState → StartInput → SessionInput → Player → Type 0
+HasPlayerBy slots (Opens cpu quota drives) i (Playing slot) = HasSlot slots (opened_machine cpu quota drives) i slot
+HasPlayerBy slots (Forks parent at) i (Waiting fork) = IsForkFor i parent at fork
+HasPlayerBy slots _ i _ = ⊥
+
+abbrev pub HasPlayer : List SlotState → SessionInput → Player → Type 0
+HasPlayer slots i p = HasPlayerBy slots i.start i p
+
+-- each session with its player
+abbrev pub HavePlayers : List SlotState → List SessionInput → List Player → Type 0
+HavePlayers slots [] [] = ⊤
+HavePlayers slots (i ∷ is) (p ∷ ps) = HasPlayer slots i p × HavePlayers slots is ps
+HavePlayers slots [] (p ∷ ps) = ⊥
+HavePlayers slots (i ∷ is) [] = ⊥
+
+-- the keys of a forked session can be pressed: they are those of an opened session before the fork and then others in order, not too many, and it has the steps up to the fork
+pub record IsForkPressable (inputs : List SessionInput) (i : SessionInput) (parent at : ℕ) : Type 0 where
+  pub other : SessionInput
+  pub there : slice_get inputs parent ≡ Some other
+  pub opened : IsOpened other.start
+  pub own : List Key
+  pub keys : i.keys ≡ keys_before at other.keys ++ own
+  pub order : IsInOrder at own
+  pub few : length i.keys ≤ 4096
+  pub within : at ≤ i.session.steps
+
+-- those of an opened one: their counts don't fall, and they are not too many
+abbrev pub IsPressableBy : List SessionInput → StartInput → SessionInput → Type 0
+IsPressableBy inputs (Opens cpu quota drives) i = IsInOrder 0 i.keys × (length i.keys ≤ 4096)
+IsPressableBy inputs (Forks parent at) i = IsForkPressable inputs i parent at
+
+-- those of each session
+abbrev pub ArePressable : List SessionInput → Type 0
+ArePressable inputs = (place : ℕ) → IfSome (slice_get inputs place) (λ i. IsPressableBy inputs i.start i)
+
+-- ---- refusals
+
+-- how an opening is refused
+abbrev pub IsOpeningRefusal : Host → Opening → RunError → Type 0
+IsOpeningRefusal h o (refusal.SessionRefused name fault) = refusal_of h o ≡ Some fault
+IsOpeningRefusal h o refusal.OutOfMemory = ⊤
+IsOpeningRefusal h o _ = ⊥
+
+-- how a session that begins so is refused
+abbrev pub IsStartRefusal : Host → StartInput → RunError → Type 0
+IsStartRefusal h (Opens cpu quota drives) e = (o : Opening) × IsOpening cpu quota drives o × IsOpeningRefusal h o e
+IsStartRefusal h (Forks parent at) e = ⊥
+
+-- how opening sessions one after another is refused
+abbrev pub IsSlotRefusal : (all : List SessionInput) → Host → List SessionInput → RunError → Type 0
+IsSlotRefusal all h is (refusal.SessionRefused name fault) = IsFirstRefused all h is fault
+IsSlotRefusal all h is refusal.OutOfMemory = ⊤
+IsSlotRefusal all h is _ = ⊥
+
+-- how so many forks, which may write so many pages, are refused in a host
+abbrev pub IsForkRefusal : Config → Host → (forks pages : ℕ) → RunError → Type 0
+IsForkRefusal config h forks pages (refusal.SessionRefused name fault) = (fault ≢ NoFrames) × IsShortFor h forks pages fault
+IsForkRefusal config h forks pages (refusal.FramesExceeded name quotas frames) =
+    (quotas ≡ quotas_of config) × (frames ≡ config.frames) × IsShortFor h forks pages NoFrames
+IsForkRefusal config h forks pages refusal.OutOfMemory = ⊤
+IsForkRefusal config h forks pages _ = ⊥
+
+-- how playing all sessions of a configuration is refused
+abbrev pub IsPlayRefusal : Config → Host → List SessionInput → RunError → Type 0
+IsPlayRefusal config h is (refusal.SessionRefused name fault) = (fault ≢ NoFrames) × IsFirstRefused is h is fault
+IsPlayRefusal config h is (refusal.FramesExceeded name quotas frames) =
+    (quotas ≡ quotas_of config) × (frames ≡ config.frames) × IsFirstRefused is h is NoFrames
+IsPlayRefusal config h is refusal.OutOfMemory = ⊤
+IsPlayRefusal config h is _ = ⊥
+
+-- ---- once they were played
+
+-- a player has played the session, whose slot it left so
+pub record HasEnded (system : Disk) (inputs : List SessionInput) (slots : List SlotState) (i : SessionInput) (p : Player) : Type 0 where
+  pub slot : ScriptedSlot
+  pub plays : p ≡ Playing slot
+  pub last : MachineState
+  pub stands : slot_at slot.id.0 slots ≡ Some last
+  pub played : IsPlayed system i.keys i.session.steps (start_of inputs i) last slot.console.items slot.list.items
+
+-- each of some sessions
+abbrev pub AllEnded : Disk → (inputs : List SessionInput) → List SlotState → List SessionInput → List Player → Type 0
+AllEnded system inputs slots [] [] = ⊤
+AllEnded system inputs slots (i ∷ is) (p ∷ ps) = HasEnded system inputs slots i p × AllEnded system inputs slots is ps
+AllEnded system inputs slots [] (p ∷ ps) = ⊥
+AllEnded system inputs slots (i ∷ is) [] = ⊥
+
+-- the first of the scripted slots, with what is left of its slot, which was closed, and the bytes at its program counter
+pub record IsClosed (p : ScriptedSlot) (ps : List Player) (s : MachineState) (old new : Host) (r : Option (ScriptedSlot × Closed × List ℕ)) (rest : List Player) : Type 0 where
+  pub closed : Closed
+  pub result : r ≡ Some (p, closed, bytes_at_pc s)
+  pub look : closed.look ≡ look_of s
+  pub drives : closed.drives ≡ images_of s.cpm.disks
+  pub left : rest ≡ ps
+  pub others : (id : ℕ) → id ≢ p.id.0 → slot_at id new.slots ≡ slot_at id old.slots
+
+-- what is reported of a session, by what is left of it
+abbrev pub report_by : Session → ScriptedSlot → Closed → List ℕ → Reported
+report_by session p closed at_pc = record {
+  name = string_bytes session.name;
+  ended = closed.look.ended;
+  count = closed.look.count;
+  bytes = length p.console.items;
+  pc = closed.look.regs.pc;
+  at_pc = at_pc;
+}
+
+abbrev pub files_by : Session → ScriptedSlot → Closed → SessionOutput
+files_by session p closed =
+    record { session = session; console = p.console.items; list = p.list.items; drives = closed.drives }
+
+-- each session that ended so is reported, and leaves its files
+abbrev pub AreFinished : List Session → List SlotState → List Player → List SessionReport → List SessionFiles → Type 0
+AreFinished sessions slots players reports files = (system : Disk) (is : List SessionInput)
+    → map (λ i. i.session) is ≡ sessions → AllEnded system is slots is players
+    → (map report_view reports ≡ reports_of system is) × (map left_by files ≡ files_left system is)

@@ -1,0 +1,306 @@
+//! Playing the sessions of a configuration in a host.
+ghost use Rattle.std.specs.Prelude.{◌≡◌, ◌≤◌, ◌∷◌, [], IfErr, IfOk, List, OnErr, OnOk, Some, map};
+ghost use Rattle.std.specs.Vec.Iter.{into_iter_items};
+ghost use Rattle.cpm_batch.specs.Inputs.{SessionInput, given};
+ghost use Rattle.cpm_batch.specs.Outputs.{left_by};
+ghost use Rattle.cpm_sessions.specs.Host.{Host as HostValue, new_host, refusal_of, slot_at};
+ghost use Rattle.cpm_slots.specs.MachineState.{MachineState};
+ghost use Rattle.cpm_slots.specs.Opening.{IsRefusal};
+ghost use Rattle.cpm_slots.specs.declared.opening.OpenError.{OpenError as OpenErrorValue};
+ghost use Rattle.cpm_slots.specs.declared.opening.Opening.{Opening as OpeningValue};
+ghost use Rattle.cpm_turns.specs.Players.{AllDiffer, IsPlayRefusal as IsForking, fork_pages, forks_of};
+ghost use Rattle.cpm_turns.specs.declared.player.Player.TheVariants.{Playing};
+ghost use Rattle.cpm_turns.specs.declared.player.Player.{Player as PlayerValue};
+ghost use Rattle.cpm_turns.specs.declared.scripted_slot.ScriptedSlot.{ScriptedSlot};
+ghost use Rattle.cpm_run.specs.Playing.{HavePlayers, AreFinished, ArePressable, IsClosed, IsForkRefusal, IsOpeningRefusal, IsPlayRefusal, IsPrepared, IsSlotRefusal, IsStartRefusal, OpensSlot, files_by, report_by};
+ghost use Rattle.cpm_run.specs.Run.{AllAccepted, AreOpenable, HasForkRoom, IsFirstRefused, IsShortFor, files_left, fork_pages_in, forks_in, report_view, reports_of};
+
+use crate::at_pc::bytes_of_slot;
+use crate::error::RunError;
+use crate::quotas::quotas_of;
+use crate::report::SessionReport;
+use cpm_batch::{Input, Inputs, SessionFiles, Start};
+use cpm_command::{Word, shown};
+use cpm_config::{Config, Session};
+use cpm_script::Key;
+use cpm_sessions::{ForkError, Host};
+use cpm_slots::{Closed, OpenError, Opening};
+use cpm_turns::{Fork, PlayError, Player, ScriptedSlot, Watcher, play};
+use std::alloc::{AllocError, Global};
+use std::vec::IntoIter;
+
+/// What is left of all sessions: what is reported of each, and what is written.
+#[derive(Drop)]
+pub(crate) struct Played<'a> {
+    pub(crate) reports: Vec<SessionReport>,
+    pub(crate) files: Vec<SessionFiles<'a>>,
+}
+
+/// Why a session has no slot, if its opening is refused so.
+fn refused(session: &Session, fault: OpenError) -> RunError
+    ensures { (h : HostValue) (o : OpeningValue) → IsRefusal (refusal_of h o) fault → IsOpeningRefusal h o result }
+{
+    match fault {
+        OpenError::OutOfMemory => RunError::OutOfMemory,
+        fault => RunError::SessionRefused {
+            name: shown(session.name.as_str()),
+            fault,
+        },
+    }
+}
+
+/// Opens a slot for a session, which is to be played by its keys.
+fn open_slot(
+    alloc: Global,
+    host: &mut Host,
+    session: &Session,
+    opening: Opening,
+    keys: Vec<Key>,
+) -> Result<ScriptedSlot, RunError>
+    ensures opened { IfOk result (OpensSlot opening keys.items session.entry.now.steps host.old.host host.new.host) }
+    ensures refusal { IfErr result (IsOpeningRefusal host.old.host opening) }
+    ensures unchanged { OnErr result (host.new.host ≡ host.old.host) }
+{
+    match host.open(alloc, opening) {
+        Ok(id) => Ok(ScriptedSlot::new(alloc, id, keys, session.steps)),
+        Err((_, fault)) => Err(refused(session, fault)),
+    }
+}
+
+/// The player of a session: one whose slot is opened now, or one that is to be forked.
+fn prepare(alloc: Global, host: &mut Host, input: Input<'_>) -> Result<Player, RunError>
+    ensures prepared { IfOk result (IsPrepared (given input.entry) host.old.host host.new.host) }
+    ensures refusal { IfErr result (IsStartRefusal host.old.host (given input.entry).start) }
+    ensures unchanged { OnErr result (host.new.host ≡ host.old.host) }
+{
+    let Input {
+        session,
+        start,
+        keys,
+    } = input;
+    match start {
+        Start::Opened { cpu, quota, drives } => {
+            let opening = Opening { cpu, quota, drives };
+            let slot = open_slot(alloc, host, session, opening, keys)?;
+            Ok(Player::Playing(slot))
+        }
+        Start::Forked { parent, at } => Ok(Player::Waiting(Fork {
+            parent,
+            at,
+            keys,
+            steps: session.steps,
+        })),
+    }
+}
+
+/// Why the sessions of a configuration have no slots, if opening them is refused so: where the quotas exceed the frames, with both numbers.
+fn play_refusal(config: &Config, refusal: RunError) -> RunError
+    ensures { (h : HostValue) (is : List SessionInput) → IsSlotRefusal is h is refusal → IsPlayRefusal config.now h is result }
+{
+    match refusal {
+        RunError::SessionRefused { name, fault } => match fault {
+            OpenError::NoFrames => RunError::FramesExceeded {
+                name,
+                quotas: quotas_of(config),
+                frames: config.frames,
+            },
+            fault => RunError::SessionRefused { name, fault },
+        },
+        other => other,
+    }
+}
+
+/// The name of the session at a place.
+fn name_at(config: &Config, place: usize) -> Word {
+    match config.sessions.get(place) {
+        Some(session) => shown(session.name.as_str()),
+        None => shown(""),
+    }
+}
+
+/// Why the sessions of a configuration are not played to their end, if one is not forked so.
+fn fork_refusal(config: &Config, error: PlayError) -> RunError
+    ensures { (h : HostValue) (players : List PlayerValue) → IsForking h players error → IsForkRefusal config.now h (forks_of players) (fork_pages h.slots players) result }
+{
+    match error {
+        PlayError::ForkRefused { place, fault } => match fault {
+            ForkError::NoFrames => RunError::FramesExceeded {
+                name: name_at(config, place),
+                quotas: quotas_of(config),
+                frames: config.frames,
+            },
+            _ => RunError::SessionRefused {
+                name: name_at(config, place),
+                fault: OpenError::NoSlot,
+            },
+        },
+        PlayError::OutOfMemory => RunError::OutOfMemory,
+    }
+}
+
+/// The players of all sessions, in order.
+fn prepare_all(
+    alloc: Global,
+    host: &mut Host,
+    inputs: Vec<Input<'_>>,
+) -> Result<Vec<Player>, RunError>
+    requires { host.old.host.slots ≡ [] }
+    ensures prepared { IfOk result (λ players. HavePlayers host.new.host.slots (map given inputs.entry.items) players.items) }
+    ensures accepted { OnOk result ((all : List SessionInput) → HasForkRoom all host.new.host → AllAccepted all host.old.host (map given inputs.entry.items)) }
+    ensures openable { OnOk result (AreOpenable host.old.host (map given inputs.entry.items)) }
+    ensures short { OnOk result ((all : List SessionInput) (fault : OpenErrorValue) → IsShortFor host.new.host (forks_in all) (fork_pages_in all) fault → IsFirstRefused all host.old.host (map given inputs.entry.items) fault) }
+    ensures differ { IfOk result (λ players. AllDiffer players.items) }
+    ensures system { host.new.host.system ≡ host.old.host.system }
+    ensures refusal { IfErr result (λ e. (all : List SessionInput) → IsSlotRefusal all host.old.host (map given inputs.entry.items) e) }
+{
+    let mut players = Vec::new(alloc);
+    let mut rest = inputs.into_iter();
+    while let Some(input) = rest.next() {
+        players.push(prepare(alloc, host, input)?)?;
+    }
+    Ok(players)
+}
+
+/// The next scripted slot, with what is left of its slot, which is closed, and the four bytes at its program counter.
+fn next_closed(
+    host: &mut Host,
+    players: &mut IntoIter<Player>,
+) -> Option<(ScriptedSlot, Closed, [u8; 4])>
+    ensures { (p : ScriptedSlot) (ps : List PlayerValue) (s : MachineState) → into_iter_items players.old ≡ Playing p ∷ ps → slot_at p.id.0 host.old.host.slots ≡ Some s
+        → IsClosed p ps s host.old.host host.new.host result (into_iter_items players.new) }
+{
+    let Player::Playing(slot) = players.next()? else {
+        return None;
+    };
+    let at_pc = bytes_of_slot(host, slot.id);
+    match host.close(slot.id) {
+        Ok(closed) => Some((slot, closed, at_pc)),
+        Err(_) => None,
+    }
+}
+
+/// What is reported of a session, and what is written.
+fn finish<'a>(
+    alloc: Global,
+    session: &'a Session,
+    slot: ScriptedSlot,
+    closed: Closed,
+    at_pc: [u8; 4],
+) -> Result<(SessionReport, SessionFiles<'a>), AllocError>
+    ensures report { IfOk result (λ r. report_view r.0 ≡ report_by session.entry.now slot closed at_pc) }
+    ensures files { IfOk result (λ r. left_by r.1 ≡ files_by session.entry.now slot closed) }
+{
+    let name = String::from_str(alloc, session.name.as_str())?;
+    let Closed { look, drives } = closed;
+    let ScriptedSlot { console, list, .. } = slot;
+    let report = SessionReport {
+        name,
+        ended: look.ended,
+        count: look.count,
+        bytes: console.len() as u64,
+        pc: look.regs.pc,
+        at_pc,
+    };
+    let files = SessionFiles {
+        session,
+        console,
+        list,
+        drives,
+    };
+    Ok((report, files))
+}
+
+/// What is reported of all sessions, and what is written, once their players have played them. Their slots are closed.
+fn finish_all<'a>(
+    alloc: Global,
+    host: &mut Host,
+    sessions: &'a [Session],
+    players: Vec<Player>,
+) -> Result<Played<'a>, AllocError>
+    requires { AllDiffer players.items }
+    ensures { IfOk result (λ played. AreFinished sessions.entry.now host.old.host.slots players.items played.reports.items played.files.items) }
+{
+    let mut reports = Vec::new(alloc);
+    let mut files = Vec::new(alloc);
+    let mut rest = players.into_iter();
+    for session in sessions {
+        let Some(ended) = next_closed(host, &mut rest) else {
+            return Ok(Played { reports, files });
+        };
+        let (slot, closed, at_pc) = ended;
+        let (report, left) = finish(alloc, session, slot, closed, at_pc)?;
+        reports.push(report)?;
+        files.push(left)?;
+    }
+    Ok(Played { reports, files })
+}
+
+/// A host with the sessions of a configuration that aren't forked, and the players of all sessions.
+fn prepare_host(
+    alloc: Global,
+    config: &Config,
+    inputs: Inputs<'_>,
+) -> Result<(Host, Vec<Player>), RunError>
+    requires least { 16 ≤ config.now.frames }
+    requires most { config.now.frames ≤ 16384 }
+    ensures prepared { IfOk result (λ p. HavePlayers p.0.host.slots (map given inputs.entry.sessions.items) p.1.items) }
+    ensures accepted { IfOk result (λ p. (all : List SessionInput) → HasForkRoom all p.0.host → AllAccepted all (new_host inputs.entry.system config.entry.now.frames) (map given inputs.entry.sessions.items)) }
+    ensures openable { OnOk result (AreOpenable (new_host inputs.entry.system config.entry.now.frames) (map given inputs.entry.sessions.items)) }
+    ensures short { IfOk result (λ p. (all : List SessionInput) (fault : OpenErrorValue) → IsShortFor p.0.host (forks_in all) (fork_pages_in all) fault → IsFirstRefused all (new_host inputs.entry.system config.entry.now.frames) (map given inputs.entry.sessions.items) fault) }
+    ensures differ { IfOk result (λ p. AllDiffer p.1.items) }
+    ensures system { IfOk result (λ p. p.0.host.system ≡ inputs.entry.system) }
+    ensures refusal { IfErr result (IsPlayRefusal config.entry.now (new_host inputs.entry.system config.entry.now.frames) (map given inputs.entry.sessions.items)) }
+{
+    let Inputs { system, sessions } = inputs;
+    let mut host = match Host::new(alloc, system, config.frames) {
+        Ok(host) => host,
+        Err(_) => return Err(RunError::OutOfMemory),
+    };
+    match prepare_all(alloc, &mut host, sessions) {
+        Ok(players) => Ok((host, players)),
+        Err(error) => Err(play_refusal(config, error)),
+    }
+}
+
+/// Opens all sessions of a configuration that aren't forked, and drops them again.
+pub(crate) fn open_all(alloc: Global, config: &Config, inputs: Inputs<'_>) -> Result<(), RunError>
+    requires least { 16 ≤ config.now.frames }
+    requires most { config.now.frames ≤ 16384 }
+    ensures refusal { IfErr result (IsPlayRefusal config.entry.now (new_host inputs.entry.system config.entry.now.frames) (map given inputs.entry.sessions.items)) }
+    ensures openable { OnOk result (AreOpenable (new_host inputs.entry.system config.entry.now.frames) (map given inputs.entry.sessions.items)) }
+{
+    prepare_host(alloc, config, inputs)?;
+    Ok(())
+}
+
+/// Plays the sessions of a configuration in a host, by turns in their order, forks those that are forked on the way, and gives what is left of them.
+pub(crate) fn play_all<'a, T: Watcher>(
+    alloc: Global,
+    config: &'a Config,
+    inputs: Inputs<'_>,
+    watcher: &mut T,
+) -> Result<Played<'a>, RunError>
+    requires least { 16 ≤ config.now.frames }
+    requires most { config.now.frames ≤ 16384 }
+    requires quantum { 1 ≤ config.now.quantum }
+    requires keys { ArePressable (map given inputs.sessions.items) }
+    requires sessions { map (λ i. i.session) (map given inputs.sessions.items) ≡ config.now.sessions.items }
+    ensures reports { IfOk result (λ p. map report_view p.reports.items ≡ reports_of inputs.entry.system (map given inputs.entry.sessions.items)) }
+    ensures files { IfOk result (λ p. map left_by p.files.items ≡ files_left inputs.entry.system (map given inputs.entry.sessions.items)) }
+    ensures accepted { OnOk result (AllAccepted (map given inputs.entry.sessions.items) (new_host inputs.entry.system config.entry.now.frames) (map given inputs.entry.sessions.items)) }
+    ensures refusal { IfErr result (IsPlayRefusal config.entry.now (new_host inputs.entry.system config.entry.now.frames) (map given inputs.entry.sessions.items)) }
+{
+    let (mut host, mut players) = prepare_host(alloc, config, inputs)?;
+    match play(
+        alloc,
+        &mut host,
+        players.as_mut_slice(),
+        config.quantum,
+        watcher,
+    ) {
+        Ok(()) => {}
+        Err(error) => return Err(fork_refusal(config, error)),
+    }
+    let played = finish_all(alloc, &mut host, config.sessions.as_slice(), players)?;
+    Ok(played)
+}

@@ -1,0 +1,145 @@
+//! Rows of a session, step by step.
+
+use crate::session::Session;
+use crate::text::{key_answer, list_echo, middle, press, taken, taken_list};
+use std::alloc::{AllocError, Global};
+use test_images::Images;
+use test_language::{Answer, Fault, Line, Scene, Word, bytes_of};
+
+/// The bytes of a record.
+const RECORD: usize = 128;
+
+/// Disk images, and the session that has copies of them.
+#[derive(Drop)]
+pub struct Calls {
+    images: Images,
+    session: Option<Session>,
+}
+
+impl Calls {
+    /// `session IMAGE..`: a session with these drives, the first as A, and a blank system drive.
+    fn begin(&mut self, alloc: Global, arguments: &[Word<'_>]) -> Result<Answer, Fault> {
+        let images = self.images.copies(alloc, arguments)?;
+        let system = self.images.copy(alloc, "blank")?;
+        self.session = Some(Session::new(alloc, images, system)?);
+        Ok(Answer::Done)
+    }
+
+    /// `system IMAGE`: the session's system drive.
+    fn system(&mut self, alloc: Global, arguments: &[Word<'_>]) -> Result<Answer, Fault> {
+        let [name] = arguments else {
+            return Err(Fault::Words);
+        };
+        let image = self.images.copy(alloc, name.text)?;
+        match &mut self.session {
+            Some(session) => session.system = image,
+            None => return Err(Fault::Absent),
+        }
+        Ok(Answer::Done)
+    }
+
+    /// `records NAME N COUNT BYTES`: so many records of an image, from record N on, begin so, and else have zeros.
+    fn records(&mut self, alloc: Global, arguments: &[Word<'_>]) -> Result<Answer, Fault> {
+        let [name, first, times, bytes @ ..] = arguments else {
+            return Err(Fault::Words);
+        };
+        let (first, times) = (middle(*first)?, middle(*times)?);
+        let bytes = bytes_of(alloc, bytes)?;
+        if bytes.len() > RECORD {
+            return Err(Fault::Bytes);
+        }
+        let mut record = [0; RECORD];
+        record[..bytes.len()].copy_from_slice(bytes.as_slice());
+        let mut image = self.images.copy(alloc, name.text)?;
+        for place in 0..times {
+            if image.put_record(first.wrapping_add(place), &record).is_err() {
+                return Err(Fault::Absent);
+            }
+        }
+        self.images.put(alloc, name.text, image)?;
+        Ok(Answer::Done)
+    }
+}
+
+impl Scene for Calls {
+    fn new(alloc: Global) -> Result<Self, AllocError> {
+        Ok(Calls {
+            images: Images::new(alloc),
+            session: None,
+        })
+    }
+
+    fn act(&mut self, alloc: Global, line: &Line<'_>) -> Result<Answer, Fault> {
+        match line.verb() {
+            "session" => self.begin(alloc, line.arguments()),
+            "system" => self.system(alloc, line.arguments()),
+            "records" => self.records(alloc, line.arguments()),
+            "image" | "entry" | "record" | "sector" => self.images.act(alloc, line),
+            verb => match &mut self.session {
+                Some(session) => session.act(alloc, verb, line.arguments()),
+                None => Err(Fault::Absent),
+            },
+        }
+    }
+}
+
+impl Session {
+    /// Does a line that changes a session.
+    fn act(&mut self, alloc: Global, verb: &str, arguments: &[Word<'_>]) -> Result<Answer, Fault> {
+        match verb {
+            "bdos" => self.bdos(alloc, arguments),
+            "bios" => self.bios(alloc, arguments),
+            "call" => self.call(arguments),
+            "come" => self.come_to(arguments),
+            "step" => self.next_step(alloc),
+            "commands" => self.commands(alloc, arguments),
+            "type" => self.type_keys(alloc, arguments),
+            "load" => self.load(alloc),
+            "fault" => self.fault(alloc, arguments),
+            "store" => self.store(alloc, arguments),
+            "fcb" => self.file(alloc, arguments),
+            "tail" => self.tail(alloc, arguments),
+            "register" => self.register(alloc, arguments),
+            "mode" => self.mode(alloc, arguments),
+            "buffer" => self.buffer(alloc, arguments),
+            _ => self.act_on_console(alloc, verb, arguments),
+        }
+    }
+
+    /// Does a line about its console and its list device.
+    fn act_on_console(
+        &mut self,
+        alloc: Global,
+        verb: &str,
+        arguments: &[Word<'_>],
+    ) -> Result<Answer, Fault> {
+        let console = &mut self.cpm.console;
+        match verb {
+            "press" => press(alloc, console, bytes_of(alloc, arguments)?.as_slice()),
+            "next-key" => key_answer(alloc, console.next_key()),
+            "first-key" => key_answer(alloc, console.first_key()),
+            "pending" => Answer::words(alloc, console.pending()),
+            "column" => Answer::words(alloc, console.column()),
+            "list-echo" => list_echo(alloc, console, arguments),
+            "shows" => Answer::bytes(alloc, taken(alloc, console)?.as_slice()),
+            "lists" => Answer::bytes(alloc, taken_list(alloc, console)?.as_slice()),
+            _ => self.look(alloc, verb, arguments),
+        }
+    }
+
+    /// Does a line that leaves a session as it is.
+    fn look(&self, alloc: Global, verb: &str, arguments: &[Word<'_>]) -> Result<Answer, Fault> {
+        match verb {
+            "returned" => self.returned(alloc),
+            "booted" => Answer::truth(alloc, self.is_booted()),
+            "waits" => self.waits(alloc),
+            "bytes" => self.bytes(alloc, arguments),
+            "directory" => self.directory(alloc, arguments),
+            "disk" => self.disk(alloc, arguments),
+            "place" => self.place(alloc, arguments),
+            "drives" => self.drives(alloc, arguments),
+            "pages" => self.pages(alloc),
+            _ => Err(Fault::Unknown),
+        }
+    }
+}

@@ -1,0 +1,97 @@
+//! Rows of lines at the prompt, and what each of them is.
+
+use crate::text::add_quoted;
+use cpm_ccp::{Command, parse_command};
+use cpm_directory::{Extent, Fcb};
+use std::alloc::{AllocError, Global};
+use test_language::{Answer, Fault, Line, Scene, Word, bytes_of};
+
+/// Nothing: each line stands by itself.
+#[derive(Drop)]
+pub struct Commands;
+
+impl Scene for Commands {
+    fn new(_alloc: Global) -> Result<Self, AllocError> {
+        Ok(Commands)
+    }
+
+    fn act(&mut self, alloc: Global, line: &Line<'_>) -> Result<Answer, Fault> {
+        match line.verb() {
+            "line" => parse(alloc, line.arguments()),
+            _ => Err(Fault::Unknown),
+        }
+    }
+}
+
+/// `line DRIVE BYTES`: what a line is where this drive is the current one.
+fn parse(alloc: Global, arguments: &[Word<'_>]) -> Result<Answer, Fault> {
+    let [drive, text @ ..] = arguments else {
+        return Err(Fault::Words);
+    };
+    let text = bytes_of(alloc, text)?;
+    let command = parse_command(text.as_slice(), drive_of(drive.text)?);
+    let mut words = String::new(alloc);
+    add_command(alloc, &mut words, command)?;
+    Ok(Answer::Words(words))
+}
+
+/// The number of a drive by its letter, 0 for A.
+fn drive_of(letter: &str) -> Result<u8, Fault> {
+    match letter.as_bytes() {
+        [letter @ b'A'..=b'P'] => Ok(*letter - b'A'),
+        _ => Err(Fault::Words),
+    }
+}
+
+/// Adds the name of a command and its operands.
+fn add_command(alloc: Global, out: &mut String, command: Command) -> Result<(), AllocError> {
+    match command {
+        Command::SelectDrive(drive) => {
+            out.push_str(format!(in alloc; "SelectDrive {drive}")?.as_str())
+        }
+        Command::User(user) => out.push_str(format!(in alloc; "User {user}")?.as_str()),
+        Command::Directory(file) => add_named(alloc, out, "Directory", &file),
+        Command::Erase(file) => add_named(alloc, out, "Erase", &file),
+        Command::EraseAll(file) => add_named(alloc, out, "EraseAll", &file),
+        Command::TypeFile(file) => add_named(alloc, out, "TypeFile", &file),
+        Command::Program(file) => add_named(alloc, out, "Program", &file),
+        Command::Save { pages, file } => {
+            out.push_str(format!(in alloc; "Save {pages}")?.as_str())?;
+            add_file(alloc, out, &file)
+        }
+        Command::Rename { old, new } => {
+            add_named(alloc, out, "Rename", &old)?;
+            add_file(alloc, out, &new)
+        }
+        _ => out.push_str(format!(in alloc; "{command:?}")?.as_str()),
+    }
+}
+
+/// Adds the name of a command and its file.
+fn add_named(alloc: Global, out: &mut String, name: &str, file: &Fcb) -> Result<(), AllocError> {
+    out.push_str(name)?;
+    add_file(alloc, out, file)
+}
+
+/// Adds the drive of a file control block, 1 for A, and its name; and that it has more than these, if it has.
+fn add_file(alloc: Global, out: &mut String, file: &Fcb) -> Result<(), AllocError> {
+    out.push_str(format!(in alloc; " {} ", file.drive)?.as_str())?;
+    add_quoted(alloc, out, &file.extent.name)?;
+    let plain = Fcb {
+        drive: file.drive,
+        extent: Extent {
+            name: file.extent.name,
+            ex: 0,
+            s1: 0,
+            s2: 0,
+            record_count: 0,
+            blocks: [0; 16],
+        },
+        current_record: 0,
+        random_record: [0; 3],
+    };
+    if *file != plain {
+        out.push_str(" and more")?;
+    }
+    Ok(())
+}

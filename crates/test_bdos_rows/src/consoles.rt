@@ -1,0 +1,175 @@
+//! Rows of keys that wait to be read, bytes that wait to be taken, and the column of the cursor.
+
+use crate::text::{key_answer, list_echo, press, small, taken};
+use cpm_console::{Console, RING};
+use std::alloc::{AllocError, Global};
+use test_language::{Answer, Fault, Line, Scene, Word, bytes_of, count};
+
+/// What the bytes are that nothing was moved to.
+const UNTOUCHED: u8 = b'.';
+
+/// The most bytes that a row takes at once.
+const MOST_TAKEN: usize = 8192;
+
+/// A console.
+#[derive(Drop)]
+pub struct Consoles {
+    console: Console,
+}
+
+/// A console whose cursor stands at a column, and of which all bytes were taken.
+pub fn console_at(alloc: Global, column: u8) -> Result<Console, Fault> {
+    let mut console = Console::new(alloc)?;
+    for _ in 0..column {
+        if console.held() >= RING {
+            return Err(Fault::Unready);
+        }
+        console.put(b' ');
+    }
+    taken(alloc, &mut console)?;
+    Ok(console)
+}
+
+impl Consoles {
+    /// `console COLUMN`: a new console whose cursor stands there.
+    fn begin(&mut self, alloc: Global, arguments: &[Word<'_>]) -> Result<Answer, Fault> {
+        let [column] = arguments else {
+            return Err(Fault::Words);
+        };
+        self.console = console_at(alloc, small(*column)?)?;
+        Ok(Answer::Done)
+    }
+
+    /// `read COUNT`: so many keys, or as many as are pending.
+    fn read(&mut self, alloc: Global, arguments: &[Word<'_>]) -> Result<Answer, Fault> {
+        let [times] = arguments else {
+            return Err(Fault::Words);
+        };
+        let mut keys = Vec::new(alloc);
+        for _ in 0..count(*times)? {
+            match self.console.next_key() {
+                Some(key) => keys.push(key)?,
+                None => break,
+            }
+        }
+        Answer::bytes(alloc, keys.as_slice())
+    }
+
+    /// `put BYTES`: shows bytes one by one as they are.
+    fn put(&mut self, bytes: &[u8]) -> Result<Answer, Fault> {
+        for byte in bytes {
+            if self.console.held() >= RING {
+                return Err(Fault::Unready);
+            }
+            self.console.put(*byte);
+        }
+        Ok(Answer::Done)
+    }
+
+    /// `put-list BYTES`: sends bytes one by one to the list device.
+    fn put_list(&mut self, bytes: &[u8]) -> Result<Answer, Fault> {
+        for byte in bytes {
+            if self.console.held_list() >= RING {
+                return Err(Fault::Unready);
+            }
+            self.console.put_list(*byte);
+        }
+        Ok(Answer::Done)
+    }
+
+    /// `say BYTES`: shows bytes one by one, and on the list device too while it echoes.
+    fn say(&mut self, bytes: &[u8]) -> Result<Answer, Fault> {
+        for byte in bytes {
+            if self.console.held() >= RING || self.console.held_list() >= RING {
+                return Err(Fault::Unready);
+            }
+            self.console.say(*byte);
+        }
+        Ok(Answer::Done)
+    }
+
+    /// `say-all BYTES`: the same by one call.
+    fn say_all(&mut self, bytes: &[u8]) -> Result<Answer, Fault> {
+        let (held, listed) = (self.console.held(), self.console.held_list());
+        if bytes.len() > RING - held || bytes.len() > RING - listed {
+            return Err(Fault::Unready);
+        }
+        self.console.say_all(bytes);
+        Ok(Answer::Done)
+    }
+
+    /// `write BYTES`: shows bytes one by one, with a tab as spaces.
+    fn write(&mut self, bytes: &[u8]) -> Result<Answer, Fault> {
+        for byte in bytes {
+            if self.console.held() > RING - 8 || self.console.held_list() > RING - 8 {
+                return Err(Fault::Unready);
+            }
+            self.console.write(*byte);
+        }
+        Ok(Answer::Done)
+    }
+
+    /// `take COUNT`, `take-list COUNT`: moves out so many bytes, or as many as wait.
+    fn take(
+        &mut self,
+        alloc: Global,
+        is_list: bool,
+        arguments: &[Word<'_>],
+    ) -> Result<Answer, Fault> {
+        let [most] = arguments else {
+            return Err(Fault::Words);
+        };
+        let most = count(*most)?;
+        if most > MOST_TAKEN {
+            return Err(Fault::Number);
+        }
+        let mut out = vec![in alloc; UNTOUCHED; most]?;
+        let count = if is_list {
+            self.console.take_list(out.as_mut_slice())
+        } else {
+            self.console.take(out.as_mut_slice())
+        };
+        if out[count..].iter().any(|byte| *byte != UNTOUCHED) {
+            return Answer::refused_text(alloc, "more bytes were moved than it says");
+        }
+        Answer::bytes(alloc, &out[..count])
+    }
+
+    /// Does a line that has bytes.
+    fn act_on_bytes(&mut self, alloc: Global, verb: &str, bytes: &[u8]) -> Result<Answer, Fault> {
+        match verb {
+            "press" => press(alloc, &mut self.console, bytes),
+            "put" => self.put(bytes),
+            "put-list" => self.put_list(bytes),
+            "say" => self.say(bytes),
+            "say-all" => self.say_all(bytes),
+            "write" => self.write(bytes),
+            _ => Err(Fault::Unknown),
+        }
+    }
+}
+
+impl Scene for Consoles {
+    fn new(alloc: Global) -> Result<Self, AllocError> {
+        Ok(Consoles {
+            console: Console::new(alloc)?,
+        })
+    }
+
+    fn act(&mut self, alloc: Global, line: &Line<'_>) -> Result<Answer, Fault> {
+        match line.verb() {
+            "console" => self.begin(alloc, line.arguments()),
+            "read" => self.read(alloc, line.arguments()),
+            "take" => self.take(alloc, false, line.arguments()),
+            "take-list" => self.take(alloc, true, line.arguments()),
+            "list-echo" => list_echo(alloc, &mut self.console, line.arguments()),
+            "first-key" => key_answer(alloc, self.console.first_key()),
+            "pending" => Answer::words(alloc, self.console.pending()),
+            "held" => Answer::words(alloc, self.console.held()),
+            "held-list" => Answer::words(alloc, self.console.held_list()),
+            "column" => Answer::words(alloc, self.console.column()),
+            "has-room" => Answer::truth(alloc, self.console.has_room()),
+            verb => self.act_on_bytes(alloc, verb, bytes_of(alloc, line.arguments())?.as_slice()),
+        }
+    }
+}

@@ -1,0 +1,121 @@
+//! A session with a memory and a system drive by itself, called by a program or by its user.
+
+use crate::text::small;
+use cpm_bdos::Cpm;
+use cpm_console::Console;
+use cpm_geom::Image;
+use cpm_memory::{FlatMemory, has_room, set_byte, set_word};
+use std::alloc::{AllocError, Global};
+use test_language::{Answer, Fault, Word, address, bytes_of};
+
+/// Where the BDOS is called.
+const BDOS: u16 = 0xEC06;
+
+/// Where a call returns to.
+pub const BACK: u16 = 0x1234;
+
+/// The stack in a call.
+const STACK: u16 = 0xEBFC;
+
+/// A session, its memory and its system drive.
+#[derive(Drop)]
+pub struct Session {
+    pub cpm: Cpm,
+    pub memory: FlatMemory,
+    pub system: Image,
+}
+
+impl Session {
+    /// A session with these drives, the first as A, and this system drive.
+    pub fn new(alloc: Global, images: Vec<Image>, system: Image) -> Result<Session, AllocError> {
+        Ok(Session {
+            cpm: Cpm::new(Console::new(alloc)?, images),
+            memory: FlatMemory::new(alloc)?,
+            system,
+        })
+    }
+
+    /// Puts bytes into memory.
+    fn put(&mut self, from: u16, bytes: &[u8]) -> Result<Answer, Fault> {
+        let mut at = from;
+        for byte in bytes {
+            if !has_room(&self.memory) {
+                return Err(Fault::Unready);
+            }
+            set_byte(&mut self.memory, at, *byte);
+            at = at.wrapping_add(1);
+        }
+        Ok(Answer::Done)
+    }
+
+    /// `store HHHH BYTES`: puts bytes into memory.
+    pub fn store(&mut self, alloc: Global, arguments: &[Word<'_>]) -> Result<Answer, Fault> {
+        let [from, bytes @ ..] = arguments else {
+            return Err(Fault::Words);
+        };
+        let bytes = bytes_of(alloc, bytes)?;
+        self.put(address(*from)?, bytes.as_slice())
+    }
+
+    /// `fcb HHHH DRIVE NAME`: puts a file control block of a drive and a name, which else has zeros.
+    pub fn file(&mut self, alloc: Global, arguments: &[Word<'_>]) -> Result<Answer, Fault> {
+        let [from, drive, name @ ..] = arguments else {
+            return Err(Fault::Words);
+        };
+        let name = bytes_of(alloc, name)?;
+        if name.len() != 11 {
+            return Err(Fault::Bytes);
+        }
+        let mut bytes = [0; 36];
+        bytes[0] = small(*drive)?;
+        bytes[1..12].copy_from_slice(name.as_slice());
+        self.put(address(*from)?, &bytes)
+    }
+
+    /// Comes to an address as a program does by CALL, with all other registers 55h.
+    pub fn come(&mut self, to: u16) -> Result<(), Fault> {
+        if !has_room(&self.memory) {
+            return Err(Fault::Unready);
+        }
+        set_word(&mut self.memory, STACK, BACK);
+        let regs = &mut self.cpm.regs;
+        regs.pc = to;
+        regs.sp = STACK;
+        regs.a = 0x55;
+        regs.b = 0x55;
+        regs.c = 0x55;
+        regs.d = 0x55;
+        regs.e = 0x55;
+        regs.h = 0x55;
+        regs.l = 0x55;
+        Ok(())
+    }
+
+    /// `come HHHH`: comes to an address by CALL.
+    pub fn come_to(&mut self, arguments: &[Word<'_>]) -> Result<Answer, Fault> {
+        let [to] = arguments else {
+            return Err(Fault::Words);
+        };
+        self.come(address(*to)?)?;
+        Ok(Answer::Done)
+    }
+
+    /// Comes to the BDOS with a function and its parameter.
+    pub fn come_to_bdos(&mut self, function: u8, parameter: u16) -> Result<(), Fault> {
+        self.come(BDOS)?;
+        let regs = &mut self.cpm.regs;
+        regs.c = function;
+        regs.d = (parameter >> 8) as u8;
+        regs.e = (parameter & 0xff) as u8;
+        Ok(())
+    }
+
+    /// `call FUNCTION HHHH`: comes to the BDOS with a function and its parameter.
+    pub fn call(&mut self, arguments: &[Word<'_>]) -> Result<Answer, Fault> {
+        let [function, parameter] = arguments else {
+            return Err(Fault::Words);
+        };
+        self.come_to_bdos(small(*function)?, address(*parameter)?)?;
+        Ok(Answer::Done)
+    }
+}

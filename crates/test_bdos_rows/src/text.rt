@@ -1,0 +1,87 @@
+//! Numbers and texts that several kinds of rows have.
+
+use cpm_console::Console;
+use std::alloc::{AllocError, Global};
+use test_language::{Answer, Fault, Word, number};
+
+/// A decimal number of 8 bits.
+pub fn small(word: Word<'_>) -> Result<u8, Fault> {
+    word.text.parse::<u8>().map_err(|_| Fault::Number)
+}
+
+/// A decimal number of 16 bits.
+pub fn middle(word: Word<'_>) -> Result<u16, Fault> {
+    word.text.parse::<u16>().map_err(|_| Fault::Number)
+}
+
+/// How often something is done: once, or as words say: `129 times`.
+pub fn times_of(words: &[Word<'_>]) -> Result<u64, Fault> {
+    match words {
+        [] => Ok(1),
+        [count, times] if times.text == "times" => number(*count),
+        _ => Err(Fault::Words),
+    }
+}
+
+/// Adds bytes to a text, between quotes.
+pub fn add_quoted(alloc: Global, out: &mut String, bytes: &[u8]) -> Result<(), AllocError> {
+    out.push('"')?;
+    for byte in bytes {
+        match *byte {
+            b'\r' => out.push_str("\\r")?,
+            b'\n' => out.push_str("\\n")?,
+            b'\\' => out.push_str("\\\\")?,
+            b' ' | b'!' | b'#'..=b'~' => out.push(char::from(*byte))?,
+            _ => out.push_str(format!(in alloc; "\\x{byte:02X}")?.as_str())?,
+        }
+    }
+    out.push('"')
+}
+
+/// All bytes that the console holds, which are taken.
+pub fn taken(alloc: Global, console: &mut Console) -> Result<Vec<u8>, AllocError> {
+    let mut out = vec![in alloc; 0u8; console.held()]?;
+    console.take(out.as_mut_slice());
+    Ok(out)
+}
+
+/// The same of the list device.
+pub fn taken_list(alloc: Global, console: &mut Console) -> Result<Vec<u8>, AllocError> {
+    let mut out = vec![in alloc; 0u8; console.held_list()]?;
+    console.take_list(out.as_mut_slice());
+    Ok(out)
+}
+
+/// Presses keys, until one is refused.
+pub fn press(alloc: Global, console: &mut Console, keys: &[u8]) -> Result<Answer, Fault> {
+    for key in keys {
+        if !console.give(*key) {
+            return Answer::refused_text(alloc, "full");
+        }
+    }
+    Ok(Answer::Done)
+}
+
+/// A key, if one is there: two digits, or `none`.
+pub fn key_answer(alloc: Global, key: Option<u8>) -> Result<Answer, Fault> {
+    match key {
+        Some(key) => Answer::byte(alloc, key),
+        None => Answer::words(alloc, "none"),
+    }
+}
+
+/// Says whether the list device gets what the console shows; with a word, `yes` or `no`, makes it so.
+pub fn list_echo(
+    alloc: Global,
+    console: &mut Console,
+    arguments: &[Word<'_>],
+) -> Result<Answer, Fault> {
+    match arguments {
+        [] => Answer::truth(alloc, console.list_echo()),
+        [word] if word.text == "yes" || word.text == "no" => {
+            console.set_list_echo(word.text == "yes");
+            Ok(Answer::Done)
+        }
+        _ => Err(Fault::Words),
+    }
+}

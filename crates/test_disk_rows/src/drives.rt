@@ -1,0 +1,358 @@
+//! Rows of the drives of a session: the functions on files over a file control block and a buffer, and the sectors.
+
+use crate::fcb::FcbBytes;
+use crate::runs::Runs;
+use crate::words::{done, filled, name, number, small};
+use cpm_disks::{Disks, FileFunction};
+use cpm_files::Fault as DriveError;
+use cpm_geom::{Format, Image};
+use std::alloc::{AllocError, Global};
+use std::mem;
+use test_images::Images;
+use test_language::{Answer, Fault, Line, Scene, Word, address, count};
+
+/// Where the new name of a file stands in a file control block.
+const NEW_NAME: usize = 17;
+
+/// A session: its drives, a file control block, and the buffer of a record.
+#[derive(Drop)]
+struct Session {
+    disks: Disks,
+    fcb: FcbBytes,
+    buffer: [u8; 128],
+}
+
+/// Two sessions, the system drive that they share, and images.
+#[derive(Drop)]
+pub struct Drives {
+    images: Images,
+    system: Image,
+    here: Session,
+    other: Session,
+}
+
+impl Scene for Drives {
+    fn new(alloc: Global) -> Result<Self, AllocError> {
+        Ok(Drives {
+            images: Images::new(alloc),
+            system: Image::blank(alloc, Format::Ibm3740)?,
+            here: Session::on(Vec::new(alloc)),
+            other: Session::on(Vec::new(alloc)),
+        })
+    }
+
+    fn act(&mut self, alloc: Global, line: &Line<'_>) -> Result<Answer, Fault> {
+        let arguments = line.arguments();
+        match line.verb() {
+            "session" => {
+                self.here = Session::on(self.images.copies(alloc, arguments)?);
+                Ok(Answer::Done)
+            }
+            "other-session" => {
+                mem::swap(&mut self.here, &mut self.other);
+                done(arguments)
+            }
+            "end" => self.end(alloc, arguments),
+            "system" => self.lend(alloc, arguments),
+            "image" | "entry" | "record" | "sector" => self.images.act(alloc, line),
+            verb => self.here.act(alloc, &self.system, verb, arguments),
+        }
+    }
+}
+
+impl Drives {
+    /// `system NAME`: drive P is a copy of the image.
+    fn lend(&mut self, alloc: Global, arguments: &[Word<'_>]) -> Result<Answer, Fault> {
+        let [name] = arguments else {
+            return Err(Fault::Words);
+        };
+        self.system = self.images.copy(alloc, name.text)?;
+        Ok(Answer::Done)
+    }
+
+    /// `end NAME..`: the session ends, and its drives leave images of these names.
+    fn end(&mut self, alloc: Global, arguments: &[Word<'_>]) -> Result<Answer, Fault> {
+        let ended = mem::replace(&mut self.here.disks, Disks::new(Vec::new(alloc)));
+        for (name, image) in arguments.iter().zip(ended.into_images()) {
+            let image = image.ok_or(Fault::Absent)?;
+            self.images.put(alloc, name.text, image)?;
+        }
+        Ok(Answer::Done)
+    }
+}
+
+impl Session {
+    /// A session whose drives A to D are these images.
+    fn on(images: Vec<Image>) -> Session {
+        Session {
+            disks: Disks::new(images),
+            fcb: FcbBytes::new(),
+            buffer: [0; 128],
+        }
+    }
+
+    /// Does a line about files.
+    fn act(
+        &mut self,
+        alloc: Global,
+        system: &Image,
+        verb: &str,
+        arguments: &[Word<'_>],
+    ) -> Result<Answer, Fault> {
+        match verb {
+            "fcb" => self.fcb.whole(alloc, arguments),
+            "field" => self.fcb.field(alloc, arguments),
+            "buffer" => self.buffer_byte(alloc, arguments),
+            "repeat" => self.repeat(alloc, system, arguments),
+            "each-drive" => self.each_drive(alloc, system, arguments),
+            _ => match function_of(verb) {
+                Some(function) => {
+                    self.prepare(alloc, function, arguments)?;
+                    code(alloc, self.call(system, function))
+                }
+                None => self.choose(alloc, system, verb, arguments),
+            },
+        }
+    }
+
+    /// Does a line that chooses drives.
+    fn choose(
+        &mut self,
+        alloc: Global,
+        system: &Image,
+        verb: &str,
+        arguments: &[Word<'_>],
+    ) -> Result<Answer, Fault> {
+        match verb {
+            "select" => {
+                let drive = one_number(arguments)?;
+                code(alloc, self.disks.select(system, drive))
+            }
+            "user" => {
+                self.disks.user = one_number(arguments)?;
+                Ok(Answer::Done)
+            }
+            "protect" => {
+                self.disks.protect(system);
+                done(arguments)
+            }
+            "reset" => {
+                self.disks.reset(system);
+                done(arguments)
+            }
+            "warm-boot" => {
+                self.disks.reboot();
+                done(arguments)
+            }
+            "reset-drives" => self.reset_drives(arguments),
+            _ => self.look(alloc, system, verb, arguments),
+        }
+    }
+
+    /// Does a line that asks about drives, or moves a sector.
+    fn look(
+        &mut self,
+        alloc: Global,
+        system: &Image,
+        verb: &str,
+        arguments: &[Word<'_>],
+    ) -> Result<Answer, Fault> {
+        match verb {
+            "current" => Answer::words(alloc, self.disks.current),
+            "login-vector" => Answer::address(alloc, self.disks.login_vector()),
+            "read-only-vector" => Answer::address(alloc, self.disks.read_only_vector()),
+            "allocation-vector" => {
+                let blocks = self.disks.allocation_vector(system);
+                Answer::bytes(alloc, blocks.as_slice())
+            }
+            "drives-there" => self.drives_there(alloc),
+            "read-sector" => self.read_sector(alloc, system, arguments),
+            "write-sector" => self.write_sector(alloc, arguments),
+            _ => Err(Fault::Unknown),
+        }
+    }
+
+    /// Puts what stands behind the name of a function: the new name of a file, or the record that is written.
+    fn prepare(
+        &mut self,
+        alloc: Global,
+        function: FileFunction,
+        arguments: &[Word<'_>],
+    ) -> Result<(), Fault> {
+        match (function, arguments) {
+            (_, []) => Ok(()),
+            (FileFunction::RenameFiles, [word]) => {
+                let name = name(alloc, *word)?;
+                self.fcb.put(NEW_NAME, &name)
+            }
+            (
+                FileFunction::WriteNext
+                | FileFunction::WriteRandom
+                | FileFunction::WriteRandomCleared,
+                bytes,
+            ) => {
+                self.buffer = filled(alloc, bytes)?;
+                Ok(())
+            }
+            _ => Err(Fault::Words),
+        }
+    }
+
+    /// Calls a function.
+    fn call(&mut self, system: &Image, function: FileFunction) -> Result<u8, DriveError> {
+        self.disks
+            .call(system, function, &mut self.fcb.bytes, &mut self.buffer)
+    }
+
+    /// `repeat N FUNCTION ..`: the function so often, and its codes.
+    fn repeat(
+        &mut self,
+        alloc: Global,
+        system: &Image,
+        arguments: &[Word<'_>],
+    ) -> Result<Answer, Fault> {
+        let [times, verb, rest @ ..] = arguments else {
+            return Err(Fault::Words);
+        };
+        let function = function_of(verb.text).ok_or(Fault::Unknown)?;
+        self.prepare(alloc, function, rest)?;
+        let mut codes = Runs::new(alloc);
+        for _ in 0..count(*times)? {
+            add_code(alloc, &mut codes, self.call(system, function))?;
+        }
+        codes.into_answer(alloc)
+    }
+
+    /// `each-drive FUNCTION`: the function with each of the bytes 0 to 255 as the drive of the same file control block.
+    fn each_drive(
+        &mut self,
+        alloc: Global,
+        system: &Image,
+        arguments: &[Word<'_>],
+    ) -> Result<Answer, Fault> {
+        let [verb] = arguments else {
+            return Err(Fault::Words);
+        };
+        let function = function_of(verb.text).ok_or(Fault::Unknown)?;
+        let bytes = self.fcb.bytes;
+        let mut codes = Runs::new(alloc);
+        for drive in 0..=255u8 {
+            self.fcb.bytes = bytes;
+            self.fcb.bytes[0] = drive;
+            add_code(alloc, &mut codes, self.call(system, function))?;
+        }
+        codes.into_answer(alloc)
+    }
+
+    /// `drives-there`: which of the drives 0 to 255 are there.
+    fn drives_there(&self, alloc: Global) -> Result<Answer, Fault> {
+        let mut found = Runs::new(alloc);
+        for drive in 0..=255u8 {
+            found.add(
+                alloc,
+                if self.disks.is_there(drive) {
+                    "yes"
+                } else {
+                    "no"
+                },
+            )?;
+        }
+        found.into_answer(alloc)
+    }
+
+    /// `buffer PLACE`: a byte of the buffer.
+    fn buffer_byte(&self, alloc: Global, arguments: &[Word<'_>]) -> Result<Answer, Fault> {
+        let [place] = arguments else {
+            return Err(Fault::Words);
+        };
+        let byte = self.buffer.get(count(*place)?).ok_or(Fault::Number)?;
+        Answer::bytes(alloc, [*byte].as_slice())
+    }
+
+    /// `reset-drives VECTOR`: RESET DRIVE.
+    fn reset_drives(&mut self, arguments: &[Word<'_>]) -> Result<Answer, Fault> {
+        let [vector] = arguments else {
+            return Err(Fault::Words);
+        };
+        self.disks.reset_drives(address(*vector)?);
+        Ok(Answer::Done)
+    }
+
+    /// `read-sector DRIVE TRACK SECTOR`: into the buffer; whether the sector is there.
+    fn read_sector(
+        &mut self,
+        alloc: Global,
+        system: &Image,
+        arguments: &[Word<'_>],
+    ) -> Result<Answer, Fault> {
+        let [drive, track, sector] = arguments else {
+            return Err(Fault::Words);
+        };
+        let (drive, track, sector) = (small(*drive)?, number(*track)?, number(*sector)?);
+        let buffer = &mut self.buffer;
+        let is_there = self.disks.read_sector(system, drive, track, sector, buffer);
+        Answer::truth(alloc, is_there)
+    }
+
+    /// `write-sector DRIVE TRACK SECTOR BYTES`: a sector that begins so; whether it is there.
+    fn write_sector(&mut self, alloc: Global, arguments: &[Word<'_>]) -> Result<Answer, Fault> {
+        let [drive, track, sector, bytes @ ..] = arguments else {
+            return Err(Fault::Words);
+        };
+        let (drive, track, sector) = (small(*drive)?, number(*track)?, number(*sector)?);
+        let bytes = filled(alloc, bytes)?;
+        let is_there = self.disks.write_sector(drive, track, sector, &bytes);
+        Answer::truth(alloc, is_there)
+    }
+}
+
+/// The one number behind a first word.
+fn one_number(arguments: &[Word<'_>]) -> Result<u8, Fault> {
+    let [word] = arguments else {
+        return Err(Fault::Words);
+    };
+    small(*word)
+}
+
+/// What a function answers: its code, or the fault of the drive.
+fn code(alloc: Global, code: Result<u8, DriveError>) -> Result<Answer, Fault> {
+    match code {
+        Ok(code) => Answer::byte(alloc, code),
+        Err(fault) => Answer::refused(alloc, fault),
+    }
+}
+
+/// Adds it to others.
+fn add_code(
+    alloc: Global,
+    codes: &mut Runs,
+    code: Result<u8, DriveError>,
+) -> Result<(), AllocError> {
+    let word = match code {
+        Ok(code) => format!(in alloc; "{code:02X}")?,
+        Err(fault) => format!(in alloc; "{fault:?}")?,
+    };
+    codes.add(alloc, word)
+}
+
+/// The function of a word.
+fn function_of(word: &str) -> Option<FileFunction> {
+    match word {
+        "open" => Some(FileFunction::OpenFile),
+        "close" => Some(FileFunction::CloseFile),
+        "search-first" => Some(FileFunction::SearchFirst),
+        "search-next" => Some(FileFunction::SearchNext),
+        "erase" => Some(FileFunction::EraseFiles),
+        "read" => Some(FileFunction::ReadNext),
+        "write" => Some(FileFunction::WriteNext),
+        "make" => Some(FileFunction::MakeFile),
+        "rename" => Some(FileFunction::RenameFiles),
+        "set-attributes" => Some(FileFunction::SetAttributes),
+        "read-random" => Some(FileFunction::ReadRandom),
+        "write-random" => Some(FileFunction::WriteRandom),
+        "size" => Some(FileFunction::ComputeSize),
+        "set-random" => Some(FileFunction::SetRandomRecord),
+        "write-cleared" => Some(FileFunction::WriteRandomCleared),
+        _ => None,
+    }
+}

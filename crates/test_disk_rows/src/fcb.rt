@@ -1,0 +1,83 @@
+//! The bytes of a file control block.
+
+use crate::words::filled;
+use std::alloc::Global;
+use test_language::{Answer, Fault, Word, bytes_of};
+
+/// The bytes of a file control block.
+const SIZE: usize = 36;
+
+/// A file control block in memory.
+#[derive(Drop)]
+pub(crate) struct FcbBytes {
+    pub(crate) bytes: [u8; SIZE],
+}
+
+impl FcbBytes {
+    /// One of zeros.
+    pub(crate) fn new() -> FcbBytes {
+        FcbBytes { bytes: [0; SIZE] }
+    }
+
+    /// `fcb BYTES`: it begins so, and else has zeros. Without bytes: what it is.
+    pub(crate) fn whole(&mut self, alloc: Global, arguments: &[Word<'_>]) -> Result<Answer, Fault> {
+        if arguments.is_empty() {
+            return Answer::bytes(alloc, &self.bytes);
+        }
+        self.bytes = filled(alloc, arguments)?;
+        Ok(Answer::Done)
+    }
+
+    /// `field NAME BYTES`: the field and what is behind it become so. Without bytes: what the field is.
+    pub(crate) fn field(&mut self, alloc: Global, arguments: &[Word<'_>]) -> Result<Answer, Fault> {
+        let [field, bytes @ ..] = arguments else {
+            return Err(Fault::Words);
+        };
+        let (start, length) = place_of(field.text)?;
+        if bytes.is_empty() {
+            return Answer::bytes(alloc, self.part(start, length)?);
+        }
+        let bytes = bytes_of(alloc, bytes)?;
+        self.put(start, bytes.as_slice())?;
+        Ok(Answer::Done)
+    }
+
+    /// So many bytes from a place on.
+    fn part(&self, start: usize, length: usize) -> Result<&[u8], Fault> {
+        if start > SIZE || length > SIZE - start {
+            return Err(Fault::Bytes);
+        }
+        Ok(&self.bytes[start..start + length])
+    }
+
+    /// Puts bytes at a place.
+    pub(crate) fn put(&mut self, start: usize, bytes: &[u8]) -> Result<(), Fault> {
+        if start > SIZE || bytes.len() > SIZE - start {
+            return Err(Fault::Bytes);
+        }
+        self.bytes[start..start + bytes.len()].copy_from_slice(bytes);
+        Ok(())
+    }
+}
+
+/// Where a field is that the manual names, and how long it is.
+fn place_of(field: &str) -> Result<(usize, usize), Fault> {
+    match field {
+        "dr" => Ok((0, 1)),
+        "name" => Ok((1, 11)),
+        "ex" => Ok((12, 1)),
+        "s1" => Ok((13, 1)),
+        "s2" => Ok((14, 1)),
+        "rc" => Ok((15, 1)),
+        "new-name" => Ok((17, 11)),
+        "cr" => Ok((32, 1)),
+        "r0" => Ok((33, 3)),
+        _ => {
+            let number = field.strip_prefix('d').ok_or(Fault::Words)?;
+            match number.parse::<u8>() {
+                Ok(number) if number < 16 => Ok((16 + usize::from(number), 1)),
+                _ => Err(Fault::Words),
+            }
+        }
+    }
+}

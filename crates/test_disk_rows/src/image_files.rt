@@ -1,0 +1,221 @@
+//! Rows of files on an image as wholes, and of texts.
+
+use crate::words::{name as name_of, small, write_name};
+use cpm_drive::Drive;
+use cpm_files::{Answer as RecordAnswer, Extent, Fcb};
+use cpm_geom::Image;
+use cpm_shelf::{
+    FileName, Listed, ShelfError, from_text, get, list, put, remove, rename, to_text,
+};
+use std::alloc::{AllocError, Global};
+use test_images::Images;
+use test_language::{Answer, Fault, Line, Scene, Word, bytes_of};
+
+/// The most records that are read of a file.
+const MOST_RECORDS: usize = 20_000;
+
+/// Images with files.
+#[derive(Drop)]
+pub struct ImageFiles {
+    images: Images,
+}
+
+impl Scene for ImageFiles {
+    fn new(alloc: Global) -> Result<Self, AllocError> {
+        Ok(ImageFiles {
+            images: Images::new(alloc),
+        })
+    }
+
+    fn act(&mut self, alloc: Global, line: &Line<'_>) -> Result<Answer, Fault> {
+        let arguments = line.arguments();
+        match line.verb() {
+            "put" => self.put(alloc, arguments),
+            "remove" => self.remove(alloc, arguments),
+            "rename" => self.rename(alloc, arguments),
+            "get" => self.get(alloc, arguments),
+            "read" => self.read(alloc, arguments),
+            "list" => self.list(alloc, arguments),
+            "is-name" => is_name(alloc, arguments),
+            "to-text" => Ok(Answer::Bytes(to_text(
+                alloc,
+                line.given(alloc, arguments)?.as_slice(),
+            )?)),
+            "from-text" => Ok(Answer::Bytes(from_text(
+                alloc,
+                line.given(alloc, arguments)?.as_slice(),
+            )?)),
+            _ => self.images.act(alloc, line),
+        }
+    }
+}
+
+impl ImageFiles {
+    /// `put OLD NEW USER NAME BYTES`: NEW is OLD with a file of these bytes.
+    fn put(&mut self, alloc: Global, arguments: &[Word<'_>]) -> Result<Answer, Fault> {
+        let [old, new, user, name, bytes @ ..] = arguments else {
+            return Err(Fault::Words);
+        };
+        let file = file_name(alloc, *user, *name)?;
+        let image = self.images.copy(alloc, old.text)?;
+        let bytes = bytes_of(alloc, bytes)?;
+        let now = put(alloc, &image, &file, bytes.as_slice());
+        self.keep(alloc, *new, now)
+    }
+
+    /// `remove OLD NEW USER NAME`: NEW is OLD without the file.
+    fn remove(&mut self, alloc: Global, arguments: &[Word<'_>]) -> Result<Answer, Fault> {
+        let [old, new, user, name] = arguments else {
+            return Err(Fault::Words);
+        };
+        let file = file_name(alloc, *user, *name)?;
+        let image = self.images.copy(alloc, old.text)?;
+        let now = remove(alloc, &image, &file);
+        self.keep(alloc, *new, now)
+    }
+
+    /// `rename OLD NEW USER NAME OTHER`: NEW is OLD, where the file has the other name.
+    fn rename(&mut self, alloc: Global, arguments: &[Word<'_>]) -> Result<Answer, Fault> {
+        let [old, new, user, name, other] = arguments else {
+            return Err(Fault::Words);
+        };
+        let file = file_name(alloc, *user, *name)?;
+        let other = file_name(alloc, *user, *other)?;
+        if file.user() != other.user() {
+            return Err(Fault::Unready);
+        }
+        let image = self.images.copy(alloc, old.text)?;
+        let now = rename(alloc, &image, &file, &other);
+        self.keep(alloc, *new, now)
+    }
+
+    /// Gives the image that came of a call its name.
+    fn keep(
+        &mut self,
+        alloc: Global,
+        name: Word<'_>,
+        image: Result<Image, ShelfError>,
+    ) -> Result<Answer, Fault> {
+        match image {
+            Ok(image) => {
+                self.images.put(alloc, name.text, image)?;
+                Ok(Answer::Done)
+            }
+            Err(error) => refusal(alloc, error),
+        }
+    }
+
+    /// `get IMAGE USER NAME`: the bytes of a file.
+    fn get(&self, alloc: Global, arguments: &[Word<'_>]) -> Result<Answer, Fault> {
+        let [image, user, name] = arguments else {
+            return Err(Fault::Words);
+        };
+        let file = file_name(alloc, *user, *name)?;
+        let image = self.images.copy(alloc, image.text)?;
+        match get(alloc, &image, &file) {
+            Ok(bytes) => Ok(Answer::Bytes(bytes)),
+            Err(error) => refusal(alloc, error),
+        }
+    }
+
+    /// `read IMAGE USER NAME`: the records of a file as OPEN FILE and READ SEQUENTIAL give them.
+    fn read(&self, alloc: Global, arguments: &[Word<'_>]) -> Result<Answer, Fault> {
+        let [image, user, name] = arguments else {
+            return Err(Fault::Words);
+        };
+        let user = small(*user)?;
+        let mut drive = Drive::new(self.images.copy(alloc, image.text)?);
+        drive.log_in();
+        let mut fcb = fcb_of(name_of(alloc, *name)?);
+        if drive.open_file(user, &mut fcb).is_none() {
+            return Ok(Answer::Refused(String::from_str(alloc, "NoFile")?));
+        }
+        read_records(alloc, &mut drive, user, &mut fcb)
+    }
+
+    /// `list IMAGE`: a line for each file, with its user, its name and its records, and one with the free blocks.
+    fn list(&self, alloc: Global, arguments: &[Word<'_>]) -> Result<Answer, Fault> {
+        let [image] = arguments else {
+            return Err(Fault::Words);
+        };
+        let image = self.images.copy(alloc, image.text)?;
+        let shelf = match list(alloc, &image) {
+            Ok(shelf) => shelf,
+            Err(error) => return refusal(alloc, error),
+        };
+        let mut text = String::new(alloc);
+        for file in &shelf.files {
+            write_listed(alloc, &mut text, file)?;
+        }
+        let free = format!(in alloc; "{} blocks free", shelf.free_blocks)?;
+        text.push_str(free.as_str())?;
+        Ok(Answer::Words(text))
+    }
+}
+
+/// Adds the line of a file.
+fn write_listed(alloc: Global, text: &mut String, file: &Listed) -> Result<(), AllocError> {
+    let user = format!(in alloc; "{} ", file.user)?;
+    text.push_str(user.as_str())?;
+    write_name(alloc, text, &file.name)?;
+    let records = format!(in alloc; " {}\n", file.records)?;
+    text.push_str(records.as_str())
+}
+
+/// The records of an open file, to the last.
+fn read_records(
+    alloc: Global,
+    drive: &mut Drive,
+    user: u8,
+    fcb: &mut Fcb,
+) -> Result<Answer, Fault> {
+    let mut bytes = Vec::new(alloc);
+    let mut buffer = [0; 128];
+    for _ in 0..MOST_RECORDS {
+        match drive.read_next(user, fcb, &mut buffer) {
+            RecordAnswer::Done => bytes.extend_from_slice(&buffer)?,
+            _ => return Ok(Answer::Bytes(bytes)),
+        }
+    }
+    Ok(Answer::Bytes(bytes))
+}
+
+/// Why nothing is done, as the code names it.
+fn refusal(alloc: Global, error: ShelfError) -> Result<Answer, Fault> {
+    match error {
+        ShelfError::Refused(refusal) => Answer::refused(alloc, refusal),
+        ShelfError::Damaged(fault) => Answer::refused(alloc, fault),
+        ShelfError::OutOfMemory => Err(Fault::OutOfMemory),
+    }
+}
+
+/// The name of a file.
+fn file_name(alloc: Global, user: Word<'_>, word: Word<'_>) -> Result<FileName, Fault> {
+    FileName::new(small(user)?, name_of(alloc, word)?).ok_or(Fault::Unready)
+}
+
+/// `is-name USER NAME`: whether a file may have it.
+fn is_name(alloc: Global, arguments: &[Word<'_>]) -> Result<Answer, Fault> {
+    let [user, word] = arguments else {
+        return Err(Fault::Words);
+    };
+    let file = FileName::new(small(*user)?, name_of(alloc, *word)?);
+    Answer::truth(alloc, file.is_some())
+}
+
+/// The file control block of a name.
+fn fcb_of(name: [u8; 11]) -> Fcb {
+    Fcb {
+        drive: 0,
+        extent: Extent {
+            name,
+            ex: 0,
+            s1: 0,
+            s2: 0,
+            record_count: 0,
+            blocks: [0; 16],
+        },
+        current_record: 0,
+        random_record: [0; 3],
+    }
+}

@@ -1,0 +1,181 @@
+//! What a run reads for the sessions of a configuration, and what it writes after them.
+
+use crate::stores::Stores;
+use cpm_batch::{Input, ReadError, SessionFiles, Start, outputs_of, read_inputs};
+use cpm_config::Config;
+use cpm_geom::Image;
+use cpm_script::Key;
+use cpm_store::Store;
+use std::alloc::{AllocError, Global};
+use test_images::Images;
+use test_language::{Answer, Fault, Line, Scene, Word, bytes_of};
+
+/// A configuration, the images and the store that its files are in, and the status of the last refusal.
+#[derive(Drop)]
+pub struct Batches {
+    config: Option<Config>,
+    images: Images,
+    files: Stores,
+    status: Option<u8>,
+}
+
+impl Scene for Batches {
+    fn new(alloc: Global) -> Result<Batches, AllocError> {
+        Ok(Batches {
+            config: None,
+            images: Images::new(alloc),
+            files: Stores::new(alloc)?,
+            status: None,
+        })
+    }
+
+    fn act(&mut self, alloc: Global, line: &Line<'_>) -> Result<Answer, Fault> {
+        match line.verb() {
+            "config" => self.take(alloc, line),
+            "drive" => self.put(alloc, line.arguments()),
+            "inputs" => self.inputs(alloc),
+            "status" => match self.status {
+                Some(status) => Answer::words(alloc, status),
+                None => Answer::words(alloc, "none"),
+            },
+            "outputs" => self.outputs(alloc, line.arguments()),
+            "image" | "entry" | "record" | "sector" => self.images.act(alloc, line),
+            _ => self.files.act(alloc, line),
+        }
+    }
+}
+
+impl Batches {
+    /// `config`, with a text between marks: the configuration, whose forks must break no rule.
+    fn take(&mut self, alloc: Global, line: &Line<'_>) -> Result<Answer, Fault> {
+        let text = line.given(alloc, line.arguments())?;
+        match Config::read(alloc, text.as_slice()) {
+            Ok(config) => {
+                self.config = Some(config);
+                Ok(Answer::Done)
+            }
+            Err(error) => Answer::refused_text(alloc, error),
+        }
+    }
+
+    /// `drive NAME IMAGE`: the file holds an image.
+    fn put(&mut self, alloc: Global, arguments: &[Word<'_>]) -> Result<Answer, Fault> {
+        let [name, image] = arguments else {
+            return Err(Fault::Words);
+        };
+        let bytes = self.images.copy(alloc, image.text)?.into_bytes();
+        match self.files.store.write(name.text, bytes.as_slice()) {
+            Ok(()) => Ok(Answer::Done),
+            Err(error) => Answer::refused(alloc, error),
+        }
+    }
+
+    /// `inputs`: what is read for the configuration, a line for each session.
+    fn inputs(&mut self, alloc: Global) -> Result<Answer, Fault> {
+        let Some(config) = &self.config else {
+            return Err(Fault::Absent);
+        };
+        if config.fork_fault().is_some() {
+            return Err(Fault::Unready);
+        }
+        match read_inputs(alloc, config, &mut self.files.store) {
+            Ok(inputs) => shown_inputs(alloc, inputs.sessions.as_slice()),
+            Err(error) => {
+                self.status = Some(ReadError::status(error));
+                Answer::refused_text(alloc, error)
+            }
+        }
+    }
+
+    /// `outputs CONSOLE LIST IMAGES`: the files that are written, each with its length, where each session left these texts and
+    /// drives.
+    fn outputs(&self, alloc: Global, arguments: &[Word<'_>]) -> Result<Answer, Fault> {
+        let [console, list, images @ ..] = arguments else {
+            return Err(Fault::Words);
+        };
+        let Some(config) = &self.config else {
+            return Err(Fault::Absent);
+        };
+        let mut all = Vec::new(alloc);
+        for session in &config.sessions {
+            all.push(SessionFiles {
+                session,
+                console: bytes_of(alloc, &[*console])?,
+                list: bytes_of(alloc, &[*list])?,
+                drives: self.drives(alloc, images)?,
+            })?;
+        }
+        let mut out = String::new(alloc);
+        for output in &outputs_of(alloc, all)? {
+            let (name, length) = (output.name, output.bytes.len());
+            add_item(&mut out, format!(in alloc; "{name} {length}")?.as_str())?;
+        }
+        Ok(Answer::Words(out))
+    }
+
+    /// Copies of images as the drives from A on.
+    fn drives(&self, alloc: Global, names: &[Word<'_>]) -> Result<[Option<Image>; 4], Fault> {
+        let a = self.drive(alloc, names.first())?;
+        let b = self.drive(alloc, names.get(1))?;
+        let c = self.drive(alloc, names.get(2))?;
+        let d = self.drive(alloc, names.get(3))?;
+        Ok([a, b, c, d])
+    }
+
+    /// A copy of an image, where one is named.
+    fn drive(&self, alloc: Global, name: Option<&Word<'_>>) -> Result<Option<Image>, Fault> {
+        match name {
+            Some(name) => Ok(Some(self.images.copy(alloc, name.text)?)),
+            None => Ok(None),
+        }
+    }
+}
+
+/// Adds an item behind those before it.
+fn add_item(out: &mut String, item: &str) -> Result<(), AllocError> {
+    if !out.is_empty() {
+        out.push_str(", ")?;
+    }
+    out.push_str(item)
+}
+
+/// What was read for sessions, each on a line.
+fn shown_inputs(alloc: Global, inputs: &[Input<'_>]) -> Result<Answer, Fault> {
+    let mut out = String::new(alloc);
+    for input in inputs {
+        if !out.is_empty() {
+            out.push('\n')?;
+        }
+        out.push_str(input.session.name.as_str())?;
+        out.push_str(shown_start(alloc, &input.start)?.as_str())?;
+        let keys = shown_keys(alloc, input.keys.as_slice())?;
+        out.push_str(format!(in alloc; "; keys {keys}")?.as_str())?;
+    }
+    Ok(Answer::Words(out))
+}
+
+/// How a session begins.
+fn shown_start(alloc: Global, start: &Start) -> Result<String, AllocError> {
+    match start {
+        Start::Opened { cpu, quota, drives } => {
+            let drives = drives.len();
+            format!(in alloc; ": opened on {cpu:?}, quota {quota}, drives {drives}")
+        }
+        Start::Forked { parent, at } => {
+            format!(in alloc; ": forked from session {parent}, counted from 0, at {at}")
+        }
+    }
+}
+
+/// Keys, each with its count; `none` where there are none.
+fn shown_keys(alloc: Global, keys: &[Key]) -> Result<String, AllocError> {
+    let mut out = String::new(alloc);
+    for key in keys {
+        let Key { count, byte } = *key;
+        add_item(&mut out, format!(in alloc; "{count} {byte:02X}")?.as_str())?;
+    }
+    if out.is_empty() {
+        out.push_str("none")?;
+    }
+    Ok(out)
+}

@@ -1,0 +1,403 @@
+//! What the commands on disk images do with files.
+
+use crate::names::{act_on_names, characters, text_of};
+use cpm_filing::{
+    FilingError, NamedFile, check_new, file_name, get_file, host_name, image_of, list_files,
+    matching_files, new_image, put_file, remove_file, rename_file, text_of_name, write_list,
+};
+use cpm_geom::{Format, Image};
+use cpm_shelf::{FileName, Listed, Refusal, Shelf};
+use std::alloc::{AllocError, Global};
+use test_images::Images;
+use test_language::{Answer, Fault, Line, Scene, Word};
+
+/// The images, what the names of files are told with, the files before another one, those of a list, and the status of the last
+/// refusal.
+#[derive(Drop)]
+pub struct DiskCommands {
+    images: Images,
+    user: u8,
+    is_read_only: bool,
+    is_system: bool,
+    before: Vec<FileName>,
+    listed: Vec<Listed>,
+    status: Option<u8>,
+}
+
+impl Scene for DiskCommands {
+    fn new(alloc: Global) -> Result<DiskCommands, AllocError> {
+        Ok(DiskCommands {
+            images: Images::new(alloc),
+            user: 0,
+            is_read_only: false,
+            is_system: false,
+            before: Vec::new(alloc),
+            listed: Vec::new(alloc),
+            status: None,
+        })
+    }
+
+    fn act(&mut self, alloc: Global, line: &Line<'_>) -> Result<Answer, Fault> {
+        match line.verb() {
+            "image" | "entry" | "record" | "sector" => self.images.act(alloc, line),
+            "user" => self.set_user(line.arguments()),
+            "attributes" => self.set_attributes(line.arguments()),
+            "status" => match self.status {
+                Some(status) => Answer::words(alloc, status),
+                None => Answer::words(alloc, "none"),
+            },
+            "new" | "image-of" | "put" | "put-text" | "remove" | "rename" => {
+                self.change(alloc, line)
+            }
+            "get" => self.get(alloc, line.arguments(), false),
+            "get-text" => self.get(alloc, line.arguments(), true),
+            "list" => self.list(alloc, line.arguments()),
+            "matching" => self.matching(alloc, line.arguments()),
+            "host-name" => self.host_name(alloc, line.arguments()),
+            "spelled" => self.spelled(alloc, line.arguments()),
+            "before" => self.add_before(alloc, line.arguments()),
+            "check" => self.check(alloc, line.arguments()),
+            "listed" => self.add_listed(alloc, line.arguments()),
+            "write-list" => self.write_listed(alloc, line.arguments()),
+            "tell" => self.tell(alloc, line.arguments()),
+            _ => act_on_names(alloc, line),
+        }
+    }
+}
+
+impl DiskCommands {
+    /// `user N`: the names of the lines behind it are of this user.
+    fn set_user(&mut self, arguments: &[Word<'_>]) -> Result<Answer, Fault> {
+        let [user] = arguments else {
+            return Err(Fault::Words);
+        };
+        self.user = user.text.parse::<u8>().map_err(|_| Fault::Number)?;
+        Ok(Answer::Done)
+    }
+
+    /// `attributes [read-only] [system]`: the files of the lines behind it have these attributes.
+    fn set_attributes(&mut self, arguments: &[Word<'_>]) -> Result<Answer, Fault> {
+        self.is_read_only = false;
+        self.is_system = false;
+        for word in arguments {
+            match word.text {
+                "read-only" => self.is_read_only = true,
+                "system" => self.is_system = true,
+                _ => return Err(Fault::Words),
+            }
+        }
+        Ok(Answer::Done)
+    }
+
+    /// A refusal, whole.
+    fn refused(&mut self, alloc: Global, error: FilingError) -> Result<Answer, Fault> {
+        self.status = Some(error.status());
+        Answer::refused_text(alloc, error)
+    }
+
+    /// Does a line that makes an image or changes one: `new IMAGE [large]`, `image-of IMAGE BYTES`, `put IMAGE NAME BYTES`,
+    /// `put-text IMAGE NAME TEXT`, `remove IMAGE NAME` or `rename IMAGE OLD NEW`.
+    fn change(&mut self, alloc: Global, line: &Line<'_>) -> Result<Answer, Fault> {
+        let [image, rest @ ..] = line.arguments() else {
+            return Err(Fault::Words);
+        };
+        let image = image.text;
+        let changed = match (line.verb(), rest) {
+            ("new", []) => new_image(alloc, false),
+            ("new", [size]) if size.text == "large" => new_image(alloc, true),
+            ("image-of", bytes) => image_of(image, line.given(alloc, bytes)?),
+            ("put", [name, bytes @ ..]) => {
+                let bytes = line.given(alloc, bytes)?;
+                self.put(alloc, image, *name, false, bytes.as_slice())?
+            }
+            ("put-text", [name, bytes @ ..]) => {
+                let bytes = line.given(alloc, bytes)?;
+                self.put(alloc, image, *name, true, bytes.as_slice())?
+            }
+            ("remove", [name]) => self.remove(alloc, image, *name)?,
+            ("rename", [old, new]) => self.rename(alloc, image, *old, *new)?,
+            _ => return Err(Fault::Words),
+        };
+        match changed {
+            Ok(changed) => {
+                self.images.put(alloc, image, changed)?;
+                Ok(Answer::Done)
+            }
+            Err(error) => self.refused(alloc, error),
+        }
+    }
+
+    /// The image with a file.
+    fn put(
+        &self,
+        alloc: Global,
+        image: &str,
+        name: Word<'_>,
+        is_text: bool,
+        bytes: &[u8],
+    ) -> Result<Result<Image, FilingError>, Fault> {
+        let before = self.images.get(image)?;
+        match self.file(alloc, name)? {
+            Ok(file) => Ok(put_file(alloc, before, image, &file, is_text, bytes)),
+            Err(error) => Ok(Err(error)),
+        }
+    }
+
+    /// The image without a file.
+    fn remove(
+        &self,
+        alloc: Global,
+        image: &str,
+        name: Word<'_>,
+    ) -> Result<Result<Image, FilingError>, Fault> {
+        let before = self.images.get(image)?;
+        match self.file(alloc, name)? {
+            Ok(file) => Ok(remove_file(alloc, before, image, &file)),
+            Err(error) => Ok(Err(error)),
+        }
+    }
+
+    /// The image with a file under another name.
+    fn rename(
+        &self,
+        alloc: Global,
+        image: &str,
+        old: Word<'_>,
+        new: Word<'_>,
+    ) -> Result<Result<Image, FilingError>, Fault> {
+        let before = self.images.get(image)?;
+        match (self.file(alloc, old)?, self.file(alloc, new)?) {
+            (Ok(old), Ok(new)) => {
+                if old.user() != new.user() {
+                    return Err(Fault::Unready);
+                }
+                Ok(rename_file(alloc, before, image, &old, &new))
+            }
+            (Err(error), _) | (_, Err(error)) => Ok(Err(error)),
+        }
+    }
+
+    /// The file of the user that a text names, with the attributes.
+    fn file(&self, alloc: Global, name: Word<'_>) -> Result<Result<FileName, FilingError>, Fault> {
+        if self.user >= 16 {
+            return Err(Fault::Unready);
+        }
+        let text = text_of(alloc, name)?;
+        Ok(file_name(text.as_str(), self.user, self.is_read_only, self.is_system))
+    }
+
+    /// `get IMAGE NAME`, `get-text IMAGE NAME`: the bytes of a file.
+    fn get(
+        &mut self,
+        alloc: Global,
+        arguments: &[Word<'_>],
+        is_text: bool,
+    ) -> Result<Answer, Fault> {
+        let [image, name] = arguments else {
+            return Err(Fault::Words);
+        };
+        let got = match self.file(alloc, *name)? {
+            Ok(file) => {
+                let from = self.images.get(image.text)?;
+                get_file(alloc, from, image.text, &file, is_text)
+            }
+            Err(error) => Err(error),
+        };
+        match got {
+            Ok(bytes) => Ok(Answer::Bytes(bytes)),
+            Err(error) => self.refused(alloc, error),
+        }
+    }
+
+    /// `list IMAGE [USER]`: the lines of its files, or of those of a user.
+    fn list(&mut self, alloc: Global, arguments: &[Word<'_>]) -> Result<Answer, Fault> {
+        let [image, user @ ..] = arguments else {
+            return Err(Fault::Words);
+        };
+        let user = user_of(user)?;
+        let from = self.images.get(image.text)?;
+        let format = from.format();
+        match list_files(alloc, from, image.text) {
+            Ok(shelf) => lines_of(alloc, format, &shelf, user),
+            Err(error) => self.refused(alloc, error),
+        }
+    }
+
+    /// `matching IMAGE PATTERN`: the files of the user that a pattern names.
+    fn matching(&mut self, alloc: Global, arguments: &[Word<'_>]) -> Result<Answer, Fault> {
+        let [image, pattern] = arguments else {
+            return Err(Fault::Words);
+        };
+        if self.user >= 16 {
+            return Err(Fault::Unready);
+        }
+        let from = self.images.get(image.text)?;
+        let found = match list_files(alloc, from, image.text) {
+            Ok(shelf) => {
+                let files = shelf.files.as_slice();
+                matching_files(alloc, files, image.text, self.user, pattern.text)
+            }
+            Err(error) => Err(error),
+        };
+        match found {
+            Ok(files) => shown_files(alloc, files.as_slice()),
+            Err(error) => self.refused(alloc, error),
+        }
+    }
+
+    /// `host-name IMAGE NAME`: the name on the host of a file of an image.
+    fn host_name(&mut self, alloc: Global, arguments: &[Word<'_>]) -> Result<Answer, Fault> {
+        let [image, name] = arguments else {
+            return Err(Fault::Words);
+        };
+        let found = match self.file(alloc, *name)? {
+            Ok(file) => host_name(image.text, &file),
+            Err(error) => Err(error),
+        };
+        match found {
+            Ok(text) => Answer::words(alloc, text),
+            Err(error) => self.refused(alloc, error),
+        }
+    }
+
+    /// `spelled NAME`: the name on the host of the file that a text names, with the attributes.
+    fn spelled(&mut self, alloc: Global, arguments: &[Word<'_>]) -> Result<Answer, Fault> {
+        let [name] = arguments else {
+            return Err(Fault::Words);
+        };
+        match self.file(alloc, *name)? {
+            Ok(file) => match text_of_name(file.name()) {
+                Some(text) => Answer::words(alloc, text),
+                None => Answer::words(alloc, "none"),
+            },
+            Err(error) => self.refused(alloc, error),
+        }
+    }
+
+    /// `before NAME`: one more file before those that are checked.
+    fn add_before(&mut self, alloc: Global, arguments: &[Word<'_>]) -> Result<Answer, Fault> {
+        let [name] = arguments else {
+            return Err(Fault::Words);
+        };
+        match self.file(alloc, *name)? {
+            Ok(file) => {
+                self.before.push(file)?;
+                Ok(Answer::Done)
+            }
+            Err(error) => self.refused(alloc, error),
+        }
+    }
+
+    /// `check NAME WORD`: `new` where a file, which a word of the command line names, is none of those before it.
+    fn check(&mut self, alloc: Global, arguments: &[Word<'_>]) -> Result<Answer, Fault> {
+        let [name, word] = arguments else {
+            return Err(Fault::Words);
+        };
+        let checked = match self.file(alloc, *name)? {
+            Ok(file) => check_new(self.before.as_slice(), &file, word.text),
+            Err(error) => Err(error),
+        };
+        match checked {
+            Ok(()) => Answer::words(alloc, "new"),
+            Err(error) => self.refused(alloc, error),
+        }
+    }
+
+    /// `listed RECORDS NAME`: a list has a file of the user, of so many records, with the eleven characters of this name.
+    fn add_listed(&mut self, alloc: Global, arguments: &[Word<'_>]) -> Result<Answer, Fault> {
+        let [records, name @ ..] = arguments else {
+            return Err(Fault::Words);
+        };
+        self.listed.push(Listed {
+            user: self.user,
+            name: characters(alloc, name)?,
+            records: records.text.parse::<u32>().map_err(|_| Fault::Number)?,
+        })?;
+        Ok(Answer::Done)
+    }
+
+    /// `write-list FREE`: the lines of this list of a small disk, where so many blocks are free.
+    fn write_listed(&mut self, alloc: Global, arguments: &[Word<'_>]) -> Result<Answer, Fault> {
+        let [free] = arguments else {
+            return Err(Fault::Words);
+        };
+        let shelf = Shelf {
+            files: Vec::from_slice(alloc, self.listed.as_slice())?,
+            free_blocks: free.text.parse::<u16>().map_err(|_| Fault::Number)?,
+        };
+        lines_of(alloc, Format::Ibm3740, &shelf, None)
+    }
+
+    /// `tell IMAGE NAME REASON`: what is said where something isn't done with a file for this reason.
+    fn tell(&mut self, alloc: Global, arguments: &[Word<'_>]) -> Result<Answer, Fault> {
+        let [image, name, reason] = arguments else {
+            return Err(Fault::Words);
+        };
+        let reason = match reason.text {
+            "ReadOnly" => Refusal::ReadOnly,
+            "DirectoryFull" => Refusal::DirectoryFull,
+            "DiskFull" => Refusal::DiskFull,
+            "NoFile" => Refusal::NoFile,
+            "Exists" => Refusal::Exists,
+            _ => return Err(Fault::Words),
+        };
+        match self.file(alloc, *name)? {
+            Ok(file) => self.refused(
+                alloc,
+                FilingError::Refused {
+                    image: cpm_command::shown(image.text),
+                    file: named(&file),
+                    reason,
+                },
+            ),
+            Err(error) => self.refused(alloc, error),
+        }
+    }
+}
+
+/// A file as it is named in what is told.
+fn named(file: &FileName) -> NamedFile {
+    NamedFile {
+        user: file.user(),
+        name: *file.name(),
+    }
+}
+
+/// The user that words name, if they name one.
+fn user_of(words: &[Word<'_>]) -> Result<Option<u8>, Fault> {
+    match words {
+        [] => Ok(None),
+        [user] => match user.text.parse::<u8>() {
+            Ok(user) => Ok(Some(user)),
+            Err(_) => Err(Fault::Number),
+        },
+        _ => Err(Fault::Words),
+    }
+}
+
+/// The lines of a list.
+fn lines_of(
+    alloc: Global,
+    format: Format,
+    shelf: &Shelf,
+    user: Option<u8>,
+) -> Result<Answer, Fault> {
+    let mut out: Vec<u8> = Vec::new(alloc);
+    match write_list(alloc, format, shelf, user, &mut out) {
+        Ok(()) => Ok(Answer::Bytes(out)),
+        Err(error) => Answer::refused_text(alloc, error),
+    }
+}
+
+/// Files with their users.
+fn shown_files(alloc: Global, files: &[FileName]) -> Result<Answer, Fault> {
+    let mut out = String::new(alloc);
+    for file in files {
+        if !out.is_empty() {
+            out.push_str(", ")?;
+        }
+        let file = named(file);
+        out.push_str(format!(in alloc; "{file}")?.as_str())?;
+    }
+    Ok(Answer::Words(out))
+}

@@ -1,0 +1,91 @@
+//! Names of files and patterns as a person writes them.
+
+use cpm_filing::{base_name, name_of, pattern_of, split_pair, text_of_name};
+use std::alloc::Global;
+use test_language::{Answer, Fault, Line, Word, bytes_of};
+
+/// Does a line about names: `name`, `pattern`, `text`, `pair` or `last`; any other is `Unknown`.
+pub fn act_on_names(alloc: Global, line: &Line<'_>) -> Result<Answer, Fault> {
+    match line.verb() {
+        "name" => name(alloc, line.arguments()),
+        "pattern" => pattern(alloc, line.arguments()),
+        "text" => text(alloc, line.arguments()),
+        "pair" => pair(alloc, line.arguments()),
+        "last" => last(alloc, line.arguments()),
+        _ => Err(Fault::Unknown),
+    }
+}
+
+/// The text that a word stands for: as it is, or in quotes with escapes.
+pub fn text_of(alloc: Global, word: Word<'_>) -> Result<String, Fault> {
+    let bytes = if word.is_quoted {
+        bytes_of(alloc, &[word])?
+    } else {
+        Vec::from_slice(alloc, word.text.as_bytes())?
+    };
+    String::from_utf8(bytes).map_err(|_| Fault::Bytes)
+}
+
+/// The eleven characters of a name that words stand for.
+pub fn characters(alloc: Global, words: &[Word<'_>]) -> Result<[u8; 11], Fault> {
+    let bytes = bytes_of(alloc, words)?;
+    if bytes.len() != 11 {
+        return Err(Fault::Bytes);
+    }
+    let mut name = [0; 11];
+    for (place, byte) in name.iter_mut().enumerate() {
+        *byte = bytes.get(place).copied().unwrap_or(0);
+    }
+    Ok(name)
+}
+
+/// Eleven characters, or `none`.
+fn shown_name(alloc: Global, name: Option<[u8; 11]>) -> Result<Answer, Fault> {
+    match name {
+        Some(name) => Answer::bytes(alloc, &name),
+        None => Answer::words(alloc, "none"),
+    }
+}
+
+/// `name TEXT`: the name of a file that a text spells, or `none`.
+fn name(alloc: Global, arguments: &[Word<'_>]) -> Result<Answer, Fault> {
+    let [text] = arguments else {
+        return Err(Fault::Words);
+    };
+    shown_name(alloc, name_of(text_of(alloc, *text)?.as_str()))
+}
+
+/// `pattern TEXT`: the pattern that a text spells, or `none`.
+fn pattern(alloc: Global, arguments: &[Word<'_>]) -> Result<Answer, Fault> {
+    let [text] = arguments else {
+        return Err(Fault::Words);
+    };
+    shown_name(alloc, pattern_of(text_of(alloc, *text)?.as_str()))
+}
+
+/// `text BYTES`: the name on the host of a file with this name, or `none`.
+fn text(alloc: Global, arguments: &[Word<'_>]) -> Result<Answer, Fault> {
+    match text_of_name(&characters(alloc, arguments)?) {
+        Some(text) => Answer::words(alloc, text),
+        None => Answer::words(alloc, "none"),
+    }
+}
+
+/// `pair TEXT`: what stands before the first `=` and behind it, or `none`.
+fn pair(alloc: Global, arguments: &[Word<'_>]) -> Result<Answer, Fault> {
+    let [text] = arguments else {
+        return Err(Fault::Words);
+    };
+    match split_pair(text.text) {
+        Some((before, behind)) => Ok(Answer::Words(format!(in alloc; "{before:?} {behind:?}")?)),
+        None => Answer::words(alloc, "none"),
+    }
+}
+
+/// `last PATH`: the last name of a path.
+fn last(alloc: Global, arguments: &[Word<'_>]) -> Result<Answer, Fault> {
+    let [path] = arguments else {
+        return Err(Fault::Words);
+    };
+    Answer::name(alloc, base_name(path.text))
+}

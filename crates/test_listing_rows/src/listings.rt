@@ -1,0 +1,158 @@
+//! Instructions, bytes and registers on lines.
+
+use crate::filled;
+use cpm_flags::{Alternate, Cpu, Flags, Regs, unpack};
+use cpm_lines::{dump_line, length_z80, list_line, list_line_z80, regs_line};
+use std::alloc::{AllocError, Global};
+use test_language::{Answer, Fault, Line, Scene, Word, address, byte, bytes_of, number};
+
+/// No flag is set.
+const CLEAR: Flags = Flags {
+    sign: false,
+    zero: false,
+    bit5: false,
+    half_carry: false,
+    bit3: false,
+    parity: false,
+    subtract: false,
+    carry: false,
+};
+
+/// Registers of zeros.
+const ZEROS: Regs = Regs {
+    a: 0,
+    flags: CLEAR,
+    b: 0,
+    c: 0,
+    d: 0,
+    e: 0,
+    h: 0,
+    l: 0,
+    sp: 0,
+    pc: 0,
+    ix: 0,
+    iy: 0,
+    interrupt_page: 0,
+    refresh: 0,
+    alternate: Alternate {
+        a: 0,
+        flags: CLEAR,
+        b: 0,
+        c: 0,
+        d: 0,
+        e: 0,
+        h: 0,
+        l: 0,
+    },
+    iff1: false,
+    iff2: false,
+};
+
+/// The address of what is listed, and the registers that are shown.
+#[derive(Drop)]
+pub struct Listings {
+    address: u16,
+    registers: Regs,
+}
+
+impl Scene for Listings {
+    fn new(_alloc: Global) -> Result<Listings, AllocError> {
+        Ok(Listings {
+            address: 0x0100,
+            registers: ZEROS,
+        })
+    }
+
+    fn act(&mut self, alloc: Global, line: &Line<'_>) -> Result<Answer, Fault> {
+        match line.verb() {
+            "at" => self.at(line.arguments()),
+            "8080" => self.list(alloc, line.arguments()),
+            "z80" => self.list_z80(alloc, line.arguments()),
+            "length" => length(alloc, line.arguments()),
+            "dump" => self.dump(alloc, line.arguments()),
+            "set" => self.set(line.arguments()),
+            "registers" => self.show(alloc, line.arguments()),
+            _ => Err(Fault::Unknown),
+        }
+    }
+}
+
+impl Listings {
+    /// `at ADDRESS`: what is listed stands there.
+    fn at(&mut self, arguments: &[Word<'_>]) -> Result<Answer, Fault> {
+        let [place] = arguments else {
+            return Err(Fault::Words);
+        };
+        self.address = address(*place)?;
+        Ok(Answer::Done)
+    }
+
+    /// `8080 BYTES`: the line of the 8080's instruction that begins these bytes.
+    fn list(&self, alloc: Global, arguments: &[Word<'_>]) -> Result<Answer, Fault> {
+        let bytes = few_bytes::<3>(alloc, arguments)?;
+        Answer::words(alloc, list_line(self.address, bytes))
+    }
+
+    /// `z80 BYTES`: the line of the Z80's instruction that begins these bytes.
+    fn list_z80(&self, alloc: Global, arguments: &[Word<'_>]) -> Result<Answer, Fault> {
+        let bytes = few_bytes::<4>(alloc, arguments)?;
+        Answer::words(alloc, list_line_z80(self.address, bytes))
+    }
+
+    /// `dump BYTES`: the line of these sixteen bytes.
+    fn dump(&self, alloc: Global, arguments: &[Word<'_>]) -> Result<Answer, Fault> {
+        let bytes = few_bytes::<16>(alloc, arguments)?;
+        Answer::words(alloc, dump_line(self.address, &bytes))
+    }
+
+    /// `set REGISTER VALUE`: A or F has this byte, or BC, DE, HL, SP or PC this word.
+    fn set(&mut self, arguments: &[Word<'_>]) -> Result<Answer, Fault> {
+        let [name, value] = arguments else {
+            return Err(Fault::Words);
+        };
+        let registers = &mut self.registers;
+        match name.text {
+            "A" => registers.a = byte(*value)?,
+            "F" => registers.flags = unpack(Cpu::Z80, CLEAR, byte(*value)?),
+            "BC" => [registers.b, registers.c] = address(*value)?.to_be_bytes(),
+            "DE" => [registers.d, registers.e] = address(*value)?.to_be_bytes(),
+            "HL" => [registers.h, registers.l] = address(*value)?.to_be_bytes(),
+            "SP" => registers.sp = address(*value)?,
+            "PC" => registers.pc = address(*value)?,
+            _ => return Err(Fault::Words),
+        }
+        Ok(Answer::Done)
+    }
+
+    /// `registers 8080 COUNT`, `registers z80 COUNT`: the line of the registers after so many steps.
+    fn show(&self, alloc: Global, arguments: &[Word<'_>]) -> Result<Answer, Fault> {
+        let [cpu, steps] = arguments else {
+            return Err(Fault::Words);
+        };
+        let cpu = match cpu.text {
+            "8080" => Cpu::I8080,
+            "z80" => Cpu::Z80,
+            _ => return Err(Fault::Words),
+        };
+        Answer::words(alloc, regs_line(cpu, &self.registers, number(*steps)?))
+    }
+}
+
+/// `length z80 BYTES`: how many bytes the Z80's instruction has that begins these.
+fn length(alloc: Global, arguments: &[Word<'_>]) -> Result<Answer, Fault> {
+    match arguments {
+        [cpu, bytes @ ..] if cpu.text == "z80" => {
+            Answer::words(alloc, length_z80(few_bytes::<4>(alloc, bytes)?))
+        }
+        _ => Err(Fault::Words),
+    }
+}
+
+/// At most so many bytes that words stand for, with zeros behind them.
+fn few_bytes<const N: usize>(alloc: Global, words: &[Word<'_>]) -> Result<[u8; N], Fault> {
+    let bytes = bytes_of(alloc, words)?;
+    if bytes.is_empty() || bytes.len() > N {
+        return Err(Fault::Bytes);
+    }
+    Ok(filled(bytes.as_slice()))
+}

@@ -1,0 +1,184 @@
+//! Sources in assembly language: their images, where their statements stand, and their parts.
+
+use crate::filled;
+use cpm_asm::{AsmError, Placed, assemble, assemble_placed};
+use cpm_expression::{LONGEST_NAME, Names, Valued, keyword_of, letters_of, name_of, value_of};
+use cpm_flags::Cpu;
+use cpm_lines::{instruction_length, list_line};
+use std::alloc::{AllocError, Global};
+use std::collections::BTreeMap;
+use test_language::{Answer, Fault, Line, Scene, Word, address, bytes_of};
+
+/// Where the statement begins in a line of a listing.
+const STATEMENT: usize = 14;
+
+/// The source, and the address and the names that an expression is read with.
+#[derive(Drop)]
+pub struct Sources {
+    source: Vec<u8>,
+    address: u16,
+    names: Names,
+}
+
+impl Scene for Sources {
+    fn new(alloc: Global) -> Result<Sources, AllocError> {
+        Ok(Sources {
+            source: Vec::new(alloc),
+            address: 0x0100,
+            names: BTreeMap::new(alloc),
+        })
+    }
+
+    fn act(&mut self, alloc: Global, line: &Line<'_>) -> Result<Answer, Fault> {
+        match line.verb() {
+            "source" => self.take_source(alloc, line),
+            "listing" => self.take_listing(alloc, line.arguments()),
+            "assemble" => self.image(alloc, line.arguments()),
+            "places" => self.places(alloc, line.arguments()),
+            "at" => self.at(line.arguments()),
+            "name" => self.name(line.arguments()),
+            "value" => self.value(alloc, line.arguments()),
+            "keyword" => keyword(alloc, line.arguments()),
+            "letters" => letters(alloc, line.arguments()),
+            _ => Err(Fault::Unknown),
+        }
+    }
+}
+
+impl Sources {
+    /// `source TEXT`: what is assembled.
+    fn take_source(&mut self, alloc: Global, line: &Line<'_>) -> Result<Answer, Fault> {
+        self.source = line.given(alloc, line.arguments())?;
+        Ok(Answer::Done)
+    }
+
+    /// `listing BYTES`: what is assembled are the statements of the lines that list these bytes.
+    fn take_listing(&mut self, alloc: Global, arguments: &[Word<'_>]) -> Result<Answer, Fault> {
+        let bytes = bytes_of(alloc, arguments)?;
+        let mut source = Vec::new(alloc);
+        let mut rest = bytes.as_slice();
+        for _ in 0..bytes.len() {
+            if rest.is_empty() {
+                break;
+            }
+            let line = list_line(self.address, filled::<3>(rest));
+            let statement = line.as_str().get(STATEMENT..).unwrap_or("");
+            source.extend_from_slice(statement.as_bytes())?;
+            source.push(b'\n')?;
+            let length = instruction_length(Cpu::I8080, filled::<4>(rest));
+            rest = rest.get(length..).unwrap_or(&[]);
+        }
+        self.source = source;
+        Ok(Answer::Done)
+    }
+
+    /// `assemble`: the image of the source. `assemble TEXT`: of this one.
+    fn image(&mut self, alloc: Global, arguments: &[Word<'_>]) -> Result<Answer, Fault> {
+        if !arguments.is_empty() {
+            self.source = bytes_of(alloc, arguments)?;
+        }
+        match assemble(alloc, self.source.as_slice()) {
+            Ok(image) => Ok(Answer::Bytes(image)),
+            Err(error) => refused(alloc, error),
+        }
+    }
+
+    /// `places`: a line for each statement that has a place.
+    fn places(&self, alloc: Global, arguments: &[Word<'_>]) -> Result<Answer, Fault> {
+        if !arguments.is_empty() {
+            return Err(Fault::Words);
+        }
+        match assemble_placed(alloc, self.source.as_slice()) {
+            Ok(assembly) => shown_places(alloc, assembly.places.as_slice()),
+            Err(error) => refused(alloc, error),
+        }
+    }
+
+    /// `at ADDRESS`: the statement of an expression stands there.
+    fn at(&mut self, arguments: &[Word<'_>]) -> Result<Answer, Fault> {
+        let [place] = arguments else {
+            return Err(Fault::Words);
+        };
+        self.address = address(*place)?;
+        Ok(Answer::Done)
+    }
+
+    /// `name NAME NUMBER`: the name stands for the number in expressions.
+    fn name(&mut self, arguments: &[Word<'_>]) -> Result<Answer, Fault> {
+        let [name, number] = arguments else {
+            return Err(Fault::Words);
+        };
+        let letters = name.text.as_bytes();
+        if letters.len() > LONGEST_NAME {
+            return Err(Fault::Unready);
+        }
+        let number = number.text.parse::<u16>().map_err(|_| Fault::Number)?;
+        self.names.insert(name_of(letters), number)?;
+        Ok(Answer::Done)
+    }
+
+    /// `value TEXT`: the value of an expression, and what is wrong with it; `none` where the text is no expression.
+    fn value(&self, alloc: Global, arguments: &[Word<'_>]) -> Result<Answer, Fault> {
+        let text = bytes_of(alloc, arguments)?;
+        let here = usize::from(self.address);
+        match value_of(alloc, &self.names, here, text.as_slice())? {
+            Some(value) => shown_value(alloc, value),
+            None => Answer::words(alloc, "none"),
+        }
+    }
+}
+
+/// A value with what is wrong with it.
+fn shown_value(alloc: Global, value: Valued) -> Result<Answer, Fault> {
+    let unknown = if value.is_unknown { " unknown" } else { "" };
+    let outside = if value.is_outside { " outside" } else { "" };
+    Ok(Answer::Words(format!(in alloc; "{}{unknown}{outside}", value.number)?))
+}
+
+/// A refusal by its line and its kind.
+fn refused(alloc: Global, error: AsmError) -> Result<Answer, Fault> {
+    let AsmError { line, kind } = error;
+    Ok(Answer::Refused(format!(in alloc; "line {line}: {kind:?}")?))
+}
+
+/// Places, each on a line: `line 2: 0103 1`. `none` where there are none.
+fn shown_places(alloc: Global, places: &[Placed]) -> Result<Answer, Fault> {
+    let mut text = String::new(alloc);
+    for placed in places {
+        if !text.is_empty() {
+            text.push('\n')?;
+        }
+        let Placed {
+            line,
+            address,
+            length,
+        } = *placed;
+        text.push_str(format!(in alloc; "line {line}: {address:04X} {length}")?.as_str())?;
+    }
+    if text.is_empty() {
+        text.push_str("none")?;
+    }
+    Ok(Answer::Words(text))
+}
+
+/// `keyword WORD`: what a word in capital letters means, or `none`.
+fn keyword(alloc: Global, arguments: &[Word<'_>]) -> Result<Answer, Fault> {
+    let [word] = arguments else {
+        return Err(Fault::Words);
+    };
+    match keyword_of(word.text.as_bytes()) {
+        Some(keyword) => Answer::name(alloc, keyword),
+        None => Answer::words(alloc, "none"),
+    }
+}
+
+/// `letters WORD`: its letters, or `none` where they are more than 16.
+fn letters(alloc: Global, arguments: &[Word<'_>]) -> Result<Answer, Fault> {
+    let [word] = arguments else {
+        return Err(Fault::Words);
+    };
+    match letters_of(word.text.as_bytes()) {
+        Some(letters) => Answer::bytes(alloc, letters.as_slice()),
+        None => Answer::words(alloc, "none"),
+    }
+}

@@ -1,0 +1,316 @@
+//! Rows of hosts of many sessions.
+
+use crate::look::{field, granted};
+use crate::machines::cpu_of;
+use crate::shown::{Shown, room};
+use cpm_geom::{Format, Image};
+use cpm_sessions::{Event, Host, Reply, Request, SlotId};
+use cpm_slots::{Look, Opening};
+use std::alloc::{AllocError, Global};
+use test_images::Images;
+use test_language::{
+    Answer, Fault, Line, Scene, Word, address, byte, bytes_of, number, write_bytes,
+};
+
+/// The byte of the reply that is no event's.
+const REST: u8 = 7;
+
+/// The host of a row.
+#[derive(Drop)]
+pub struct Hosts {
+    images: Images,
+    host: Option<Host>,
+    events: Vec<Event>,
+    shown: Shown,
+}
+
+impl Scene for Hosts {
+    fn new(alloc: Global) -> Result<Hosts, AllocError> {
+        Ok(Hosts {
+            images: Images::new(alloc),
+            host: None,
+            events: Vec::new(alloc),
+            shown: Shown::new(alloc),
+        })
+    }
+
+    fn act(&mut self, alloc: Global, line: &Line<'_>) -> Result<Answer, Fault> {
+        let arguments = line.arguments();
+        match line.verb() {
+            "image" | "entry" | "record" | "sector" => self.images.act(alloc, line),
+            "host" => self.begin(alloc, arguments),
+            "event" => self.event(arguments),
+            "ending" | "has" => self.shown.act(alloc, line.verb(), arguments),
+            _ => self.act_host(alloc, line.verb(), arguments),
+        }
+    }
+}
+
+impl Hosts {
+    /// `host FRAMES`.
+    fn begin(&mut self, alloc: Global, arguments: &[Word<'_>]) -> Result<Answer, Fault> {
+        let [frames] = arguments else {
+            return Err(Fault::Words);
+        };
+        let frames = number(*frames)?;
+        if !(16..=16_384).contains(&frames) {
+            return Err(Fault::Unready);
+        }
+        let system = Image::blank(alloc, Format::Ibm3740)?;
+        match Host::new(alloc, system, frames as u16) {
+            Ok(host) => {
+                self.host = Some(host);
+                Ok(Answer::Done)
+            }
+            Err((_, error)) => Answer::refused(alloc, error),
+        }
+    }
+
+    /// `event SLOT REQUEST`.
+    fn event(&mut self, arguments: &[Word<'_>]) -> Result<Answer, Fault> {
+        let [slot, request @ ..] = arguments else {
+            return Err(Fault::Words);
+        };
+        self.events.push(Event {
+            slot: slot_of(*slot)?,
+            request: request_of(request)?,
+        })?;
+        Ok(Answer::Done)
+    }
+
+    /// A line to the host.
+    fn act_host(
+        &mut self,
+        alloc: Global,
+        verb: &str,
+        arguments: &[Word<'_>],
+    ) -> Result<Answer, Fault> {
+        let Some(host) = &mut self.host else {
+            return Err(Fault::Absent);
+        };
+        match (verb, arguments) {
+            ("open", [cpu, quota, names @ ..]) => {
+                let drives = self.images.copies(alloc, names)?;
+                open(alloc, host, *cpu, *quota, drives)
+            }
+            ("used", []) => Answer::words(alloc, host.store().used()),
+            ("run", []) => run(alloc, host, self.events.as_slice()),
+            ("alike", [one, other]) => alike(alloc, host, slot_of(*one)?, slot_of(*other)?),
+            ("take", [slot, room @ ..]) => {
+                take(alloc, host, &mut self.shown, slot_of(*slot)?, room)
+            }
+            ("list", [slot, room @ ..]) => {
+                take_list(alloc, host, &mut self.shown, slot_of(*slot)?, room)
+            }
+            (_, [slot, rest @ ..]) => act_slot(alloc, host, verb, slot_of(*slot)?, rest),
+            _ => Err(Fault::Unknown),
+        }
+    }
+}
+
+/// The slot of a number.
+fn slot_of(word: Word<'_>) -> Result<SlotId, Fault> {
+    Ok(SlotId(number(word)?))
+}
+
+/// What the words behind a slot ask of it.
+fn request_of(words: &[Word<'_>]) -> Result<Request, Fault> {
+    let [verb, rest @ ..] = words else {
+        return Err(Fault::Words);
+    };
+    match (verb.text, rest) {
+        ("key", [key]) => Ok(Request::Key(byte(*key)?)),
+        ("grant", [steps]) => Ok(Request::Grant(number(*steps)?)),
+        ("until", [steps, pc]) => Ok(Request::GrantUntil {
+            steps: number(*steps)?,
+            pc: address(*pc)?,
+        }),
+        ("take", []) => Ok(Request::Take),
+        ("list", []) => Ok(Request::TakeList),
+        ("look", []) => Ok(Request::Look),
+        ("peek", [at]) => Ok(Request::Peek(address(*at)?)),
+        ("close", []) => Ok(Request::Close),
+        _ => Err(Fault::Words),
+    }
+}
+
+/// `open CPU PAGES IMAGE..`: the slot's number.
+fn open(
+    alloc: Global,
+    host: &mut Host,
+    cpu: Word<'_>,
+    quota: Word<'_>,
+    drives: Vec<Image>,
+) -> Result<Answer, Fault> {
+    let Ok(quota) = u16::try_from(number(quota)?) else {
+        return Err(Fault::Number);
+    };
+    let opening = Opening {
+        cpu: cpu_of(cpu)?,
+        quota,
+        drives,
+    };
+    match host.open(alloc, opening) {
+        Ok(id) => Answer::words(alloc, id.0),
+        Err((_, error)) => Answer::refused(alloc, error),
+    }
+}
+
+/// A line to a slot.
+fn act_slot(
+    alloc: Global,
+    host: &mut Host,
+    verb: &str,
+    id: SlotId,
+    arguments: &[Word<'_>],
+) -> Result<Answer, Fault> {
+    match (verb, arguments) {
+        ("key", keys) => press(alloc, host, id, keys),
+        ("grant", [steps]) => match host.grant(id, number(*steps)?) {
+            Ok(found) => granted(alloc, found),
+            Err(refusal) => Answer::refused(alloc, refusal),
+        },
+        ("until", [steps, pc]) => match host.grant_until(id, number(*steps)?, address(*pc)?) {
+            Ok(found) => granted(alloc, found),
+            Err(refusal) => Answer::refused(alloc, refusal),
+        },
+        ("look", [name]) => match host.look(id) {
+            Ok(look) => field(alloc, &look, *name),
+            Err(refusal) => Answer::refused(alloc, refusal),
+        },
+        ("peek", [at]) => match host.peek(id, address(*at)?) {
+            Ok(byte) => Answer::byte(alloc, byte),
+            Err(refusal) => Answer::refused(alloc, refusal),
+        },
+        ("place", [page]) => place(alloc, host, id, *page),
+        ("fork", []) => match host.fork(alloc, id) {
+            Ok(id) => Answer::words(alloc, id.0),
+            Err(error) => Answer::refused(alloc, error),
+        },
+        ("close", []) => close(alloc, host, id),
+        _ => Err(Fault::Unknown),
+    }
+}
+
+/// `key SLOT BYTES`.
+fn press(alloc: Global, host: &mut Host, id: SlotId, keys: &[Word<'_>]) -> Result<Answer, Fault> {
+    for key in &bytes_of(alloc, keys)? {
+        if let Err(refusal) = host.key(id, *key) {
+            return Answer::refused(alloc, refusal);
+        }
+    }
+    Ok(Answer::Done)
+}
+
+/// `place SLOT PAGE`: the frame that the page is made of.
+fn place(alloc: Global, host: &Host, id: SlotId, page: Word<'_>) -> Result<Answer, Fault> {
+    let table = match host.table(id) {
+        Ok(table) => table,
+        Err(refusal) => return Answer::refused(alloc, refusal),
+    };
+    if !host.store().is_taken(table) {
+        return Err(Fault::Unready);
+    }
+    Answer::words(alloc, host.store().place(table, byte(page)?))
+}
+
+/// `close SLOT`: its steps, and the drives that it had.
+fn close(alloc: Global, host: &mut Host, id: SlotId) -> Result<Answer, Fault> {
+    let closed = match host.close(id) {
+        Ok(closed) => closed,
+        Err(refusal) => return Answer::refused(alloc, refusal),
+    };
+    let mut answer = format!(in alloc; "{}", closed.look.count)?;
+    for (name, drive) in [" A", " B", " C", " D"].into_iter().zip(closed.drives) {
+        if drive.is_some() {
+            answer.push_str(name)?;
+        }
+    }
+    Ok(Answer::Words(answer))
+}
+
+/// `take SLOT`, or `take SLOT N`.
+fn take(
+    alloc: Global,
+    host: &mut Host,
+    shown: &mut Shown,
+    id: SlotId,
+    arguments: &[Word<'_>],
+) -> Result<Answer, Fault> {
+    let mut out = room(alloc, arguments)?;
+    match host.take(id, &mut out) {
+        Ok(count) => shown.keep(alloc, out, count),
+        Err(refusal) => Answer::refused(alloc, refusal),
+    }
+}
+
+/// `list SLOT`, or `list SLOT N`.
+fn take_list(
+    alloc: Global,
+    host: &mut Host,
+    shown: &mut Shown,
+    id: SlotId,
+    arguments: &[Word<'_>],
+) -> Result<Answer, Fault> {
+    let mut out = room(alloc, arguments)?;
+    match host.take_list(id, &mut out) {
+        Ok(count) => shown.keep(alloc, out, count),
+        Err(refusal) => Answer::refused(alloc, refusal),
+    }
+}
+
+/// `alike SLOT SLOT`: whether two slots are in the same state, and have the same console bytes, which are taken.
+fn alike(alloc: Global, host: &mut Host, one: SlotId, other: SlotId) -> Result<Answer, Fault> {
+    let (Ok(look), Ok(other_look)) = (host.look(one), host.look(other)) else {
+        return Err(Fault::Absent);
+    };
+    let (mut bytes, mut other_bytes) = (room(alloc, &[])?, room(alloc, &[])?);
+    let taken = host.take(one, &mut bytes);
+    let other_taken = host.take(other, &mut other_bytes);
+    Answer::truth(
+        alloc,
+        look == other_look && taken == other_taken && bytes.as_slice() == other_bytes.as_slice(),
+    )
+}
+
+/// `run`: serves the events, and gives the reply to each in a line, and one that is no event's and is 07 before.
+fn run(alloc: Global, host: &mut Host, events: &[Event]) -> Result<Answer, Fault> {
+    let mut replies = Vec::new(alloc);
+    for _ in events {
+        replies.push(Reply::Done)?;
+    }
+    replies.push(Reply::Peeked(REST))?;
+    if replies.len() < events.len() {
+        return Err(Fault::Unready);
+    }
+    host.run(events, &mut replies);
+    let mut answer = String::new(alloc);
+    for reply in &replies {
+        if !answer.is_empty() {
+            answer.push('\n')?;
+        }
+        add_reply(alloc, &mut answer, reply)?;
+    }
+    Ok(Answer::Words(answer))
+}
+
+/// Adds a reply in words.
+fn add_reply(alloc: Global, out: &mut String, reply: &Reply) -> Result<(), AllocError> {
+    match reply {
+        Reply::Done => out.push_str("Done"),
+        Reply::Granted(granted) => {
+            let (executed, why) = (granted.executed, granted.why);
+            out.push_str(format!(in alloc; "Granted {executed} {why:?}")?.as_str())
+        }
+        Reply::Bytes(bytes) => {
+            out.push_str("Bytes ")?;
+            write_bytes(alloc, out, bytes.as_slice())
+        }
+        Reply::Looked(look) => {
+            let Look { count, ended, .. } = look;
+            out.push_str(format!(in alloc; "Looked {count} {ended:?}")?.as_str())
+        }
+        Reply::Peeked(byte) => out.push_str(format!(in alloc; "Peeked {byte:02X}")?.as_str()),
+        Reply::Refused(refusal) => out.push_str(format!(in alloc; "Refused {refusal:?}")?.as_str()),
+    }
+}

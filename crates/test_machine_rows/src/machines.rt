@@ -1,0 +1,331 @@
+//! Rows of machines by themselves.
+
+ghost use Rattle.cpm_turns.specs.Playing.{IsFresh};
+
+use crate::look::{field, granted};
+use crate::shown::{Shown, room};
+use cpm_flags::Cpu;
+use cpm_geom::{Format, Image};
+use cpm_slots::{Machine, OpenError, Opening, Tail};
+use std::alloc::{AllocError, Global};
+use test_images::Images;
+use test_language::{Answer, Fault, Line, Scene, Word, address, bytes_of, count, number};
+
+/// What a machine is made of.
+#[derive(Drop)]
+pub struct Start {
+    cpu: Cpu,
+    quota: u16,
+    drives: Vec<Image>,
+    program: Option<Vec<u8>>,
+}
+
+/// The machine of a row.
+#[derive(Drop)]
+pub struct Machines {
+    pub system: Image,
+    images: Images,
+    program: Option<Vec<u8>>,
+    tail: Option<Tail>,
+    pub start: Option<Start>,
+    pub machine: Option<Machine>,
+    /// The one that was made before it.
+    pub earlier: Option<Machine>,
+    pub shown: Shown,
+    pub play: Play,
+}
+
+/// How a machine is played, and what came of it.
+#[derive(Drop)]
+pub struct Play {
+    pub waits_from: u64,
+    pub stops_idle: bool,
+    pub steps: u64,
+    pub text: Vec<u8>,
+    pub record: Vec<u8>,
+    pub left: Vec<u8>,
+}
+
+impl Play {
+    /// Nothing was played yet.
+    fn new(alloc: Global) -> Play {
+        Play {
+            waits_from: 0,
+            stops_idle: false,
+            steps: 0,
+            text: Vec::new(alloc),
+            record: Vec::new(alloc),
+            left: Vec::new(alloc),
+        }
+    }
+}
+
+impl Start {
+    /// A machine of this, with no key pending and no byte to be taken.
+    pub fn machine(&self, alloc: Global) -> Result<Result<Machine, OpenError>, Fault>
+        ensures { IfOk result (λ made. IfOk made (λ m. IsFresh m)) }
+    {
+        let opening = self.opening(alloc)?;
+        let Some(program) = &self.program else {
+            return Ok(Machine::new(alloc, opening).map_err(|(_, error)| error));
+        };
+        let program = Vec::from_slice(alloc, program.as_slice())?;
+        Ok(Machine::with_program(alloc, opening, program).map_err(|(_, _, error)| error))
+    }
+
+    /// The opening, with copies of the drives.
+    fn opening(&self, alloc: Global) -> Result<Opening, Fault> {
+        let mut drives = Vec::new(alloc);
+        for image in &self.drives {
+            drives.push(image.copy(alloc)?)?;
+        }
+        Ok(Opening {
+            cpu: self.cpu,
+            quota: self.quota,
+            drives,
+        })
+    }
+}
+
+impl Scene for Machines {
+    fn new(alloc: Global) -> Result<Machines, AllocError> {
+        Ok(Machines {
+            system: Image::blank(alloc, Format::Ibm3740)?,
+            images: Images::new(alloc),
+            program: None,
+            tail: None,
+            start: None,
+            machine: None,
+            earlier: None,
+            shown: Shown::new(alloc),
+            play: Play::new(alloc),
+        })
+    }
+
+    fn act(&mut self, alloc: Global, line: &Line<'_>) -> Result<Answer, Fault> {
+        let arguments = line.arguments();
+        match line.verb() {
+            "8080" => self.begin(alloc, Cpu::I8080, arguments),
+            "z80" => self.begin(alloc, Cpu::Z80, arguments),
+            "program" => self.program(alloc, arguments),
+            "tail" => self.tail(alloc, arguments),
+            "open" => self.open(alloc, arguments),
+            "finish" => self.finish(alloc),
+            "alike" => self.alike(alloc),
+            "same-image" => self.same_image(alloc, arguments),
+            "ending" | "has" => self.shown.act(alloc, line.verb(), arguments),
+            "image" | "entry" | "record" | "sector" => self.images.act(alloc, line),
+            _ if self.is_of_play(line.verb()) => self.act_play(alloc, line),
+            _ => self.act_machine(alloc, line.verb(), arguments),
+        }
+    }
+}
+
+impl Machines {
+    /// `8080 BYTES`, or `z80 BYTES`.
+    fn begin(&mut self, alloc: Global, cpu: Cpu, bytes: &[Word<'_>]) -> Result<Answer, Fault> {
+        self.program(alloc, bytes)?;
+        let mut drives = Vec::new(alloc);
+        drives.push(Image::blank(alloc, Format::Ibm3740)?)?;
+        self.make(alloc, cpu, 256, drives)
+    }
+
+    /// `program BYTES`.
+    fn program(&mut self, alloc: Global, bytes: &[Word<'_>]) -> Result<Answer, Fault> {
+        self.program = Some(bytes_of(alloc, bytes)?);
+        Ok(Answer::Done)
+    }
+
+    /// `tail BYTES`.
+    fn tail(&mut self, alloc: Global, bytes: &[Word<'_>]) -> Result<Answer, Fault> {
+        let bytes = bytes_of(alloc, bytes)?;
+        self.tail = Tail::new(bytes.as_slice());
+        Answer::truth(alloc, self.tail.is_some())
+    }
+
+    /// `open CPU PAGES IMAGE..`.
+    fn open(&mut self, alloc: Global, arguments: &[Word<'_>]) -> Result<Answer, Fault> {
+        let [cpu, quota, names @ ..] = arguments else {
+            return Err(Fault::Words);
+        };
+        let cpu = cpu_of(*cpu)?;
+        let Ok(quota) = u16::try_from(number(*quota)?) else {
+            return Err(Fault::Number);
+        };
+        let drives = self.images.copies(alloc, names)?;
+        self.make(alloc, cpu, quota, drives)
+    }
+
+    /// Makes a machine of this, with the program and the tail that were given before.
+    fn make(
+        &mut self,
+        alloc: Global,
+        cpu: Cpu,
+        quota: u16,
+        drives: Vec<Image>,
+    ) -> Result<Answer, Fault> {
+        let program = match &self.program {
+            Some(program) => Some(Vec::from_slice(alloc, program.as_slice())?),
+            None => None,
+        };
+        let start = Start {
+            cpu,
+            quota,
+            drives,
+            program,
+        };
+        let made = match (&self.tail, &self.program) {
+            (Some(tail), Some(program)) => with_tail(alloc, &start, program.as_slice(), tail)?,
+            _ => start.machine(alloc)?,
+        };
+        self.start = Some(start);
+        match made {
+            Ok(machine) => {
+                self.put(machine);
+                Ok(Answer::Done)
+            }
+            Err(error) => Answer::refused(alloc, error),
+        }
+    }
+
+    /// Puts a machine in the place of the one before, which is kept.
+    pub fn put(&mut self, machine: Machine) {
+        self.earlier = self.machine.take();
+        self.machine = Some(machine);
+    }
+
+    /// `finish`: ends the machine. Its steps, and its drives, which are images from now on.
+    fn finish(&mut self, alloc: Global) -> Result<Answer, Fault> {
+        let Some(machine) = self.machine.take() else {
+            return Err(Fault::Absent);
+        };
+        let closed = machine.finish();
+        let mut answer = format!(in alloc; "{}", closed.look.count)?;
+        for (name, drive) in ["A", "B", "C", "D"].into_iter().zip(closed.drives) {
+            if let Some(image) = drive {
+                self.images.put(alloc, name, image)?;
+                answer.push(' ')?;
+                answer.push_str(name)?;
+            }
+        }
+        Ok(Answer::Words(answer))
+    }
+
+    /// `alike`: whether the machine and the one before it show the same and have the same memory.
+    fn alike(&self, alloc: Global) -> Result<Answer, Fault> {
+        let (Some(one), Some(other)) = (&self.machine, &self.earlier) else {
+            return Err(Fault::Absent);
+        };
+        Answer::truth(
+            alloc,
+            one.look() == other.look() && (0..=0xFFFFu16).all(|at| one.peek(at) == other.peek(at)),
+        )
+    }
+
+    /// `same-image NAME OTHER`.
+    fn same_image(&self, alloc: Global, arguments: &[Word<'_>]) -> Result<Answer, Fault> {
+        let [name, other] = arguments else {
+            return Err(Fault::Words);
+        };
+        let one = self.images.copy(alloc, name.text)?.into_bytes();
+        let other = self.images.copy(alloc, other.text)?.into_bytes();
+        Answer::truth(alloc, one.as_slice() == other.as_slice())
+    }
+
+    /// A line to the machine itself.
+    fn act_machine(
+        &mut self,
+        alloc: Global,
+        verb: &str,
+        arguments: &[Word<'_>],
+    ) -> Result<Answer, Fault> {
+        let Some(machine) = &mut self.machine else {
+            return Err(Fault::Absent);
+        };
+        let system = &self.system;
+        match (verb, arguments) {
+            ("key", keys) => press(alloc, machine, keys),
+            ("grant", [steps]) => granted(alloc, machine.grant(system, number(*steps)?)),
+            ("until", [steps, pc]) => granted(
+                alloc,
+                machine.grant_until(system, number(*steps)?, address(*pc)?),
+            ),
+            ("to-wait", [steps]) => {
+                Answer::words(alloc, machine.grant_to_wait(system, number(*steps)?))
+            }
+            ("step", []) => Answer::truth(alloc, machine.step(system)),
+            ("look", [name]) => field(alloc, &machine.look(), *name),
+            ("peek", [at]) => Answer::byte(alloc, machine.peek(address(*at)?)),
+            ("peek", [at, length]) => peek(alloc, machine, address(*at)?, count(*length)?),
+            ("take", _) => take(alloc, machine, &mut self.shown, arguments),
+            ("list", _) => take_list(alloc, machine, &mut self.shown, arguments),
+            _ => Err(Fault::Unknown),
+        }
+    }
+}
+
+/// The processor of a name.
+pub fn cpu_of(word: Word<'_>) -> Result<Cpu, Fault> {
+    match word.text {
+        "8080" => Ok(Cpu::I8080),
+        "z80" => Ok(Cpu::Z80),
+        _ => Err(Fault::Words),
+    }
+}
+
+/// A machine with the tail of a command.
+fn with_tail(
+    alloc: Global,
+    start: &Start,
+    program: &[u8],
+    tail: &Tail,
+) -> Result<Result<Machine, OpenError>, Fault> {
+    let opening = start.opening(alloc)?;
+    let program = Vec::from_slice(alloc, program)?;
+    Ok(Machine::with_command(alloc, opening, program, tail).map_err(|(_, _, error)| error))
+}
+
+/// `key BYTES`.
+fn press(alloc: Global, machine: &mut Machine, keys: &[Word<'_>]) -> Result<Answer, Fault> {
+    for key in &bytes_of(alloc, keys)? {
+        if let Err(error) = machine.key(*key) {
+            return Answer::refused(alloc, error);
+        }
+    }
+    Ok(Answer::Done)
+}
+
+/// So many bytes of the machine's memory.
+fn peek(alloc: Global, machine: &Machine, at: u16, length: usize) -> Result<Answer, Fault> {
+    let mut bytes = Vec::new(alloc);
+    let mut at = at;
+    for _ in 0..length {
+        bytes.push(machine.peek(at))?;
+        at = at.wrapping_add(1);
+    }
+    Ok(Answer::Bytes(bytes))
+}
+
+/// `take`, or `take N`.
+fn take(
+    alloc: Global,
+    machine: &mut Machine,
+    shown: &mut Shown,
+    arguments: &[Word<'_>],
+) -> Result<Answer, Fault> {
+    let mut out = room(alloc, arguments)?;
+    let count = machine.take(&mut out);
+    shown.keep(alloc, out, count)
+}
+
+/// `list`, or `list N`.
+fn take_list(
+    alloc: Global,
+    machine: &mut Machine,
+    shown: &mut Shown,
+    arguments: &[Word<'_>],
+) -> Result<Answer, Fault> {
+    let mut out = room(alloc, arguments)?;
+    let count = machine.take_list(&mut out);
+    shown.keep(alloc, out, count)
+}

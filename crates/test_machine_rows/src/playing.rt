@@ -1,0 +1,222 @@
+//! Machines that are played: by keys that are typed, by a script that may wait, and by what was recorded.
+
+use crate::machines::{Machines, Start};
+use cpm_geom::Image;
+use cpm_script::laws::cues_in_order;
+use cpm_script::{read_cues, read_keys};
+use cpm_slots::Machine;
+use cpm_turns::laws::scripts_in_order;
+use cpm_turns::{Cued, Live, Unwatched, play_cues, play_live, play_machine};
+use std::alloc::Global;
+use test_language::{Answer, Fault, Line, Word, count, number};
+
+/// A machine that was played, what it showed and the record of its keys.
+#[derive(Drop)]
+struct Played {
+    machine: Machine,
+    text: Vec<u8>,
+    record: Vec<u8>,
+    steps: u64,
+}
+
+impl Machines {
+    /// Whether a line is about playing.
+    pub fn is_of_play(&self, verb: &str) -> bool {
+        matches!(
+            verb,
+            "waits-from" | "stops-idle" | "play" | "live" | "replay" | "shown" | "recorded" | "left"
+        )
+    }
+
+    /// A line about playing.
+    pub fn act_play(&mut self, alloc: Global, line: &Line<'_>) -> Result<Answer, Fault> {
+        match (line.verb(), line.arguments()) {
+            ("waits-from", [steps]) => {
+                self.play.waits_from = number(*steps)?;
+                Ok(Answer::Done)
+            }
+            ("stops-idle", []) => {
+                self.play.stops_idle = true;
+                Ok(Answer::Done)
+            }
+            ("play", [steps, script @ ..]) => {
+                let script = line.given(alloc, script)?;
+                self.play(alloc, number(*steps)?, script.as_slice())
+            }
+            ("live", arguments) => self.live(alloc, line, arguments),
+            ("replay", []) => self.replay(alloc),
+            ("shown", []) => Answer::bytes(alloc, self.play.text.as_slice()),
+            ("recorded", []) => Answer::bytes(alloc, self.play.record.as_slice()),
+            ("left", []) => Answer::bytes(alloc, self.play.left.as_slice()),
+            _ => Err(Fault::Words),
+        }
+    }
+
+    /// Keeps what was played, and answers its steps.
+    fn keep(&mut self, alloc: Global, played: Played) -> Result<Answer, Fault> {
+        let Played {
+            machine,
+            text,
+            record,
+            steps,
+        } = played;
+        self.put(machine);
+        self.play.text = text;
+        self.play.record = record;
+        self.play.steps = steps;
+        Answer::words(alloc, steps)
+    }
+
+    /// `play STEPS SCRIPT`.
+    fn play(&mut self, alloc: Global, steps: u64, script: &[u8]) -> Result<Answer, Fault> {
+        let Some(start) = &self.start else {
+            return Err(Fault::Absent);
+        };
+        let (waits_from, stops_idle) = (self.play.waits_from, self.play.stops_idle);
+        let played = by_script(
+            alloc,
+            &self.system,
+            start,
+            steps,
+            script,
+            (waits_from, stops_idle),
+        );
+        self.keep(alloc, played?)
+    }
+
+    /// `live STEPS KEYS BYTES`.
+    fn live(
+        &mut self,
+        alloc: Global,
+        line: &Line<'_>,
+        arguments: &[Word<'_>],
+    ) -> Result<Answer, Fault> {
+        let [steps, keys, typed @ ..] = arguments else {
+            return Err(Fault::Words);
+        };
+        let Some(start) = &self.start else {
+            return Err(Fault::Absent);
+        };
+        let typed = line.given(alloc, typed)?;
+        let mut input = typed.as_slice();
+        let played = by_keys(
+            alloc,
+            &self.system,
+            start,
+            number(*steps)?,
+            count(*keys)?,
+            &mut input,
+        )?;
+        self.play.left = Vec::from_slice(alloc, input)?;
+        self.keep(alloc, played)
+    }
+
+    /// `replay`: the machine from its beginning by what was recorded. What it shows.
+    fn replay(&mut self, alloc: Global) -> Result<Answer, Fault> {
+        let Some(start) = &self.start else {
+            return Err(Fault::Absent);
+        };
+        let record = self.play.record.as_slice();
+        let (machine, text) = by_record(alloc, &self.system, start, record, self.play.steps)?;
+        self.put(machine);
+        Ok(Answer::Bytes(text))
+    }
+}
+
+/// Plays a machine by a script.
+fn by_script(
+    alloc: Global,
+    system: &Image,
+    start: &Start,
+    steps: u64,
+    script: &[u8],
+    (waits_from, stops_idle): (u64, bool),
+) -> Result<Played, Fault> {
+    let (Ok(cues), Ok(mut machine)) = (read_cues(alloc, script), start.machine(alloc)?) else {
+        return Err(Fault::Unready);
+    };
+    cues_in_order();
+    let cued = Cued {
+        cues: cues.as_slice(),
+        waits_from,
+        stops_idle,
+    };
+    let (mut text, mut record) = (Vec::new(alloc), Vec::new(alloc));
+    match play_cues(
+        alloc,
+        system,
+        &mut machine,
+        steps,
+        cued,
+        &mut text,
+        &mut record,
+        &mut Unwatched,
+    ) {
+        Ok(Live { steps, .. }) => Ok(Played {
+            machine,
+            text,
+            record,
+            steps,
+        }),
+        Err(_) => Err(Fault::OutOfMemory),
+    }
+}
+
+/// Plays a machine by keys that are typed.
+fn by_keys(
+    alloc: Global,
+    system: &Image,
+    start: &Start,
+    steps: u64,
+    most_keys: usize,
+    input: &mut &[u8],
+) -> Result<Played, Fault> {
+    let Ok(mut machine) = start.machine(alloc)? else {
+        return Err(Fault::Unready);
+    };
+    let (mut text, mut record) = (Vec::new(alloc), Vec::new(alloc));
+    match play_live(
+        alloc,
+        system,
+        &mut machine,
+        steps,
+        most_keys,
+        input,
+        &mut text,
+        &mut record,
+    ) {
+        Ok(Live { steps, .. }) => Ok(Played {
+            machine,
+            text,
+            record,
+            steps,
+        }),
+        Err(_) => Err(Fault::OutOfMemory),
+    }
+}
+
+/// Plays a machine by a record of keys. The machine, and what it shows.
+fn by_record(
+    alloc: Global,
+    system: &Image,
+    start: &Start,
+    record: &[u8],
+    steps: u64,
+) -> Result<(Machine, Vec<u8>), Fault> {
+    let (Ok(keys), Ok(mut machine)) = (read_keys(alloc, record), start.machine(alloc)?) else {
+        return Err(Fault::Unready);
+    };
+    scripts_in_order();
+    let mut text = Vec::new(alloc);
+    match play_machine(
+        system,
+        &mut machine,
+        keys.as_slice(),
+        steps,
+        &mut text,
+        &mut Unwatched,
+    ) {
+        Ok(()) => Ok((machine, text)),
+        Err(_) => Err(Fault::OutOfMemory),
+    }
+}

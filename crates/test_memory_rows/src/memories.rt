@@ -1,0 +1,314 @@
+//! Rows of memories: a flat one, and tables over a store of shared frames.
+
+use cpm_memory::{FlatMemory, FrameStore, Memory, MemoryError, TableId};
+use std::alloc::{AllocError, Global};
+use test_language::{Answer, Fault, Line, Scene, Word, address, byte, count, number};
+
+/// A flat memory, and a store with the tables that were taken of it, in order.
+#[derive(Drop)]
+pub struct Memories {
+    flat: Option<FlatMemory>,
+    store: Option<FrameStore>,
+    tables: Vec<TableId>,
+}
+
+impl Scene for Memories {
+    fn new(alloc: Global) -> Result<Memories, AllocError> {
+        Ok(Memories {
+            flat: None,
+            store: None,
+            tables: Vec::new(alloc),
+        })
+    }
+
+    fn act(&mut self, alloc: Global, line: &Line<'_>) -> Result<Answer, Fault> {
+        let arguments = line.arguments();
+        match line.verb() {
+            "flat" => self.flat(alloc, arguments),
+            "frames" => self.frames(alloc, arguments),
+            "reserve" => self.reserve(alloc, arguments),
+            "share" => self.share(alloc, arguments),
+            "release" => self.release(arguments),
+            "set" | "get" | "pages" | "stamp" => self.memory(alloc, line.verb(), arguments),
+            "place" | "frame" => self.place(alloc, line.verb(), arguments),
+            "reflect" => self.reflect(arguments),
+            "put-back" => self.put_back(arguments),
+            _ => self.ask(alloc, line.verb(), arguments),
+        }
+    }
+}
+
+impl Memories {
+    /// `flat`, or `flat PAGES`.
+    fn flat(&mut self, alloc: Global, arguments: &[Word<'_>]) -> Result<Answer, Fault> {
+        self.flat = Some(match arguments {
+            [] => FlatMemory::new(alloc)?,
+            [pages] => FlatMemory::with_limit(alloc, page_count(*pages)?)?,
+            _ => return Err(Fault::Words),
+        });
+        Ok(Answer::Done)
+    }
+
+    /// `frames N`.
+    fn frames(&mut self, alloc: Global, arguments: &[Word<'_>]) -> Result<Answer, Fault> {
+        let [frames] = arguments else {
+            return Err(Fault::Words);
+        };
+        let frames = number(*frames)?;
+        if frames > 16_384 {
+            return Err(Fault::Unready);
+        }
+        self.store = Some(FrameStore::new(alloc, frames as u16)?);
+        Ok(Answer::Done)
+    }
+
+    /// The table of a number.
+    fn table(&self, word: Word<'_>) -> Result<TableId, Fault> {
+        self.tables.get(count(word)?).copied().ok_or(Fault::Absent)
+    }
+
+    /// Keeps a table that was taken, and answers its number.
+    fn keep(
+        &mut self,
+        alloc: Global,
+        table: Result<TableId, MemoryError>,
+    ) -> Result<Answer, Fault> {
+        match table {
+            Ok(table) => {
+                let place = self.tables.len();
+                self.tables.push(table)?;
+                Answer::words(alloc, place)
+            }
+            Err(error) => Answer::refused(alloc, error),
+        }
+    }
+
+    /// `reserve PAGES`.
+    fn reserve(&mut self, alloc: Global, arguments: &[Word<'_>]) -> Result<Answer, Fault> {
+        let [pages] = arguments else {
+            return Err(Fault::Words);
+        };
+        let pages = page_count(*pages)?;
+        let Some(store) = &mut self.store else {
+            return Err(Fault::Absent);
+        };
+        if store.taken() >= 64 {
+            return Err(Fault::Unready);
+        }
+        let table = store.reserve(pages);
+        self.keep(alloc, table)
+    }
+
+    /// `share TABLE`.
+    fn share(&mut self, alloc: Global, arguments: &[Word<'_>]) -> Result<Answer, Fault> {
+        let [table] = arguments else {
+            return Err(Fault::Words);
+        };
+        let table = self.table(*table)?;
+        let Some(store) = &mut self.store else {
+            return Err(Fault::Absent);
+        };
+        if store.taken() >= 64 || !store.is_taken(table) {
+            return Err(Fault::Unready);
+        }
+        let shared = store.share(table);
+        self.keep(alloc, shared)
+    }
+
+    /// `release TABLE`.
+    fn release(&mut self, arguments: &[Word<'_>]) -> Result<Answer, Fault> {
+        let [table] = arguments else {
+            return Err(Fault::Words);
+        };
+        let table = self.table(*table)?;
+        let Some(store) = &mut self.store else {
+            return Err(Fault::Absent);
+        };
+        if !store.is_taken(table) {
+            return Err(Fault::Unready);
+        }
+        store.release(table);
+        Ok(Answer::Done)
+    }
+
+    /// A line about the flat memory or that of a table, which its first word names.
+    fn memory(
+        &mut self,
+        alloc: Global,
+        verb: &str,
+        arguments: &[Word<'_>],
+    ) -> Result<Answer, Fault> {
+        let [name, rest @ ..] = arguments else {
+            return Err(Fault::Words);
+        };
+        if name.text == "flat" {
+            return match &mut self.flat {
+                Some(flat) => use_memory(alloc, flat, verb, rest),
+                None => Err(Fault::Absent),
+            };
+        }
+        let table = self.table(*name)?;
+        match &mut self.store {
+            Some(store) if store.is_taken(table) => {
+                use_memory(alloc, &mut store.view(table), verb, rest)
+            }
+            _ => Err(Fault::Absent),
+        }
+    }
+
+    /// `place TABLE PAGE`, or `frame TABLE PAGE OFFSET`.
+    fn place(
+        &mut self,
+        alloc: Global,
+        verb: &str,
+        arguments: &[Word<'_>],
+    ) -> Result<Answer, Fault> {
+        let [table, page, offset @ ..] = arguments else {
+            return Err(Fault::Words);
+        };
+        let table = self.table(*table)?;
+        let Some(store) = &self.store else {
+            return Err(Fault::Absent);
+        };
+        if !store.is_taken(table) {
+            return Err(Fault::Absent);
+        }
+        let place = store.place(table, byte(*page)?);
+        match offset {
+            [] if verb == "place" => Answer::words(alloc, place),
+            [offset] if verb == "frame" => {
+                match store.frame(place).get(usize::from(byte(*offset)?)) {
+                    Some(byte) => Answer::byte(alloc, *byte),
+                    None => Err(Fault::Unready),
+                }
+            }
+            _ => Err(Fault::Words),
+        }
+    }
+
+    /// `reflect TABLE`.
+    fn reflect(&mut self, arguments: &[Word<'_>]) -> Result<Answer, Fault> {
+        let [table] = arguments else {
+            return Err(Fault::Words);
+        };
+        let table = self.table(*table)?;
+        let (Some(flat), Some(store)) = (&mut self.flat, &self.store) else {
+            return Err(Fault::Absent);
+        };
+        if !store.is_taken(table) {
+            return Err(Fault::Absent);
+        }
+        flat.reflect(store, table);
+        Ok(Answer::Done)
+    }
+
+    /// `put-back TABLE ADDRESS BYTE`.
+    fn put_back(&mut self, arguments: &[Word<'_>]) -> Result<Answer, Fault> {
+        let [table, at, value] = arguments else {
+            return Err(Fault::Words);
+        };
+        let (at, value) = (address(*at)?, byte(*value)?);
+        let table = self.table(*table)?;
+        let (Some(flat), Some(store)) = (&mut self.flat, &mut self.store) else {
+            return Err(Fault::Absent);
+        };
+        if !store.is_taken(table) {
+            return Err(Fault::Absent);
+        }
+        flat.reflect(store, table);
+        if flat.room() == 0 {
+            return Err(Fault::Unready);
+        }
+        flat.set(at, value);
+        store.put_back(table, flat);
+        Ok(Answer::Done)
+    }
+
+    /// A line that asks the store.
+    fn ask(&self, alloc: Global, verb: &str, arguments: &[Word<'_>]) -> Result<Answer, Fault> {
+        let Some(store) = &self.store else {
+            return Err(Fault::Unknown);
+        };
+        match (verb, arguments) {
+            ("used", []) => Answer::words(alloc, store.used()),
+            ("taken", []) => Answer::words(alloc, store.taken()),
+            ("pages-written", [table]) => {
+                Answer::words(alloc, store.pages_written(self.table(*table)?))
+            }
+            ("pages-reserved", [table]) => {
+                Answer::words(alloc, store.pages_reserved(self.table(*table)?))
+            }
+            ("page-stamp", [table, page]) => {
+                let table = self.table(*table)?;
+                Answer::words(alloc, store.page_stamp(table, byte(*page)?))
+            }
+            _ => Err(Fault::Unknown),
+        }
+    }
+}
+
+/// A number of pages, up to 256.
+fn page_count(word: Word<'_>) -> Result<u16, Fault>
+    ensures { IfOk result (λ pages. pages ≤ 256) }
+{
+    let pages = number(word)?;
+    if pages > 256 {
+        return Err(Fault::Unready);
+    }
+    Ok(pages as u16)
+}
+
+/// A line about a memory.
+fn use_memory<M: Memory>(
+    alloc: Global,
+    memory: &mut M,
+    verb: &str,
+    arguments: &[Word<'_>],
+) -> Result<Answer, Fault> {
+    match (verb, arguments) {
+        ("set", [at, value]) => set(memory, address(*at)?, byte(*value)?, 1),
+        ("set", [at, value, pages]) => {
+            set(memory, address(*at)?, byte(*value)?, page_count(*pages)?)
+        }
+        ("get", [at]) => Answer::byte(alloc, memory.get(address(*at)?)),
+        ("get", [at, length]) => {
+            let bytes = run_of(alloc, memory, address(*at)?, count(*length)?)?;
+            Answer::bytes(alloc, bytes.as_slice())
+        }
+        ("pages", []) => {
+            let (written, room) = (memory.touched(), memory.room());
+            Answer::words(alloc, format!(in alloc; "{written} {room}")?)
+        }
+        ("stamp", [page]) => Answer::words(alloc, memory.stamp(byte(*page)?)),
+        _ => Err(Fault::Words),
+    }
+}
+
+/// Stores a byte at an address, and at the same place of the pages behind, so many in all.
+fn set<M: Memory>(memory: &mut M, at: u16, value: u8, pages: u16) -> Result<Answer, Fault> {
+    let mut at = at;
+    for _ in 0..pages {
+        if memory.room() == 0 {
+            return Err(Fault::Unready);
+        }
+        memory.set(at, value);
+        at = at.wrapping_add(256);
+    }
+    Ok(Answer::Done)
+}
+
+/// So many bytes of a memory from an address on.
+pub fn run_of<M: Memory>(
+    alloc: Global,
+    memory: &M,
+    at: u16,
+    length: usize,
+) -> Result<Vec<u8>, AllocError> {
+    let mut bytes = Vec::new(alloc);
+    let mut at = at;
+    for _ in 0..length {
+        bytes.push(memory.get(at))?;
+        at = at.wrapping_add(1);
+    }
+    Ok(bytes)
+}

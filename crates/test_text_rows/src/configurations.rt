@@ -1,0 +1,225 @@
+//! Configurations: what is read of them, and why others are refused.
+
+use crate::sessions::{shown_config, shown_refusal};
+use cpm_config::{Config, ConfigError, Origin, Session, place_of};
+use std::alloc::{AllocError, Global};
+use test_language::{Answer, Fault, Line, Scene, Word, count, number};
+
+/// The most copies of a text that are added.
+const MOST_COPIES: usize = 100;
+
+/// The text of a configuration, what was read of it last, and what was said of the last refusal.
+#[derive(Drop)]
+pub struct Configurations {
+    text: Vec<u8>,
+    config: Option<Config>,
+    told: String,
+}
+
+impl Scene for Configurations {
+    fn new(alloc: Global) -> Result<Configurations, AllocError> {
+        Ok(Configurations {
+            text: Vec::new(alloc),
+            config: None,
+            told: String::new(alloc),
+        })
+    }
+
+    fn act(&mut self, alloc: Global, line: &Line<'_>) -> Result<Answer, Fault> {
+        match line.verb() {
+            "text" => {
+                self.text = line.given(alloc, line.arguments())?;
+                Ok(Answer::Done)
+            }
+            "add" => self.add(alloc, line),
+            "change" => {
+                self.text = changed(alloc, self.text.as_slice(), line.text.as_str())?;
+                Ok(Answer::Done)
+            }
+            "changed" => self.read_changed(alloc, line.text.as_str()),
+            "copies" => self.add_copies(alloc, line.text.as_str()),
+            "prefixes" => self.read_prefixes(alloc),
+            "read" => self.read(alloc),
+            "sessions" => self.count_sessions(alloc),
+            "fork" => self.fork(alloc, line.arguments()),
+            "rename" => self.rename(alloc, line.arguments()),
+            "place" => self.place(alloc, line.arguments()),
+            "told" => Answer::words(alloc, self.told.as_str()),
+            _ => Err(Fault::Unknown),
+        }
+    }
+}
+
+impl Configurations {
+    /// `add TEXT`: adds it to the text.
+    fn add(&mut self, alloc: Global, line: &Line<'_>) -> Result<Answer, Fault> {
+        let more = line.given(alloc, line.arguments())?;
+        self.text.extend_from_slice(more.as_slice())?;
+        Ok(Answer::Done)
+    }
+
+    /// `read`: what the text says.
+    fn read(&mut self, alloc: Global) -> Result<Answer, Fault> {
+        match Config::read(alloc, self.text.as_slice()) {
+            Ok(config) => {
+                let answer = shown_config(alloc, &config)?;
+                self.config = Some(config);
+                Ok(answer)
+            }
+            Err(error) => self.refused(alloc, error),
+        }
+    }
+
+    /// `sessions`: how many sessions the text has.
+    fn count_sessions(&mut self, alloc: Global) -> Result<Answer, Fault> {
+        match Config::read(alloc, self.text.as_slice()) {
+            Ok(config) => Answer::words(alloc, config.sessions.len()),
+            Err(error) => self.refused(alloc, error),
+        }
+    }
+
+    /// `changed`, with a change between marks: `taken` where the text is read with it. The text stays as it is.
+    fn read_changed(&mut self, alloc: Global, change: &str) -> Result<Answer, Fault> {
+        let text = changed(alloc, self.text.as_slice(), change)?;
+        match Config::read(alloc, text.as_slice()) {
+            Ok(_) => Answer::words(alloc, "taken"),
+            Err(error) => self.refused(alloc, error),
+        }
+    }
+
+    /// `copies`, with a text between marks: adds copies of it, with their numbers in place of `%`, until the whole is refused.
+    fn add_copies(&mut self, alloc: Global, copy: &str) -> Result<Answer, Fault> {
+        for number in 1..=MOST_COPIES {
+            add_copy(alloc, &mut self.text, copy, number)?;
+            if let Err(error) = Config::read(alloc, self.text.as_slice()) {
+                let (taken, refusal) = (number - 1, shown_refusal(alloc, error)?);
+                return Answer::words(alloc, format!(in alloc; "{taken} taken, then {refusal}")?);
+            }
+        }
+        Answer::words(alloc, "all taken")
+    }
+
+    /// `prefixes`: the fewest and the most sessions of the beginnings of the text that are read; the others are refused, and not
+    /// for want of memory.
+    fn read_prefixes(&self, alloc: Global) -> Result<Answer, Fault> {
+        let (mut least, mut most, mut refused) = (usize::MAX, 0, 0);
+        let bytes = self.text.as_slice();
+        for end in 0..=bytes.len() {
+            match Config::read(alloc, &bytes[..end]) {
+                Ok(config) => {
+                    least = least.min(config.sessions.len());
+                    most = most.max(config.sessions.len());
+                }
+                Err(ConfigError::OutOfMemory) => return Err(Fault::OutOfMemory),
+                Err(_) => refused = 1,
+            }
+        }
+        let others = if refused == 0 { "" } else { " or refused" };
+        Answer::words(
+            alloc,
+            format!(in alloc; "{least} to {most} sessions{others}")?,
+        )
+    }
+
+    /// `fork SESSION PARENT AT STEPS`: the session of this number, from 1, is forked so, and the place at which a fork of the
+    /// configuration breaks a rule then, or `none`.
+    fn fork(&mut self, alloc: Global, arguments: &[Word<'_>]) -> Result<Answer, Fault> {
+        let [place, parent, at, steps] = arguments else {
+            return Err(Fault::Words);
+        };
+        let (at, steps) = (number(*at)?, number(*steps)?);
+        let parent = String::from_str(alloc, parent.text)?;
+        let session = self.session(*place)?;
+        session.origin = Origin::Forked { parent, at };
+        session.steps = steps;
+        let Some(config) = &self.config else {
+            return Err(Fault::Absent);
+        };
+        match config.fork_fault() {
+            Some(place) => Answer::words(alloc, place),
+            None => Answer::words(alloc, "none"),
+        }
+    }
+
+    /// `rename SESSION NAME`: the session of this number, from 1, has another name.
+    fn rename(&mut self, alloc: Global, arguments: &[Word<'_>]) -> Result<Answer, Fault> {
+        let [place, name] = arguments else {
+            return Err(Fault::Words);
+        };
+        let name = String::from_str(alloc, name.text)?;
+        self.session(*place)?.name = name;
+        Ok(Answer::Done)
+    }
+
+    /// `place NAME`: the place of a session, from 0, or `none`. Before anything was read there are no sessions.
+    fn place(&self, alloc: Global, arguments: &[Word<'_>]) -> Result<Answer, Fault> {
+        let [name] = arguments else {
+            return Err(Fault::Words);
+        };
+        let sessions = match &self.config {
+            Some(config) => config.sessions.as_slice(),
+            None => &[],
+        };
+        match place_of(sessions, name.text) {
+            Some(place) => Answer::words(alloc, place),
+            None => Answer::words(alloc, "none"),
+        }
+    }
+
+    /// The session of this number, from 1, of what was read last.
+    fn session(&mut self, word: Word<'_>) -> Result<&mut Session, Fault> {
+        let place = count(word)?.saturating_sub(1);
+        let Some(config) = &mut self.config else {
+            return Err(Fault::Absent);
+        };
+        config.sessions.get_mut(place).ok_or(Fault::Absent)
+    }
+
+    /// A refusal by its kind and its place.
+    fn refused(&mut self, alloc: Global, error: ConfigError) -> Result<Answer, Fault> {
+        self.told = error.to_string(alloc)?;
+        Ok(Answer::Refused(shown_refusal(alloc, error)?))
+    }
+}
+
+/// A text with a change: in place of its lines that begin with `-` stand those that begin with `+`.
+fn changed(alloc: Global, text: &[u8], change: &str) -> Result<Vec<u8>, Fault> {
+    let (mut old, mut new) = (String::new(alloc), String::new(alloc));
+    for line in change.lines() {
+        match (line.strip_prefix('-'), line.strip_prefix('+')) {
+            (Some(line), _) => add_line(&mut old, line)?,
+            (None, Some(line)) => add_line(&mut new, line)?,
+            (None, None) => return Err(Fault::Words),
+        }
+    }
+    let Ok(text) = str::from_utf8(text) else {
+        return Err(Fault::Unready);
+    };
+    let Some((front, back)) = text.split_once(old.as_str()) else {
+        return Err(Fault::Absent);
+    };
+    let mut whole = Vec::from_slice(alloc, front.as_bytes())?;
+    whole.extend_from_slice(new.as_str().as_bytes())?;
+    whole.extend_from_slice(back.as_bytes())?;
+    Ok(whole)
+}
+
+/// Adds a line with its end.
+fn add_line(out: &mut String, line: &str) -> Result<(), AllocError> {
+    out.push_str(line)?;
+    out.push('\n')
+}
+
+/// Adds a text with a number in place of each `%`.
+fn add_copy(alloc: Global, out: &mut Vec<u8>, copy: &str, number: usize) -> Result<(), Fault> {
+    let digits = format!(in alloc; "{number}")?;
+    let mut is_first = true;
+    for part in copy.split('%') {
+        if !is_first {
+            out.extend_from_slice(digits.as_str().as_bytes())?;
+        }
+        out.extend_from_slice(part.as_bytes())?;
+        is_first = false;
+    }
+    Ok(())
+}

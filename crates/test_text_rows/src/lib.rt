@@ -1,0 +1,34 @@
+//! Scenes of rows on the texts that a person writes for the host: key scripts, configurations and command lines.
+#![tactic(auto)]
+
+mod command_lines;
+mod configurations;
+mod scripts;
+mod sessions;
+mod tasks;
+
+pub use command_lines::CommandLines;
+pub use configurations::Configurations;
+pub use scripts::Scripts;
+use std::alloc::Global;
+use test_language::Fault;
+
+/// Adds values in quotes behind what they are, where there are some.
+fn add_texts(alloc: Global, out: &mut String, name: &str, values: &[&str]) -> Result<(), Fault> {
+    if values.is_empty() {
+        return Ok(());
+    }
+    out.push_str(name)?;
+    for value in values {
+        out.push_str(format!(in alloc; " {value:?}")?.as_str())?;
+    }
+    Ok(())
+}
+
+/// Adds a value in quotes behind what it is, where there is one.
+fn add_text(alloc: Global, out: &mut String, name: &str, value: Option<&str>) -> Result<(), Fault> {
+    match value {
+        Some(value) => add_texts(alloc, out, name, &[value]),
+        None => Ok(()),
+    }
+}

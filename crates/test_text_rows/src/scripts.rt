@@ -1,0 +1,234 @@
+//! Key scripts: the keys that they have, those that wait, those of forked sessions, and keys that are recorded.
+
+use cpm_script::{
+    Cue, Key, ScriptError, is_plain, key_line, keys_before, plain_keys, read_cues,
+    read_forked_cues, read_forked_keys, read_keys,
+};
+use std::alloc::{AllocError, Global};
+use test_language::{Answer, Fault, Line, Scene, Word, byte, count, number};
+
+/// The most keys of a script.
+const MOST_KEYS: usize = 4096;
+
+/// The most keys that are shown one by one.
+const MOST_SHOWN: usize = 128;
+
+/// A script, that of the session that another is forked from, and what was said of the last refusal.
+#[derive(Drop)]
+pub struct Scripts {
+    script: Vec<u8>,
+    parent: Vec<u8>,
+    told: String,
+}
+
+impl Scene for Scripts {
+    fn new(alloc: Global) -> Result<Scripts, AllocError> {
+        Ok(Scripts {
+            script: Vec::new(alloc),
+            parent: Vec::new(alloc),
+            told: String::new(alloc),
+        })
+    }
+
+    fn act(&mut self, alloc: Global, line: &Line<'_>) -> Result<Answer, Fault> {
+        match line.verb() {
+            "script" => {
+                self.script = line.given(alloc, line.arguments())?;
+                Ok(Answer::Done)
+            }
+            "parent" => {
+                self.parent = line.given(alloc, line.arguments())?;
+                Ok(Answer::Done)
+            }
+            "first" => self.cut(line.arguments()),
+            "record" => self.record(alloc, line.arguments()),
+            "keys" => self.keys(alloc),
+            "keys-before" => self.keys_before(alloc, line.arguments()),
+            "forked-keys" => self.forked_keys(alloc, line.arguments()),
+            "cues" => self.cues(alloc),
+            "is-plain" => self.is_plain(alloc),
+            "plain-keys" => self.plain_keys(alloc),
+            "forked-cues" => self.forked_cues(alloc, line.arguments()),
+            "told" => Answer::words(alloc, self.told.as_str()),
+            _ => Err(Fault::Unknown),
+        }
+    }
+}
+
+impl Scripts {
+    /// `first N`: the script ends behind so many bytes.
+    fn cut(&mut self, arguments: &[Word<'_>]) -> Result<Answer, Fault> {
+        let [bytes] = arguments else {
+            return Err(Fault::Words);
+        };
+        self.script.truncate(count(*bytes)?);
+        Ok(Answer::Done)
+    }
+
+    /// `record COUNT KEY`: the line of a key, which is added to the script; `none` where the byte is no key.
+    fn record(&mut self, alloc: Global, arguments: &[Word<'_>]) -> Result<Answer, Fault> {
+        let [steps, key] = arguments else {
+            return Err(Fault::Words);
+        };
+        let key = Key {
+            count: number(*steps)?,
+            byte: byte(*key)?,
+        };
+        match key_line(key) {
+            Some(line) => {
+                self.script.extend_from_slice(line.as_str().as_bytes())?;
+                Answer::bytes(alloc, line.as_str().as_bytes())
+            }
+            None => Answer::words(alloc, "none"),
+        }
+    }
+
+    /// `keys`: the keys of the script.
+    fn keys(&mut self, alloc: Global) -> Result<Answer, Fault> {
+        match read_keys(alloc, self.script.as_slice()) {
+            Ok(keys) => shown_keys(alloc, keys.as_slice()),
+            Err(error) => self.refused(alloc, error),
+        }
+    }
+
+    /// `keys-before COUNT`: those of them that come before this count.
+    fn keys_before(&mut self, alloc: Global, arguments: &[Word<'_>]) -> Result<Answer, Fault> {
+        let [at] = arguments else {
+            return Err(Fault::Words);
+        };
+        let at = number(*at)?;
+        match read_keys(alloc, self.script.as_slice()) {
+            Ok(keys) => shown_keys(alloc, keys_before(alloc, keys.as_slice(), at)?.as_slice()),
+            Err(error) => self.refused(alloc, error),
+        }
+    }
+
+    /// `forked-keys COUNT`: the keys of a session with this script that is forked at this count, where those of the parent's
+    /// script come before.
+    fn forked_keys(&mut self, alloc: Global, arguments: &[Word<'_>]) -> Result<Answer, Fault> {
+        let [at] = arguments else {
+            return Err(Fault::Words);
+        };
+        let at = number(*at)?;
+        let before = match read_keys(alloc, self.parent.as_slice()) {
+            Ok(before) if before.len() <= MOST_KEYS => before,
+            _ => return Err(Fault::Unready),
+        };
+        match read_forked_keys(alloc, self.script.as_slice(), at, before) {
+            Ok(keys) => shown_keys(alloc, keys.as_slice()),
+            Err(error) => self.refused(alloc, error),
+        }
+    }
+
+    /// `cues`: what the script says, where some of its lines wait.
+    fn cues(&mut self, alloc: Global) -> Result<Answer, Fault> {
+        match read_cues(alloc, self.script.as_slice()) {
+            Ok(cues) => shown_cues(alloc, cues.as_slice()),
+            Err(error) => self.refused(alloc, error),
+        }
+    }
+
+    /// `is-plain`: whether none of it waits.
+    fn is_plain(&mut self, alloc: Global) -> Result<Answer, Fault> {
+        match read_cues(alloc, self.script.as_slice()) {
+            Ok(cues) => Answer::truth(alloc, is_plain(cues.as_slice())),
+            Err(error) => self.refused(alloc, error),
+        }
+    }
+
+    /// `plain-keys`: the keys of its lines that have a count.
+    fn plain_keys(&mut self, alloc: Global) -> Result<Answer, Fault> {
+        match read_cues(alloc, self.script.as_slice()) {
+            Ok(cues) => shown_keys(alloc, plain_keys(alloc, cues.as_slice())?.as_slice()),
+            Err(error) => self.refused(alloc, error),
+        }
+    }
+
+    /// `forked-cues COUNT KEYS`: what the script says of a session that is forked at this count, where its parent had so many
+    /// keys before.
+    fn forked_cues(&mut self, alloc: Global, arguments: &[Word<'_>]) -> Result<Answer, Fault> {
+        let [at, before] = arguments else {
+            return Err(Fault::Words);
+        };
+        let (at, before) = (number(*at)?, count(*before)?);
+        if before > MOST_KEYS {
+            return Err(Fault::Unready);
+        }
+        match read_forked_cues(alloc, self.script.as_slice(), at, before) {
+            Ok(cues) => shown_cues(alloc, cues.as_slice()),
+            Err(error) => self.refused(alloc, error),
+        }
+    }
+
+    /// A refusal by its line and its fault.
+    fn refused(&mut self, alloc: Global, error: ScriptError) -> Result<Answer, Fault> {
+        self.told = error.to_string(alloc)?;
+        match error {
+            ScriptError::Line { number, fault } => Ok(Answer::Refused(format!(in alloc;
+                "line {number}: {fault:?}"
+            )?)),
+            ScriptError::OutOfMemory => Err(Fault::OutOfMemory),
+        }
+    }
+}
+
+/// A key: its count and its byte.
+fn shown_key(alloc: Global, key: Key) -> Result<String, AllocError> {
+    let Key { count, byte } = key;
+    format!(in alloc; "{count} {byte:02X}")
+}
+
+/// Adds an item behind those before it.
+fn add_item(out: &mut String, item: &str) -> Result<(), AllocError> {
+    if !out.is_empty() {
+        out.push_str(", ")?;
+    }
+    out.push_str(item)
+}
+
+/// Keys, or how many there are with the last one; `none` where there are none.
+fn shown_keys(alloc: Global, keys: &[Key]) -> Result<Answer, Fault> {
+    let Some(last) = keys.last() else {
+        return Answer::words(alloc, "none");
+    };
+    let mut out = String::new(alloc);
+    if keys.len() > MOST_SHOWN {
+        let (length, last) = (keys.len(), shown_key(alloc, *last)?);
+        return Answer::words(alloc, format!(in alloc; "{length} keys, the last {last}")?);
+    }
+    for key in keys {
+        add_item(&mut out, shown_key(alloc, *key)?.as_str())?;
+    }
+    Ok(Answer::Words(out))
+}
+
+/// A cue: `key COUNT BYTE`, `wait TEXT` or `press BYTE`.
+fn shown_cue(alloc: Global, cue: &Cue) -> Result<String, Fault> {
+    match cue {
+        Cue::Key(key) => {
+            let key = shown_key(alloc, *key)?;
+            Ok(format!(in alloc; "key {key}")?)
+        }
+        Cue::Wait(text) => match str::from_utf8(text.as_slice()) {
+            Ok(text) => Ok(format!(in alloc; "wait {text:?}")?),
+            Err(_) => Err(Fault::Unready),
+        },
+        Cue::Press(byte) => Ok(format!(in alloc; "press {byte:02X}")?),
+    }
+}
+
+/// Cues, or how many there are with the last one; `none` where there are none.
+fn shown_cues(alloc: Global, cues: &[Cue]) -> Result<Answer, Fault> {
+    let Some(last) = cues.last() else {
+        return Answer::words(alloc, "none");
+    };
+    let mut out = String::new(alloc);
+    if cues.len() > MOST_SHOWN {
+        let (length, last) = (cues.len(), shown_cue(alloc, last)?);
+        return Answer::words(alloc, format!(in alloc; "{length} cues, the last {last}")?);
+    }
+    for cue in cues {
+        add_item(&mut out, shown_cue(alloc, cue)?.as_str())?;
+    }
+    Ok(Answer::Words(out))
+}

@@ -1,0 +1,160 @@
+//! What a command line asks for, in words: the names of the task's fields, each with its value where it has one.
+
+use crate::{add_text, add_texts};
+use cpm_command::{ComTask, DiskTask, RunTask, Task};
+use cpm_flags::Cpu;
+use std::alloc::Global;
+use test_language::Fault;
+
+/// A task in words.
+pub fn shown_task(alloc: Global, task: &Task<'_>) -> Result<String, Fault> {
+    let mut out = String::new(alloc);
+    match task {
+        Task::Com(task) => add_com(alloc, &mut out, task)?,
+        Task::Asm {
+            source,
+            out: image,
+            list,
+        } => {
+            add_text(alloc, &mut out, "asm source", Some(source))?;
+            add_text(alloc, &mut out, " out", Some(image))?;
+            add_text(alloc, &mut out, " list", *list)?;
+        }
+        Task::List { file, cpu } => {
+            add_text(alloc, &mut out, "list file", Some(file))?;
+            add_cpu(&mut out, *cpu)?;
+        }
+        Task::Check { image } => add_text(alloc, &mut out, "check image", Some(image))?,
+        Task::Run(task) => add_run(alloc, &mut out, task)?,
+        Task::Debug { file, cpu, list } => {
+            add_text(alloc, &mut out, "debug file", Some(file))?;
+            add_cpu(&mut out, *cpu)?;
+            add_text(alloc, &mut out, " list", *list)?;
+        }
+        Task::Disk(task) => add_disk(alloc, &mut out, task)?,
+    }
+    Ok(out)
+}
+
+/// Adds a processor.
+fn add_cpu(out: &mut String, cpu: Cpu) -> Result<(), Fault> {
+    out.push_str(match cpu {
+        Cpu::I8080 => " cpu I8080",
+        Cpu::Z80 => " cpu Z80",
+    })?;
+    Ok(())
+}
+
+/// Adds a name where it holds.
+fn add_flag(out: &mut String, name: &str, holds: bool) -> Result<(), Fault> {
+    if holds {
+        out.push_str(name)?;
+    }
+    Ok(())
+}
+
+/// Adds a user.
+fn add_user(alloc: Global, out: &mut String, user: u8) -> Result<(), Fault> {
+    out.push_str(format!(in alloc; " user {user}")?.as_str())?;
+    Ok(())
+}
+
+/// Adds a program with its words, its keys and its drives.
+fn add_com(alloc: Global, out: &mut String, task: &ComTask<'_>) -> Result<(), Fault> {
+    add_text(alloc, out, "com file", Some(task.file))?;
+    add_texts(alloc, out, " tail", task.tail.as_slice())?;
+    add_cpu(out, task.cpu)?;
+    if let Some(steps) = task.steps {
+        out.push_str(format!(in alloc; " steps {steps}")?.as_str())?;
+    }
+    add_text(alloc, out, " keys", task.keys)?;
+    add_texts(alloc, out, " drives", task.drives.as_slice())?;
+    add_texts(alloc, out, " outs", task.outs.as_slice())?;
+    add_flag(out, " is_live", task.is_live)?;
+    add_text(alloc, out, " record", task.record)?;
+    add_flag(out, " has_progress", task.has_progress)?;
+    add_flag(out, " stops_idle", task.stops_idle)
+}
+
+/// Adds a configuration that is run.
+fn add_run(alloc: Global, out: &mut String, task: &RunTask<'_>) -> Result<(), Fault> {
+    add_text(alloc, out, "run config", Some(task.config))?;
+    add_text(alloc, out, " keyboard", task.keyboard)?;
+    add_text(alloc, out, " record", task.record)?;
+    add_flag(out, " has_progress", task.has_progress)?;
+    add_flag(out, " stops_idle", task.stops_idle)?;
+    add_text(alloc, out, " scripts", task.scripts)
+}
+
+/// Adds a command of `disk`.
+fn add_disk(alloc: Global, out: &mut String, task: &DiskTask<'_>) -> Result<(), Fault> {
+    match task {
+        DiskTask::New { image, is_large } => {
+            add_text(alloc, out, "disk new image", Some(image))?;
+            add_flag(out, " is_large", *is_large)
+        }
+        DiskTask::List { image, user } => {
+            add_text(alloc, out, "disk list image", Some(image))?;
+            match user {
+                Some(user) => add_user(alloc, out, *user),
+                None => Ok(()),
+            }
+        }
+        DiskTask::Put { .. } => add_put(alloc, out, task),
+        DiskTask::Get { .. } => add_get(alloc, out, task),
+        DiskTask::Remove { image, names, user } => {
+            add_text(alloc, out, "disk remove image", Some(image))?;
+            add_texts(alloc, out, " names", names.as_slice())?;
+            add_user(alloc, out, *user)
+        }
+        DiskTask::Rename {
+            image,
+            change,
+            user,
+        } => {
+            add_text(alloc, out, "disk rename image", Some(image))?;
+            add_text(alloc, out, " change", Some(change))?;
+            add_user(alloc, out, *user)
+        }
+    }
+}
+
+/// Adds files that are put on a disk.
+fn add_put(alloc: Global, out: &mut String, task: &DiskTask<'_>) -> Result<(), Fault> {
+    let DiskTask::Put {
+        image,
+        files,
+        user,
+        is_text,
+        is_read_only,
+        is_system,
+    } = task
+    else {
+        return Ok(());
+    };
+    add_text(alloc, out, "disk put image", Some(image))?;
+    add_texts(alloc, out, " files", files.as_slice())?;
+    add_user(alloc, out, *user)?;
+    add_flag(out, " is_text", *is_text)?;
+    add_flag(out, " is_read_only", *is_read_only)?;
+    add_flag(out, " is_system", *is_system)
+}
+
+/// Adds files that are taken off a disk.
+fn add_get(alloc: Global, out: &mut String, task: &DiskTask<'_>) -> Result<(), Fault> {
+    let DiskTask::Get {
+        image,
+        names,
+        user,
+        is_text,
+        to,
+    } = task
+    else {
+        return Ok(());
+    };
+    add_text(alloc, out, "disk get image", Some(image))?;
+    add_texts(alloc, out, " names", names.as_slice())?;
+    add_user(alloc, out, *user)?;
+    add_flag(out, " is_text", *is_text)?;
+    add_text(alloc, out, " to", *to)
+}
