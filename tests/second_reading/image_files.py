@@ -7,7 +7,7 @@ from .directories import fault_of, text_of
 from .disk import UNUSED, Disk
 from .images import RECORD, Images, blank
 from .one_drive import name_of
-from .rows import Refused, bytes_of, number_of, some
+from .rows import Refused, Wrong, bytes_of, number_of, some
 
 END = b"\x1a"
 QUESTION = 0x3F
@@ -72,7 +72,7 @@ class Shelf:
         for start in range(0, len(data), RECORD):
             self.calls.buffer = bytearray(data[start : start + RECORD].ljust(RECORD, END))
             if self.calls.sequential(self.calls.write) != 0:
-                raise AssertionError("the file has no room")
+                raise Wrong("the file has no room")
         self.calls.close()
 
     def remove(self):

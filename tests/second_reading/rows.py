@@ -282,6 +282,8 @@ def play(scene, row):
             agreed += line.is_expectation
     except Wrong as wrong:
         return Outcome(agreed, None, f"{number}: {wrong}")
+    except (AttributeError, IndexError, KeyError, ValueError) as error:
+        return Outcome(agreed, None, f"{number}: the reading breaks off: {error!r}")
     if not agreed and not not_played:
         return Outcome(0, None, f"{row.number}: the row expects nothing")
     return Outcome(agreed, not_played, None)
