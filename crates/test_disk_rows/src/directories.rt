@@ -118,7 +118,10 @@ impl Directories {
             }
             "block" => {
                 let dpb = format_of(word)?.dpb();
-                place(alloc, block_at(&dpb, &Fcb::from_bytes(&dpb, &self.fcb.bytes)))
+                place(
+                    alloc,
+                    block_at(&dpb, &Fcb::from_bytes(&dpb, &self.fcb.bytes)),
+                )
             }
             "fcb-again" => self.fcb_again(alloc, &format_of(word)?.dpb()),
             _ => self.act_image(alloc, verb, word),
@@ -154,7 +157,11 @@ impl Directories {
     fn reserved_to(&self, alloc: Global, last: u16) -> Result<Answer, Fault> {
         let mut found = Runs::new(alloc);
         for block in 0..=last {
-            let word = if self.reserved.contains(block) { "yes" } else { "no" };
+            let word = if self.reserved.contains(block) {
+                "yes"
+            } else {
+                "no"
+            };
             found.add(alloc, word)?;
         }
         found.into_answer(alloc)
@@ -193,8 +200,8 @@ fn shown(alloc: Global, entry: &Entry) -> Result<Answer, Fault> {
     let extent = &entry.extent;
     let mut text = format!(in alloc; "user {:02X} ", entry.user)?;
     write_name(alloc, &mut text, &extent.name)?;
-    let parts = format!(
-        in alloc; " EX {:02X} S1 {:02X} S2 {:02X} RC {:02X} blocks",
+    let parts = format!(in alloc;
+        " EX {:02X} S1 {:02X} S2 {:02X} RC {:02X} blocks",
         extent.ex, extent.s1, extent.s2, extent.record_count
     )?;
     text.push_str(parts.as_str())?;

@@ -69,12 +69,12 @@ impl ImageLines {
             return Err(Fault::Words);
         };
         let dpb = self.images.copy(alloc, name.text)?.format().dpb();
-        let first = format!(
-            in alloc; "SPT {} BSH {} BLM {} EXM {} DSM {}",
+        let first = format!(in alloc;
+            "SPT {} BSH {} BLM {} EXM {} DSM {}",
             dpb.sectors_per_track, dpb.block_shift, dpb.block_mask, dpb.extent_mask, dpb.last_block
         )?;
-        let last = format!(
-            in alloc; "{first} DRM {} AL {:04X} CKS {} OFF {}",
+        let last = format!(in alloc;
+            "{first} DRM {} AL {:04X} CKS {} OFF {}",
             dpb.last_entry, dpb.directory_bits, dpb.checksum_size, dpb.track_offset
         )?;
         Ok(Answer::Words(last))

@@ -125,10 +125,7 @@ impl OneDrive {
                 let image = LentImage::new(self.drive.image.image());
                 code(alloc, Ok(open_file_lent(&image, user, fcb)))
             }
-            "close-lent" => code(
-                alloc,
-                close_file_lent(self.drive.image.image(), user, fcb),
-            ),
+            "close-lent" => code(alloc, close_file_lent(self.drive.image.image(), user, fcb)),
             "read-protected" => self.read_protected(alloc, fcb),
             _ => Err(Fault::Unknown),
         }
@@ -219,9 +216,7 @@ impl OneDrive {
         }
         let (image, marks) = (self.drive.image.image(), &self.drive.marks);
         let buffer = &mut self.buffer;
-        Ok(read_random_protected(
-            image, marks, self.user, place, fcb, buffer,
-        ))
+        Ok(read_random_protected(image, marks, self.user, place, fcb, buffer))
     }
 
     /// A random write.
@@ -237,9 +232,10 @@ impl OneDrive {
         }
         match verb {
             "write-random" => Ok(self.drive.write_random(self.user, place, fcb, bytes)),
-            "write-cleared" => Ok(self
-                .drive
-                .write_random_cleared(self.user, place, fcb, bytes)),
+            "write-cleared" => Ok(
+                self.drive
+                    .write_random_cleared(self.user, place, fcb, bytes),
+            ),
             _ => Err(Fault::Words),
         }
     }

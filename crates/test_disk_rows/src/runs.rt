@@ -23,7 +23,11 @@ impl Runs {
     }
 
     /// Adds a word.
-    pub(crate) fn add(&mut self, alloc: Global, word: impl Display + Drop) -> Result<(), AllocError> {
+    pub(crate) fn add(
+        &mut self,
+        alloc: Global,
+        word: impl Display + Drop,
+    ) -> Result<(), AllocError> {
         let word = format!(in alloc; "{word}")?;
         if self.times > 0 && word.as_str() == self.last.as_str() {
             self.times = self.times.saturating_add(1);

@@ -45,7 +45,11 @@ pub(crate) fn done(arguments: &[Word<'_>]) -> Result<Answer, Fault> {
 }
 
 /// Adds a name as rows write it, in quotes, its characters with an attribute bit as `\xHH`.
-pub(crate) fn write_name(alloc: Global, text: &mut String, name: &[u8; 11]) -> Result<(), AllocError> {
+pub(crate) fn write_name(
+    alloc: Global,
+    text: &mut String,
+    name: &[u8; 11],
+) -> Result<(), AllocError> {
     text.push('"')?;
     for character in name {
         if matches!(*character, b' '..=b'~') {
