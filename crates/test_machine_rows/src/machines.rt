@@ -1,5 +1,6 @@
 //! Rows of machines by themselves.
 
+ghost use Rattle.std.specs.Prelude.{IfOk};
 ghost use Rattle.cpm_turns.specs.Playing.{IsFresh};
 
 use crate::look::{field, granted};

@@ -1,5 +1,7 @@
 //! Rows of memories: a flat one, and tables over a store of shared frames.
 
+ghost use Rattle.std.specs.Prelude.{IfOk, ◌≤◌};
+
 use cpm_memory::{FlatMemory, FrameStore, Memory, MemoryError, TableId};
 use std::alloc::{AllocError, Global};
 use test_language::{Answer, Fault, Line, Scene, Word, address, byte, count, number};
