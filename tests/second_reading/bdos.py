@@ -3,45 +3,14 @@
 One bytearray stands for the memory and one for each disk; there is no cache, and nothing is shared with the Rattle code.
 """
 
-from .disk import ANY, LARGE, P, SKEW, SMALL, UNUSED, Disk, extent_number, name_matches
-
-# the formats in the order of their tables in memory, which lie 16 bytes apart
-TABLES = (SMALL, LARGE)
+from .disk import ANY, P, UNUSED, Disk, Fault, extent_number, name_matches
+from .memory import memory_at_opening, parameters_at, place_of
 
 FCB_CALLS = {15, 16, 17, 18, 19, 20, 21, 22, 23, 30, 33, 34, 35, 36, 40}
 
 
 # the drives that a session has besides P, A to D
 OWN = 4
-
-
-class Fault(Exception):
-    """A fault of the disk system: its name and the number of the drive."""
-
-    def __init__(self, name, drive):
-        super().__init__(name, drive)
-        self.name = name
-        self.message = f"\r\nBdos Err On {chr(65 + drive % 16)}: {name}".encode()
-
-
-def memory_at_opening():
-    memory = bytearray(65536)
-    memory[0:3] = b"\xc3\x03\xfa"
-    memory[5:8] = b"\xc3\x06\xec"
-    for at in (0x5C, 0x6C):
-        memory[at : at + 12] = b"\0" + 11 * b" "
-    for number in range(17):
-        memory[0xFA00 + 3 * number : 0xFA03 + 3 * number] = bytes([0xC3, number, 0xFB])
-    memory[0xFC00:0xFC1A] = bytes(SKEW)
-    for number, form in enumerate(TABLES):
-        at = 0xFC20 + 16 * number
-        memory[at : at + 15] = form.block
-        for place in range(5):
-            words = [form.table, 0, 0, 0, 0xFD00, at, 0xFF40 + 16 * place, 0xFE00 + 64 * place]
-            header = b"".join(word.to_bytes(2, "little") for word in words)
-            start = 0xFC40 + 32 * place + 16 * number
-            memory[start : start + 16] = header
-    return memory
 
 
 class Session:
@@ -127,7 +96,7 @@ class Session:
         elif function == 29:
             return self.vector(lambda disk: disk.is_protected) | 0x8000
         elif function == 31:
-            return 0xFC20 + 16 * TABLES.index(self.disks[self.current].format)
+            return parameters_at(self.disks[self.current].format)
         elif function == 32:
             if e == 0xFF:
                 return self.user
@@ -166,20 +135,9 @@ class Session:
         return bytes(int(bits[place : place + 8], 2) for place in range(0, len(bits), 8))
 
     def allocation(self):
-        at = 0xFE00 + 64 * self.place(self.current)
+        at = 0xFE00 + 64 * place_of(self.current)
         self.store(at, self.allocation_vector())
         return at
-
-    @staticmethod
-    def place(drive):
-        """Where the tables of a drive lie among those of all: A to D, and P."""
-        return 4 if drive == P else drive
-
-    def header(self, drive):
-        """Where the parameter header of a drive lies, by the format of its disk; 0 where it isn't there."""
-        if drive not in self.disks:
-            return 0
-        return 0xFC40 + 32 * self.place(drive) + 16 * TABLES.index(self.disks[drive].format)
 
     # ---- files
 

@@ -1,7 +1,9 @@
 """Rows of `calls`: a session, step by step."""
 
-from .bdos import Fault, Session
+from .bdos import Session
+from .disk import Fault
 from .images import Images, blank
+from .memory import header_at
 from .rows import NotPlayed, Refused, Wrong, address_of, bytes_of, digits_of, filled, number_of, quoted, some
 
 # what a call by a row's line comes from, and its stack
@@ -173,7 +175,8 @@ class Calls:
         elif function == 9:
             if bc % 256 in self.session.disks:
                 sector["drive"] = bc % 256
-            return OTHER, self.session.header(bc % 256)
+            disk = self.session.disks.get(bc % 256)
+            return OTHER, header_at(bc % 256, disk.format) if disk else 0
         elif function == 10:
             sector["track"] = bc
         elif function == 11:

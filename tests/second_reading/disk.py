@@ -5,6 +5,15 @@ UNUSED = 0xE5
 ANY = 0x3F
 
 
+class Fault(Exception):
+    """A fault of the disk system: its name and the number of the drive."""
+
+    def __init__(self, name, drive):
+        super().__init__(name, drive)
+        self.name = name
+        self.message = f"\r\nBdos Err On {chr(65 + drive % 16)}: {name}".encode()
+
+
 class Format:
     """The geometry of a disk, by the fields of its parameter block."""
 

@@ -1,7 +1,7 @@
 """Rows of `drives`: the functions on files over the drives of a session, a file control block and a buffer, without a memory."""
 
-from .bdos import Fault, Session
-from .disk import P
+from .bdos import Session
+from .disk import P, Fault
 from .images import Images, blank
 from .rows import Refused, Wrong, address_of, bytes_of, filled, number_of, some
 

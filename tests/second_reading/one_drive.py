@@ -1,7 +1,7 @@
 """Rows of `one-drive`: the calls on the files of one drive, which is logged in by a line of its own."""
 
-from .bdos import Fault, Session
-from .disk import Disk, name_matches
+from .bdos import Session
+from .disk import Disk, Fault, name_matches
 from .drives import FAULTS, FileControlBlock
 from .images import RECORD, Images, blank
 from .rows import Refused, Wrong, bytes_of, filled, number_of, some

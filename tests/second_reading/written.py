@@ -5,9 +5,9 @@ import re
 import subprocess
 import sys
 
-from .bdos import Fault, Session
+from .bdos import Session
 from .calls import come
-from .disk import LARGE, P, Disk
+from .disk import LARGE, P, Disk, Fault
 from .rows import quoted, shown_bytes
 
 TOP = os.path.dirname(os.path.dirname(os.path.dirname(os.path.realpath(__file__))))
