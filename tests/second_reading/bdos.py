@@ -3,14 +3,10 @@
 One bytearray stands for the memory and one for each disk; there is no cache, and nothing is shared with the Rattle code.
 """
 
-from .disk import ANY, P, UNUSED, Disk, Fault, extent_number, name_matches
+from .disk import ANY, OWN, P, UNUSED, Disk, Fault, extent_number, name_matches
 from .memory import memory_at_opening, parameters_at, place_of
 
 FCB_CALLS = {15, 16, 17, 18, 19, 20, 21, 22, 23, 30, 33, 34, 35, 36, 40}
-
-
-# the drives that a session has besides P, A to D
-OWN = 4
 
 
 class Session:

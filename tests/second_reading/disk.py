@@ -1,6 +1,7 @@
 """A disk as the slow reading of bdos.py sees it: its geometry, its directory entries and its marks."""
 
 P = 15
+OWN = 4  # the drives that a session has besides P, A to D
 UNUSED = 0xE5
 ANY = 0x3F
 
