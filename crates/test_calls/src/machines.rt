@@ -131,15 +131,20 @@ fn want_of_memory_hands_the_opening_back(rt: HostRuntime) -> Result<(), Fail> {
 }
 
 /// An opening that is refused for its drives comes back too.
+fn hands_the_drives_back(rt: &(impl Abort + AllocGlobal), host: &mut Host) -> Result<(), Fail> {
+    let opening = opening_of(rt.alloc(), 16, 5)?;
+    let Err((back, error)) = host.open(rt.alloc(), opening) else {
+        panic!(rt; "5 drives are taken");
+    };
+    same(rt, error, OpenError::BadDrives);
+    is_handed_back(rt, &back, 16, 5);
+    Ok(())
+}
+
 #[test]
 fn a_refused_slot_hands_its_opening_back(rt: HostRuntime) -> Result<(), Fail> {
     let mut host = host_of(rt.alloc())?;
-    let Err((back, error)) = host.open(rt.alloc(), opening_of(rt.alloc(), 16, 5)?) else {
-        panic!(rt; "5 drives are taken");
-    };
-    same(&rt, error, OpenError::BadDrives);
-    is_handed_back(&rt, &back, 16, 5);
-    Ok(())
+    hands_the_drives_back(&rt, &mut host)
 }
 
 /// Passes with any one allocation refused: nothing is changed, and the fork can be tried again.

@@ -53,7 +53,7 @@ impl Hosts {
             return Err(Fault::Words);
         };
         let frames = number(*frames)?;
-        if !(16..=16_384).contains(&frames) {
+        if frames < 16 || frames > 16_384 {
             return Err(Fault::Unready);
         }
         let system = Image::blank(alloc, Format::Ibm3740)?;
@@ -208,10 +208,11 @@ fn place(alloc: Global, host: &Host, id: SlotId, page: Word<'_>) -> Result<Answe
         Ok(table) => table,
         Err(refusal) => return Answer::refused(alloc, refusal),
     };
-    if !host.store().is_taken(table) {
+    let store = host.store();
+    if !store.is_taken(table) {
         return Err(Fault::Unready);
     }
-    Answer::words(alloc, host.store().place(table, byte(page)?))
+    Answer::words(alloc, store.place(table, byte(page)?))
 }
 
 /// `close SLOT`: its steps, and the drives that it had.
@@ -280,10 +281,11 @@ fn run(alloc: Global, host: &mut Host, events: &[Event]) -> Result<Answer, Fault
         replies.push(Reply::Done)?;
     }
     replies.push(Reply::Peeked(REST))?;
-    if replies.len() < events.len() {
+    let places = replies.as_mut_slice();
+    if places.len() < events.len() {
         return Err(Fault::Unready);
     }
-    host.run(events, &mut replies);
+    host.run(events, places);
     let mut answer = String::new(alloc);
     for reply in &replies {
         if !answer.is_empty() {

@@ -64,14 +64,20 @@ impl Play {
 impl Start {
     /// A machine of this, with no key pending and no byte to be taken.
     pub fn machine(&self, alloc: Global) -> Result<Result<Machine, OpenError>, Fault>
-        ensures { IfOk result (λ made. IfOk made (λ m. IsFresh m)) }
+        ensures { IfOk result (λ made. IfOk made IsFresh) }
     {
         let opening = self.opening(alloc)?;
         let Some(program) = &self.program else {
-            return Ok(Machine::new(alloc, opening).map_err(|(_, error)| error));
+            return match Machine::new(alloc, opening) {
+                Ok(machine) => Ok(Ok(machine)),
+                Err((_, error)) => Ok(Err(error)),
+            };
         };
         let program = Vec::from_slice(alloc, program.as_slice())?;
-        Ok(Machine::with_program(alloc, opening, program).map_err(|(_, _, error)| error))
+        match Machine::with_program(alloc, opening, program) {
+            Ok(machine) => Ok(Ok(machine)),
+            Err((_, _, error)) => Ok(Err(error)),
+        }
     }
 
     /// The opening, with copies of the drives.

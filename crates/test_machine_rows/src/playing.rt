@@ -132,7 +132,10 @@ fn by_script(
     script: &[u8],
     (waits_from, stops_idle): (u64, bool),
 ) -> Result<Played, Fault> {
-    let (Ok(cues), Ok(mut machine)) = (read_cues(alloc, script), start.machine(alloc)?) else {
+    let Ok(cues) = read_cues(alloc, script) else {
+        return Err(Fault::Unready);
+    };
+    let Ok(mut machine) = start.machine(alloc)? else {
         return Err(Fault::Unready);
     };
     cues_in_order();
@@ -203,7 +206,10 @@ fn by_record(
     record: &[u8],
     steps: u64,
 ) -> Result<(Machine, Vec<u8>), Fault> {
-    let (Ok(keys), Ok(mut machine)) = (read_keys(alloc, record), start.machine(alloc)?) else {
+    let Ok(keys) = read_keys(alloc, record) else {
+        return Err(Fault::Unready);
+    };
+    let Ok(mut machine) = start.machine(alloc)? else {
         return Err(Fault::Unready);
     };
     scripts_in_order();
