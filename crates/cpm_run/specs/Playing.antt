@@ -173,6 +173,15 @@ abbrev pub files_by : Session → ScriptedSlot → Closed → SessionOutput
 files_by session p closed =
     record { session = session; console = p.console.items; list = p.list.items; drives = closed.drives }
 
+-- one more session that ended so is reported, and leaves its files
+pub record HasAdded (session : Session) (p : ScriptedSlot) (closed : Closed) (at_pc : List ℕ) (reports more : List SessionReport) (files others : List SessionFiles) : Type 0 where
+  pub report : SessionReport
+  pub reported : report_view report ≡ report_by session p closed at_pc
+  pub pushed : more ≡ reports ++ report ∷ []
+  pub file : SessionFiles
+  pub left : left_by file ≡ files_by session p closed
+  pub added : others ≡ files ++ file ∷ []
+
 -- each session that ended so is reported, and leaves its files
 abbrev pub AreFinished : List Session → List SlotState → List Player → List SessionReport → List SessionFiles → Type 0
 AreFinished sessions slots players reports files = (system : Disk) (is : List SessionInput)

@@ -12,7 +12,7 @@ ghost use Rattle.cpm_turns.specs.Players.{AllDiffer, IsPlayRefusal as IsForking,
 ghost use Rattle.cpm_turns.specs.declared.player.Player.TheVariants.{Playing};
 ghost use Rattle.cpm_turns.specs.declared.player.Player.{Player as PlayerValue};
 ghost use Rattle.cpm_turns.specs.declared.scripted_slot.ScriptedSlot.{ScriptedSlot};
-ghost use Rattle.cpm_run.specs.Playing.{HavePlayers, AreFinished, ArePressable, IsClosed, IsForkRefusal, IsOpeningRefusal, IsPlayRefusal, IsPrepared, IsSlotRefusal, IsStartRefusal, OpensSlot, files_by, report_by};
+ghost use Rattle.cpm_run.specs.Playing.{HavePlayers, AreFinished, ArePressable, HasAdded, IsClosed, IsForkRefusal, IsOpeningRefusal, IsPlayRefusal, IsPrepared, IsSlotRefusal, IsStartRefusal, OpensSlot, files_by, report_by};
 ghost use Rattle.cpm_run.specs.Run.{AllAccepted, AreOpenable, HasForkRoom, IsFirstRefused, IsShortFor, files_left, fork_pages_in, forks_in, report_view, reports_of};
 
 use crate::at_pc::bytes_of_slot;
@@ -210,6 +210,24 @@ fn finish<'a>(
     Ok((report, files))
 }
 
+impl<'a> Played<'a> {
+    /// Adds what is reported of a session that has ended so, and what is written.
+    fn add(
+        &mut self,
+        alloc: Global,
+        session: &'a Session,
+        ended: (ScriptedSlot, Closed, [u8; 4]),
+    ) -> Result<(), AllocError>
+        ensures { OnOk result (HasAdded session.entry.now ended.0 ended.1 ended.2 self.old.reports.items self.new.reports.items self.old.files.items self.new.files.items) }
+    {
+        let (slot, closed, at_pc) = ended;
+        let (report, left) = finish(alloc, session, slot, closed, at_pc)?;
+        self.reports.push(report)?;
+        self.files.push(left)?;
+        Ok(())
+    }
+}
+
 /// What is reported of all sessions, and what is written, once their players have played them. Their slots are closed.
 fn finish_all<'a>(
     alloc: Global,
@@ -220,19 +238,18 @@ fn finish_all<'a>(
     requires { AllDiffer players.items }
     ensures { IfOk result (λ played. AreFinished sessions.entry.now host.old.host.slots players.items played.reports.items played.files.items) }
 {
-    let mut reports = Vec::new(alloc);
-    let mut files = Vec::new(alloc);
+    let mut played = Played {
+        reports: Vec::new(alloc),
+        files: Vec::new(alloc),
+    };
     let mut rest = players.into_iter();
     for session in sessions {
         let Some(ended) = next_closed(host, &mut rest) else {
-            return Ok(Played { reports, files });
+            return Ok(played);
         };
-        let (slot, closed, at_pc) = ended;
-        let (report, left) = finish(alloc, session, slot, closed, at_pc)?;
-        reports.push(report)?;
-        files.push(left)?;
+        played.add(alloc, session, ended)?;
     }
-    Ok(Played { reports, files })
+    Ok(played)
 }
 
 /// A host with the sessions of a configuration that aren't forked, and the players of all sessions.

@@ -1,14 +1,17 @@
 //! The command `run`.
 ghost use Rattle.std.specs.Prelude.{◌≡◌, ◌⊎◌, ◌<◌, ◌≤◌, ℕ, IfErr, IfOk, OnOk, length, map};
+ghost use Rattle.cpm_batch.specs.Inputs.{given};
+ghost use Rattle.cpm_sessions.specs.Host.{new_host};
 ghost use Rattle.cpm_store.specs.Files.{CountsFailure, Told};
 ghost use Rattle.cpm_store.specs.Log.{AreNoWrites, AreWrites, RanBy, StopsAfter};
 ghost use Rattle.cpm_store.specs.Writes.{StopsAt, WritesAll, named};
-ghost use Rattle.cpm_run.specs.Run.{HasAccessed, HasRun, IsDeviceFault, IsJudged, IsRunRefusal, IsStoppedRun, IsWriteRefusal, config_fault, top_fault};
+ghost use Rattle.cpm_run.specs.Playing.{ArePressable, IsPlayRefusal};
+ghost use Rattle.cpm_run.specs.Run.{AllAccepted, HasAccessed, HasRun, IsDeviceFault, IsJudged, IsRunRefusal, IsStoppedRun, IsWriteRefusal, config_fault, outputs_of, report_view, reports_of, top_fault};
 
 use crate::error::RunError;
 use crate::play::{Played, open_all, play_all};
 use crate::report::Report;
-use cpm_batch::{outputs_of, read_inputs};
+use cpm_batch::{Inputs, outputs_of, read_inputs};
 use cpm_command::shown;
 use cpm_config::{Config, ConfigError, Field, Place};
 use cpm_sessions::{LEAST_FRAMES, MOST_FRAMES};
@@ -59,6 +62,28 @@ fn write_files<S: Store>(outputs: &[Output<'_>], store: &mut S) -> Result<(), Ru
     }
 }
 
+/// Plays the sessions of a configuration, and gives what is reported of them and what is written after them.
+fn play_inputs<'a, T: Watcher>(
+    alloc: Global,
+    config: &'a Config,
+    inputs: Inputs<'_>,
+    watcher: &mut T,
+) -> Result<(Report, Vec<Output<'a>>), RunError>
+    requires least { 16 ≤ config.now.frames }
+    requires most { config.now.frames ≤ 16384 }
+    requires quantum { 1 ≤ config.now.quantum }
+    requires keys { ArePressable (map given inputs.sessions.items) }
+    requires sessions { map (λ i. i.session) (map given inputs.sessions.items) ≡ config.now.sessions.items }
+    ensures reports { IfOk result (λ p. map report_view p.0.items ≡ reports_of inputs.entry.system (map given inputs.entry.sessions.items)) }
+    ensures outputs { IfOk result (λ p. map named p.1.items ≡ outputs_of inputs.entry.system (map given inputs.entry.sessions.items)) }
+    ensures accepted { OnOk result (AllAccepted (map given inputs.entry.sessions.items) (new_host inputs.entry.system config.entry.now.frames) (map given inputs.entry.sessions.items)) }
+    ensures refusal { IfErr result (IsPlayRefusal config.entry.now (new_host inputs.entry.system config.entry.now.frames) (map given inputs.entry.sessions.items)) }
+{
+    let Played { reports, files } = play_all(alloc, config, inputs, watcher)?;
+    let outputs = outputs_of(alloc, files)?;
+    Ok((reports, outputs))
+}
+
 /// Judges the sessions of a configuration before a person types at one of them: what `run_host` would read is read, and all sessions are opened that aren't
 /// forked. Nothing is played, and nothing is written.
 ///
@@ -104,8 +129,7 @@ pub fn run_host<S: Store, T: Watcher>(
         return Err(RunError::ConfigRefused(ConfigError::Range(place)));
     }
     let inputs = read_inputs(alloc, config, store)?;
-    let Played { reports, files } = play_all(alloc, config, inputs, watcher)?;
-    let outputs = outputs_of(alloc, files)?;
+    let (reports, outputs) = play_inputs(alloc, config, inputs, watcher)?;
     write_files(outputs.as_slice(), store)?;
     Ok(reports)
 }

@@ -1,7 +1,6 @@
 use Rattle.std.proofs.Common.{◌∙◌, ap, map, sym}
 use Rattle.std.proofs.lemmas.Result.{err_from_is_err_and}
 use Rattle.cpm_batch.specs.Inputs.{given}
-use Rattle.cpm_batch.specs.Outputs.{files_of_all}
 use Rattle.cpm_config.proofs.FaultLemmas.{neither}
 use Rattle.cpm_store.specs.Writes.{named}
 use Rattle.cpm_run.proofs.RunLemmas.{fails_at_write, play_refused, play_stopped, read_and_written, reading_refused, reading_stopped, writing_stopped}
@@ -12,8 +11,8 @@ use Rattle.cpm_run.proofs.run.run_host.Goals as goal
 pub read_inputs-requires : goal.read_inputs-requires
 read_inputs-requires g c = record { forks = (neither 0 (top_fault c.args.config.now) _ (sym c.in_default.ensures)).1 }
 
-pub play_all-requires-clause-keys : goal.play_all-requires-clause-keys
-play_all-requires-clause-keys g c = inputs_pressable (g.S.Store.files c.args.store.now) c.args.config.now.sessions.items (map given c.in_ok-inputs.inputs.sessions.items) c.in_ok-inputs.ensures.read.sessions
+pub play_inputs-requires-clause-keys : goal.play_inputs-requires-clause-keys
+play_inputs-requires-clause-keys g c = inputs_pressable (g.S.Store.files c.args.store.now) c.args.config.now.sessions.items (map given c.in_ok-inputs.inputs.sessions.items) c.in_ok-inputs.ensures.read.sessions
     c.in_ok-inputs.ensures.read.all (neither 0 (top_fault c.args.config.now) _ (sym c.in_default.ensures)).1
 
 pub returns-in_err-reports-clause-refusal : goal.returns-in_err-reports-clause-refusal
@@ -37,7 +36,7 @@ returns-in_err-write_files-clause-stopped_log g c =
     let between = c.read_inputs.new.store in
     let end = c.write_files.new.store in
     let outputs = map named c.as_slice.result.now in
-    let are = ap (map named) c.as_slice.ensures.value ∙ c.in_ok-outputs.ensures ∙ ap files_of_all c.in_ok-reports.ensures.files in
+    let are = ap (map named) c.as_slice.ensures.value ∙ c.in_ok-reports.ensures.outputs in
     let stopped = c.in_err-write_files.ensures.stopped_log in
     rw (p.1, p.2) (writing_stopped does config start end outputs (g.S.Store.files between) (g.S.Store.files end) c.in_err-write_files.field-0.0 c.in_err-write_files.ensures.refusal
     (fails_at_write does config start end between c.in_ok-inputs.inputs.system (map given c.in_ok-inputs.inputs.sessions.items) outputs stopped.0 are c.in_ok-inputs.ensures.log stopped.1))
@@ -48,7 +47,7 @@ returns-clause-log g c =
     let config = c.args.config.now in
     let system = c.in_ok-inputs.inputs.system in
     let inputs = map given c.in_ok-inputs.inputs.sessions.items in
-    let are = ap (map named) c.as_slice.ensures.value ∙ c.in_ok-outputs.ensures ∙ ap files_of_all c.in_ok-reports.ensures.files in
+    let are = ap (map named) c.as_slice.ensures.value ∙ c.in_ok-reports.ensures.outputs in
     record {
       system = system;
       inputs = inputs;
