@@ -159,7 +159,7 @@ impl<'a> Looked<'a> {
     fn add_program(
         &mut self,
         rt: &(impl Files + AllocGlobal),
-        task: &'a ComTask<'a>,
+        task: &ComTask<'a>,
     ) -> Result<(), Refused> {
         self.add_input(rt, task.file, false)?;
         if let Some(keys) = task.keys {
