@@ -1,9 +1,10 @@
 //! What the commands on disk images do with files.
 
+use crate::files::{lines_of, named, shown_files, user_of};
 use crate::names::{act_on_names, characters, text_of};
 use cpm_filing::{
-    FilingError, NamedFile, check_new, file_name, get_file, host_name, image_of, list_files,
-    matching_files, new_image, put_file, remove_file, rename_file, text_of_name, write_list,
+    FilingError, check_new, file_name, get_file, host_name, image_of, list_files, matching_files,
+    new_image, put_file, remove_file, rename_file, text_of_name,
 };
 use cpm_geom::{Format, Image};
 use cpm_shelf::{FileName, Listed, Refusal, Shelf};
@@ -361,51 +362,4 @@ impl DiskCommands {
             Err(error) => self.refused(alloc, error),
         }
     }
-}
-
-/// A file as it is named in what is told.
-fn named(file: &FileName) -> NamedFile {
-    NamedFile {
-        user: file.user(),
-        name: *file.name(),
-    }
-}
-
-/// The user that words name, if they name one.
-fn user_of(words: &[Word<'_>]) -> Result<Option<u8>, Fault> {
-    match words {
-        [] => Ok(None),
-        [user] => match user.text.parse::<u8>() {
-            Ok(user) => Ok(Some(user)),
-            Err(_) => Err(Fault::Number),
-        },
-        _ => Err(Fault::Words),
-    }
-}
-
-/// The lines of a list.
-fn lines_of(
-    alloc: Global,
-    format: Format,
-    shelf: &Shelf,
-    user: Option<u8>,
-) -> Result<Answer, Fault> {
-    let mut out: Vec<u8> = Vec::new(alloc);
-    match write_list(alloc, format, shelf, user, &mut out) {
-        Ok(()) => Ok(Answer::Bytes(out)),
-        Err(error) => Answer::refused_text(alloc, error),
-    }
-}
-
-/// Files with their users.
-fn shown_files(alloc: Global, files: &[FileName]) -> Result<Answer, Fault> {
-    let mut out = String::new(alloc);
-    for file in files {
-        if !out.is_empty() {
-            out.push_str(", ")?;
-        }
-        let file = named(file);
-        out.push_str(format!(in alloc; "{file}")?.as_str())?;
-    }
-    Ok(Answer::Words(out))
 }

@@ -4,6 +4,7 @@
 
 mod batches;
 mod disk_commands;
+mod files;
 mod names;
 mod stores;
 

@@ -111,6 +111,9 @@ pub fn write_bytes(alloc: Global, out: &mut String, bytes: &[u8]) -> Result<(), 
     let mut is_text = false;
     for (place, byte) in bytes.iter().enumerate() {
         let is_shown = matches!(*byte, b' '..=b'~') && *byte != b'"' && *byte != b'\\';
+        if is_shown && !is_text && place > 0 {
+            out.push(' ')?;
+        }
         if is_shown != is_text {
             out.push('"')?;
         }

@@ -1,0 +1,54 @@
+//! What is told of files on images.
+
+use cpm_filing::{NamedFile, write_list};
+use cpm_geom::Format;
+use cpm_shelf::{FileName, Shelf};
+use std::alloc::Global;
+use test_language::{Answer, Fault, Word};
+
+/// A file as it is named in what is told.
+pub fn named(file: &FileName) -> NamedFile {
+    NamedFile {
+        user: file.user(),
+        name: *file.name(),
+    }
+}
+
+/// The user that words name, if they name one.
+pub fn user_of(words: &[Word<'_>]) -> Result<Option<u8>, Fault> {
+    match words {
+        [] => Ok(None),
+        [user] => match user.text.parse::<u8>() {
+            Ok(user) => Ok(Some(user)),
+            Err(_) => Err(Fault::Number),
+        },
+        _ => Err(Fault::Words),
+    }
+}
+
+/// The lines of a list.
+pub fn lines_of(
+    alloc: Global,
+    format: Format,
+    shelf: &Shelf,
+    user: Option<u8>,
+) -> Result<Answer, Fault> {
+    let mut out: Vec<u8> = Vec::new(alloc);
+    match write_list(alloc, format, shelf, user, &mut out) {
+        Ok(()) => Ok(Answer::Bytes(out)),
+        Err(error) => Answer::refused_text(alloc, error),
+    }
+}
+
+/// Files with their users.
+pub fn shown_files(alloc: Global, files: &[FileName]) -> Result<Answer, Fault> {
+    let mut out = String::new(alloc);
+    for file in files {
+        if !out.is_empty() {
+            out.push_str(", ")?;
+        }
+        let file = named(file);
+        out.push_str(format!(in alloc; "{file}")?.as_str())?;
+    }
+    Ok(Answer::Words(out))
+}
