@@ -15,8 +15,8 @@ PAIR = 0x5555
 DRIVES = "ABCD"
 # what stands in a line of the language that is not played here: consoles, lines, command processors, and steps one by one
 NOT_PLAYED = {
-    "come", "fault", "commands", "type", "load", "tail", "register", "mode", "press", "next-key", "first-key", "pending", "column", "shows",
-    "lists", "waits", "pages",
+    "come", "fault", "commands", "type", "load", "tail", "register", "mode", "key", "next-key", "first-key", "pending", "column", "take",
+    "list", "waits", "pages",
 }
 CONSOLE_FUNCTIONS = range(1, 12)
 CONSOLE_BIOS = range(2, 6)
@@ -47,7 +47,7 @@ class Calls:
             "store": self.store,
             "fcb": self.fcb,
             "buffer": self.buffer,
-            "bytes": self.bytes,
+            "peek": self.bytes,
             "disk": self.disk,
             "directory": self.directory,
             "place": self.place,

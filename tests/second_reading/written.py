@@ -86,7 +86,7 @@ class Written:
     def see(self, at, count):
         """The bytes of memory from an address on."""
         data = bytes(self.session.load(at, count))
-        self.lines.append(f"bytes {at:04X} {count} = {shown_bytes(data)}")
+        self.lines.append(f"peek {at:04X} {count} = {shown_bytes(data)}")
         return data
 
     def records(self, disk):

@@ -118,14 +118,14 @@ impl Session {
     ) -> Result<Answer, Fault> {
         let console = &mut self.cpm.console;
         match verb {
-            "press" => press(alloc, console, bytes_of(alloc, arguments)?.as_slice()),
+            "key" => press(alloc, console, bytes_of(alloc, arguments)?.as_slice()),
             "next-key" => key_answer(alloc, console.next_key()),
             "first-key" => key_answer(alloc, console.first_key()),
             "pending" => Answer::words(alloc, console.pending()),
             "column" => Answer::words(alloc, console.column()),
             "list-echo" => list_echo(alloc, console, arguments),
-            "shows" => Answer::bytes(alloc, taken(alloc, console)?.as_slice()),
-            "lists" => Answer::bytes(alloc, taken_list(alloc, console)?.as_slice()),
+            "take" => Answer::bytes(alloc, taken(alloc, console)?.as_slice()),
+            "list" => Answer::bytes(alloc, taken_list(alloc, console)?.as_slice()),
             _ => self.look(alloc, verb, arguments),
         }
     }
@@ -136,7 +136,7 @@ impl Session {
             "returned" => self.returned(alloc),
             "booted" => Answer::truth(alloc, self.is_booted()),
             "waits" => self.waits(alloc),
-            "bytes" => self.bytes(alloc, arguments),
+            "peek" => self.bytes(alloc, arguments),
             "directory" => self.directory(alloc, arguments),
             "disk" => self.disk(alloc, arguments),
             "place" => self.place(alloc, arguments),

@@ -134,7 +134,7 @@ impl Consoles {
     /// Does a line that has bytes.
     fn act_on_bytes(&mut self, alloc: Global, verb: &str, bytes: &[u8]) -> Result<Answer, Fault> {
         match verb {
-            "press" => press(alloc, &mut self.console, bytes),
+            "key" => press(alloc, &mut self.console, bytes),
             "put" => self.put(bytes),
             "put-list" => self.put_list(bytes),
             "say" => self.say(bytes),
@@ -157,7 +157,7 @@ impl Scene for Consoles {
             "console" => self.begin(alloc, line.arguments()),
             "read" => self.read(alloc, line.arguments()),
             "take" => self.take(alloc, Device::Console, line.arguments()),
-            "take-list" => self.take(alloc, Device::List, line.arguments()),
+            "list" => self.take(alloc, Device::List, line.arguments()),
             "list-echo" => list_echo(alloc, &mut self.console, line.arguments()),
             "first-key" => key_answer(alloc, self.console.first_key()),
             "pending" => Answer::words(alloc, self.console.pending()),

@@ -60,7 +60,7 @@ impl Scene for EditedLines {
             "limit" => Answer::words(alloc, self.draft.limit()),
             "progress" => Answer::name(alloc, self.progress),
             "column" => Answer::words(alloc, self.console.column()),
-            "lists" => Answer::bytes(alloc, taken_list(alloc, &mut self.console)?.as_slice()),
+            "list" => Answer::bytes(alloc, taken_list(alloc, &mut self.console)?.as_slice()),
             _ => Err(Fault::Unknown),
         }
     }
