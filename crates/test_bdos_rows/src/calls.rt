@@ -72,6 +72,29 @@ impl Scene for Calls {
         })
     }
 
+    fn is_alone(verb: &str) -> bool {
+        matches!(
+            verb,
+            "step"
+                | "commands"
+                | "load"
+                | "next-key"
+                | "first-key"
+                | "pending"
+                | "column"
+                | "take"
+                | "list"
+                | "returned"
+                | "booted"
+                | "waits"
+                | "pages"
+        )
+    }
+
+    fn takes_text(_verb: &str) -> bool {
+        false
+    }
+
     fn act(&mut self, alloc: Global, line: &Line<'_>) -> Result<Answer, Fault> {
         match line.verb() {
             "session" => self.begin(alloc, line.arguments()),

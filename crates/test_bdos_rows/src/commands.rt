@@ -15,6 +15,14 @@ impl Scene for Commands {
         Ok(Commands)
     }
 
+    fn is_alone(_verb: &str) -> bool {
+        false
+    }
+
+    fn takes_text(_verb: &str) -> bool {
+        false
+    }
+
     fn act(&mut self, alloc: Global, line: &Line<'_>) -> Result<Answer, Fault> {
         match line.verb() {
             "line" => parse(alloc, line.arguments()),

@@ -152,6 +152,17 @@ impl Scene for Consoles {
         })
     }
 
+    fn is_alone(verb: &str) -> bool {
+        matches!(
+            verb,
+            "first-key" | "pending" | "held" | "held-list" | "column" | "has-room"
+        )
+    }
+
+    fn takes_text(_verb: &str) -> bool {
+        false
+    }
+
     fn act(&mut self, alloc: Global, line: &Line<'_>) -> Result<Answer, Fault> {
         match line.verb() {
             "console" => self.begin(alloc, line.arguments()),

@@ -51,6 +51,17 @@ impl Scene for EditedLines {
         })
     }
 
+    fn is_alone(verb: &str) -> bool {
+        matches!(
+            verb,
+            "line" | "start" | "limit" | "progress" | "column" | "list"
+        )
+    }
+
+    fn takes_text(_verb: &str) -> bool {
+        false
+    }
+
     fn act(&mut self, alloc: Global, line: &Line<'_>) -> Result<Answer, Fault> {
         match line.verb() {
             "begin" => self.begin(alloc, line.arguments()),

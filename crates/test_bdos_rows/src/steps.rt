@@ -180,7 +180,7 @@ impl Session {
     pub fn type_keys(&mut self, alloc: Global, arguments: &[Word<'_>]) -> Result<Answer, Fault> {
         for key in bytes_of(alloc, arguments)?.as_slice() {
             if !self.cpm.console.give(*key) {
-                return Answer::refused_text(alloc, "full");
+                return Answer::refused_text(alloc, "KeysFull");
             }
         }
         for steps in 0..MOST_STEPS {

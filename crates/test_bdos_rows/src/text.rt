@@ -47,7 +47,7 @@ pub fn taken_list(alloc: Global, console: &mut Console) -> Result<Vec<u8>, Alloc
 pub fn press(alloc: Global, console: &mut Console, keys: &[u8]) -> Result<Answer, Fault> {
     for key in keys {
         if !console.give(*key) {
-            return Answer::refused_text(alloc, "full");
+            return Answer::refused_text(alloc, "KeysFull");
         }
     }
     Ok(Answer::Done)

@@ -30,6 +30,14 @@ impl Scene for Directories {
         })
     }
 
+    fn is_alone(_verb: &str) -> bool {
+        false
+    }
+
+    fn takes_text(verb: &str) -> bool {
+        matches!(verb, "parse")
+    }
+
     fn act(&mut self, alloc: Global, line: &Line<'_>) -> Result<Answer, Fault> {
         let arguments = line.arguments();
         match line.verb() {

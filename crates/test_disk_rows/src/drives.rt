@@ -41,6 +41,36 @@ impl Scene for Drives {
         })
     }
 
+    fn is_alone(verb: &str) -> bool {
+        matches!(
+            verb,
+            "other-session"
+                | "open"
+                | "close"
+                | "make"
+                | "erase"
+                | "set-attributes"
+                | "size"
+                | "set-random"
+                | "search-first"
+                | "search-next"
+                | "read"
+                | "read-random"
+                | "protect"
+                | "reset"
+                | "warm-boot"
+                | "current"
+                | "login-vector"
+                | "read-only-vector"
+                | "allocation-vector"
+                | "drives-there"
+        )
+    }
+
+    fn takes_text(_verb: &str) -> bool {
+        false
+    }
+
     fn act(&mut self, alloc: Global, line: &Line<'_>) -> Result<Answer, Fault> {
         let arguments = line.arguments();
         match line.verb() {

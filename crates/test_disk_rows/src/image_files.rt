@@ -25,6 +25,14 @@ impl Scene for ImageFiles {
         })
     }
 
+    fn is_alone(_verb: &str) -> bool {
+        false
+    }
+
+    fn takes_text(verb: &str) -> bool {
+        matches!(verb, "to-text" | "from-text")
+    }
+
     fn act(&mut self, alloc: Global, line: &Line<'_>) -> Result<Answer, Fault> {
         let arguments = line.arguments();
         match line.verb() {

@@ -18,6 +18,14 @@ impl Scene for ImageLines {
         })
     }
 
+    fn is_alone(_verb: &str) -> bool {
+        false
+    }
+
+    fn takes_text(_verb: &str) -> bool {
+        false
+    }
+
     fn act(&mut self, alloc: Global, line: &Line<'_>) -> Result<Answer, Fault> {
         match line.verb() {
             "from-bytes" => self.from_bytes(alloc, line.arguments()),

@@ -35,6 +35,27 @@ impl Scene for OneDrive {
         })
     }
 
+    fn is_alone(verb: &str) -> bool {
+        matches!(
+            verb,
+            "log-in"
+                | "protect"
+                | "is-logged-in"
+                | "is-protected"
+                | "open"
+                | "close"
+                | "make"
+                | "read"
+                | "open-lent"
+                | "close-lent"
+                | "read-protected"
+        )
+    }
+
+    fn takes_text(_verb: &str) -> bool {
+        false
+    }
+
     fn act(&mut self, alloc: Global, line: &Line<'_>) -> Result<Answer, Fault> {
         let arguments = line.arguments();
         match line.verb() {

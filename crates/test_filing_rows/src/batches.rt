@@ -29,6 +29,17 @@ impl Scene for Batches {
         })
     }
 
+    fn is_alone(verb: &str) -> bool {
+        matches!(
+            verb,
+            "config" | "inputs" | "status" | "failures" | "write-all" | "told"
+        )
+    }
+
+    fn takes_text(verb: &str) -> bool {
+        matches!(verb, "config")
+    }
+
     fn act(&mut self, alloc: Global, line: &Line<'_>) -> Result<Answer, Fault> {
         match line.verb() {
             "config" => self.take(alloc, line),

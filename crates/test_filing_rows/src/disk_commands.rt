@@ -38,6 +38,14 @@ impl Scene for DiskCommands {
         })
     }
 
+    fn is_alone(verb: &str) -> bool {
+        matches!(verb, "status")
+    }
+
+    fn takes_text(verb: &str) -> bool {
+        matches!(verb, "image-of" | "put" | "put-text")
+    }
+
     fn act(&mut self, alloc: Global, line: &Line<'_>) -> Result<Answer, Fault> {
         match line.verb() {
             "image" | "entry" | "record" | "sector" => self.images.act(alloc, line),

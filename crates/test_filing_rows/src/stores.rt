@@ -28,12 +28,20 @@ impl Scene for Stores {
         })
     }
 
+    fn is_alone(verb: &str) -> bool {
+        matches!(verb, "failures" | "write-all" | "told")
+    }
+
+    fn takes_text(_verb: &str) -> bool {
+        false
+    }
+
     fn act(&mut self, alloc: Global, line: &Line<'_>) -> Result<Answer, Fault> {
         match line.verb() {
             "write" => self.write(alloc, line.arguments()),
             "read" => self.read(alloc, line.arguments()),
             "file" => self.file(alloc, line.arguments()),
-            "fail" => self.fail(line.arguments()),
+            "fail-call" => self.fail(line.arguments()),
             "failures" => Answer::words(alloc, self.store.failures()),
             "output" => self.plan(alloc, line.arguments()),
             "write-all" => self.write_all(alloc),

@@ -12,19 +12,17 @@ const MOST: usize = 4_210_688;
 /// `\xHH`, or `rising`, the bytes 0 to 250 over and over. A number and `*` before an item repeat it.
 pub fn bytes_of(alloc: Global, words: &[Word<'_>]) -> Result<Vec<u8>, Fault> {
     let mut bytes = Vec::new(alloc);
-    let mut times = 1;
+    let mut times = None;
     for word in words {
         match times_of(*word)? {
-            Some((count, rest)) if rest.text.is_empty() => times = count,
-            Some((count, rest)) => {
-                add_items(&mut bytes, count, rest)?;
-                times = 1;
-            }
-            None => {
-                add_items(&mut bytes, times, *word)?;
-                times = 1;
-            }
+            Some((count, rest)) if rest.text.is_empty() => times = Some(count),
+            Some((count, rest)) => add_items(&mut bytes, count, rest)?,
+            None => add_items(&mut bytes, times.take().unwrap_or(1), *word)?,
         }
+    }
+    // (a number that repeats nothing)
+    if times.is_some() {
+        return Err(Fault::Bytes);
     }
     Ok(bytes)
 }

@@ -12,6 +12,15 @@ pub enum Fault {
     /// Behind its first word stand too few words, too many, or others.
     #[error("the words behind the first one are not those of this line")]
     Words,
+    /// A quote is not closed.
+    #[error("a quote is not closed")]
+    Quote,
+    /// Behind the equals sign there is nothing.
+    #[error("an answer is wanted behind the equals sign: no bytes are \"\"")]
+    NoAnswer,
+    /// The text between marks is not one that this line takes, or its words are given beside it.
+    #[error("this line takes no text between marks, or no words beside it")]
+    Text,
     /// A decimal number is wanted, of at most 64 bits.
     #[error("a decimal number is wanted")]
     Number,

@@ -2,8 +2,9 @@
 
 use crate::bytes::bytes_of;
 use crate::fault::Fault;
+use crate::scene::Scene;
 use crate::word::{Word, words_of};
-use std::alloc::{AllocError, Global};
+use std::alloc::Global;
 
 /// What a line must answer.
 #[derive(Clone, Copy)]
@@ -29,11 +30,22 @@ pub struct Line<'a> {
     pub text: String,
     /// Whether such a text follows.
     pub has_text: bool,
+    /// Why it is no line.
+    pub fault: Option<Fault>,
+}
+
+/// Why what is wanted can't be compared: nothing stands behind the equals sign.
+fn fault_of(wanted: Wanted<'_>, has_text: bool) -> Option<Fault> {
+    match wanted {
+        Wanted::Words(words) if words.is_empty() => Some(Fault::NoAnswer),
+        Wanted::Text if !has_text => Some(Fault::NoAnswer),
+        _ => None,
+    }
 }
 
 impl<'a> Line<'a> {
     /// The line of this text, whose own text between marks is still to be read.
-    pub fn of(alloc: Global, number: usize, text: &'a str) -> Result<Line<'a>, AllocError> {
+    pub fn of(alloc: Global, number: usize, text: &'a str) -> Line<'a> {
         let (done, has_text) = match text.strip_suffix(" <<") {
             Some(done) => (done, true),
             None => (text, false),
@@ -45,13 +57,37 @@ impl<'a> Line<'a> {
                 None => (done, Wanted::Nothing),
             },
         };
-        Ok(Line {
+        let (words, fault) = match words_of(alloc, done) {
+            Ok(words) => (words, fault_of(wanted, has_text)),
+            Err(fault) => (Vec::new(alloc), Some(fault)),
+        };
+        Line {
             number,
-            words: words_of(alloc, done)?,
+            words,
             wanted,
             text: String::new(alloc),
             has_text,
-        })
+            fault,
+        }
+    }
+
+    /// Why it is no line of a scene: it is none at all, has words where there are none, or a text that it doesn't take.
+    pub(crate) fn fault_in<S: Scene>(&self) -> Option<Fault> {
+        if self.fault.is_some() {
+            return self.fault;
+        }
+        if S::is_alone(self.verb()) && !self.arguments().is_empty() {
+            return Some(Fault::Words);
+        }
+        if self.is_given_text() && !S::takes_text(self.verb()) {
+            return Some(Fault::Text);
+        }
+        None
+    }
+
+    /// Whether the text between marks is what it is given, and not what it must answer.
+    fn is_given_text(&self) -> bool {
+        self.has_text && !matches!(self.wanted, Wanted::Text)
     }
 
     /// How often it is done: as often as a first word says that is a number and `*`, else once.
@@ -88,7 +124,10 @@ impl<'a> Line<'a> {
 
     /// The bytes of what is given: the text between the marks behind the line, or those that words of it stand for.
     pub fn given(&self, alloc: Global, words: &[Word<'_>]) -> Result<Vec<u8>, Fault> {
-        if self.has_text && !matches!(self.wanted, Wanted::Text) {
+        if self.is_given_text() {
+            if !words.is_empty() {
+                return Err(Fault::Text);
+            }
             return Ok(Vec::from_slice(alloc, self.text.as_bytes())?);
         }
         bytes_of(alloc, words)

@@ -21,6 +21,19 @@ struct Row<'a, S: Scene> {
     scene: S,
     has_expectation: bool,
     has_failed: bool,
+    /// Whether a line stands behind the one that failed.
+    goes_on: bool,
+}
+
+impl<S: Scene> Row<'_, S> {
+    /// Whether it is wrong in its last line, or expects nothing.
+    fn is_wrong(&self) -> bool {
+        if self.has_failed {
+            !self.goes_on
+        } else {
+            !self.has_expectation
+        }
+    }
 }
 
 /// The rows of a file, line by line.
@@ -68,7 +81,7 @@ impl<'a, S: Scene> Runner<'a, S> {
             self.end_row()?;
             return self.begin_row(text);
         }
-        let line = Line::of(self.alloc, number, text)?;
+        let line = Line::of(self.alloc, number, text);
         if line.has_text {
             self.line = Some(line);
             return Ok(());
@@ -83,6 +96,7 @@ impl<'a, S: Scene> Runner<'a, S> {
             scene: S::new(self.alloc)?,
             has_expectation: false,
             has_failed: false,
+            goes_on: false,
         });
         Ok(())
     }
@@ -94,6 +108,7 @@ impl<'a, S: Scene> Runner<'a, S> {
             return self.fail_file(line.number, "this line stands before the first row");
         };
         if row.has_failed {
+            row.goes_on = true;
             return Ok(());
         }
         if !matches!(line.wanted, Wanted::Nothing) {
@@ -114,17 +129,25 @@ impl<'a, S: Scene> Runner<'a, S> {
             return Ok(());
         };
         self.tally.rows = self.tally.rows.saturating_add(1);
-        let has_failed = row.has_failed || !row.has_expectation;
-        if has_failed != self.are_wrong {
+        if self.are_wrong {
+            return self.end_wrong(row.name, row.is_wrong());
+        }
+        if row.has_failed || !row.has_expectation {
             self.tally.failed = self.tally.failed.saturating_add(1);
         }
-        if self.are_wrong && !has_failed {
-            return self.tell(row.name, "the row is wrong, and passes");
+        if row.has_failed || row.has_expectation {
+            return Ok(());
         }
-        if !self.are_wrong && !row.has_failed && has_failed {
-            return self.tell(row.name, "the row expects nothing");
+        self.tell(row.name, "the row expects nothing")
+    }
+
+    /// Ends a row that must fail at its last line.
+    fn end_wrong(&mut self, name: &str, is_wrong: bool) -> Result<(), AllocError> {
+        if is_wrong {
+            return Ok(());
         }
-        Ok(())
+        self.tally.failed = self.tally.failed.saturating_add(1);
+        self.tell(name, "the row is wrong, and doesn't fail at its last line")
     }
 
     /// Tells of a line that didn't answer what it must, where the row should be right.
@@ -168,6 +191,9 @@ fn done_wrongly<S: Scene>(
     scene: &mut S,
     line: &Line<'_>,
 ) -> Result<Option<String>, AllocError> {
+    if let Some(fault) = line.fault_in::<S>() {
+        return Ok(Some(format!(in alloc; "{fault}")?));
+    }
     for _ in 0..line.times() {
         let answer = scene.act(alloc, line);
         if let Some(came) = came_wrongly(alloc, line, answer)? {

@@ -10,6 +10,12 @@ pub trait Scene: Drop {
     /// Before the first line of a row.
     fn new(alloc: Global) -> Result<Self, AllocError>;
 
+    /// Whether a line that begins with this word has no other word.
+    fn is_alone(verb: &str) -> bool;
+
+    /// Whether a line that begins with this word may be given a text between marks.
+    fn takes_text(verb: &str) -> bool;
+
     /// Does a line, and gives its answer.
     fn act(&mut self, alloc: Global, line: &Line<'_>) -> Result<Answer, Fault>;
 }

@@ -12,8 +12,8 @@ pub struct Word<'a> {
     pub is_quoted: bool,
 }
 
-/// The words of a text, where every second part between quotes is one word.
-pub fn words_of(alloc: Global, text: &str) -> Result<Vec<Word<'_>>, AllocError> {
+/// The words of a text, where every second part between quotes is one word. The last quote must be closed.
+pub fn words_of(alloc: Global, text: &str) -> Result<Vec<Word<'_>>, Fault> {
     let mut words = Vec::new(alloc);
     let mut is_quoted = false;
     for part in text.split('"') {
@@ -27,7 +27,12 @@ pub fn words_of(alloc: Global, text: &str) -> Result<Vec<Word<'_>>, AllocError> 
         }
         is_quoted = !is_quoted;
     }
-    Ok(words)
+    // behind the last part it is what stands in quotes next, unless a quote is open
+    if is_quoted {
+        Ok(words)
+    } else {
+        Err(Fault::Quote)
+    }
 }
 
 /// Adds the words between the spaces of a part.

@@ -63,6 +63,14 @@ impl Scene for Listings {
         })
     }
 
+    fn is_alone(_verb: &str) -> bool {
+        false
+    }
+
+    fn takes_text(_verb: &str) -> bool {
+        false
+    }
+
     fn act(&mut self, alloc: Global, line: &Line<'_>) -> Result<Answer, Fault> {
         match line.verb() {
             "at" => self.at(line.arguments()),

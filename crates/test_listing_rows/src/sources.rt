@@ -29,6 +29,14 @@ impl Scene for Sources {
         })
     }
 
+    fn is_alone(verb: &str) -> bool {
+        matches!(verb, "places")
+    }
+
+    fn takes_text(verb: &str) -> bool {
+        matches!(verb, "source")
+    }
+
     fn act(&mut self, alloc: Global, line: &Line<'_>) -> Result<Answer, Fault> {
         match line.verb() {
             "source" => self.take_source(alloc, line),

@@ -34,6 +34,14 @@ impl Scene for Hosts {
         })
     }
 
+    fn is_alone(verb: &str) -> bool {
+        matches!(verb, "used" | "run")
+    }
+
+    fn takes_text(_verb: &str) -> bool {
+        false
+    }
+
     fn act(&mut self, alloc: Global, line: &Line<'_>) -> Result<Answer, Fault> {
         let arguments = line.arguments();
         match line.verb() {

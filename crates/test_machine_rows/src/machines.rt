@@ -109,6 +109,17 @@ impl Scene for Machines {
         })
     }
 
+    fn is_alone(verb: &str) -> bool {
+        matches!(
+            verb,
+            "step" | "finish" | "alike" | "shown" | "recorded" | "left" | "replay" | "stops-idle"
+        )
+    }
+
+    fn takes_text(verb: &str) -> bool {
+        matches!(verb, "live" | "play")
+    }
+
     fn act(&mut self, alloc: Global, line: &Line<'_>) -> Result<Answer, Fault> {
         let arguments = line.arguments();
         match line.verb() {

@@ -72,6 +72,14 @@ impl Scene for Instructions {
         Ok(Instructions { trial: None })
     }
 
+    fn is_alone(verb: &str) -> bool {
+        matches!(verb, "unchanged" | "pairs" | "changed" | "pages")
+    }
+
+    fn takes_text(_verb: &str) -> bool {
+        false
+    }
+
     fn act(&mut self, alloc: Global, line: &Line<'_>) -> Result<Answer, Fault> {
         let arguments = line.arguments();
         if line.verb() == "z80" {

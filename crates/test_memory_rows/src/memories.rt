@@ -23,6 +23,14 @@ impl Scene for Memories {
         })
     }
 
+    fn is_alone(verb: &str) -> bool {
+        matches!(verb, "used" | "taken")
+    }
+
+    fn takes_text(_verb: &str) -> bool {
+        false
+    }
+
     fn act(&mut self, alloc: Global, line: &Line<'_>) -> Result<Answer, Fault> {
         let arguments = line.arguments();
         match line.verb() {

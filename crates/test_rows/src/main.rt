@@ -70,21 +70,23 @@ fn run_text(alloc: Global, file: &str, text: &str) -> Result<Outcome, AllocError
     let mut failed = 1;
     let mut tally = Tally::default();
     match Header::of(text) {
-        None => told.push_str(
-            format!(in alloc; "{file}:1: the first line is no 'N rows of SUBJECT'\n")?.as_str(),
-        )?,
+        None => told.push_str(format!(in alloc;
+            "{file}:1: the first line is no 'N rows of SUBJECT'\n"
+        )?.as_str())?,
         Some(header) => match run_subject(alloc, file, text, &header, &mut told)? {
-            None => told.push_str(
-                format!(in alloc; "{file}:1: no rows are of '{}'\n", header.subject)?.as_str(),
-            )?,
+            None => told.push_str(format!(in alloc;
+                "{file}:1: no rows are of '{}'\n",
+                header.subject
+            )?.as_str())?,
             Some(found) => {
                 tally = found;
                 failed = found.failed;
                 if found.rows != header.rows {
                     failed = failed.saturating_add(1);
-                    told.push_str(
-                        format!(in alloc; "{file}:1: there are {} rows\n", found.rows)?.as_str(),
-                    )?;
+                    told.push_str(format!(in alloc;
+                        "{file}:1: there are {} rows\n",
+                        found.rows
+                    )?.as_str())?;
                 }
             }
         },
@@ -123,7 +125,9 @@ fn run_all(rt: &(impl Files + Print + AllocGlobal), files: &[String]) -> Result<
         failed,
         expectations,
     } = all;
-    let said = println!(rt; "{rows} rows of {count} files with {expectations} expectations, {failed} failed");
+    let said = println!(rt;
+        "{rows} rows of {count} files with {expectations} expectations, {failed} failed"
+    );
     Ok(failed == 0 && rows > 0 && said.is_ok())
 }
 

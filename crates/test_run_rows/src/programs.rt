@@ -56,6 +56,38 @@ impl Scene for Programs {
         })
     }
 
+    fn is_alone(verb: &str) -> bool {
+        matches!(
+            verb,
+            "asm"
+                | "asm-listed"
+                | "list"
+                | "status"
+                | "illegal"
+                | "at-pc"
+                | "ended"
+                | "early"
+                | "replay"
+                | "waits"
+        )
+    }
+
+    fn takes_text(verb: &str) -> bool {
+        matches!(
+            verb,
+            "program"
+                | "source"
+                | "listing"
+                | "orders"
+                | "keys"
+                | "parent"
+                | "type"
+                | "session"
+                | "check"
+                | "debug"
+        )
+    }
+
     fn act(&mut self, alloc: Global, line: &Line<'_>) -> Result<Answer, Fault> {
         match line.verb() {
             "cpu"

@@ -32,6 +32,14 @@ impl Scene for Runs {
         })
     }
 
+    fn is_alone(verb: &str) -> bool {
+        matches!(verb, "config" | "run" | "judge" | "cuts" | "status")
+    }
+
+    fn takes_text(verb: &str) -> bool {
+        matches!(verb, "config" | "file")
+    }
+
     fn act(&mut self, alloc: Global, line: &Line<'_>) -> Result<Answer, Fault> {
         let arguments = line.arguments();
         match line.verb() {

@@ -14,6 +14,14 @@ impl Scene for CommandLines {
         Ok(CommandLines)
     }
 
+    fn is_alone(_verb: &str) -> bool {
+        false
+    }
+
+    fn takes_text(_verb: &str) -> bool {
+        false
+    }
+
     fn act(&mut self, alloc: Global, line: &Line<'_>) -> Result<Answer, Fault> {
         match line.verb() {
             "cpmhost" => named(alloc, line.words.as_slice()),

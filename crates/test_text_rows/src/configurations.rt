@@ -25,6 +25,17 @@ impl Scene for Configurations {
         })
     }
 
+    fn is_alone(verb: &str) -> bool {
+        matches!(
+            verb,
+            "change" | "changed" | "copies" | "prefixes" | "read" | "sessions" | "told"
+        )
+    }
+
+    fn takes_text(verb: &str) -> bool {
+        matches!(verb, "text" | "add" | "change" | "changed" | "copies")
+    }
+
     fn act(&mut self, alloc: Global, line: &Line<'_>) -> Result<Answer, Fault> {
         match line.verb() {
             "text" => {

@@ -30,6 +30,14 @@ impl Scene for Scripts {
         })
     }
 
+    fn is_alone(verb: &str) -> bool {
+        matches!(verb, "keys" | "cues" | "is-plain" | "plain-keys" | "told")
+    }
+
+    fn takes_text(verb: &str) -> bool {
+        matches!(verb, "script" | "parent")
+    }
+
     fn act(&mut self, alloc: Global, line: &Line<'_>) -> Result<Answer, Fault> {
         match line.verb() {
             "script" => {
