@@ -1,11 +1,11 @@
 //! What a run reads for the sessions of a configuration, and what it writes after them.
 
 use crate::stores::Stores;
-use cpm_batch::{Input, SessionFiles, Start, outputs_of, read_inputs};
+use cpm_batch::{Input, ReadError, SessionFiles, Start, outputs_of, read_inputs};
 use cpm_config::Config;
 use cpm_geom::Image;
 use cpm_script::Key;
-use cpm_store::Store;
+use cpm_store::{MemoryStore, Store};
 use std::alloc::{AllocError, Global};
 use test_images::Images;
 use test_language::{Answer, Fault, Line, Scene, Word, bytes_of};
@@ -86,17 +86,16 @@ impl Batches {
         let Some(config) = &self.config else {
             return Err(Fault::Absent);
         };
-        let inputs = match config.fork_fault() {
-            None => read_inputs(alloc, config, &mut self.files.store),
-            Some(_) => return Err(Fault::Unready),
-        };
-        match inputs {
-            Ok(inputs) => shown_inputs(alloc, inputs.sessions.as_slice()),
-            Err(error) => {
-                self.status = Some(error.status());
-                Answer::refused_text(alloc, error)
-            }
+        match read(alloc, config, &mut self.files.store)? {
+            Ok(lines) => Ok(Answer::Words(lines)),
+            Err(error) => self.refuse(alloc, error),
         }
+    }
+
+    /// Answers a refusal, and keeps its status.
+    fn refuse(&mut self, alloc: Global, error: ReadError) -> Result<Answer, Fault> {
+        self.status = Some(error.status());
+        Answer::refused_text(alloc, &error)
     }
 
     /// `outputs CONSOLE LIST IMAGES`: the files that are written, each with its length, where each session left these texts and
@@ -143,6 +142,22 @@ impl Batches {
     }
 }
 
+/// What is read for a configuration, in lines, or the refusal.
+fn read(
+    alloc: Global,
+    config: &Config,
+    store: &mut MemoryStore,
+) -> Result<Result<String, ReadError>, Fault> {
+    let inputs = match config.fork_fault() {
+        None => read_inputs(alloc, config, store),
+        Some(_) => return Err(Fault::Unready),
+    };
+    match inputs {
+        Ok(inputs) => Ok(Ok(shown_inputs(alloc, inputs.sessions.as_slice())?)),
+        Err(error) => Ok(Err(error)),
+    }
+}
+
 /// Adds an item behind those before it.
 fn add_item(out: &mut String, item: &str) -> Result<(), AllocError> {
     if !out.is_empty() {
@@ -152,7 +167,7 @@ fn add_item(out: &mut String, item: &str) -> Result<(), AllocError> {
 }
 
 /// What was read for sessions, each on a line.
-fn shown_inputs(alloc: Global, inputs: &[Input<'_>]) -> Result<Answer, Fault> {
+fn shown_inputs(alloc: Global, inputs: &[Input<'_>]) -> Result<String, Fault> {
     let mut out = String::new(alloc);
     for input in inputs {
         if !out.is_empty() {
@@ -163,7 +178,7 @@ fn shown_inputs(alloc: Global, inputs: &[Input<'_>]) -> Result<Answer, Fault> {
         let keys = shown_keys(alloc, input.keys.as_slice())?;
         out.push_str(format!(in alloc; "; keys {keys}")?.as_str())?;
     }
-    Ok(Answer::Words(out))
+    Ok(out)
 }
 
 /// How a session begins.

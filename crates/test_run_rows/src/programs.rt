@@ -139,6 +139,6 @@ impl Programs {
     /// Keeps the status of a refusal, and answers its text.
     pub(crate) fn refuse(&mut self, alloc: Global, error: HostError) -> Result<Answer, Fault> {
         self.status = error.status();
-        Answer::refused_text(alloc, error)
+        Answer::refused_text(alloc, &error)
     }
 }

@@ -177,7 +177,7 @@ impl Runs {
     /// Keeps the status of a refusal, and answers its text.
     fn refuse(&mut self, alloc: Global, error: HostError) -> Result<Answer, Fault> {
         self.status = error.status();
-        Answer::refused_text(alloc, error)
+        Answer::refused_text(alloc, &error)
     }
 
     /// `run`: runs the sessions. The line that reports each.

@@ -84,8 +84,10 @@ impl Programs {
         match run_debug(alloc, self.cpu, program, listing, &mut input, &mut self.out) {
             Ok(()) => self.wrote(alloc, Ok(())),
             Err(error) => {
-                self.status = HostError::from(error).status();
-                Answer::refused_text(alloc, error)
+                let answer = Answer::refused_text(alloc, &error);
+                let error = HostError::from(error);
+                self.status = error.status();
+                answer
             }
         }
     }
