@@ -70,13 +70,13 @@ impl Start {
         let Some(program) = &self.program else {
             return match Machine::new(alloc, opening) {
                 Ok(machine) => Ok(Ok(machine)),
-                Err((_, error)) => Ok(Err(error)),
+                Err((_opening, error)) => Ok(Err(error)),
             };
         };
         let program = Vec::from_slice(alloc, program.as_slice())?;
         match Machine::with_program(alloc, opening, program) {
             Ok(machine) => Ok(Ok(machine)),
-            Err((_, _, error)) => Ok(Err(error)),
+            Err((_opening, _program, error)) => Ok(Err(error)),
         }
     }
 
