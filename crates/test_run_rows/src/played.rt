@@ -85,11 +85,7 @@ impl Programs {
 
     /// Runs the program by the keys of the script.
     fn run(&mut self, alloc: Global, start: Start) -> Result<Typed, HostError> {
-        let script = if self.keys.is_empty() {
-            None
-        } else {
-            Some(script_of(KEYS, &self.keys))
-        };
+        let script = script_in(&self.keys);
         let ran = run_com(
             alloc,
             start,
@@ -156,5 +152,14 @@ impl Programs {
             }
             Err(error) => self.refuse(alloc, error),
         }
+    }
+}
+
+/// The script of these keys, if there are any.
+fn script_in(keys: &[u8]) -> Option<Script<'_>> {
+    if keys.is_empty() {
+        None
+    } else {
+        Some(script_of(KEYS, keys))
     }
 }

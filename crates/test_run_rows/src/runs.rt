@@ -66,11 +66,12 @@ fn run(alloc: Global, config: &[u8], store: &mut MemoryStore) -> Result<Report, 
     Ok(run_host(alloc, &config, store, &mut Unwatched)?)
 }
 
-/// Judges a configuration.
-fn judge(alloc: Global, config: &[u8], store: &mut MemoryStore) -> Result<(), HostError> {
-    let config = Config::read(alloc, config)?;
-    judge_host(alloc, &config, store)?;
-    Ok(())
+/// The status of what came of a run, 0 where it was run.
+fn status_of(outcome: &Result<Report, HostError>) -> u8 {
+    match outcome {
+        Ok(_) => 0,
+        Err(error) => error.status(),
+    }
 }
 
 /// The lines of a report.
@@ -194,12 +195,23 @@ impl Runs {
 
     /// `judge`: judges the configuration, and plays nothing: `judged`.
     fn judge(&mut self, alloc: Global) -> Result<Answer, Fault> {
-        match judge(alloc, self.config.as_bytes(), &mut self.store) {
+        match Config::read(alloc, self.config.as_bytes()) {
+            Ok(config) => self.judge_config(alloc, &config),
+            Err(error) => self.refuse(alloc, HostError::from(error)),
+        }
+    }
+
+    /// Judges a configuration that was read.
+    fn judge_config(&mut self, alloc: Global, config: &Config) -> Result<Answer, Fault> {
+        match judge_host(alloc, config, &mut self.store) {
             Ok(()) => {
                 self.status = 0;
                 Answer::words(alloc, "judged")
             }
-            Err(error) => self.refuse(alloc, error),
+            Err(error) => {
+                self.status = error.status();
+                Answer::refused_text(alloc, &error)
+            }
         }
     }
 
@@ -208,12 +220,11 @@ impl Runs {
         let (mut runs, mut refusals) = (0u64, 0u64);
         let bytes = self.config.as_bytes();
         for end in 0..=bytes.len() {
-            match run(alloc, &bytes[..end], &mut self.store) {
-                Ok(_) => runs = runs.saturating_add(1),
-                Err(error) if error.status() == CONFIG_REFUSED => {
-                    refusals = refusals.saturating_add(1);
-                }
-                Err(error) => return self.refuse(alloc, error),
+            let outcome = run(alloc, &bytes[..end], &mut self.store);
+            match status_of(&outcome) {
+                0 => runs = runs.saturating_add(1),
+                CONFIG_REFUSED => refusals = refusals.saturating_add(1),
+                _ => return Answer::refused_text(alloc, "a beginning is refused otherwise"),
             }
         }
         Ok(Answer::Words(format!(in alloc; "{runs} run, {refusals} refused")?))

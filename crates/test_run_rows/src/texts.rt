@@ -68,8 +68,13 @@ impl Programs {
     /// `check BYTES`, or `check image NAME`: checks an image in the file `d.img`.
     fn check(&mut self, alloc: Global, line: &Line<'_>) -> Result<Answer, Fault> {
         let bytes = bytes_given(alloc, &self.images, line, line.arguments())?;
-        let outcome = run_check("d.img", bytes, &mut self.out);
-        self.wrote(alloc, outcome.map_err(HostError::from))
+        match run_check("d.img", bytes, &mut self.out) {
+            Ok(()) => self.wrote(alloc, Ok(())),
+            Err(error) => {
+                self.status = error.status();
+                Answer::refused_text(alloc, &error)
+            }
+        }
     }
 
     /// `debug BYTES`: what the debugger answers to these orders, with the program and its listing. Without bytes: to those given by `orders`.
