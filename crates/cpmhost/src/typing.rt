@@ -78,7 +78,9 @@ pub fn tell_quit(rt: &impl Eprint) {
 #[inline(never)]
 pub fn tell_full(rt: &impl Eprint, keys: usize, most_keys: usize) {
     if keys >= most_keys {
-        let _ = eprintln!(rt; "cpmhost: the record is full with {keys} keys, so no more is typed");
+        let _ = eprintln!(rt;
+            "cpmhost: the record is full with {keys} keys, so no more is typed; it ends here as by ^], and its record is whole"
+        );
     }
 }
 
