@@ -14,21 +14,10 @@ def stop(why):
     sys.exit(1)
 
 
-def time_of(path):
-    return os.stat(path).st_mtime_ns if os.path.exists(path) else -1
-
-
 def program():
-    """The program that CPMHOST names, or the one that ./cpmhost runs, once that has built it where it must."""
-    named = os.environ.get("CPMHOST")
-    if named:
-        return os.path.realpath(named)
-    ran = subprocess.run([f"{TOP}/cpmhost", "help"], stdin=subprocess.DEVNULL, stdout=subprocess.DEVNULL)
-    if ran.returncode:
-        stop(f"`cpmhost help` ended with status {ran.returncode}, so there is no program to measure")
-    # (the wrapper's mark that it runs the release is newer than a program that it built before)
-    is_built = time_of(f"{TOP}/out/cpmhost") > time_of(f"{TOP}/out/release")
-    return f"{TOP}/{'out' if is_built else 'release'}/cpmhost"
+    """The program that CPMHOST names, or the one that ./cpmhost runs: what release/build has built, or the release."""
+    built = f"{TOP}/out/cpmhost"
+    return os.path.realpath(os.environ.get("CPMHOST", built if os.path.isfile(built) else f"{TOP}/release/cpmhost"))
 
 
 def counted(words, folder=None):

@@ -14,9 +14,9 @@ FIRST_BLOCK = 2
 
 
 def build(to):
-    """Copies the program of cpm_bench to this path: the one that the variable CPM_BENCH names, or else what rt proves and builds, where that is to
+    """Copies the program of cpm_bench to this path: the one that the variable BENCH_MACHINES names, or else what rt proves and builds, where that is to
     do. Whether it is there."""
-    named = os.environ.get("CPM_BENCH")
+    named = os.environ.get("BENCH_MACHINES")
     if named:
         shutil.copy2(named, to)
         return True

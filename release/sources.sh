@@ -1,4 +1,4 @@
-# What a program of the release is made from, cpmhost unless another is named. Read by ./cpmhost, .ci/run, release/make and release/test, each
+# What a program of the release is made from, cpmhost unless another is named. Read by release/build, release/make and release/test, each
 # of which sets `here` to the top of the repository before.
 
 # The program's crates, as crates.txt has them, each after those that it stands on.

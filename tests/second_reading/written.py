@@ -1,17 +1,15 @@
 """Sessions that are written as rows of `calls`, each call with what the reading says of it."""
 
-import os
 import re
 import subprocess
-import sys
+
+from lib import TEST_ROWS, stop
 
 from .bdos import Session
 from .calls import come
 from .disk import LARGE, P, Disk, Fault
 from .rows import quoted, shown_bytes
 
-TOP = os.path.dirname(os.path.dirname(os.path.dirname(os.path.realpath(__file__))))
-PROGRAM = os.environ.get("TEST_ROWS", os.path.join(TOP, "release", "test_rows"))
 SAID = re.compile(r"(\d+) rows of 1 files with (\d+) expectations, (\d+) failed")
 BLANK = 128 * b"\xe5"
 
@@ -117,10 +115,10 @@ def run(path, sessions):
         it.write(f"{len(sessions)} rows of calls\n")
         for session in sessions:
             it.write("\n" + session.text())
-    ran = subprocess.run([PROGRAM, path], capture_output=True, text=True, check=False)
+    ran = subprocess.run([TEST_ROWS, path], capture_output=True, text=True, check=False)
     lines = ran.stdout.splitlines()
     last = SAID.fullmatch(lines[-1]) if lines else None
     if ran.returncode not in (0, 1) or not last or int(last[1]) != len(sessions):
-        sys.exit(f"{sys.argv[0]}: {PROGRAM} ended with status {ran.returncode}: {(ran.stdout + ran.stderr)[-2000:]}")
+        stop(f"{TEST_ROWS} ended with status {ran.returncode}: {(ran.stdout + ran.stderr)[-2000:]}")
     print("".join(line + "\n" for line in lines[:-1]), end="")
     return int(last[2]), int(last[3])

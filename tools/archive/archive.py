@@ -1,4 +1,4 @@
-"""What the scripts of examples/archive share: where the parts of an archive are, its configurations and their results.
+"""What the scripts of tools/archive share: where the parts of an archive are, its configurations and their results.
 
 An archive is a folder:
 
@@ -48,12 +48,8 @@ class Session(NamedTuple):
     note: str
 
 
-def time_of(path):
-    return os.stat(path).st_mtime_ns if os.path.exists(path) else -1
-
-
 def program():
-    """The program that CPMHOST names, or ./cpmhost; for that script, the program that it runs, once it has built it where it must."""
+    """The program that CPMHOST names, or ./cpmhost; for that script, or the one that release/install makes of it, the program that it runs."""
     named = os.path.realpath(os.environ.get("CPMHOST", f"{TOP}/cpmhost"))
     try:
         with open(named, "rb") as file:
@@ -62,13 +58,11 @@ def program():
         raise Refusal(f"can't read {named}: {error.strerror}")
     if not is_script:
         return named
-    ran = subprocess.run([named, "help"], stdin=subprocess.DEVNULL, stdout=subprocess.DEVNULL)
-    if ran.returncode:
-        raise Refusal(f"`cpmhost help` ended with status {ran.returncode}, so there is no program")
-    top = os.path.dirname(named)
-    # (the script's mark that it runs the release is newer than a program that it built before)
-    is_built = time_of(f"{top}/out/cpmhost") > time_of(f"{top}/out/release")
-    return f"{top}/{'out' if is_built else 'release'}/cpmhost"
+    run = [f"{os.path.dirname(named)}/{it}" for it in ("out/cpmhost", "release/cpmhost", "../lib/cpmhost/cpmhost")]
+    found = next(filter(os.path.isfile, run), None)
+    if not found:
+        raise Refusal(f"{named} has no program to run")
+    return os.path.realpath(found)
 
 
 def environment():

@@ -1,10 +1,10 @@
 #!/bin/sh
-# examples/archive/cluster/archive.sbatch: a task of an array of jobs by Slurm, which runs one part of an archive.
+# tools/archive/cluster/archive.sbatch: a task of an array of jobs by Slurm, which runs one part of an archive.
 #
 #   cd FOLDER; sbatch --array=0-LAST .../archive.sbatch SIZE JOB
 #
-# Task K runs the configurations of run/list from the one at K * SIZE on, SIZE of them, by JOB, which is examples/archive/job;
-# examples/archive/cluster/submit writes the list, counts the tasks and gives these words. A task whose machine fails is put
+# Task K runs the configurations of run/list from the one at K * SIZE on, SIZE of them, by JOB, which is tools/archive/job;
+# tools/archive/cluster/submit writes the list, counts the tasks and gives these words. A task whose machine fails is put
 # into the queue again, and then passes over what it had done.
 #
 #SBATCH --job-name=archive
