@@ -1,4 +1,4 @@
-"""What the measurements of sessions share: the program of crate cpm_bench, and a system drive with one program."""
+"""What the measurements of sessions share: the program of crate bench_machines, and a system drive with one program."""
 import os
 import shutil
 import subprocess
@@ -9,12 +9,12 @@ TOP = os.path.dirname(BENCH)
 sys.path.insert(0, f"{TOP}/tests")
 from second_reading.disk import SMALL, Disk  # noqa: E402
 
-CRATE = f"{TOP}/crates/cpm_bench"
+CRATE = f"{TOP}/crates/bench_machines"
 FIRST_BLOCK = 2
 
 
 def build(to):
-    """Copies the program of cpm_bench to this path: the one that the variable BENCH_MACHINES names, or else what rt proves and builds, where that is to
+    """Copies the program of bench_machines to this path: the one that the variable BENCH_MACHINES names, or else what rt proves and builds, where that is to
     do. Whether it is there."""
     named = os.environ.get("BENCH_MACHINES")
     if named:
@@ -25,7 +25,7 @@ def build(to):
     ran = subprocess.run(["rt", "run", "--", "machine", "8080", "data/loop.com", "1000"], cwd=CRATE, stdin=subprocess.DEVNULL, capture_output=True)
     if ran.returncode:
         return False
-    shutil.copy2(f"{CRATE}/out/cpm_bench", to)
+    shutil.copy2(f"{CRATE}/out/bench_machines", to)
     return True
 
 

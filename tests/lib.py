@@ -33,8 +33,8 @@ def program(variable, usual):
 
 CPMHOST = program("CPMHOST", "release/cpmhost")
 TEST_ROWS = program("TEST_ROWS", "release/test_rows")
-TEST_ALLOCATIONS = program("TEST_ALLOCATIONS", "crates/cpm_want/out/cpm_want")
-BENCH_MACHINES = program("BENCH_MACHINES", "crates/cpm_bench/out/cpm_bench")
+TEST_ALLOCATIONS = program("TEST_ALLOCATIONS", "crates/test_allocations/out/test_allocations")
+BENCH_MACHINES = program("BENCH_MACHINES", "crates/bench_machines/out/bench_machines")
 
 # ---- what is wrong
 

@@ -4,11 +4,11 @@ use Rattle.std.specs.Prelude.{Option, None, Some, ◌||◌, not, nat_lt, is_some
 use Rattle.std.proofs.lemmas.List.{length-replicate}
 use Rattle.std.proofs.lemmas.Bool.{true≢false}
 use Rattle.std.proofs.lemmas.Bool.Decides.{nat_tests}
-use Rattle.cpm_expression.specs.Names.{Table}
-use Rattle.cpm_expression.specs.declared.words.ByteForm.{ByteForm}
-use Rattle.cpm_expression.specs.declared.words.ByteForm.TheVariants as b
-use Rattle.cpm_expression.specs.declared.words.WordForm.{WordForm}
-use Rattle.cpm_expression.specs.declared.words.WordForm.TheVariants as w
+use Rattle.cpm_asm_expression.specs.Names.{Table}
+use Rattle.cpm_asm_expression.specs.declared.words.ByteForm.{ByteForm}
+use Rattle.cpm_asm_expression.specs.declared.words.ByteForm.TheVariants as b
+use Rattle.cpm_asm_expression.specs.declared.words.WordForm.{WordForm}
+use Rattle.cpm_asm_expression.specs.declared.words.WordForm.TheVariants as w
 use Rattle.cpm_decode.specs.declared.operation.Op.TheVariants as op
 use Rattle.cpm_asm.specs.Lines.{parts}
 use Rattle.cpm_asm.specs.Operands.{comma}

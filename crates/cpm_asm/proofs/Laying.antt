@@ -2,7 +2,7 @@
 use Rattle.std.proofs.Common.{◌≡◌, ◌≤◌, ℕ, ◌+◌, ◌-◌, Bool, true, false, List, [], ◌∷◌, ◌++◌, length, take, drop, ap, sym, ◌∙◌, refl, arith, append_assoc, append-nil, length-append, subst}
 use Rattle.std.specs.Prelude.{if◌then◌else◌, nat_le, replicate}
 use Rattle.std.proofs.lemmas.List.{drop_at, length-replicate, take_at}
-use Rattle.cpm_expression.specs.Names.{Table}
+use Rattle.cpm_asm_expression.specs.Names.{Table}
 use Rattle.cpm_asm.specs.Pieces.{Numbered}
 use Rattle.cpm_asm.specs.Statements.{Deed, Wrong, Nothing, End, Origin, Equate, If, EndIf, Nest, Unnest, Space, Bytes, Words, Plain, Byte, Word, Restart}
 use Rattle.cpm_asm.specs.Places.{at_address, depth, first_open, in_if, moved}

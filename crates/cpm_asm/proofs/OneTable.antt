@@ -8,8 +8,8 @@ use Rattle.std.specs.BTreeMap.{is_at}
 use Rattle.std.proofs.lemmas.Bool.{true≢false}
 use Rattle.std.proofs.lemmas.Cmp.{nat_list_cmp_total, tied_itself}
 use Rattle.std.proofs.lemmas.Map.Lookups.{exact_bytes}
-use Rattle.cpm_expression.specs.Names.{Extends, Table, empty_table, name_cmp}
-use Rattle.cpm_expression.specs.declared.names.Name.{Name}
+use Rattle.cpm_asm_expression.specs.Names.{Extends, Table, empty_table, name_cmp}
+use Rattle.cpm_asm_expression.specs.declared.names.Name.{Name}
 use Rattle.cpm_asm.specs.Pieces.{Numbered, pieces}
 use Rattle.cpm_asm.specs.Statements.{Said}
 use Rattle.cpm_asm.specs.Measures.{is_wrong}

@@ -1,7 +1,7 @@
 -- One statement of a pass.
 use Rattle.std.proofs.Common.{◌≡◌, ℕ, true, false, List, [], ◌∷◌, ◌++◌, ap, sym, ◌∙◌, append_assoc, append-nil}
 use Rattle.std.specs.Prelude.{None, Some, Result, Ok, Err}
-use Rattle.cpm_expression.specs.Names.{Table}
+use Rattle.cpm_asm_expression.specs.Names.{Table}
 use Rattle.cpm_asm.specs.Pieces.{Numbered}
 use Rattle.cpm_asm.specs.Statements.{Said}
 use Rattle.cpm_asm.specs.Measures.{measured}

@@ -4,7 +4,7 @@ use Rattle.std.specs.Prelude.{Result, Ok, Err, ◌||◌, if◌then◌else◌, is
 use Rattle.std.specs.List.{All}
 use Rattle.std.proofs.lemmas.Bool.{true≢false}
 use Rattle.std.proofs.lemmas.List.Elements.{All-nil, All-cons, All-append}
-use Rattle.cpm_expression.specs.Names.{Table, empty_table}
+use Rattle.cpm_asm_expression.specs.Names.{Table, empty_table}
 use Rattle.cpm_asm.specs.Pieces.{Numbered, pieces}
 use Rattle.cpm_asm.specs.Statements.{Deed, Wrong, Nothing, End, Origin, Equate, If, EndIf, Nest, Unnest, Space, Bytes, Words, Plain, Byte, Word, Restart}
 use Rattle.cpm_asm.specs.Emitting.{emitted}

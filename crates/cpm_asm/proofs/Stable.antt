@@ -2,11 +2,11 @@
 use Rattle.std.proofs.Common.{◌≡◌, ℕ, List, ap, sym, ◌∙◌, refl}
 use Rattle.std.specs.Prelude.{Option, None, Some, Bool, true, false, not, is_some, unwrap_or}
 use Rattle.std.proofs.lemmas.Bool.{true≢false}
-use Rattle.cpm_expression.specs.Names.{Table, Extends, empty_table}
-use Rattle.cpm_expression.specs.Reading.{value_at}
-use Rattle.cpm_expression.specs.Values.{exactly}
-use Rattle.cpm_expression.specs.declared.values.Valued.{Valued}
-use Rattle.cpm_expression.proofs.Stable.{expression_anywhere, value_stays}
+use Rattle.cpm_asm_expression.specs.Names.{Table, Extends, empty_table}
+use Rattle.cpm_asm_expression.specs.Reading.{value_at}
+use Rattle.cpm_asm_expression.specs.Values.{exactly}
+use Rattle.cpm_asm_expression.specs.declared.values.Valued.{Valued}
+use Rattle.cpm_asm_expression.proofs.Stable.{expression_anywhere, value_stays}
 use Rattle.cpm_asm.specs.Data.{is_expression, value}
 use Rattle.cpm_asm.specs.Measures.{equated, is_wrong, measured, origin, spaced, tested}
 use Rattle.cpm_asm.specs.Statements.{Deed, Wrong, Nothing, End, Origin, Equate, If, EndIf, Nest, Unnest, Space, Bytes, Words, Plain, Byte, Word, Restart}

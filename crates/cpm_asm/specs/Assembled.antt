@@ -1,7 +1,7 @@
 -- An image and the source that it is of.
 use Rattle.std.specs.Prelude.{◌≡◌, ◌⊎◌, ℕ, List, [], ◌∷◌, ◌-◌, Bool, true, false, Option, None, Some, take, drop, length}
-use Rattle.cpm_expression.specs.Names.{Table}
-use Rattle.cpm_expression.specs.declared.names.Name.{Name}
+use Rattle.cpm_asm_expression.specs.Names.{Table}
+use Rattle.cpm_asm_expression.specs.declared.names.Name.{Name}
 use Rattle.cpm_asm.specs.Pieces.{Numbered, pieces}
 use Rattle.cpm_asm.specs.Places.{start}
 use Rattle.cpm_asm.specs.Passes.{behind, given, is_last, last_or, said, taken, with_bytes}

@@ -1,12 +1,12 @@
 -- Values of operands, and the operands of DB and DW.
 -- CP/M 2.2 Operating System Manual, "CP/M Assembler", "The DB Directive" and "The DW Directive"
 use Rattle.std.specs.Prelude.{ℕ, ◌+◌, ◌/◌, ◌%◌, Bool, false, not, ◌||◌, nat_lt, nat_le, if◌then◌else◌, List, [], ◌∷◌, ◌++◌, length, Option, None, Some, is_some, unwrap_or, option_map, option_and_then}
-use Rattle.cpm_expression.specs.Letters.{after_blanks}
-use Rattle.cpm_expression.specs.Names.{Table, empty_table}
-use Rattle.cpm_expression.specs.Quotes.{is_quote, quoted_text}
-use Rattle.cpm_expression.specs.Reading.{value_at}
-use Rattle.cpm_expression.specs.Values.{exactly}
-use Rattle.cpm_expression.specs.declared.values.Valued.{Valued}
+use Rattle.cpm_asm_expression.specs.Letters.{after_blanks}
+use Rattle.cpm_asm_expression.specs.Names.{Table, empty_table}
+use Rattle.cpm_asm_expression.specs.Quotes.{is_quote, quoted_text}
+use Rattle.cpm_asm_expression.specs.Reading.{value_at}
+use Rattle.cpm_asm_expression.specs.Values.{exactly}
+use Rattle.cpm_asm_expression.specs.declared.values.Valued.{Valued}
 use Rattle.cpm_asm.specs.Heads.{is_blank_text}
 use Rattle.cpm_asm.specs.Lines.{parts}
 use Rattle.cpm_asm.specs.Operands.{comma}

@@ -2,8 +2,8 @@
 -- Intel 8080 Assembly Language Programming Manual, "The 8080 Instruction Set"; CP/M 2.2 Operating System Manual,
 -- "CP/M Assembler", "The DS Directive"
 use Rattle.std.specs.Prelude.{ℕ, ◌*◌, ◌-◌, ◌%◌, [], Option, None, Some, true, false, nat_lt, if◌then◌else◌, ◌||◌, replicate}
-use Rattle.cpm_expression.specs.Names.{Table}
-use Rattle.cpm_expression.specs.declared.values.Valued.{Valued}
+use Rattle.cpm_asm_expression.specs.Names.{Table}
+use Rattle.cpm_asm_expression.specs.declared.values.Valued.{Valued}
 use Rattle.cpm_decode.specs.declared.operation.Op.TheVariants as op
 use Rattle.cpm_asm.specs.Statements.{Deed, Wrong, Nothing, End, Origin, Equate, If, EndIf, Nest, Unnest, Space, Bytes, Words, Plain, Byte, Word, Restart}
 use Rattle.cpm_asm.specs.Encoding.{encoded, with_byte, with_word}

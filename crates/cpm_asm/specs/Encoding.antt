@@ -17,10 +17,10 @@ use Rattle.cpm_decode.specs.declared.operation.Arithmetic.{Arithmetic}
 use Rattle.cpm_decode.specs.declared.operation.Arithmetic.TheVariants as a
 use Rattle.cpm_decode.specs.declared.operation.Rotation.{Rotation}
 use Rattle.cpm_decode.specs.declared.operation.Rotation.TheVariants as o
-use Rattle.cpm_expression.specs.declared.words.ByteForm.{ByteForm}
-use Rattle.cpm_expression.specs.declared.words.ByteForm.TheVariants as b
-use Rattle.cpm_expression.specs.declared.words.WordForm.{WordForm}
-use Rattle.cpm_expression.specs.declared.words.WordForm.TheVariants as w
+use Rattle.cpm_asm_expression.specs.declared.words.ByteForm.{ByteForm}
+use Rattle.cpm_asm_expression.specs.declared.words.ByteForm.TheVariants as b
+use Rattle.cpm_asm_expression.specs.declared.words.WordForm.{WordForm}
+use Rattle.cpm_asm_expression.specs.declared.words.WordForm.TheVariants as w
 
 -- ---- the numbers of registers, pairs, conditions and operations
 

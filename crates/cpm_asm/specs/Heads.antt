@@ -1,13 +1,13 @@
 -- The front of a statement: [label[:]] [operation].
 -- CP/M 2.2 Operating System Manual, "CP/M Assembler", "Program Format" and "Labels"
 use Rattle.std.specs.Prelude.{ℕ, Bool, ◌==◌, if◌then◌else◌, List, [], ◌∷◌, length, Option, None, Some}
-use Rattle.cpm_expression.specs.Letters.{after_blanks, begins_name, short_letters, split_word}
-use Rattle.cpm_expression.specs.Names.{name_with}
-use Rattle.cpm_expression.specs.Words.{keyword_of}
-use Rattle.cpm_expression.specs.declared.names.Name.{Name}
-use Rattle.cpm_expression.specs.declared.words.Keyword.{Keyword}
-use Rattle.cpm_expression.specs.declared.words.Keyword.TheVariants as k
-use Rattle.cpm_expression.specs.declared.words.Operation.{Operation}
+use Rattle.cpm_asm_expression.specs.Letters.{after_blanks, begins_name, short_letters, split_word}
+use Rattle.cpm_asm_expression.specs.Names.{name_with}
+use Rattle.cpm_asm_expression.specs.Words.{keyword_of}
+use Rattle.cpm_asm_expression.specs.declared.names.Name.{Name}
+use Rattle.cpm_asm_expression.specs.declared.words.Keyword.{Keyword}
+use Rattle.cpm_asm_expression.specs.declared.words.Keyword.TheVariants as k
+use Rattle.cpm_asm_expression.specs.declared.words.Operation.{Operation}
 use Rattle.cpm_asm.specs.declared.word.First.{First}
 use Rattle.cpm_asm.specs.declared.word.First.TheVariants as first
 use Rattle.cpm_asm.specs.declared.head.Head.{Head}

@@ -3,7 +3,7 @@
 use Rattle.std.specs.Prelude.{ℕ, suc, Bool, false, not, ◌==◌, ◌&&◌, if◌then◌else◌, List, [], ◌∷◌, take, Option, None, Some}
 use Rattle.std.specs.Borrow.{Bor}
 use Rattle.std.specs.List.{before_first, onto_first}
-use Rattle.cpm_expression.specs.Quotes.{is_quote}
+use Rattle.cpm_asm_expression.specs.Quotes.{is_quote}
 
 -- 1Ah ends a source
 abbrev pub is_end : ℕ → Bool

@@ -1,8 +1,8 @@
 -- What a statement at an address takes, and what the first pass finds in it.
 -- CP/M 2.2 Operating System Manual, "CP/M Assembler", "Assembler Directives". The order of faults is own.
 use Rattle.std.specs.Prelude.{ℕ, List, length, ◌+◌, ◌-◌, ◌%◌, Bool, true, false, not, ◌==◌, nat_lt, if◌then◌else◌, ◌||◌, is_some, unwrap_or}
-use Rattle.cpm_expression.specs.Names.{Table}
-use Rattle.cpm_expression.specs.declared.values.Valued.{Valued}
+use Rattle.cpm_asm_expression.specs.Names.{Table}
+use Rattle.cpm_asm_expression.specs.declared.values.Valued.{Valued}
 use Rattle.cpm_asm.specs.Statements.{Deed, Wrong, Nothing, End, Origin, Equate, If, EndIf, Nest, Unnest, Space, Bytes, Words, Plain, Byte, Word, Restart}
 use Rattle.cpm_asm.specs.Encoding.{encoded}
 use Rattle.cpm_asm.specs.Data.{is_expression, list_size, value}

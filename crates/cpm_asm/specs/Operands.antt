@@ -2,11 +2,11 @@
 -- CP/M 2.2 Operating System Manual, "CP/M Assembler", "Forming the Operand"; Intel 8080 Assembly Language
 -- Programming Manual, "Operand Field"
 use Rattle.std.specs.Prelude.{ℕ, false, if◌then◌else◌, List, [], ◌∷◌, Option, None, Some, option_and_then}
-use Rattle.cpm_expression.specs.Words.{keyword_of}
-use Rattle.cpm_expression.specs.declared.words.Keyword.{Keyword}
-use Rattle.cpm_expression.specs.declared.words.Keyword.TheVariants as k
-use Rattle.cpm_expression.specs.declared.words.Register.{Register}
-use Rattle.cpm_expression.specs.declared.words.Register.TheVariants as s
+use Rattle.cpm_asm_expression.specs.Words.{keyword_of}
+use Rattle.cpm_asm_expression.specs.declared.words.Keyword.{Keyword}
+use Rattle.cpm_asm_expression.specs.declared.words.Keyword.TheVariants as k
+use Rattle.cpm_asm_expression.specs.declared.words.Register.{Register}
+use Rattle.cpm_asm_expression.specs.declared.words.Register.TheVariants as s
 use Rattle.cpm_decode.specs.declared.operation.Place.{Place}
 use Rattle.cpm_decode.specs.declared.operation.Place.TheVariants as p
 use Rattle.cpm_decode.specs.declared.operation.Pair.{Pair}

@@ -1,8 +1,8 @@
 -- The two passes: the first fault of the first, else the first fault of the second, else the image. All of it is own.
 use Rattle.std.specs.Prelude.{◌≡◌, ◌⊎◌, ℕ, List, [], ◌∷◌, ◌++◌, ◌-◌, ◌==◌, Bool, true, false, if◌then◌else◌, length, replicate, Option, None, Some, Result, Ok, Err, Vec}
 use Rattle.std.specs.declared.alloc.Global.{Global}
-use Rattle.cpm_expression.specs.Names.{Table, empty_table, with_name}
-use Rattle.cpm_expression.specs.declared.names.Name.{Name}
+use Rattle.cpm_asm_expression.specs.Names.{Table, empty_table, with_name}
+use Rattle.cpm_asm_expression.specs.declared.names.Name.{Name}
 use Rattle.cpm_asm.specs.Pieces.{Numbered, pieces}
 use Rattle.cpm_asm.specs.Statements.{Deed, End, Said, statement_at}
 use Rattle.cpm_asm.specs.Measures.{measured}

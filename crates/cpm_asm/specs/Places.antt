@@ -2,10 +2,10 @@
 -- CP/M 2.2 Operating System Manual, "CP/M Assembler", "The IF and ENDIF Directives". The depth of 8 and the order
 -- of faults are own.
 use Rattle.std.specs.Prelude.{ℕ, ◌+◌, ◌-◌, ◌≤◌, List, [], ◌∷◌, Option, None, Some, Bool, true, false, not, ◌==◌, nat_lt, nat_le, if◌then◌else◌, ◌||◌, ◌&&◌, is_some}
-use Rattle.cpm_expression.specs.Names.{Table}
-use Rattle.cpm_expression.specs.declared.names.Name.{Name}
-use Rattle.cpm_expression.specs.declared.words.Operation.{Operation}
-use Rattle.cpm_expression.specs.declared.words.Operation.TheVariants as o
+use Rattle.cpm_asm_expression.specs.Names.{Table}
+use Rattle.cpm_asm_expression.specs.declared.names.Name.{Name}
+use Rattle.cpm_asm_expression.specs.declared.words.Operation.{Operation}
+use Rattle.cpm_asm_expression.specs.declared.words.Operation.TheVariants as o
 use Rattle.cpm_asm.specs.Heads.{Fronted, head_of}
 use Rattle.cpm_asm.specs.declared.nesting.Depth.{Depth}
 use Rattle.cpm_asm.specs.declared.nesting.Turning.{Turning}

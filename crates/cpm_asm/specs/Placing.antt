@@ -1,7 +1,7 @@
 -- Where the bytes of each statement stand in an image. All of it is own.
 use Rattle.std.specs.Prelude.{◌≡◌, ◌⊎◌, ℕ, List, [], ◌∷◌, ◌++◌, ◌-◌, Bool, true, false, if◌then◌else◌, ◌||◌, is_some, length, take, drop, Result, Ok, Err}
 use Rattle.std.specs.List.{All}
-use Rattle.cpm_expression.specs.Names.{Table, empty_table}
+use Rattle.cpm_asm_expression.specs.Names.{Table, empty_table}
 use Rattle.cpm_asm.specs.Pieces.{Numbered, pieces}
 use Rattle.cpm_asm.specs.Statements.{Deed, Wrong, Nothing, End, If, EndIf, Nest, Unnest, Said}
 use Rattle.cpm_asm.specs.Places.{start}

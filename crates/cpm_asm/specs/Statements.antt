@@ -2,13 +2,13 @@
 -- CP/M 2.2 Operating System Manual, "CP/M Assembler", "Assembler Directives" and "Operation Codes"; Intel 8080
 -- Assembly Language Programming Manual, "The 8080 Instruction Set"
 use Rattle.std.specs.Prelude.{ℕ, Bool, if◌then◌else◌, List, Option, None, Some, option_map}
-use Rattle.cpm_expression.specs.declared.names.Name.{Name}
-use Rattle.cpm_expression.specs.declared.words.ByteForm.{ByteForm}
-use Rattle.cpm_expression.specs.declared.words.ByteForm.TheVariants as b
-use Rattle.cpm_expression.specs.declared.words.WordForm.{WordForm}
-use Rattle.cpm_expression.specs.declared.words.WordForm.TheVariants as w
-use Rattle.cpm_expression.specs.declared.words.Operation.{Operation}
-use Rattle.cpm_expression.specs.declared.words.Operation.TheVariants as o
+use Rattle.cpm_asm_expression.specs.declared.names.Name.{Name}
+use Rattle.cpm_asm_expression.specs.declared.words.ByteForm.{ByteForm}
+use Rattle.cpm_asm_expression.specs.declared.words.ByteForm.TheVariants as b
+use Rattle.cpm_asm_expression.specs.declared.words.WordForm.{WordForm}
+use Rattle.cpm_asm_expression.specs.declared.words.WordForm.TheVariants as w
+use Rattle.cpm_asm_expression.specs.declared.words.Operation.{Operation}
+use Rattle.cpm_asm_expression.specs.declared.words.Operation.TheVariants as o
 use Rattle.cpm_decode.specs.declared.operation.Op.{Op}
 use Rattle.cpm_decode.specs.declared.operation.Op.TheVariants as op
 use Rattle.cpm_decode.specs.declared.operation.Place.{Place}

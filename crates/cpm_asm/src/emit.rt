@@ -1,6 +1,6 @@
 //! The bytes of a statement.
 ghost use Rattle.std.specs.Prelude.{◌≡◌, ◌++◌, ◌∷◌, [], IfOk, OnOk, replicate};
-ghost use Rattle.cpm_expression.specs.Names.{in_table};
+ghost use Rattle.cpm_asm_expression.specs.Names.{in_table};
 ghost use Rattle.cpm_asm.specs.Data.{byte_doubt, either, list_bytes, operand_bytes};
 ghost use Rattle.cpm_asm.specs.Encoding.{encoded};
 ghost use Rattle.cpm_asm.specs.Statements.{seen_work};
@@ -12,7 +12,7 @@ use crate::lines::first_part;
 use crate::statement::Work;
 use crate::values::{text_in, value};
 use cpm_decode::Op;
-use cpm_expression::{Names, Valued};
+use cpm_asm_expression::{Names, Valued};
 use std::alloc::{AllocError, Global};
 
 /// What may be wrong with bytes.

@@ -4,7 +4,7 @@ ghost use Rattle.cpm_asm.specs.Encoding.{arithmetic_code, condition_code, encode
 
 use arrayvec::ArrayVec;
 use cpm_decode::{Arithmetic, Condition, Op, Pair, Place, Rotation, StackPair};
-use cpm_expression::{ByteForm, WordForm};
+use cpm_asm_expression::{ByteForm, WordForm};
 
 /// The bytes of an instruction.
 pub type Encoding = ArrayVec<u8, 3>;

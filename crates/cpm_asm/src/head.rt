@@ -3,7 +3,7 @@ ghost use Rattle.std.specs.Prelude.{◌≡◌, option_map};
 ghost use Rattle.cpm_asm.specs.Heads.{behind_label, head_of, seen_head};
 
 use crate::word::{First, after_colon, word_of};
-use cpm_expression::{Keyword, Name, Operation, keyword_of, name_of};
+use cpm_asm_expression::{Keyword, Name, Operation, keyword_of, name_of};
 
 /// The front of a statement.
 #[derive(Clone, Copy)]

@@ -1,6 +1,6 @@
 //! What a statement takes, and what the first pass finds in it.
 ghost use Rattle.std.specs.Prelude.{◌≡◌, ◌<◌, ◌≤◌, IfOk, IfSome, min, option_map};
-ghost use Rattle.cpm_expression.specs.Names.{in_table};
+ghost use Rattle.cpm_asm_expression.specs.Names.{in_table};
 ghost use Rattle.cpm_asm.specs.Data.{list_size, operand_size};
 ghost use Rattle.cpm_asm.specs.Statements.{seen_statement, seen_work};
 ghost use Rattle.cpm_asm.specs.Measures.{equated, is_wrong, list_measure, measured, origin, sized, spaced, tested};
@@ -9,7 +9,7 @@ use crate::encode::encoded;
 use crate::lines::first_part;
 use crate::statement::Work;
 use crate::values::{is_expression, text_in, value};
-use cpm_expression::{Names, Valued};
+use cpm_asm_expression::{Names, Valued};
 use std::alloc::{AllocError, Global};
 
 /// What a statement at an address takes.

@@ -7,7 +7,7 @@ use crate::error::{AsmError, AsmErrorKind};
 use crate::head::head_of;
 use crate::pieces::{Pieces, next_piece};
 use crate::place::Place;
-use cpm_expression::Operation;
+use cpm_asm_expression::Operation;
 
 /// What a statement does to the IFs that are open.
 #[derive(Clone, Copy)]

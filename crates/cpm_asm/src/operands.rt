@@ -5,7 +5,7 @@ ghost use Rattle.cpm_asm.specs.Operands.{direct_pair_in, one_operand, pair_in, p
 use crate::lines::first_part;
 use crate::word::{First, is_blank_text, word_of};
 use cpm_decode::{Pair, Place, StackPair};
-use cpm_expression::{Keyword, Register, keyword_of};
+use cpm_asm_expression::{Keyword, Register, keyword_of};
 
 /// The operand of a list with only one.
 pub(crate) fn one_operand(list: &[u8]) -> Option<&[u8]>

@@ -1,6 +1,6 @@
 //! The two passes.
 ghost use Rattle.std.specs.Prelude.{◌≡◌, ◌+◌, ◌++◌, ◌<◌, ◌≤◌, ◌^◌, [], IfOk, OnOk, length};
-ghost use Rattle.cpm_expression.specs.Names.{empty_table, in_table};
+ghost use Rattle.cpm_asm_expression.specs.Names.{empty_table, in_table};
 ghost use Rattle.cpm_asm.specs.Assembled.{Assembled};
 ghost use Rattle.cpm_asm.specs.Emitting.{emitted};
 ghost use Rattle.cpm_asm.specs.Measures.{measured};
@@ -18,7 +18,7 @@ use crate::pieces::{next_piece, pieces_of};
 use crate::place::{Place, first_fault, moved, start};
 use crate::placed::{Assembly, Placed, add_place};
 use crate::statement::{Statement, Work, statement_at};
-use cpm_expression::{Name, Names};
+use cpm_asm_expression::{Name, Names};
 use std::alloc::{AllocError, Global};
 use std::collections::BTreeMap;
 

@@ -1,13 +1,13 @@
 //! Where a pass stands.
 ghost use Rattle.std.specs.Prelude.{◌≡◌, ◌≤◌, IfOk};
-ghost use Rattle.cpm_expression.specs.Names.{in_table};
+ghost use Rattle.cpm_asm_expression.specs.Names.{in_table};
 ghost use Rattle.cpm_asm.specs.Statements.{seen_statement, seen_work};
 ghost use Rattle.cpm_asm.specs.Places.{IsPlace, first_fault, in_if, is_defined, is_misplaced, is_nameless, moved, placed_over, start};
 
 use crate::error::AsmErrorKind;
 use crate::measure::{Measure, is_wrong};
 use crate::statement::{Statement, Work};
-use cpm_expression::{Name, Names};
+use cpm_asm_expression::{Name, Names};
 use std::alloc::{AllocError, Global};
 
 /// IFs are at most so deep.

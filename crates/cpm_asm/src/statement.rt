@@ -9,7 +9,7 @@ use crate::operands::{
 };
 use crate::word::is_blank_text;
 use cpm_decode::{Op, Place};
-use cpm_expression::{ByteForm, Name, Operation, WordForm};
+use cpm_asm_expression::{ByteForm, Name, Operation, WordForm};
 
 /// What a statement does. Texts are expressions, or lists of operands.
 #[derive(Clone, Copy)]

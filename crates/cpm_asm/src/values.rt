@@ -1,11 +1,11 @@
 //! Values of the operands of statements.
 ghost use Rattle.std.specs.Prelude.{◌≡◌, IfOk, option_map};
-ghost use Rattle.cpm_expression.specs.Names.{in_table};
+ghost use Rattle.cpm_asm_expression.specs.Names.{in_table};
 ghost use Rattle.cpm_asm.specs.Data.{is_expression, text_in, value};
 
 use crate::word::is_blank_text;
 use arrayvec::ArrayVec;
-use cpm_expression::{Names, Valued, after_blanks, quoted_text, value_of};
+use cpm_asm_expression::{Names, Valued, after_blanks, quoted_text, value_of};
 use std::alloc::{AllocError, Global};
 use std::collections::BTreeMap;
 

@@ -2,7 +2,7 @@
 ghost use Rattle.std.specs.Prelude.{◌≡◌};
 ghost use Rattle.cpm_asm.specs.Heads.{after_colon, is_blank_text, seen_word, word_of};
 
-use cpm_expression::{Letters, after_blanks, begins_name, letters_of, split_word};
+use cpm_asm_expression::{Letters, after_blanks, begins_name, letters_of, split_word};
 
 /// What stands at the front of a text, behind its blanks.
 pub(crate) enum First<'a> {

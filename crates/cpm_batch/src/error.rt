@@ -3,7 +3,7 @@ ghost use Rattle.std.specs.Prelude.{◌≡◌};
 ghost use Rattle.cpm_batch.specs.Inputs.{status_of_reading};
 ghost use Rattle.cpm_batch.specs.declared.error.ReadError.TheVariants.{OutOfMemory};
 
-use cpm_command::Word;
+use cpm_command_line::Word;
 use cpm_script::LineFault;
 use std::alloc::{AllocError, AllocFailed};
 use thiserror::Error;

@@ -9,7 +9,7 @@ ghost use Rattle.cpm_batch.specs.Reads.{AreForkedKeysRead, IsForkedRead, IsForke
 
 use crate::error::ReadError;
 use crate::input::{Input, Start, read_bytes};
-use cpm_command::shown;
+use cpm_command_line::shown;
 use cpm_config::Session;
 use cpm_script::{Key, ScriptError, keys_before, read_forked_keys};
 use cpm_store::Store;

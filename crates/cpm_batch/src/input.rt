@@ -8,7 +8,7 @@ ghost use Rattle.cpm_batch.specs.Reads.{AreImagesRead, AreInputsRead, AreKeysRea
 
 use crate::error::ReadError;
 use crate::forked::read_forked;
-use cpm_command::shown;
+use cpm_command_line::shown;
 use cpm_config::{Config, Origin, Session};
 use cpm_flags::Cpu;
 use cpm_geom::Image;

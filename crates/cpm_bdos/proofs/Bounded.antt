@@ -24,13 +24,13 @@ use Rattle.cpm_bdos.specs.Output.{wrote, list_byte, showed, write_byte, write_te
 use Rattle.cpm_bdos.specs.Input.{is_echoed, read_key, direct_console}
 use Rattle.cpm_bdos.specs.ReadLine.{LineReader, is_open, line_ended, after_key, with_edited, take_key, no_more, line_step}
 use Rattle.cpm_bdos.specs.Faults.{fault_text, in_fault, faulted, after_fault}
-use Rattle.cpm_disks.specs.declared.disks.Disks.{Disks}
-use Rattle.cpm_disks.specs.declared.function.FileFunction.{FileFunction}
-use Rattle.cpm_disks.specs.Disks.{is_there, drive_at}
-use Rattle.cpm_disks.specs.Selecting.{used, select}
-use Rattle.cpm_disks.specs.Calls.{drive_named}
-use Rattle.cpm_disks.specs.Vectors.{allocation_vector, allocation_of}
-use Rattle.cpm_disks.specs.Sectors.{sector_read, sector_written}
+use Rattle.cpm_drives.specs.declared.disks.Disks.{Disks}
+use Rattle.cpm_drives.specs.declared.function.FileFunction.{FileFunction}
+use Rattle.cpm_drives.specs.Disks.{is_there, drive_at}
+use Rattle.cpm_drives.specs.Selecting.{used, select}
+use Rattle.cpm_drives.specs.Calls.{drive_named}
+use Rattle.cpm_drives.specs.Vectors.{allocation_vector, allocation_of}
+use Rattle.cpm_drives.specs.Sectors.{sector_read, sector_written}
 use Rattle.cpm_bdos.specs.Disks.{by_answer, with_disks, fcb_size, record_size, call_stored, vector_of, file_function, select_disk, give_allocation, user_code}
 use Rattle.cpm_bdos.specs.BiosDisks.{sector_got, sector_put, select_drive, read_sector, write_sector, translate}
 use Rattle.cpm_bdos.proofs.Pages.{pages-le}
@@ -41,8 +41,8 @@ use Rattle.cpm_bdos.specs.declared.function.Function.{Function}
 use Rattle.cpm_bdos.specs.declared.function.Function.TheVariants.{WarmBoot, ReadKey, WriteByte, ReaderInput, PunchOutput, ListOutput, DirectConsole, GetIoByte, SetIoByte, WriteText, ReadLine, ConsoleStatus, Version, ResetDisks, SelectDisk, File, LoginVector, CurrentDisk, SetBuffer, AllocationVector, ProtectDisk, ReadOnlyVector, DiskParameters, UserCode, ResetDrives, Other}
 use Rattle.cpm_bdos.specs.declared.function.BiosCall.{BiosCall}
 use Rattle.cpm_bdos.specs.declared.function.BiosCall.TheVariants as entry
-use Rattle.cpm_files.specs.declared.answer.Fault.{Fault}
-use Rattle.cpm_files.specs.declared.answer.Fault.TheVariants as fault
+use Rattle.cpm_volume.specs.declared.answer.Fault.{Fault}
+use Rattle.cpm_volume.specs.declared.answer.Fault.TheVariants as fault
 use Rattle.cpm_bdos.specs.declared.cpm.Cpm.{Cpm}
 use Rattle.cpm_bdos.specs.declared.cpm.Held.{Held}
 use Rattle.cpm_bdos.specs.declared.cpm.Held.TheVariants as held

@@ -2,11 +2,11 @@
 use Rattle.std.proofs.Common.{◌≡◌, ℕ, ◌+◌, ◌≤◌, ◌<◌, List, [], ◌∷◌, length, take, refl, ◌∙◌, arith, Result, Ok, Err}
 use Rattle.std.proofs.lemmas.List.{length-take}
 use Rattle.cpm_geom.specs.Disk.{Disk}
-use Rattle.cpm_files.specs.declared.answer.Fault.{Fault}
+use Rattle.cpm_volume.specs.declared.answer.Fault.{Fault}
 use Rattle.cpm_memory.specs.Contents.{Contents, run_at, touched_of}
 use Rattle.cpm_memory.proofs.Runs.{touched_of-run, limit-run, length-run_at}
-use Rattle.cpm_disks.specs.declared.function.FileFunction.{FileFunction}
-use Rattle.cpm_disks.specs.Functions.{BytesCall, file_function_bytes}
+use Rattle.cpm_drives.specs.declared.function.FileFunction.{FileFunction}
+use Rattle.cpm_drives.specs.Functions.{BytesCall, file_function_bytes}
 use Rattle.cpm_bdos.specs.Registers.{de_of}
 use Rattle.cpm_bdos.specs.Disks.{by_answer, fcb_size, record_size, record_stored, changed_bytes, fcb_stored, call_stored}
 use Rattle.cpm_bdos.specs.declared.cpm.Cpm.{Cpm}

@@ -10,10 +10,10 @@ use Rattle.cpm_console.specs.declared.line.Progress.{Progress}
 use Rattle.cpm_console.specs.declared.line.Progress.TheVariants as line
 use Rattle.cpm_console.proofs.Said.{length-screen_said}
 use Rattle.cpm_memory.specs.Contents.{Contents, byte_at, next, run_at}
-use Rattle.cpm_files.specs.declared.answer.Fault.{Fault as Failure}
-use Rattle.cpm_disks.specs.declared.function.FileFunction.{FileFunction}
-use Rattle.cpm_disks.specs.Functions.{file_function_bytes}
-use Rattle.cpm_disks.specs.Selecting.{select}
+use Rattle.cpm_volume.specs.declared.answer.Fault.{Fault as Failure}
+use Rattle.cpm_drives.specs.declared.function.FileFunction.{FileFunction}
+use Rattle.cpm_drives.specs.Functions.{file_function_bytes}
+use Rattle.cpm_drives.specs.Selecting.{select}
 use Rattle.cpm_bdos.specs.Registers.{de_of}
 use Rattle.cpm_bdos.specs.Function.{function_of}
 use Rattle.cpm_bdos.specs.Did.{Did, did, answered}

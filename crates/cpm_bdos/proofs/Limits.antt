@@ -18,13 +18,13 @@ use Rattle.cpm_bdos.specs.Output.{write_byte, write_text}
 use Rattle.cpm_bdos.specs.Input.{read_key, direct_console}
 use Rattle.cpm_bdos.specs.ReadLine.{LineReader, is_open, line_ended, after_key, with_edited, take_key, line_step}
 use Rattle.cpm_bdos.specs.Faults.{after_fault}
-use Rattle.cpm_disks.specs.declared.disks.Disks.{Disks}
-use Rattle.cpm_disks.specs.declared.function.FileFunction.{FileFunction}
-use Rattle.cpm_disks.specs.Disks.{is_there, drive_at}
-use Rattle.cpm_disks.specs.Selecting.{used, select}
-use Rattle.cpm_disks.specs.Calls.{drive_named}
-use Rattle.cpm_disks.specs.Vectors.{allocation_of}
-use Rattle.cpm_disks.specs.Sectors.{sector_read, sector_written}
+use Rattle.cpm_drives.specs.declared.disks.Disks.{Disks}
+use Rattle.cpm_drives.specs.declared.function.FileFunction.{FileFunction}
+use Rattle.cpm_drives.specs.Disks.{is_there, drive_at}
+use Rattle.cpm_drives.specs.Selecting.{used, select}
+use Rattle.cpm_drives.specs.Calls.{drive_named}
+use Rattle.cpm_drives.specs.Vectors.{allocation_of}
+use Rattle.cpm_drives.specs.Sectors.{sector_read, sector_written}
 use Rattle.cpm_bdos.specs.Disks.{with_disks, fcb_size, record_size, call_stored, vector_of, file_function, select_disk, give_allocation, user_code}
 use Rattle.cpm_bdos.specs.BiosDisks.{sector_got, sector_put, select_drive, read_sector, write_sector, translate}
 use Rattle.cpm_bdos.proofs.DriveCalls.{memory-by_answer, call_of, limit-record_stored, limit-call_stored}

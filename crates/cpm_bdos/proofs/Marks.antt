@@ -2,9 +2,9 @@
 use Rattle.std.proofs.Common.{◌≡◌, ℕ, Bool, true, false, refl, is_some}
 use Rattle.std.specs.Prelude.{if◌then◌else◌}
 use Rattle.cpm_geom.specs.Disk.{Disk}
-use Rattle.cpm_disks.specs.declared.disks.Disks.{Disks}
-use Rattle.cpm_disks.specs.Disks.{own_drive, with_drive}
-use Rattle.cpm_disks.specs.Selecting.{used}
+use Rattle.cpm_drives.specs.declared.disks.Disks.{Disks}
+use Rattle.cpm_drives.specs.Disks.{own_drive, with_drive}
+use Rattle.cpm_drives.specs.Selecting.{used}
 
 current-if : (b : Bool) (d x y : Disks) → x.current ≡ d.current → y.current ≡ d.current → (if b then x else y).current ≡ d.current
 current-if true d x y hx hy = hx

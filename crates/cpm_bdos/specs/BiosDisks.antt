@@ -3,9 +3,9 @@
 use Rattle.std.specs.Prelude.{ℕ, ◌+◌, ◌%◌, ◌==◌, List, Option, Some, None, if◌then◌else◌}
 use Rattle.cpm_geom.specs.Disk.{Disk}
 use Rattle.cpm_memory.specs.Contents.{Contents, byte_at, run_at}
-use Rattle.cpm_disks.specs.declared.disks.Disks.{Disks}
-use Rattle.cpm_disks.specs.Disks.{is_there}
-use Rattle.cpm_disks.specs.Sectors.{sector_read, sector_written}
+use Rattle.cpm_drives.specs.declared.disks.Disks.{Disks}
+use Rattle.cpm_drives.specs.Disks.{is_there}
+use Rattle.cpm_drives.specs.Sectors.{sector_read, sector_written}
 use Rattle.cpm_bdos.specs.Registers.{de_of, bc_of, with_a, with_hl}
 use Rattle.cpm_bdos.specs.Did.{Did, returned}
 use Rattle.cpm_bdos.specs.Disks.{with_disks, record_size, record_stored, format_in, header_of}

@@ -2,7 +2,7 @@
 use Rattle.std.specs.Prelude.{ℕ, false}
 use Rattle.cpm_memory.specs.Contents.{Contents, word_at, after_run}
 use Rattle.cpm_memory.specs.Layout.{command_processor_address, stack_address, default_buffer_address, warm_boot_jump, bdos_jump}
-use Rattle.cpm_disks.specs.Selecting.{rebooted_disks}
+use Rattle.cpm_drives.specs.Selecting.{rebooted_disks}
 use Rattle.cpm_bdos.specs.Registers.{with_result, returned_to}
 use Rattle.cpm_bdos.specs.declared.cpm.Cpm.{Cpm}
 use Rattle.cpm_bdos.specs.declared.cpm.Mode.TheVariants.{Program}

@@ -3,17 +3,17 @@
 use Rattle.std.specs.Prelude.{ℕ, ◌%◌, ◌==◌, List, [], ◌∷◌, Result, Ok, Err, if◌then◌else◌, slice_index, take}
 use Rattle.cpm_geom.specs.Disk.{Disk}
 use Rattle.cpm_geom.specs.declared.format.Format.{Format}
-use Rattle.cpm_files.specs.declared.answer.Fault.{Fault}
+use Rattle.cpm_volume.specs.declared.answer.Fault.{Fault}
 use Rattle.cpm_memory.specs.Contents.{Contents, run_at, after_run}
 use Rattle.cpm_memory.specs.Layout.{default_buffer_address}
 use Rattle.cpm_memory.specs.DiskTables.{allocation_vector_address, header_address}
-use Rattle.cpm_disks.specs.declared.disks.Disks.{Disks}
-use Rattle.cpm_disks.specs.declared.function.FileFunction.{FileFunction}
-use Rattle.cpm_disks.specs.Disks.{drive_at}
-use Rattle.cpm_disks.specs.Selecting.{used, DriveChoice, select, reset}
-use Rattle.cpm_disks.specs.Calls.{drive_named}
-use Rattle.cpm_disks.specs.Functions.{BytesCall, file_function_bytes}
-use Rattle.cpm_disks.specs.Vectors.{allocation_of}
+use Rattle.cpm_drives.specs.declared.disks.Disks.{Disks}
+use Rattle.cpm_drives.specs.declared.function.FileFunction.{FileFunction}
+use Rattle.cpm_drives.specs.Disks.{drive_at}
+use Rattle.cpm_drives.specs.Selecting.{used, DriveChoice, select, reset}
+use Rattle.cpm_drives.specs.Calls.{drive_named}
+use Rattle.cpm_drives.specs.Functions.{BytesCall, file_function_bytes}
+use Rattle.cpm_drives.specs.Vectors.{allocation_of}
 use Rattle.cpm_bdos.specs.Registers.{de_of}
 use Rattle.cpm_bdos.specs.Did.{Did, answered}
 use Rattle.cpm_bdos.specs.Faults.{faulted}

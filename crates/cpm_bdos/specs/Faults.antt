@@ -4,8 +4,8 @@ use Rattle.cpm_console.specs.Terminal.{shown}
 use Rattle.cpm_memory.specs.Contents.{Contents}
 use Rattle.cpm_bdos.specs.Did.{Did, did, rebooted}
 use Rattle.cpm_bdos.specs.Keys.{took_key}
-use Rattle.cpm_files.specs.declared.answer.Fault.{Fault}
-use Rattle.cpm_files.specs.declared.answer.Fault.TheVariants.{BadSector, Select, FileReadOnly, ReadOnly}
+use Rattle.cpm_volume.specs.declared.answer.Fault.{Fault}
+use Rattle.cpm_volume.specs.declared.answer.Fault.TheVariants.{BadSector, Select, FileReadOnly, ReadOnly}
 use Rattle.cpm_bdos.specs.declared.cpm.Cpm.{Cpm}
 use Rattle.cpm_bdos.specs.declared.cpm.Mode.TheVariants as mode
 use Rattle.cpm_bdos.specs.declared.cpm.Went.TheVariants.{Waits, GoesOn}

@@ -15,10 +15,10 @@ use Rattle.cpm_bdos.specs.Output.{showed, list_byte, write_byte, write_text}
 use Rattle.cpm_bdos.specs.Input.{read_key, direct_console}
 use Rattle.cpm_bdos.specs.ReadLine.{read_line, edit_line}
 use Rattle.cpm_bdos.specs.Faults.{after_fault}
-use Rattle.cpm_files.specs.declared.fcb.Fcb.{Fcb}
-use Rattle.cpm_disks.specs.Disks.{opened_disks}
-use Rattle.cpm_disks.specs.Selecting.{drives_reset, protect}
-use Rattle.cpm_disks.specs.Vectors.{login_vector, read_only_vector}
+use Rattle.cpm_volume.specs.declared.fcb.Fcb.{Fcb}
+use Rattle.cpm_drives.specs.Disks.{opened_disks}
+use Rattle.cpm_drives.specs.Selecting.{drives_reset, protect}
+use Rattle.cpm_drives.specs.Vectors.{login_vector, read_only_vector}
 use Rattle.cpm_bdos.specs.Disks.{with_disks, reset_disks, select_disk, file_function, format_in, give_allocation, user_code}
 use Rattle.cpm_bdos.specs.BiosDisks.{returned_a, home, select_drive, set_track, set_sector, set_sector_buffer, read_sector, write_sector, translate}
 use Rattle.cpm_bdos.specs.declared.function.Function.{Function}

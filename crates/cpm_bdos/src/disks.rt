@@ -3,8 +3,8 @@
 ghost use Rattle.std.specs.Prelude.{◌≡◌, ◌≤◌, length};
 ghost use Rattle.cpm_memory.specs.Room.{HasRoom};
 ghost use Rattle.cpm_memory.specs.DiskTables.{parameter_block_address};
-ghost use Rattle.cpm_disks.specs.Selecting.{drives_reset, protect};
-ghost use Rattle.cpm_disks.specs.Vectors.{login_vector, read_only_vector};
+ghost use Rattle.cpm_drives.specs.Selecting.{drives_reset, protect};
+ghost use Rattle.cpm_drives.specs.Vectors.{login_vector, read_only_vector};
 ghost use Rattle.cpm_bdos.specs.Did.{did, answered};
 ghost use Rattle.cpm_bdos.specs.Registers.{de_of};
 ghost use Rattle.cpm_bdos.specs.Disks.{with_disks, by_answer, file_function, table_of, vector_of, format_in, header_of, reset_disks, select_disk, give_allocation, user_code};
@@ -12,8 +12,8 @@ ghost use Rattle.cpm_bdos.specs.Disks.{with_disks, by_answer, file_function, tab
 use crate::cpm::{Cpm, Went};
 use crate::registers::pair_de;
 use crate::transfer::{get_fcb, get_record, store_fcb, store_record};
-use cpm_disks::FileFunction;
-use cpm_files::Fault;
+use cpm_drives::FileFunction;
+use cpm_volume::Fault;
 use cpm_geom::{Format, Image};
 use cpm_memory::disk_tables::format_offset;
 use cpm_memory::layout::{

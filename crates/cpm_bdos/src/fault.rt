@@ -9,7 +9,7 @@ ghost use Rattle.cpm_bdos.specs.Faults.{fault_name, in_fault, after_fault};
 
 use crate::cpm::{Cpm, Mode, Went};
 use cpm_console::Console;
-use cpm_files::Fault;
+use cpm_volume::Fault;
 use cpm_memory::Memory;
 
 /// What a fault is called in its message.

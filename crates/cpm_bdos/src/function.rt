@@ -3,7 +3,7 @@
 ghost use Rattle.std.specs.Prelude.{◌≡◌};
 ghost use Rattle.cpm_bdos.specs.Function.{function_of, bios_call_of};
 
-use cpm_disks::FileFunction;
+use cpm_drives::FileFunction;
 
 /// A function of the BDOS, called with its number in C.
 #[derive(Clone, Copy, Debug, PartialEq, Eq)]

@@ -10,14 +10,14 @@ use Rattle.cpm_geom.specs.Disk.{Disk, IsDisk, records_of, sector_at, with_sector
 use Rattle.cpm_geom.proofs.GeometryLemmas.{record_within}
 use Rattle.cpm_geom.proofs.RecordLemmas.{are_listed, are_records, written_there}
 use Rattle.cpm_geom.proofs.SectorLemmas.{put_length}
-use Rattle.cpm_files.specs.declared.extent.Extent.{Extent}
-use Rattle.cpm_files.specs.declared.extent.Entry.{Entry}
-use Rattle.cpm_files.specs.declared.answer.Fault.{Fault as Failure}
-use Rattle.cpm_files.specs.Encoding.{entry_of, entry_byte, entry_bytes}
-use Rattle.cpm_files.specs.Files.{Volume, Write, entry_put, entry_at, no_entry, first_match, group_of, extent_number, block_number, place_of}
-use Rattle.cpm_files.specs.Operations.{Outcome, ends, gives, with_entry, has_bad_block, agree, merged, closed_entry, is_unchanged, Close, refused, close_fault, closed, close_extent, open_to_read, reading, Target, Place, stopped, standing, opened_in, have_extent, closed_in, cross, next_target, next_place, get_record, record_in_block, read_in, read_next}
-use Rattle.cpm_files.specs.declared.answer.Answer.TheVariants.{Done as done, NoRecord as no_record, Fault as fault}
-use Rattle.cpm_files.specs.declared.answer.Fault.TheVariants.{BadSector as bad_sector}
+use Rattle.cpm_volume.specs.declared.extent.Extent.{Extent}
+use Rattle.cpm_volume.specs.declared.extent.Entry.{Entry}
+use Rattle.cpm_volume.specs.declared.answer.Fault.{Fault as Failure}
+use Rattle.cpm_volume.specs.Encoding.{entry_of, entry_byte, entry_bytes}
+use Rattle.cpm_volume.specs.Files.{Volume, Write, entry_put, entry_at, no_entry, first_match, group_of, extent_number, block_number, place_of}
+use Rattle.cpm_volume.specs.Operations.{Outcome, ends, gives, with_entry, has_bad_block, agree, merged, closed_entry, is_unchanged, Close, refused, close_fault, closed, close_extent, open_to_read, reading, Target, Place, stopped, standing, opened_in, have_extent, closed_in, cross, next_target, next_place, get_record, record_in_block, read_in, read_next}
+use Rattle.cpm_volume.specs.declared.answer.Answer.TheVariants.{Done as done, NoRecord as no_record, Fault as fault}
+use Rattle.cpm_volume.specs.declared.answer.Fault.TheVariants.{BadSector as bad_sector}
 use Rattle.cpm_directory.specs.Directory.{entries_of, slot_bytes, with_slot}
 use Rattle.cpm_directory.proofs.DriveLemmas.{entry_record, entries_length, entry_is}
 use Rattle.cpm_directory.proofs.SlotLemmas.{slot_is, own_slot, other_slot, entry_size}

@@ -10,14 +10,14 @@ use Rattle.cpm_console.proofs.Growth.{IsWithin-said, IsWithin-same, length-expan
 use Rattle.cpm_memory.specs.Contents.{Contents, byte_at, run_at, after_change}
 use Rattle.cpm_memory.specs.Room.{touched_of-after_change, limit-after_change}
 use Rattle.cpm_memory.proofs.Runs.{touched_of-run, limit-run}
-use Rattle.cpm_files.specs.declared.fcb.Fcb.{Fcb}
-use Rattle.cpm_files.specs.declared.answer.Fault.{Fault as Failure}
-use Rattle.cpm_files.specs.declared.answer.Fault.TheVariants as failure
-use Rattle.cpm_files.specs.Files.{entry_at}
-use Rattle.cpm_disks.specs.Disks.{is_there}
-use Rattle.cpm_disks.specs.Selecting.{used}
-use Rattle.cpm_disks.specs.Calls.{drive_named}
-use Rattle.cpm_disks.specs.Files.{open_file, close_file, make_file, erase_files, rename_files, read_next, write_next, next_ahead}
+use Rattle.cpm_volume.specs.declared.fcb.Fcb.{Fcb}
+use Rattle.cpm_volume.specs.declared.answer.Fault.{Fault as Failure}
+use Rattle.cpm_volume.specs.declared.answer.Fault.TheVariants as failure
+use Rattle.cpm_volume.specs.Files.{entry_at}
+use Rattle.cpm_drives.specs.Disks.{is_there}
+use Rattle.cpm_drives.specs.Selecting.{used}
+use Rattle.cpm_drives.specs.Calls.{drive_named}
+use Rattle.cpm_drives.specs.Files.{open_file, close_file, make_file, erase_files, rename_files, read_next, write_next, next_ahead}
 use Rattle.cpm_bdos.specs.Bounds.{IsFit, IsBounded}
 use Rattle.cpm_bdos.specs.Did.{Did, did}
 use Rattle.cpm_bdos.specs.ReadLine.{with_edited}

@@ -4,11 +4,11 @@ use Rattle.std.specs.Prelude.{if◌then◌else◌, ◌==◌}
 use Rattle.cpm_geom.specs.Disk.{Disk}
 use Rattle.cpm_console.specs.Terminal.{Terminal, said, shown, expanded}
 use Rattle.cpm_memory.specs.Contents.{Contents}
-use Rattle.cpm_files.specs.declared.answer.Fault.{Fault as Failure}
-use Rattle.cpm_files.specs.declared.answer.Fault.TheVariants as failure
-use Rattle.cpm_files.specs.Files.{entry_at}
-use Rattle.cpm_disks.specs.Disks.{is_there}
-use Rattle.cpm_disks.specs.Files.{read_next, next_ahead}
+use Rattle.cpm_volume.specs.declared.answer.Fault.{Fault as Failure}
+use Rattle.cpm_volume.specs.declared.answer.Fault.TheVariants as failure
+use Rattle.cpm_volume.specs.Files.{entry_at}
+use Rattle.cpm_drives.specs.Disks.{is_there}
+use Rattle.cpm_drives.specs.Files.{read_next, next_ahead}
 use Rattle.cpm_bdos.specs.Did.{Did}
 use Rattle.cpm_bdos.specs.Faults.{in_fault}
 use Rattle.cpm_bdos.specs.Laws.{with_keys, without_keys, did_with_keys}

@@ -5,14 +5,14 @@ use Rattle.cpm_geom.specs.Disk.{Disk}
 use Rattle.cpm_console.specs.Terminal.{Terminal, said, expanded}
 use Rattle.cpm_console.specs.declared.line.Progress.TheVariants as line
 use Rattle.cpm_memory.specs.Contents.{Contents, byte_at, run_at}
-use Rattle.cpm_files.specs.declared.fcb.Fcb.{Fcb}
-use Rattle.cpm_files.specs.declared.answer.Fault.{Fault as Failure}
-use Rattle.cpm_files.specs.declared.answer.Fault.TheVariants as failure
-use Rattle.cpm_files.specs.Files.{entry_at}
-use Rattle.cpm_disks.specs.Disks.{is_there}
-use Rattle.cpm_disks.specs.Selecting.{used}
-use Rattle.cpm_disks.specs.Calls.{drive_named}
-use Rattle.cpm_disks.specs.Files.{open_file, close_file, make_file, erase_files, rename_files, read_next, write_next, next_ahead}
+use Rattle.cpm_volume.specs.declared.fcb.Fcb.{Fcb}
+use Rattle.cpm_volume.specs.declared.answer.Fault.{Fault as Failure}
+use Rattle.cpm_volume.specs.declared.answer.Fault.TheVariants as failure
+use Rattle.cpm_volume.specs.Files.{entry_at}
+use Rattle.cpm_drives.specs.Disks.{is_there}
+use Rattle.cpm_drives.specs.Selecting.{used}
+use Rattle.cpm_drives.specs.Calls.{drive_named}
+use Rattle.cpm_drives.specs.Files.{open_file, close_file, make_file, erase_files, rename_files, read_next, write_next, next_ahead}
 use Rattle.cpm_bdos.specs.Did.{Did}
 use Rattle.cpm_bdos.specs.KeysTaken.{IsFromFront}
 use Rattle.cpm_bdos.specs.declared.cpm.Cpm.{Cpm}

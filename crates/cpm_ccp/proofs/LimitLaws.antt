@@ -6,9 +6,9 @@ use Rattle.cpm_console.specs.declared.line.Progress.TheVariants as line
 use Rattle.cpm_memory.specs.Contents.{Contents, byte_at}
 use Rattle.cpm_memory.specs.Room.{limit-after_change}
 use Rattle.cpm_memory.proofs.Runs.{limit-run}
-use Rattle.cpm_files.specs.declared.answer.Fault.{Fault as Failure}
-use Rattle.cpm_disks.specs.Disks.{is_there}
-use Rattle.cpm_disks.specs.Files.{read_next}
+use Rattle.cpm_volume.specs.declared.answer.Fault.{Fault as Failure}
+use Rattle.cpm_drives.specs.Disks.{is_there}
+use Rattle.cpm_drives.specs.Files.{read_next}
 use Rattle.cpm_bdos.specs.Did.{Did}
 use Rattle.cpm_bdos.specs.declared.cpm.Cpm.{Cpm}
 use Rattle.cpm_bdos.specs.declared.cpm.CommandPart.{CommandPart}

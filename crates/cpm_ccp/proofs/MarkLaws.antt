@@ -5,18 +5,18 @@ use Rattle.std.proofs.lemmas.List.{get_or-set_same, get_or_past}
 use Rattle.std.proofs.lemmas.Bool.{cases_lt}
 use Rattle.cpm_geom.specs.Disk.{Disk}
 use Rattle.cpm_memory.specs.Contents.{Contents}
-use Rattle.cpm_files.specs.declared.fcb.Fcb.{Fcb}
-use Rattle.cpm_files.specs.declared.answer.Fault.{Fault as Failure}
-use Rattle.cpm_files.specs.declared.answer.Fault.TheVariants as failure
-use Rattle.cpm_files.specs.declared.extent.Extent.{Extent}
+use Rattle.cpm_volume.specs.declared.fcb.Fcb.{Fcb}
+use Rattle.cpm_volume.specs.declared.answer.Fault.{Fault as Failure}
+use Rattle.cpm_volume.specs.declared.answer.Fault.TheVariants as failure
+use Rattle.cpm_volume.specs.declared.extent.Extent.{Extent}
 use Rattle.cpm_drive.specs.declared.drive.Drive.{Drive}
 use Rattle.cpm_drive.specs.Drive.{drive_after, after_call}
 use Rattle.cpm_drive.specs.Calls.{after_open}
-use Rattle.cpm_disks.specs.declared.disks.Disks.{Disks}
-use Rattle.cpm_disks.specs.Disks.{is_there, own_drive, system_drive, drive_at, with_drive}
-use Rattle.cpm_disks.specs.Selecting.{ready}
-use Rattle.cpm_disks.specs.Calls.{OnDrive, FileCall, on_named_drive, drive_named}
-use Rattle.cpm_disks.specs.Files.{open_file_on, read_next_on, open_file, read_next, next_ahead}
+use Rattle.cpm_drives.specs.declared.disks.Disks.{Disks}
+use Rattle.cpm_drives.specs.Disks.{is_there, own_drive, system_drive, drive_at, with_drive}
+use Rattle.cpm_drives.specs.Selecting.{ready}
+use Rattle.cpm_drives.specs.Calls.{OnDrive, FileCall, on_named_drive, drive_named}
+use Rattle.cpm_drives.specs.Files.{open_file_on, read_next_on, open_file, read_next, next_ahead}
 use Rattle.cpm_bdos.specs.Did.{Did}
 use Rattle.cpm_bdos.specs.declared.cpm.Cpm.{Cpm}
 use Rattle.cpm_bdos.specs.declared.cpm.CommandPart.TheVariants as part

@@ -7,23 +7,23 @@ use Rattle.cpm_geom.specs.Disk.{Disk, IsDisk, records_of}
 use Rattle.cpm_geom.specs.Geometry.{dpb_of, IsRecord}
 use Rattle.cpm_console.specs.Terminal.{Terminal, said, shown, expanded}
 use Rattle.cpm_console.proofs.Said.{length-screen_said}
-use Rattle.cpm_files.specs.declared.fcb.Fcb.{Fcb}
-use Rattle.cpm_files.specs.declared.answer.Answer.{Answer}
-use Rattle.cpm_files.specs.declared.answer.Answer.TheVariants as answer
-use Rattle.cpm_files.specs.declared.answer.Fault.{Fault as Failure}
-use Rattle.cpm_files.specs.declared.answer.Fault.TheVariants as failure
-use Rattle.cpm_files.specs.Files.{entry_at}
-use Rattle.cpm_files.specs.Operations.{Outcome}
-use Rattle.cpm_files.specs.Operations as operations
+use Rattle.cpm_volume.specs.declared.fcb.Fcb.{Fcb}
+use Rattle.cpm_volume.specs.declared.answer.Answer.{Answer}
+use Rattle.cpm_volume.specs.declared.answer.Answer.TheVariants as answer
+use Rattle.cpm_volume.specs.declared.answer.Fault.{Fault as Failure}
+use Rattle.cpm_volume.specs.declared.answer.Fault.TheVariants as failure
+use Rattle.cpm_volume.specs.Files.{entry_at}
+use Rattle.cpm_volume.specs.Operations.{Outcome}
+use Rattle.cpm_volume.specs.Operations as operations
 use Rattle.cpm_directory.specs.Directory.{entries_of}
 use Rattle.cpm_drive.specs.declared.drive.Drive.{Drive}
 use Rattle.cpm_drive.specs.Drive.{volume_of, drive_after, after_call}
 use Rattle.cpm_drive.specs.Reads.{record_ahead, ahead, lent_drive}
-use Rattle.cpm_disks.specs.declared.disks.Disks.{Disks}
-use Rattle.cpm_disks.specs.Disks.{is_there, own_drive, system_drive, drive_or, drive_at}
-use Rattle.cpm_disks.specs.Selecting.{ready}
-use Rattle.cpm_disks.specs.Calls.{FileCall, code_of_answer, on_named_drive}
-use Rattle.cpm_disks.specs.Files.{open_file, read_next_on, read_next, marked_drive, next_ahead}
+use Rattle.cpm_drives.specs.declared.disks.Disks.{Disks}
+use Rattle.cpm_drives.specs.Disks.{is_there, own_drive, system_drive, drive_or, drive_at}
+use Rattle.cpm_drives.specs.Selecting.{ready}
+use Rattle.cpm_drives.specs.Calls.{FileCall, code_of_answer, on_named_drive}
+use Rattle.cpm_drives.specs.Files.{open_file, read_next_on, read_next, marked_drive, next_ahead}
 use Rattle.cpm_bdos.specs.Faults.{fault_name, in_fault, fault_text}
 use Rattle.cpm_bdos.specs.declared.cpm.Cpm.{Cpm}
 use Rattle.cpm_bdos.proofs.Showing.{length-screen_shown}

@@ -4,9 +4,9 @@ use Rattle.std.specs.Prelude.{if◌then◌else◌, ◌==◌, nat_lt}
 use Rattle.cpm_geom.specs.Disk.{Disk}
 use Rattle.cpm_console.specs.declared.line.Progress.TheVariants as line
 use Rattle.cpm_memory.specs.Contents.{Contents, byte_at, run_at}
-use Rattle.cpm_files.specs.declared.answer.Fault.{Fault as Failure}
-use Rattle.cpm_disks.specs.Disks.{is_there}
-use Rattle.cpm_disks.specs.Files.{read_next}
+use Rattle.cpm_volume.specs.declared.answer.Fault.{Fault as Failure}
+use Rattle.cpm_drives.specs.Disks.{is_there}
+use Rattle.cpm_drives.specs.Files.{read_next}
 use Rattle.cpm_bdos.specs.Did.{Did, did}
 use Rattle.cpm_bdos.specs.Keys.{first_key}
 use Rattle.cpm_bdos.specs.ReadLine.{is_open}

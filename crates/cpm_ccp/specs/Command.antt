@@ -1,8 +1,8 @@
 -- What the command processor makes of a line.
 use Rattle.std.specs.Prelude.{◌≡◌, ◌<◌, ℕ, ◌-◌, ◌==◌, ◌&&◌, ◌||◌, Bool, true, false, not, ⊤, if◌then◌else◌, List, length, drop, slice_index, codes, Option, Some, None}
 use Rattle.std.specs.Str.{bytes_eq}
-use Rattle.cpm_files.specs.declared.fcb.Fcb.{Fcb}
-use Rattle.cpm_files.specs.Files.{has_wildcard}
+use Rattle.cpm_volume.specs.declared.fcb.Fcb.{Fcb}
+use Rattle.cpm_volume.specs.Files.{has_wildcard}
 use Rattle.cpm_directory.specs.CommandLine.{after_spaces, fcb_named, rest_of}
 use Rattle.cpm_ccp.specs.Words.{first_word, tail_of, is_drive_alone, number_up_to}
 use Rattle.cpm_ccp.specs.Names.{all_of, is_blank, is_command_name, is_every, program_file}

@@ -2,16 +2,16 @@
 use Rattle.std.specs.Prelude.{ℕ, ◌+◌, ◌-◌, ◌*◌, ◌%◌, ◌==◌, ◌&&◌, ◌||◌, Bool, nat_lt, List, length, slice_index, None, Result, Ok, Err, if◌then◌else◌}
 use Rattle.cpm_geom.specs.Disk.{Disk}
 use Rattle.cpm_geom.specs.Geometry.{dpb_of}
-use Rattle.cpm_files.specs.declared.fcb.Fcb.{Fcb}
-use Rattle.cpm_files.specs.declared.answer.Fault.{Fault}
+use Rattle.cpm_volume.specs.declared.fcb.Fcb.{Fcb}
+use Rattle.cpm_volume.specs.declared.answer.Fault.{Fault}
 use Rattle.cpm_directory.specs.Directory.{entries_of}
 use Rattle.cpm_directory.specs.Matching.{match_from}
 use Rattle.cpm_directory.specs.declared.pattern.Pattern.TheVariants.{Files}
-use Rattle.cpm_disks.specs.declared.disks.Disks.{Disks}
-use Rattle.cpm_disks.specs.Disks.{is_there, drive_at}
-use Rattle.cpm_disks.specs.Selecting.{used}
-use Rattle.cpm_disks.specs.Calls.{drive_named}
-use Rattle.cpm_disks.specs.Files.{close_file, make_file, erase_files, rename_files, write_next}
+use Rattle.cpm_drives.specs.declared.disks.Disks.{Disks}
+use Rattle.cpm_drives.specs.Disks.{is_there, drive_at}
+use Rattle.cpm_drives.specs.Selecting.{used}
+use Rattle.cpm_drives.specs.Calls.{drive_named}
+use Rattle.cpm_drives.specs.Files.{close_file, make_file, erase_files, rename_files, write_next}
 use Rattle.cpm_bdos.specs.Faults.{in_fault}
 use Rattle.cpm_bdos.specs.declared.cpm.Cpm.{Cpm}
 use Rattle.cpm_bdos.specs.declared.cpm.CommandPart.{CommandPart}

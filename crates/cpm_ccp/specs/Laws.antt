@@ -2,7 +2,7 @@
 use Rattle.std.specs.Prelude.{◌≡◌, ◌≢◌, Bool, true, false, ⊤, None}
 use Rattle.cpm_geom.specs.Disk.{Disk, IsDisk}
 use Rattle.cpm_memory.specs.Contents.{Contents}
-use Rattle.cpm_disks.specs.Disks.{own_drive, drive_at}
+use Rattle.cpm_drives.specs.Disks.{own_drive, drive_at}
 use Rattle.cpm_bdos.specs.Did.{did}
 use Rattle.cpm_bdos.specs.Waiting.{is_command, is_waiting}
 use Rattle.cpm_bdos.specs.Laws.{without_keys, did_with_keys, is_hold}
@@ -12,7 +12,7 @@ use Rattle.cpm_bdos.specs.declared.cpm.CommandPart.TheVariants as part
 use Rattle.cpm_bdos.specs.declared.cpm.Mode.{Mode}
 use Rattle.cpm_bdos.specs.declared.cpm.Mode.TheVariants.{Program, Command as in_part}
 use Rattle.cpm_bdos.specs.declared.cpm.Went.TheVariants.{Waits}
-use Rattle.cpm_files.specs.declared.fcb.Fcb.{Fcb}
+use Rattle.cpm_volume.specs.declared.fcb.Fcb.{Fcb}
 use Rattle.cpm_ccp.specs.declared.command.Command.{Command}
 use Rattle.cpm_ccp.specs.declared.command.Command.TheVariants.{TypeFile}
 use Rattle.cpm_ccp.specs.Command.{command_of}

@@ -4,13 +4,13 @@ use Rattle.std.specs.List.{position_or_len}
 use Rattle.cpm_geom.specs.Disk.{Disk}
 use Rattle.cpm_geom.specs.Geometry.{dpb_of}
 use Rattle.cpm_geom.specs.declared.dpb.Dpb.{Dpb}
-use Rattle.cpm_files.specs.declared.extent.Entry.{Entry}
-use Rattle.cpm_files.specs.declared.answer.Fault.TheVariants.{Select}
-use Rattle.cpm_files.specs.Files.{entry_at}
-use Rattle.cpm_files.specs.Names.{is_named}
+use Rattle.cpm_volume.specs.declared.extent.Entry.{Entry}
+use Rattle.cpm_volume.specs.declared.answer.Fault.TheVariants.{Select}
+use Rattle.cpm_volume.specs.Files.{entry_at}
+use Rattle.cpm_volume.specs.Names.{is_named}
 use Rattle.cpm_directory.specs.Directory.{entries_of}
-use Rattle.cpm_disks.specs.Disks.{is_there, drive_at}
-use Rattle.cpm_disks.specs.Selecting.{used}
+use Rattle.cpm_drives.specs.Disks.{is_there, drive_at}
+use Rattle.cpm_drives.specs.Selecting.{used}
 use Rattle.cpm_bdos.specs.Faults.{in_fault}
 use Rattle.cpm_bdos.specs.declared.cpm.Cpm.{Cpm}
 use Rattle.cpm_bdos.specs.declared.cpm.CommandPart.TheVariants as part

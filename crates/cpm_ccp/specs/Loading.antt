@@ -1,12 +1,12 @@
 -- The loader of programs: CP/M 2.2 Operating System Manual, section 1.6, Transient Commands, and section 6.9, Reserved Locations in Page Zero.
 use Rattle.std.specs.Prelude.{ℕ, ◌+◌, ◌==◌, nat_lt, List, [], ◌∷◌, ◌++◌, length, Result, Ok, Err, if◌then◌else◌}
 use Rattle.cpm_geom.specs.Disk.{Disk}
-use Rattle.cpm_files.specs.declared.fcb.Fcb.{Fcb}
-use Rattle.cpm_files.specs.declared.answer.Fault.{Fault}
+use Rattle.cpm_volume.specs.declared.fcb.Fcb.{Fcb}
+use Rattle.cpm_volume.specs.declared.answer.Fault.{Fault}
 use Rattle.cpm_directory.specs.CommandLine.{fcb_named, rest_of}
 use Rattle.cpm_memory.specs.Contents.{Contents, after_run}
 use Rattle.cpm_memory.specs.Layout.{command_processor_address, default_buffer_address, default_fcbs_address, program_address, stack_address, word_bytes}
-use Rattle.cpm_disks.specs.Files.{open_file, read_next}
+use Rattle.cpm_drives.specs.Files.{open_file, read_next}
 use Rattle.cpm_bdos.specs.Did.{Did, did}
 use Rattle.cpm_bdos.specs.Faults.{faulted}
 use Rattle.cpm_bdos.specs.declared.cpm.Cpm.{Cpm}

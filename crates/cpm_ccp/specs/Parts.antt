@@ -1,13 +1,13 @@
 -- What the parts of the command processor leave.
 -- CP/M 2.2 Operating System Manual, section 1.4, Built-in Commands; own: the steps, and that each message follows a fresh line.
 use Rattle.std.specs.Prelude.{ℕ, Bool, List, ◌∷◌, map, replicate, take}
-use Rattle.cpm_files.specs.declared.fcb.Fcb.{Fcb}
-use Rattle.cpm_files.specs.declared.answer.Fault.{Fault}
+use Rattle.cpm_volume.specs.declared.fcb.Fcb.{Fcb}
+use Rattle.cpm_volume.specs.declared.answer.Fault.{Fault}
 use Rattle.cpm_console.specs.Terminal.{said}
 use Rattle.cpm_console.specs.Editing.{begun}
 use Rattle.cpm_memory.specs.Contents.{Contents}
-use Rattle.cpm_disks.specs.declared.disks.Disks.{Disks}
-use Rattle.cpm_disks.specs.Calls.{FileCall, drive_named}
+use Rattle.cpm_drives.specs.declared.disks.Disks.{Disks}
+use Rattle.cpm_drives.specs.Calls.{FileCall, drive_named}
 use Rattle.cpm_bdos.specs.Did.{Did, did}
 use Rattle.cpm_bdos.specs.Keys.{first_key}
 use Rattle.cpm_bdos.specs.Faults.{in_fault}

@@ -2,14 +2,14 @@
 -- CP/M 2.2 Operating System Manual, section 1.4, Built-in Commands; own: the user and the drive lie at 0004h, each in four bits.
 use Rattle.std.specs.Prelude.{ℕ, ◌+◌, ◌*◌, ◌/◌, ◌%◌, List, [], ◌∷◌, if◌then◌else◌}
 use Rattle.cpm_geom.specs.Disk.{Disk}
-use Rattle.cpm_files.specs.declared.answer.Fault.TheVariants.{Select}
+use Rattle.cpm_volume.specs.declared.answer.Fault.TheVariants.{Select}
 use Rattle.cpm_console.specs.declared.line.Progress.{Progress}
 use Rattle.cpm_console.specs.declared.line.Progress.TheVariants as line
 use Rattle.cpm_memory.specs.Contents.{Contents, byte_at, after_change}
 use Rattle.cpm_memory.specs.Layout.{default_buffer_address, user_and_drive_address}
-use Rattle.cpm_disks.specs.declared.disks.Disks.{Disks}
-use Rattle.cpm_disks.specs.Disks.{is_there}
-use Rattle.cpm_disks.specs.Selecting.{used}
+use Rattle.cpm_drives.specs.declared.disks.Disks.{Disks}
+use Rattle.cpm_drives.specs.Disks.{is_there}
+use Rattle.cpm_drives.specs.Selecting.{used}
 use Rattle.cpm_bdos.specs.Did.{Did, did, rebooted}
 use Rattle.cpm_bdos.specs.Faults.{faulted}
 use Rattle.cpm_bdos.specs.ReadLine.{line_step}

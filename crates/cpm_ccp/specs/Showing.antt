@@ -2,12 +2,12 @@
 use Rattle.std.specs.Prelude.{ℕ, ◌==◌, ◌&&◌, Bool, true, false, not, List, [], ◌∷◌, slice_index, Result, Ok, Err, if◌then◌else◌}
 use Rattle.std.specs.List.{before_first, list_any}
 use Rattle.cpm_geom.specs.Disk.{Disk}
-use Rattle.cpm_files.specs.declared.fcb.Fcb.{Fcb}
-use Rattle.cpm_files.specs.declared.answer.Fault.{Fault as Failure}
-use Rattle.cpm_files.specs.declared.answer.Answer.{Answer}
-use Rattle.cpm_files.specs.declared.answer.Answer.TheVariants.{Fault}
+use Rattle.cpm_volume.specs.declared.fcb.Fcb.{Fcb}
+use Rattle.cpm_volume.specs.declared.answer.Fault.{Fault as Failure}
+use Rattle.cpm_volume.specs.declared.answer.Answer.{Answer}
+use Rattle.cpm_volume.specs.declared.answer.Answer.TheVariants.{Fault}
 use Rattle.cpm_console.specs.Terminal.{Terminal, said, expanded}
-use Rattle.cpm_disks.specs.Files.{open_file, read_next, next_ahead}
+use Rattle.cpm_drives.specs.Files.{open_file, read_next, next_ahead}
 use Rattle.cpm_bdos.specs.declared.cpm.Cpm.{Cpm}
 use Rattle.cpm_bdos.specs.declared.cpm.CommandPart.TheVariants as part
 use Rattle.cpm_ccp.specs.declared.message.Message.TheVariants.{NoFile}

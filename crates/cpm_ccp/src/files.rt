@@ -7,8 +7,8 @@ use crate::message::Message;
 use crate::parts::{NONE, fail, finish, go_to, read_line, say_below, tell};
 use cpm_bdos::{CommandPart, Cpm};
 use cpm_directory::{Pattern, find};
-use cpm_disks::Disks;
-use cpm_files::{Fault, Fcb};
+use cpm_drives::Disks;
+use cpm_volume::{Fault, Fcb};
 use cpm_geom::Image;
 use cpm_memory::layout::PROGRAM;
 

@@ -11,7 +11,7 @@ use crate::parts::{finish, go_to, tell};
 use cpm_bdos::{CommandPart, Cpm, Held};
 use cpm_console::Console;
 use cpm_directory::{Entry, LentImage, is_named};
-use cpm_files::Fault;
+use cpm_volume::Fault;
 use cpm_geom::{Dpb, Image};
 
 /// How many files stand on a line.

@@ -12,7 +12,7 @@ use crate::message::Message;
 use crate::parts::{NO_RECORD, NONE, fail, finish, go_to, line_of, say_below, tell};
 use crate::words::{default_fcbs, first_word, tail};
 use cpm_bdos::{CommandPart, Cpm, Mode, Went};
-use cpm_files::Fcb;
+use cpm_volume::Fcb;
 use cpm_geom::Image;
 use cpm_memory::layout::{DEFAULT_BUFFER, DEFAULT_FCBS, PROGRAM, STACK};
 use cpm_memory::{Memory, change_run};

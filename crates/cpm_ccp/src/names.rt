@@ -2,7 +2,7 @@
 
 ghost use Rattle.std.specs.Prelude.{◌≡◌};
 ghost use Rattle.std.specs.List.{list_any};
-ghost use Rattle.cpm_files.specs.Files.{has_wildcard};
+ghost use Rattle.cpm_volume.specs.Files.{has_wildcard};
 ghost use Rattle.cpm_ccp.specs.Names.{is_wildcard, is_blank, is_every, is_command_name, all_of, program_file};
 
 use cpm_directory::{Extent, Fcb};

@@ -9,7 +9,7 @@ use crate::message::Message;
 use arrayvec::ArrayVec;
 use cpm_bdos::{CommandPart, Cpm, Mode, Went};
 use cpm_console::Line;
-use cpm_files::Fault;
+use cpm_volume::Fault;
 
 /// How many characters a line of the command processor may have.
 const LINE: u8 = 127;

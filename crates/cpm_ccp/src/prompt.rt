@@ -9,8 +9,8 @@ ghost use Rattle.cpm_ccp.specs.Prompt.{drive_asked, prompted, edit_line, with_dr
 use crate::parts::{finish, go_to, read_line, say_below};
 use cpm_bdos::{CommandPart, Cpm, Went};
 use cpm_console::Progress;
-use cpm_disks::Disks;
-use cpm_files::Fault;
+use cpm_drives::Disks;
+use cpm_volume::Fault;
 use cpm_geom::Image;
 use cpm_memory::layout::{DEFAULT_BUFFER, USER_AND_DRIVE};
 use cpm_memory::{Memory, change_byte};

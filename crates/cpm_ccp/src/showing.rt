@@ -3,13 +3,13 @@
 ghost use Rattle.std.specs.Prelude.{◌≡◌, ◌≤◌, length, position};
 ghost use Rattle.std.specs.List.{position_or_len};
 ghost use Rattle.cpm_ccp.specs.Showing.{show_begun, is_end, text_of, ends_in, wrote_all, record_shown, next_shown, shows_record, shown_on};
-ghost use Rattle.cpm_disks.specs.Files.{next_ahead};
+ghost use Rattle.cpm_drives.specs.Files.{next_ahead};
 
 use crate::message::Message;
 use crate::parts::{NO_RECORD, NONE, fail, finish, go_to, say_below, tell};
 use cpm_bdos::{CommandPart, Cpm, Held};
 use cpm_console::Console;
-use cpm_files::{Answer, Fcb};
+use cpm_volume::{Answer, Fcb};
 use cpm_geom::Image;
 
 /// What ends a text.

@@ -2,11 +2,11 @@
 use Rattle.std.specs.Prelude.{◌≡◌, ℕ, List, [], ◌∷◌, ◌++◌, length, None, Ok, Err, chars, codes}
 use Rattle.cpm_batch.specs.Inputs.{IsImage, status_of_reading}
 use Rattle.cpm_batch.specs.declared.error.ReadError.TheVariants as read
-use Rattle.cpm_command.specs.Shown.{shown_of}
+use Rattle.cpm_command_line.specs.Shown.{shown_of}
 use Rattle.cpm_directory.specs.Directory.{entries_of}
 use Rattle.cpm_directory.specs.WellFormed.{IsChecked}
-use Rattle.cpm_filing.specs.Damage.{damage_of}
-use Rattle.cpm_filing.specs.declared.damage.Damage.{Damage}
+use Rattle.cpm_disk_commands.specs.Damage.{damage_of}
+use Rattle.cpm_disk_commands.specs.declared.damage.Damage.{Damage}
 use Rattle.cpm_geom.specs.Disk.{Disk}
 use Rattle.cpm_geom.specs.Geometry.{dpb_of, format_of_length}
 use Rattle.cpm_check.specs.declared.error.CheckError.{CheckError}

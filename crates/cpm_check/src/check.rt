@@ -5,9 +5,9 @@ ghost use Rattle.cpm_check.specs.Check.{IsCheckRefusal, IsInOrder, ok_line};
 
 use crate::error::CheckError;
 use cpm_batch::ReadError;
-use cpm_command::shown;
+use cpm_command_line::shown;
 use cpm_directory::well_formed;
-use cpm_filing::damage_of;
+use cpm_disk_commands::damage_of;
 use cpm_geom::Image;
 use std::io;
 use std::io::Write;

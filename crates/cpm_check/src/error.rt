@@ -3,8 +3,8 @@ ghost use Rattle.std.specs.Prelude.{◌≡◌};
 ghost use Rattle.cpm_check.specs.Check.{status_of};
 
 use cpm_batch::ReadError;
-use cpm_command::Word;
-use cpm_filing::Damage;
+use cpm_command_line::Word;
+use cpm_disk_commands::Damage;
 use std::{fmt, io};
 use thiserror::Error;
 

@@ -4,7 +4,7 @@ ghost use Rattle.cpm_config.specs.declared.fault.Stop.TheVariants.{Fault, OutOfM
 ghost use Rattle.std.specs.Prelude.{◌≡◌};
 
 use crate::field::Place;
-use cpm_command::Word;
+use cpm_command_line::Word;
 use std::alloc::{AllocError, AllocFailed};
 use std::fmt;
 use thiserror::Error;

@@ -6,7 +6,7 @@ use Rattle.std.proofs.KnownBytes.{Appends-nil, Appends-trans}
 use Rattle.std.specs.Io.KnownBytes.{Appends}
 use Rattle.cpm_flags.specs.declared.regs.Cpu.{Cpu}
 use Rattle.cpm_geom.specs.Disk.{Disk}
-use Rattle.cpm_slots.specs.MachineState.{MachineState}
+use Rattle.cpm_machine.specs.MachineState.{MachineState}
 use Rattle.cpm_debug.specs.Debug.{IsCutShort, IsDebugRefusal, IsFailure, IsHeld, IsReadFailure, IsUnanswered, debugged, system_drive}
 use Rattle.cpm_debug.specs.Dialog.{answer, answer_to, dialog, is_quit, pressed, reply, unknown_line}
 use Rattle.cpm_debug.specs.Hearing.{Hears, heard, lines_within}

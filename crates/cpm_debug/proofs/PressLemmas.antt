@@ -3,8 +3,8 @@ use Rattle.std.proofs.Common.{◌≡◌, ◌∙◌, ap, refl, ℕ, ◌<◌, true
 use Rattle.std.specs.Prelude.{is_some, option_map, unwrap_or, if◌then◌else◌, ◌==◌}
 use Rattle.cpm_script.specs.KeyText.{first_key, keys_of}
 use Rattle.cpm_script.proofs.KeyLemmas.{fronted, keys_of-first, keys_of-some, not_empty}
-use Rattle.cpm_slots.specs.MachineState.{MachineState}
-use Rattle.cpm_slots.specs.Serve.{keyed, takes_key}
+use Rattle.cpm_machine.specs.MachineState.{MachineState}
+use Rattle.cpm_machine.specs.Serve.{keyed, takes_key}
 use Rattle.cpm_debug.specs.Dialog.{keys_in, press, pressed}
 use Rattle.cpm_debug.specs.Orders.{press_of}
 

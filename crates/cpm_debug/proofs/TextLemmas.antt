@@ -3,8 +3,8 @@ use Rattle.std.proofs.Common.{◌≡◌, ◌∙◌, ◌++◌, ap, ap₂, ℕ, �
 use Rattle.std.proofs.lemmas.List.{append_assoc, length-take-le, take-append-drop, take_at}
 use Rattle.std.proofs.KnownBytes.{Appends-trans}
 use Rattle.std.specs.Io.KnownBytes.{Appends}
-use Rattle.cpm_slots.specs.MachineState.{MachineState}
-use Rattle.cpm_slots.specs.Serve.{taken}
+use Rattle.cpm_machine.specs.MachineState.{MachineState}
+use Rattle.cpm_machine.specs.Serve.{taken}
 
 -- the state with other bytes on its console
 abbrev pub with_text : List ℕ → MachineState → MachineState

@@ -4,7 +4,7 @@ use Rattle.std.specs.Io.KnownBytes.{Appends}
 use Rattle.cpm_flags.specs.declared.regs.Cpu.{Cpu}
 use Rattle.cpm_geom.specs.Disk.{Disk, blank_disk}
 use Rattle.cpm_geom.specs.declared.format.Format.TheVariants.{Ibm3740}
-use Rattle.cpm_slots.specs.MachineState.{MachineState, opened_with}
+use Rattle.cpm_machine.specs.MachineState.{MachineState, opened_with}
 use Rattle.cpm_debug.specs.Dialog.{dialog}
 use Rattle.cpm_debug.specs.Hearing.{heard}
 use Rattle.cpm_debug.specs.declared.error.DebugError.{DebugError}

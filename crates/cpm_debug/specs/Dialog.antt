@@ -2,20 +2,20 @@
 use Rattle.std.specs.Prelude.{ℕ, ◌+◌, ◌%◌, Bool, true, false, if◌then◌else◌, List, [], ◌∷◌, ◌++◌, codes, decimal, unwrap_or}
 use Rattle.cpm_flags.specs.declared.regs.Cpu.{Cpu}
 use Rattle.cpm_geom.specs.Disk.{Disk}
-use Rattle.cpm_lines.specs.Dump.{dump_line}
-use Rattle.cpm_lines.specs.Instruction.{instruction_line}
-use Rattle.cpm_lines.specs.Registers.{regs_line}
+use Rattle.cpm_listing.specs.Dump.{dump_line}
+use Rattle.cpm_listing.specs.Instruction.{instruction_line}
+use Rattle.cpm_listing.specs.Registers.{regs_line}
 use Rattle.cpm_memory.specs.Contents.{Contents, byte_at}
 use Rattle.cpm_memory.specs.Tabulated.{tabulated}
 use Rattle.cpm_script.specs.KeyText.{keys_of}
-use Rattle.cpm_slots.specs.Calls.{granted}
-use Rattle.cpm_slots.specs.MachineState.{MachineState}
-use Rattle.cpm_slots.specs.Serve.{executed, keyed, takes_key}
-use Rattle.cpm_slots.specs.Step.{after}
-use Rattle.cpm_slots.specs.Until.{executed_until, granted_until}
-use Rattle.cpm_slots.specs.declared.reply.Granted.{Granted}
-use Rattle.cpm_slots.specs.declared.reply.Why.{Why}
-use Rattle.cpm_slots.specs.declared.reply.Why.TheVariants.{All, Stopped, Break, Blocked}
+use Rattle.cpm_machine.specs.Calls.{granted}
+use Rattle.cpm_machine.specs.MachineState.{MachineState}
+use Rattle.cpm_machine.specs.Serve.{executed, keyed, takes_key}
+use Rattle.cpm_machine.specs.Step.{after}
+use Rattle.cpm_machine.specs.Until.{executed_until, granted_until}
+use Rattle.cpm_machine.specs.declared.reply.Granted.{Granted}
+use Rattle.cpm_machine.specs.declared.reply.Why.{Why}
+use Rattle.cpm_machine.specs.declared.reply.Why.TheVariants.{All, Stopped, Break, Blocked}
 use Rattle.cpm_debug.specs.Orders.{Request, Grant, GrantUntil, Dump, ListAt, Registers, Press, Output, Quit, Unknown, request_of}
 use Rattle.cpm_debug.specs.Source.{source_line}
 

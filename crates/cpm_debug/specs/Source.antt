@@ -2,7 +2,7 @@
 use Rattle.std.specs.Prelude.{ℕ, ◌==◌, ◌&&◌, Bool, false, not, eqb, if◌then◌else◌, List, [], ◌∷◌, ◌++◌, drop}
 use Rattle.std.specs.List.{starts_with}
 use Rattle.std.specs.Str.Lines.{lines}
-use Rattle.cpm_lines.specs.Digits.{four_digits}
+use Rattle.cpm_listing.specs.Digits.{four_digits}
 
 -- how a line begins that has this address: its four digits between spaces
 abbrev pub head_of : ℕ → List ℕ

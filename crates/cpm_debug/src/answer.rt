@@ -2,13 +2,13 @@
 ghost use Rattle.std.specs.Prelude.{◌≡◌, ◌≢◌, [], OnOk, OnErr, if◌then◌else◌};
 ghost use Rattle.std.specs.Io.KnownBytes.{Appends};
 ghost use Rattle.cpm_script.specs.KeyText.{keys_of};
-ghost use Rattle.cpm_slots.specs.Calls.{granted};
-ghost use Rattle.cpm_slots.specs.Serve.{executed};
-ghost use Rattle.cpm_slots.specs.Step.{after};
-ghost use Rattle.cpm_slots.specs.Until.{executed_until, granted_until};
-ghost use Rattle.cpm_lines.specs.Dump.{dump_line};
-ghost use Rattle.cpm_lines.specs.Instruction.{instruction_line};
-ghost use Rattle.cpm_lines.specs.Registers.{regs_line};
+ghost use Rattle.cpm_machine.specs.Calls.{granted};
+ghost use Rattle.cpm_machine.specs.Serve.{executed};
+ghost use Rattle.cpm_machine.specs.Step.{after};
+ghost use Rattle.cpm_machine.specs.Until.{executed_until, granted_until};
+ghost use Rattle.cpm_listing.specs.Dump.{dump_line};
+ghost use Rattle.cpm_listing.specs.Instruction.{instruction_line};
+ghost use Rattle.cpm_listing.specs.Registers.{regs_line};
 ghost use Rattle.cpm_debug.specs.Dialog.{answer, bytes_from, grant_line, line_of, pressed, unknown_line, with_source};
 ghost use Rattle.cpm_debug.specs.Orders.{asked, press_of};
 ghost use Rattle.cpm_debug.specs.Source.{source_line};
@@ -21,13 +21,13 @@ use crate::source::source_line;
 use crate::write::{write_line, write_text, write_with_source};
 use cpm_flags::Cpu;
 use cpm_geom::Image;
-use cpm_lines::{dump_line, instruction_line, regs_line};
-use cpm_slots::Machine;
+use cpm_listing::{dump_line, instruction_line, regs_line};
+use cpm_machine::Machine;
 use std::io;
 use std::io::Write;
 
 /// Writes a line, and the line of the listing that shows where the program stands.
-#[tactic(auto, unfolding(cpm_slots::specs::Serve::look_of))]
+#[tactic(auto, unfolding(cpm_machine::specs::Serve::look_of))]
 fn write_place<W: Write>(
     line: &str,
     listing: &[u8],
@@ -92,7 +92,7 @@ fn list_at<W: Write>(cpu: Cpu, address: u16, machine: &Machine, out: &mut W) -> 
 }
 
 /// Shows the registers.
-#[tactic(auto, unfolding(cpm_slots::specs::Serve::look_of))]
+#[tactic(auto, unfolding(cpm_machine::specs::Serve::look_of))]
 fn registers<W: Write>(cpu: Cpu, listing: &[u8], machine: &Machine, out: &mut W) -> io::Result<()>
     ensures { OnOk result (Appends (W.contents out.old) (W.contents out.new)
         (with_source (regs_line cpu machine.now.cpm.regs machine.now.count) (source_line listing.now machine.now.cpm.regs.pc))) }

@@ -9,7 +9,7 @@ use crate::hear::{hear, without_end};
 use crate::order::Order;
 use cpm_flags::Cpu;
 use cpm_geom::{Format, Image};
-use cpm_slots::{MOST_PROGRAM, MOST_QUOTA, Machine, Opening};
+use cpm_machine::{MOST_PROGRAM, MOST_QUOTA, Machine, Opening};
 use std::alloc::Global;
 use std::io::{BufRead, Read, Write};
 

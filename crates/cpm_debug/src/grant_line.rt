@@ -3,7 +3,7 @@ ghost use Rattle.std.specs.Prelude.{◌≡◌, ◌≤◌, length};
 ghost use Rattle.cpm_debug.specs.Dialog.{grant_line, why_text};
 
 use arrayvec::ArrayString;
-use cpm_slots::{Granted, Why};
+use cpm_machine::{Granted, Why};
 use itoa::Buffer;
 
 #[tactic(auto, unfolding(crate::specs::Dialog::why_text))]

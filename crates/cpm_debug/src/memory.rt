@@ -2,7 +2,7 @@
 ghost use Rattle.std.specs.Prelude.{◌≡◌, ◌≤◌};
 ghost use Rattle.cpm_debug.specs.Dialog.{bytes_from};
 
-use cpm_slots::Machine;
+use cpm_machine::Machine;
 
 /// Sixteen bytes from an address on.
 pub(crate) fn sixteen(machine: &Machine, address: u16) -> [u8; 16]

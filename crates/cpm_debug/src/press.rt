@@ -5,7 +5,7 @@ ghost use Rattle.cpm_debug.specs.Dialog.{keys_in, press, pressed};
 ghost use Rattle.cpm_debug.specs.Orders.{press_of};
 
 use cpm_script::{are_keys, first_key};
-use cpm_slots::Machine;
+use cpm_machine::Machine;
 
 /// Presses the keys that a text stands for, up to one that is refused, and says whether all were accepted.
 fn press(machine: &mut Machine, text: &[u8]) -> bool

@@ -2,7 +2,7 @@
 ghost use Rattle.std.specs.Prelude.{◌≡◌};
 ghost use Rattle.cpm_debug.specs.Source.{begins_with_text, has_bytes, head_of, source_line};
 
-use cpm_lines::four_digits;
+use cpm_listing::four_digits;
 use cpm_script::first_line;
 
 /// How a line begins that has this address.

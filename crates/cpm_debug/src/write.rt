@@ -3,7 +3,7 @@ ghost use Rattle.std.specs.Prelude.{◌≡◌, ◌++◌, OnOk};
 ghost use Rattle.std.specs.Io.KnownBytes.{Appends};
 ghost use Rattle.cpm_debug.specs.Dialog.{line_of, with_source, without_text};
 
-use cpm_slots::Machine;
+use cpm_machine::Machine;
 use std::io;
 use std::io::Write;
 

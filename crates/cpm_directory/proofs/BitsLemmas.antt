@@ -7,7 +7,7 @@ use Rattle.std.proofs.lemmas.List.FromFn.{length-map-range_with_len, get_or-map-
 use Rattle.std.proofs.lemmas.List.Sums.{position_or_len_is}
 use Rattle.std.proofs.lemmas.Bool.{cases_eq, cases_lt, eq-eqb, ne_eqb}
 use Rattle.std.proofs.lemmas.Nat.Bits.{bit_at-zero, bit_at_set_same, bit_at_set_other, bit_at_clear_same, bit_at_clear_other, bit_at-trailing_ones, bit_at_ones}
-use Rattle.cpm_files.specs.Reserved.{least_free}
+use Rattle.cpm_volume.specs.Reserved.{least_free}
 use Rattle.cpm_directory.specs.Bits.{test_of, tests_of}
 
 pub tests_length : (rows : List ℕ) → length (tests_of rows) ≡ 512

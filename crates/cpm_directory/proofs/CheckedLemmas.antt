@@ -10,12 +10,12 @@ use Rattle.std.proofs.lemmas.Bool.{false≢true, cases_eq, cases_lt, le-ltb, ltb
 use Rattle.cpm_geom.specs.declared.dpb.Dpb.{Dpb}
 use Rattle.cpm_geom.specs.Geometry.{dpb_of}
 use Rattle.cpm_geom.specs.Disk.{Disk}
-use Rattle.cpm_files.specs.declared.extent.Entry.{Entry}
-use Rattle.cpm_files.specs.Reserved.{is_directory_block}
-use Rattle.cpm_files.specs.Files.{no_entry, deleted, entry_at, InUse, block_number, extent_number, group_of, is_of, directory_records, IsFormat, IsWellFormed}
-use Rattle.cpm_files.proofs.Entries.{in_use_within, any_index, is_of_parts, is_of_from}
-use Rattle.cpm_files.proofs.NameLemmas.{same_name-sym}
-use Rattle.cpm_files.proofs.Formats.{each_format}
+use Rattle.cpm_volume.specs.declared.extent.Entry.{Entry}
+use Rattle.cpm_volume.specs.Reserved.{is_directory_block}
+use Rattle.cpm_volume.specs.Files.{no_entry, deleted, entry_at, InUse, block_number, extent_number, group_of, is_of, directory_records, IsFormat, IsWellFormed}
+use Rattle.cpm_volume.proofs.Entries.{in_use_within, any_index, is_of_parts, is_of_from}
+use Rattle.cpm_volume.proofs.NameLemmas.{same_name-sym}
+use Rattle.cpm_volume.proofs.Formats.{each_format}
 use Rattle.cpm_directory.specs.Directory.{entries_of}
 use Rattle.cpm_directory.specs.Login.{has_block, reserved_at_login}
 use Rattle.cpm_directory.specs.declared.fault.DriveFault.{DriveFault}

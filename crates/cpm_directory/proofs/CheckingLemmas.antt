@@ -11,11 +11,11 @@ use Rattle.std.proofs.lemmas.Bool.{false≢true, cases_lt, lt-ltb, le-ltb, ltb-f
 use Rattle.cpm_geom.specs.declared.dpb.Dpb.{Dpb}
 use Rattle.cpm_geom.specs.Geometry.{dpb_of, record_index}
 use Rattle.cpm_geom.specs.Disk.{Disk, sector_at}
-use Rattle.cpm_files.specs.declared.extent.Entry.{Entry}
-use Rattle.cpm_files.specs.Reserved.{is_directory_block}
-use Rattle.cpm_files.specs.Files.{same_name, entry_at, no_entry, block_number, extent_number, group_of, is_of, first_of}
-use Rattle.cpm_files.specs.Encoding.{entry_of, extent_of, number_in}
-use Rattle.cpm_files.proofs.Entries.{any_index}
+use Rattle.cpm_volume.specs.declared.extent.Entry.{Entry}
+use Rattle.cpm_volume.specs.Reserved.{is_directory_block}
+use Rattle.cpm_volume.specs.Files.{same_name, entry_at, no_entry, block_number, extent_number, group_of, is_of, first_of}
+use Rattle.cpm_volume.specs.Encoding.{entry_of, extent_of, number_in}
+use Rattle.cpm_volume.proofs.Entries.{any_index}
 use Rattle.cpm_directory.specs.Directory.{slot_bytes, entries_of}
 use Rattle.cpm_directory.specs.Login.{has_block}
 use Rattle.cpm_directory.specs.declared.fault.DriveFault.TheVariants.{BadBlock, TwiceBlock, TwiceEntry}

@@ -4,9 +4,9 @@ use Rattle.std.proofs.lemmas.List.{length-set, get_or-set_same, get_or-set_other
 use Rattle.std.proofs.lemmas.List.FromFn.{length-map-range_with_len, get_or-map-range_with_len}
 use Rattle.std.proofs.lemmas.Bool.{cases_eq}
 use Rattle.cpm_geom.specs.declared.dpb.Dpb.{Dpb}
-use Rattle.cpm_files.specs.declared.extent.Entry.{Entry}
-use Rattle.cpm_files.specs.Files.{directory_records}
-use Rattle.cpm_files.specs.Encoding.{entry_of}
+use Rattle.cpm_volume.specs.declared.extent.Entry.{Entry}
+use Rattle.cpm_volume.specs.Files.{directory_records}
+use Rattle.cpm_volume.specs.Encoding.{entry_of}
 use Rattle.cpm_directory.specs.Directory.{slot_bytes, directory_of}
 
 pub directory_length : (d : Dpb) (records : List (List ℕ)) → length (directory_of d records) ≡ d.last_entry + 1

@@ -5,8 +5,8 @@ use Rattle.cpm_geom.specs.declared.format.Format.TheVariants.{Ibm3740, Large}
 use Rattle.cpm_geom.specs.Geometry.{dpb_of, tracks_of, sectors_per_track, track_of, IsRecord, record_index}
 use Rattle.cpm_geom.specs.Disk.{Disk, records_of, sector_at}
 use Rattle.cpm_geom.proofs.RecordLemmas.{are_listed}
-use Rattle.cpm_files.specs.Files.{entry_at, no_entry}
-use Rattle.cpm_files.specs.Encoding.{entry_of}
+use Rattle.cpm_volume.specs.Files.{entry_at, no_entry}
+use Rattle.cpm_volume.specs.Encoding.{entry_of}
 use Rattle.cpm_directory.specs.Directory.{slot_bytes, entries_of}
 use Rattle.cpm_directory.proofs.DirectoryLemmas.{directory_length, directory_at}
 

@@ -9,11 +9,11 @@ use Rattle.cpm_geom.specs.declared.dpb.Dpb.{Dpb}
 use Rattle.cpm_geom.specs.Geometry.{dpb_of, IsRecord, record_index}
 use Rattle.cpm_geom.specs.Disk.{Disk, IsDisk, records_of, with_sector}
 use Rattle.cpm_geom.proofs.RecordLemmas.{are_listed}
-use Rattle.cpm_files.specs.declared.extent.Entry.{Entry}
-use Rattle.cpm_files.specs.Reserved.{is_reserved, is_directory_block}
-use Rattle.cpm_files.specs.Files.{no_entry, entry_at, InUse, block_number, directory_records, IsFormat}
-use Rattle.cpm_files.proofs.Entries.{in_use_within, any_index}
-use Rattle.cpm_files.proofs.Formats.{each_format}
+use Rattle.cpm_volume.specs.declared.extent.Entry.{Entry}
+use Rattle.cpm_volume.specs.Reserved.{is_reserved, is_directory_block}
+use Rattle.cpm_volume.specs.Files.{no_entry, entry_at, InUse, block_number, directory_records, IsFormat}
+use Rattle.cpm_volume.proofs.Entries.{in_use_within, any_index}
+use Rattle.cpm_volume.proofs.Formats.{each_format}
 use Rattle.cpm_directory.specs.Directory.{entries_of}
 use Rattle.cpm_directory.specs.Login.{has_block, reserved_at_login}
 use Rattle.cpm_directory.specs.Laws.{ReservesAtLogin}

@@ -7,9 +7,9 @@ use Rattle.cpm_geom.specs.declared.format.Format.TheVariants.{Ibm3740, Large}
 use Rattle.cpm_geom.specs.Geometry.{dpb_of, track_of, sector_of, sectors_per_track, sector_index, record_index, IsSector}
 use Rattle.cpm_geom.specs.Disk.{Disk, sector_at, with_sector}
 use Rattle.cpm_geom.proofs.GeometryLemmas.{sectors_apart, record_sector}
-use Rattle.cpm_files.specs.declared.extent.Entry.{Entry}
-use Rattle.cpm_files.specs.Files.{entry_at, no_entry, directory_records}
-use Rattle.cpm_files.specs.Encoding.{entry_of}
+use Rattle.cpm_volume.specs.declared.extent.Entry.{Entry}
+use Rattle.cpm_volume.specs.Files.{entry_at, no_entry, directory_records}
+use Rattle.cpm_volume.specs.Encoding.{entry_of}
 use Rattle.cpm_directory.specs.Directory.{entries_of, slot_bytes, Lists}
 use Rattle.cpm_directory.proofs.DriveLemmas.{entries_length, entry_is, entry_record, last_entry_small}
 

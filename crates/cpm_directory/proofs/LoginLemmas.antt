@@ -3,14 +3,14 @@ use Rattle.std.proofs.Common.{◌≡◌, ◌≢◌, ◌<◌, ◌+◌, ◌||◌, 
 use Rattle.std.specs.List.{list_any}
 use Rattle.std.proofs.lemmas.List.Folds.{list_any_more}
 use Rattle.std.proofs.lemmas.Bool.{ne_eqb, eq-eqb}
-use Rattle.cpm_files.specs.declared.extent.Entry.{Entry}
+use Rattle.cpm_volume.specs.declared.extent.Entry.{Entry}
 use Rattle.std.proofs.Common.{ltb, inl, inr, ◌≤◌}
 use Rattle.std.proofs.lemmas.List.{length-take-le, get_or-take, get_or-set_same, get_or-set_other}
 use Rattle.std.proofs.lemmas.List.FromFn.{fill_by_all}
 use Rattle.std.proofs.lemmas.Bool.{cases_eq, cases_lt, lt-ltb, le-ltb}
 use Rattle.cpm_geom.specs.declared.dpb.Dpb.{Dpb}
-use Rattle.cpm_files.specs.Reserved.{is_reserved, is_directory_block}
-use Rattle.cpm_files.specs.Names.{is_named, is_erased, reserved_after}
+use Rattle.cpm_volume.specs.Reserved.{is_reserved, is_directory_block}
+use Rattle.cpm_volume.specs.Names.{is_named, is_erased, reserved_after}
 use Rattle.cpm_directory.specs.Login.{has_block, reserved_at_login}
 
 or_assoc : (a b c : Bool) → ((a || b) || c) ≡ (a || (b || c))

@@ -4,7 +4,7 @@ use Rattle.std.proofs.lemmas.List.{get_or_past, get_or-take, length-take-le, get
 use Rattle.std.specs.List.{position_or_len}
 use Rattle.std.proofs.lemmas.List.Sums.{position_or_len_is, fails_before_first, passes_at_first}
 use Rattle.std.proofs.lemmas.Bool.{cases_lt}
-use Rattle.cpm_files.specs.Reserved.{is_reserved, least_free}
+use Rattle.cpm_volume.specs.Reserved.{is_reserved, least_free}
 
 pub past_is_reserved : (xs : List Bool) (count b : ℕ) → count ≤ length xs → count ≤ b → is_reserved (take count xs) b ≡ true
 unfolding is_reserved

@@ -12,10 +12,10 @@ use Rattle.cpm_geom.specs.Geometry.{dpb_of, record_index}
 use Rattle.cpm_geom.proofs.GeometryLemmas.{record_within}
 use Rattle.cpm_geom.specs.Disk.{Disk, IsDisk, records_of, sector_at, with_sector}
 use Rattle.cpm_geom.proofs.RecordLemmas.{are_listed, are_records}
-use Rattle.cpm_files.specs.declared.extent.Entry.{Entry}
-use Rattle.cpm_files.specs.Files.{entry_at, no_entry}
-use Rattle.cpm_files.specs.Encoding.{entry_of, entry_byte, entry_bytes, IsStorable}
-use Rattle.cpm_files.proofs.EncodingLemmas.{same_entry}
+use Rattle.cpm_volume.specs.declared.extent.Entry.{Entry}
+use Rattle.cpm_volume.specs.Files.{entry_at, no_entry}
+use Rattle.cpm_volume.specs.Encoding.{entry_of, entry_byte, entry_bytes, IsStorable}
+use Rattle.cpm_volume.proofs.EncodingLemmas.{same_entry}
 use Rattle.cpm_directory.specs.Directory.{slot_bytes, directory_of, entries_of, with_slot}
 use Rattle.cpm_directory.proofs.DirectoryLemmas.{directory_put}
 use Rattle.cpm_directory.proofs.DriveLemmas.{entry_record}

@@ -1,7 +1,7 @@
 -- File names of command lines.
 use Rattle.std.specs.Prelude.{ℕ, ◌-◌, Bool, not, ◌||◌, ◌&&◌, ◌==◌, nat_lt, nat_le, if◌then◌else◌, List, [], ◌++◌, length, map, take, drop, replicate, slice_index}
 use Rattle.std.specs.List.{position_or_len, range_with_len}
-use Rattle.cpm_files.specs.declared.fcb.Fcb.{Fcb}
+use Rattle.cpm_volume.specs.declared.fcb.Fcb.{Fcb}
 
 -- CP/M 2.2 Operating System Manual, File References: some characters end a name or a type; own: they are a space and = _ . : ; < > and all below 20h
 abbrev pub is_delimiter : ℕ → Bool

@@ -4,9 +4,9 @@ use Rattle.std.specs.List.{range_with_len}
 use Rattle.cpm_geom.specs.declared.dpb.Dpb.{Dpb}
 use Rattle.cpm_geom.specs.Geometry.{dpb_of, record_index}
 use Rattle.cpm_geom.specs.Disk.{Disk, records_of, sector_at, with_sector}
-use Rattle.cpm_files.specs.declared.extent.Entry.{Entry}
-use Rattle.cpm_files.specs.Files.{entry_at, no_entry}
-use Rattle.cpm_files.specs.Encoding.{entry_of, entry_bytes, IsStorable}
+use Rattle.cpm_volume.specs.declared.extent.Entry.{Entry}
+use Rattle.cpm_volume.specs.Files.{entry_at, no_entry}
+use Rattle.cpm_volume.specs.Encoding.{entry_of, entry_bytes, IsStorable}
 
 -- the bytes of an entry in its record
 unfoldable pub slot_bytes : List ℕ → ℕ → List ℕ

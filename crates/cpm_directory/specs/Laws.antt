@@ -3,8 +3,8 @@ use Rattle.std.specs.Prelude.{◌≡◌, ◌≢◌, ◌⊎◌, ◌↔◌, ℕ, �
 use Rattle.cpm_geom.specs.declared.dpb.Dpb.{Dpb}
 use Rattle.cpm_geom.specs.Geometry.{dpb_of, IsRecord, record_index}
 use Rattle.cpm_geom.specs.Disk.{Disk, IsDisk, with_sector}
-use Rattle.cpm_files.specs.declared.extent.Entry.{Entry}
-use Rattle.cpm_files.specs.Files.{entry_at, InUse, block_number, directory_records, is_reserved, IsFormat, IsWellFormed}
+use Rattle.cpm_volume.specs.declared.extent.Entry.{Entry}
+use Rattle.cpm_volume.specs.Files.{entry_at, InUse, block_number, directory_records, is_reserved, IsFormat, IsWellFormed}
 use Rattle.cpm_directory.specs.Directory.{entries_of}
 use Rattle.cpm_directory.specs.Login.{reserved_at_login}
 use Rattle.cpm_directory.specs.WellFormed.{fault_of}

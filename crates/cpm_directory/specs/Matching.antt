@@ -2,8 +2,8 @@
 use Rattle.std.specs.Prelude.{ℕ, ◌+◌, Bool, true, ◌&&◌, ◌==◌, nat_lt, if◌then◌else◌, List, Option, Some, None, length, drop}
 use Rattle.std.specs.List.{position_or_len}
 use Rattle.cpm_geom.specs.declared.dpb.Dpb.{Dpb}
-use Rattle.cpm_files.specs.declared.extent.Entry.{Entry}
-use Rattle.cpm_files.specs.Files.{extent_number, group_of, name_matches}
+use Rattle.cpm_volume.specs.declared.extent.Entry.{Entry}
+use Rattle.cpm_volume.specs.Files.{extent_number, group_of, name_matches}
 use Rattle.cpm_directory.specs.declared.pattern.Pattern.{Pattern}
 use Rattle.cpm_directory.specs.declared.pattern.Pattern.TheVariants.{Every, Files}
 

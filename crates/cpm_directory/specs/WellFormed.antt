@@ -3,8 +3,8 @@ use Rattle.std.specs.Prelude.{◌≡◌, ℕ, ◌<◌, Bool, not, ◌==◌, ◌&
 use Rattle.std.specs.Option.{option_or}
 use Rattle.std.specs.List.{find, list_any, position, position_or_len, range_with_len}
 use Rattle.cpm_geom.specs.declared.dpb.Dpb.{Dpb}
-use Rattle.cpm_files.specs.declared.extent.Entry.{Entry}
-use Rattle.cpm_files.specs.Files.{deleted, entry_at, block_number, extent_number, first_of, group_of, is_directory_block}
+use Rattle.cpm_volume.specs.declared.extent.Entry.{Entry}
+use Rattle.cpm_volume.specs.Files.{deleted, entry_at, block_number, extent_number, first_of, group_of, is_directory_block}
 use Rattle.cpm_directory.specs.Login.{has_block}
 use Rattle.cpm_directory.specs.declared.fault.DriveFault.{DriveFault}
 use Rattle.cpm_directory.specs.declared.fault.DriveFault.TheVariants.{BadBlock, TwiceBlock, TwiceEntry}

@@ -1,7 +1,7 @@
 //! Tests by number, as rows of bits.
 
 ghost use Rattle.std.specs.Prelude.{◌≡◌, ◌<◌, replicate, slice_set, slice_index_or, false, true};
-ghost use Rattle.cpm_files.specs.Reserved.{least_free};
+ghost use Rattle.cpm_volume.specs.Reserved.{least_free};
 
 use std::marker::Model;
 

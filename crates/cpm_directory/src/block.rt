@@ -1,10 +1,10 @@
 //! The block of a record.
 
 ghost use Rattle.std.specs.Prelude.{◌≡◌, ◌≤◌, ◌<◌, MatchResult};
-ghost use Rattle.cpm_files.specs.Files.{block_number, place_of};
+ghost use Rattle.cpm_volume.specs.Files.{block_number, place_of};
 
 use crate::directory::DirectoryError;
-use cpm_files::{Extent, Fcb};
+use cpm_volume::{Extent, Fcb};
 use cpm_geom::Dpb;
 
 /// The block of the record that a file control block stands at, 0 for none. A number that the drive has no block for
@@ -22,7 +22,7 @@ pub fn block_at(dpb: &Dpb, fcb: &Fcb) -> Result<u16, DirectoryError>
 }
 
 /// The place of a record of an extent among its block numbers.
-#[tactic(auto, unfolding(cpm_files::specs::Files::place_of))]
+#[tactic(auto, unfolding(cpm_volume::specs::Files::place_of))]
 fn place_of(dpb: &Dpb, extent: &Extent, current: u8) -> usize
     ensures { result ≡ place_of dpb.now extent.now current }
 {
@@ -32,7 +32,7 @@ fn place_of(dpb: &Dpb, extent: &Extent, current: u8) -> usize
 }
 
 /// The block number at a place, 0 past the end.
-#[tactic(auto, unfolding(cpm_files::specs::Files::block_number))]
+#[tactic(auto, unfolding(cpm_volume::specs::Files::block_number))]
 fn number_at(extent: &Extent, place: usize) -> u16
     ensures { result ≡ block_number extent.now place }
 {

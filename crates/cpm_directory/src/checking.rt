@@ -3,7 +3,7 @@
 ghost use Rattle.std.specs.Prelude.{◌≡◌, ◌<◌, ◌≤◌, ◌+◌, ◌%◌, ◌==◌, ◌||◌, false, slice_index_or};
 ghost use Rattle.std.specs.List.{list_all, list_any, zip};
 ghost use Rattle.cpm_geom.specs.Geometry.{dpb_of};
-ghost use Rattle.cpm_files.specs.Files.{extent_number, group_of, is_of, same_name};
+ghost use Rattle.cpm_volume.specs.Files.{extent_number, group_of, is_of, same_name};
 ghost use Rattle.cpm_directory.specs.Directory.{entries_of};
 ghost use Rattle.cpm_directory.specs.Login.{has_block};
 ghost use Rattle.cpm_directory.specs.WellFormed.{is_bad_block, bad_block_in, owner_of, twice_block_in, twice_entry_in, fault_of, IsChecked, AreBefore};
@@ -13,7 +13,7 @@ use crate::directory::{DELETED, entry};
 use crate::fault::DriveFault;
 use crate::pattern::group_of;
 use crate::reserved::{is_directory_block, mark};
-use cpm_files::Entry;
+use cpm_volume::Entry;
 use cpm_geom::{Dpb, Image};
 
 /// Whether the directory of a drive agrees with itself: each number in an entry is of a block that files can have, and stands once; and no two
@@ -144,7 +144,7 @@ fn twice_entry(image: &Image, index: u16) -> Option<DriveFault>
 }
 
 /// Whether another entry is of the user, the name and the group of extents of an entry.
-#[tactic(auto, unfolding(cpm_files::specs::Files::is_of))]
+#[tactic(auto, unfolding(cpm_volume::specs::Files::is_of))]
 fn is_of_same(dpb: &Dpb, entry: &Entry, other: &Entry) -> bool
     ensures { result ≡ is_of dpb.now entry.now.user entry.now.extent.name (group_of dpb.now (extent_number entry.now.extent)) other.now }
 {

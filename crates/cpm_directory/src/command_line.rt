@@ -4,7 +4,7 @@ ghost use Rattle.std.specs.Prelude.{◌≡◌, ◌≤◌, ◌==◌, ◌++◌, le
 ghost use Rattle.std.specs.List.{position_or_len, position};
 ghost use Rattle.cpm_directory.specs.CommandLine.{is_delimiter, after_spaces, drive_of, after_drive, word_of, after_word, type_of, after_type, character_of, field, fcb_named, rest_of};
 
-use cpm_files::{Extent, Fcb};
+use cpm_volume::{Extent, Fcb};
 
 /// The file control block of the name at the front of a text of capitals, spaces before it skipped, and the text
 /// behind it.

@@ -3,14 +3,14 @@
 ghost use Rattle.std.specs.Prelude.{◌≡◌, ◌<◌, ◌≤◌, ◌+◌, ◌*◌, ◌/◌, ◌%◌, length, MatchResult, slice_set};
 ghost use Rattle.cpm_geom.specs.Geometry.{dpb_of, record_index};
 ghost use Rattle.cpm_geom.specs.Disk.{sector_at, with_sector};
-ghost use Rattle.cpm_files.specs.Files.{entry_at, first_free};
-ghost use Rattle.cpm_files.specs.Encoding.{entry_bytes, IsStorable};
+ghost use Rattle.cpm_volume.specs.Files.{entry_at, first_free};
+ghost use Rattle.cpm_volume.specs.Encoding.{entry_bytes, IsStorable};
 ghost use Rattle.cpm_directory.specs.Directory.{entries_of, with_slot, PutsEntry};
 ghost use Rattle.cpm_directory.specs.Matching.{match_from};
 
 use crate::lent::LentImage;
 use crate::pattern::Pattern;
-use cpm_files::Entry;
+use cpm_volume::Entry;
 use cpm_geom::Image;
 use thiserror::Error;
 

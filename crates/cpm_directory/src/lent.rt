@@ -3,12 +3,12 @@
 ghost use Rattle.std.specs.Prelude.{◌≡◌, ◌≤◌, MatchResult, length};
 ghost use Rattle.cpm_geom.specs.Disk.{IsDisk, sector_at};
 ghost use Rattle.cpm_geom.specs.Geometry.{dpb_of, record_index, IsRecord};
-ghost use Rattle.cpm_files.specs.Files.{entry_at};
+ghost use Rattle.cpm_volume.specs.Files.{entry_at};
 ghost use Rattle.cpm_directory.specs.Directory.{entries_of, Lists};
 
 use crate::directory::entry;
 use crate::listed::MOST_ENTRIES;
-use cpm_files::Entry;
+use cpm_volume::Entry;
 use cpm_geom::{Format, GeomError, Image};
 use std::marker::Model;
 

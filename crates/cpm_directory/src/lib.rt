@@ -16,7 +16,7 @@ pub mod reserved;
 pub use block::block_at;
 pub use checking::well_formed;
 pub use command_line::parse_fcb;
-pub use cpm_files::{Entry, Extent, Fcb};
+pub use cpm_volume::{Entry, Extent, Fcb};
 pub use directory::{DirectoryError, entry, find, first_free, put_entry};
 pub use fault::DriveFault;
 pub use lent::LentImage;

@@ -3,12 +3,12 @@
 ghost use Rattle.std.specs.Prelude.{◌≡◌, ◌≤◌, IfOk, MatchResult, length};
 ghost use Rattle.cpm_geom.specs.Disk.{IsDisk, sector_at, with_sector};
 ghost use Rattle.cpm_geom.specs.Geometry.{dpb_of, sector_index, record_index, IsSector, IsRecord};
-ghost use Rattle.cpm_files.specs.Files.{entry_at};
+ghost use Rattle.cpm_volume.specs.Files.{entry_at};
 ghost use Rattle.cpm_directory.specs.Directory.{entries_of, Lists, PutsEntry};
 
 use crate::directory;
 use crate::lent::LentImage;
-use cpm_files::Entry;
+use cpm_volume::Entry;
 use cpm_geom::{Format, GeomError, Image};
 use std::alloc::{AllocError, Global};
 use std::marker::Model;

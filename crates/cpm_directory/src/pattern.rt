@@ -2,11 +2,11 @@
 
 ghost use Rattle.std.specs.Prelude.{◌≡◌};
 ghost use Rattle.std.specs.List.{list_all, zip};
-ghost use Rattle.cpm_files.specs.Files.{extent_number, group_of, name_matches, wildcard_or_same};
-ghost use Rattle.cpm_files.specs.Names.{is_named};
+ghost use Rattle.cpm_volume.specs.Files.{extent_number, group_of, name_matches, wildcard_or_same};
+ghost use Rattle.cpm_volume.specs.Names.{is_named};
 ghost use Rattle.cpm_directory.specs.Matching.{is_in_group};
 
-use cpm_files::Entry;
+use cpm_volume::Entry;
 use cpm_geom::Dpb;
 
 /// Which entries are looked for.
@@ -43,7 +43,7 @@ impl Pattern {
 }
 
 /// Whether an entry is of a user and its name matches, where a `?` stands for any character.
-#[tactic(auto, unfolding(cpm_files::specs::Names::is_named))]
+#[tactic(auto, unfolding(cpm_volume::specs::Names::is_named))]
 pub fn is_named(user: u8, name: &[u8; 11], entry: &Entry) -> bool
     ensures { result ≡ is_named user name.now entry.now }
 {
@@ -61,7 +61,7 @@ fn is_in_group(dpb: &Dpb, wanted: Option<u16>, number: u16) -> bool
 }
 
 /// The group of an extent.
-#[tactic(auto, unfolding(cpm_files::specs::Files::group_of))]
+#[tactic(auto, unfolding(cpm_volume::specs::Files::group_of))]
 pub(crate) fn group_of(dpb: &Dpb, number: u16) -> u16
     ensures { result ≡ group_of dpb.now number }
 {

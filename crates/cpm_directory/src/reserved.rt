@@ -3,8 +3,8 @@
 ghost use Rattle.std.specs.Prelude.{◌≡◌, ◌<◌, ◌≤◌, ◌+◌, ◌⊎◌, ◌==◌, ◌&&◌, ◌||◌, ℕ, length, replicate, MatchResult, not, nat_lt, slice_set, slice_index_or, false, true};
 ghost use Rattle.std.specs.List.{list_any};
 ghost use Rattle.cpm_geom.specs.Geometry.{dpb_of};
-ghost use Rattle.cpm_files.specs.Reserved.{least_free, is_reserved, is_directory_block};
-ghost use Rattle.cpm_files.specs.Names.{reserved_after};
+ghost use Rattle.cpm_volume.specs.Reserved.{least_free, is_reserved, is_directory_block};
+ghost use Rattle.cpm_volume.specs.Names.{reserved_after};
 ghost use Rattle.cpm_directory.specs.Directory.{entries_of};
 ghost use Rattle.cpm_directory.specs.Login.{reserved_at_login};
 
@@ -119,7 +119,7 @@ fn directory_blocks(dpb: &Dpb) -> Bits
 }
 
 /// Whether AL0 or AL1 has the block's bit.
-#[tactic(auto, unfolding(cpm_files::specs::Reserved::is_directory_block))]
+#[tactic(auto, unfolding(cpm_volume::specs::Reserved::is_directory_block))]
 pub(crate) fn is_directory_block(dpb: &Dpb, block: u16) -> bool
     ensures { result ≡ is_directory_block dpb.now block }
 {

@@ -3,9 +3,9 @@ use Rattle.std.proofs.Common.{◌≡◌, ◌≢◌, ℕ, ◌<◌, ◌≤◌, tru
 use Rattle.std.proofs.lemmas.List.{length-set, get_or-set_same, get_or-set_other}
 use Rattle.std.proofs.lemmas.List.Sums.{position_or_len_is}
 use Rattle.cpm_geom.specs.declared.dpb.Dpb.{Dpb}
-use Rattle.cpm_files.specs.declared.extent.Entry.{Entry}
-use Rattle.cpm_files.specs.Files.{entry_at, no_entry, first_match, matches, Volume}
-use Rattle.cpm_files.specs.Operations.{with_entry}
+use Rattle.cpm_volume.specs.declared.extent.Entry.{Entry}
+use Rattle.cpm_volume.specs.Files.{entry_at, no_entry, first_match, matches, Volume}
+use Rattle.cpm_volume.specs.Operations.{with_entry}
 use Rattle.cpm_directory.specs.Matching.{is_match}
 use Rattle.cpm_directory.specs.declared.pattern.Pattern.TheVariants.{Files}
 use Rattle.cpm_drive.specs.declared.change.Change.{Change}

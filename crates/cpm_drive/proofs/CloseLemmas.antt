@@ -2,11 +2,11 @@
 use Rattle.std.proofs.Common.{◌≡◌, ℕ, ◌<◌, ◌≤◌, Bool, true, false, not, ◌&&◌, List, length, set, refl}
 use Rattle.std.proofs.lemmas.Bool.{lt-ltb, le-ltb}
 use Rattle.cpm_geom.specs.declared.dpb.Dpb.{Dpb}
-use Rattle.cpm_files.specs.declared.extent.Extent.{Extent}
-use Rattle.cpm_files.specs.declared.extent.Entry.{Entry}
-use Rattle.cpm_files.specs.declared.answer.Fault.{Fault}
-use Rattle.cpm_files.specs.Files.{extent_number, group_of, entry_at, first_match}
-use Rattle.cpm_files.specs.Operations.{refused, close_fault, closed, close_extent, merged, agree, has_bad_block, closed_entry, is_unchanged}
+use Rattle.cpm_volume.specs.declared.extent.Extent.{Extent}
+use Rattle.cpm_volume.specs.declared.extent.Entry.{Entry}
+use Rattle.cpm_volume.specs.declared.answer.Fault.{Fault}
+use Rattle.cpm_volume.specs.Files.{extent_number, group_of, entry_at, first_match}
+use Rattle.cpm_volume.specs.Operations.{refused, close_fault, closed, close_extent, merged, agree, has_bad_block, closed_entry, is_unchanged}
 
 module _ (d : Dpb) (protected : Bool) (es : List Entry) (user : ℕ) (x : Extent) where
   pub close_none : length es ≤ first_match d es user x.name (group_of d (extent_number x)) → close_extent d protected es user x ≡ refused

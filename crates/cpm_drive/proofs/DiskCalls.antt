@@ -10,17 +10,17 @@ use Rattle.cpm_geom.specs.declared.format.Format.{Format}
 use Rattle.cpm_geom.specs.declared.format.Format.TheVariants.{Ibm3740, Large}
 use Rattle.cpm_geom.specs.Geometry.{dpb_of, tracks_of, sectors_per_track}
 use Rattle.cpm_geom.specs.Disk.{record_count}
-use Rattle.cpm_files.specs.declared.extent.Extent.{Extent}
-use Rattle.cpm_files.specs.declared.extent.Entry.{Entry}
-use Rattle.cpm_files.specs.declared.answer.Fault.TheVariants.{BadSector as bad_sector, ReadOnly as read_only}
-use Rattle.cpm_files.specs.declared.answer.Answer.{Answer}
-use Rattle.cpm_files.specs.declared.answer.Answer.TheVariants.{NoRecord as no_record, CannotClose as cannot_close, NoExtent as no_extent, NoEntryFree as no_entry_free, Fault as fault}
-use Rattle.cpm_files.specs.Reserved.{is_reserved, least_free}
-use Rattle.cpm_files.specs.Files.{extent_number, group_of, place_of, block_number, deleted, entry_at, first_match, first_free, directory_records, Volume, Write, record_put, IsSound}
-use Rattle.cpm_files.specs.Encoding.{AreBytes}
-use Rattle.cpm_files.specs.Operations.{Outcome, ends, gives, with_entry, merged, agree, has_bad_block, closed_entry, is_unchanged, Close, refused, close_fault, closed, close_extent, opened, open_extent, open_to_read, made, make_extent, close_file, make_file, Purpose, reading, writing, Target, Place, stopped, standing, opened_in, made_in, opened_or_made, have_extent, closed_in, cross, next_target, target_of, next_place, place_at, record_in_block, get_record, Found, no_such_block, none_free, old_block, new_block, block_to_write, with_block, taken_writes, put_found, put_record, read_in, write_in, read_next, write_next, read_random, write_random, write_random_cleared}
-use Rattle.cpm_files.proofs.Closing.{closed_user}
-use Rattle.cpm_files.proofs.Moving.{closed_volume, closes_free, goes_on, number_below}
+use Rattle.cpm_volume.specs.declared.extent.Extent.{Extent}
+use Rattle.cpm_volume.specs.declared.extent.Entry.{Entry}
+use Rattle.cpm_volume.specs.declared.answer.Fault.TheVariants.{BadSector as bad_sector, ReadOnly as read_only}
+use Rattle.cpm_volume.specs.declared.answer.Answer.{Answer}
+use Rattle.cpm_volume.specs.declared.answer.Answer.TheVariants.{NoRecord as no_record, CannotClose as cannot_close, NoExtent as no_extent, NoEntryFree as no_entry_free, Fault as fault}
+use Rattle.cpm_volume.specs.Reserved.{is_reserved, least_free}
+use Rattle.cpm_volume.specs.Files.{extent_number, group_of, place_of, block_number, deleted, entry_at, first_match, first_free, directory_records, Volume, Write, record_put, IsSound}
+use Rattle.cpm_volume.specs.Encoding.{AreBytes}
+use Rattle.cpm_volume.specs.Operations.{Outcome, ends, gives, with_entry, merged, agree, has_bad_block, closed_entry, is_unchanged, Close, refused, close_fault, closed, close_extent, opened, open_extent, open_to_read, made, make_extent, close_file, make_file, Purpose, reading, writing, Target, Place, stopped, standing, opened_in, made_in, opened_or_made, have_extent, closed_in, cross, next_target, target_of, next_place, place_at, record_in_block, get_record, Found, no_such_block, none_free, old_block, new_block, block_to_write, with_block, taken_writes, put_found, put_record, read_in, write_in, read_next, write_next, read_random, write_random, write_random_cleared}
+use Rattle.cpm_volume.proofs.Closing.{closed_user}
+use Rattle.cpm_volume.proofs.Moving.{closed_volume, closes_free, goes_on, number_below}
 use Rattle.cpm_drive.specs.Laws.{IsOfBytes, Fits, AllFit}
 use Rattle.cpm_drive.proofs.DiskFits.{VolumeFits, put_fits, fit_append, merged_fits, closed_fits, made_fits, opened_fits, counting_fits, place_within, with_block_fits}
 

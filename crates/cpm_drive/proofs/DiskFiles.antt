@@ -4,9 +4,9 @@ use Rattle.std.proofs.lemmas.Bool.{cases_eq, eq-eqb, ne_eqb}
 use Rattle.cpm_geom.specs.declared.dpb.Dpb.{Dpb}
 use Rattle.cpm_geom.specs.Geometry.{dpb_of}
 use Rattle.cpm_geom.specs.Disk.{Disk, records_of}
-use Rattle.cpm_files.specs.declared.extent.Extent.{Extent}
-use Rattle.cpm_files.specs.Files.{deleted, directory_records, drive_record, record_in, file_record, open_file_record, Volume, IsSound, IsSoundDrive}
-use Rattle.cpm_files.proofs.Writing.{file_entry, open_stored}
+use Rattle.cpm_volume.specs.declared.extent.Extent.{Extent}
+use Rattle.cpm_volume.specs.Files.{deleted, directory_records, drive_record, record_in, file_record, open_file_record, Volume, IsSound, IsSoundDrive}
+use Rattle.cpm_volume.proofs.Writing.{file_entry, open_stored}
 use Rattle.cpm_directory.specs.Directory.{entries_of}
 use Rattle.cpm_drive.specs.Drive.{volume_of}
 use Rattle.cpm_drive.specs.Laws.{Holds, ReadsTheSame}

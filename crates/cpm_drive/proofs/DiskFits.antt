@@ -6,13 +6,13 @@ use Rattle.cpm_geom.specs.declared.dpb.Dpb.{Dpb}
 use Rattle.cpm_geom.specs.declared.format.Format.{Format}
 use Rattle.cpm_geom.specs.declared.format.Format.TheVariants.{Ibm3740, Large}
 use Rattle.cpm_geom.specs.Geometry.{dpb_of}
-use Rattle.cpm_files.specs.declared.extent.Extent.{Extent}
-use Rattle.cpm_files.specs.declared.extent.Entry.{Entry}
-use Rattle.cpm_files.specs.Files.{extent_number, entry_at, place_of, record_count_of, Volume, Write, entry_put}
-use Rattle.cpm_files.specs.Encoding.{place_limit}
-use Rattle.cpm_files.specs.Operations.{with_entry, merged, closed_entry, opened, made, with_block, counting}
-use Rattle.cpm_files.proofs.Entries.{entry_at-set_same, entry_at-set_other}
-use Rattle.cpm_files.proofs.Closing.{closed_older, closed_newer}
+use Rattle.cpm_volume.specs.declared.extent.Extent.{Extent}
+use Rattle.cpm_volume.specs.declared.extent.Entry.{Entry}
+use Rattle.cpm_volume.specs.Files.{extent_number, entry_at, place_of, record_count_of, Volume, Write, entry_put}
+use Rattle.cpm_volume.specs.Encoding.{place_limit}
+use Rattle.cpm_volume.specs.Operations.{with_entry, merged, closed_entry, opened, made, with_block, counting}
+use Rattle.cpm_volume.proofs.Entries.{entry_at-set_same, entry_at-set_other}
+use Rattle.cpm_volume.proofs.Closing.{closed_older, closed_newer}
 use Rattle.cpm_drive.specs.Laws.{IsOfBytes, Fits, AllFit}
 
 pub fit_append : (f : Format) (a b : List Write) → AllFit f a → AllFit f b → AllFit f (a ++ b)

@@ -13,16 +13,16 @@ use Rattle.cpm_geom.specs.Disk.{Disk, IsDisk, record_count, records_of, sector_a
 use Rattle.cpm_geom.proofs.GeometryLemmas.{record_within}
 use Rattle.cpm_geom.proofs.SectorLemmas.{put_length}
 use Rattle.cpm_geom.proofs.RecordLemmas.{are_listed, are_records}
-use Rattle.cpm_files.specs.declared.extent.Extent.{Extent}
-use Rattle.cpm_files.specs.declared.extent.Entry.{Entry}
-use Rattle.cpm_files.specs.Files.{entry_at, directory_records, Volume, Write, entry_put, record_put, IsVolume}
-use Rattle.cpm_files.specs.Encoding.{number_in, extent_of, entry_of, map_byte, extent_byte, entry_byte, entry_bytes, place_limit, IsStorable, AreBytes}
-use Rattle.cpm_files.specs.LogLaws.{logged, logged_all}
-use Rattle.cpm_files.proofs.Entries.{in_use_within}
+use Rattle.cpm_volume.specs.declared.extent.Extent.{Extent}
+use Rattle.cpm_volume.specs.declared.extent.Entry.{Entry}
+use Rattle.cpm_volume.specs.Files.{entry_at, directory_records, Volume, Write, entry_put, record_put, IsVolume}
+use Rattle.cpm_volume.specs.Encoding.{number_in, extent_of, entry_of, map_byte, extent_byte, entry_byte, entry_bytes, place_limit, IsStorable, AreBytes}
+use Rattle.cpm_volume.specs.LogLaws.{logged, logged_all}
+use Rattle.cpm_volume.proofs.Entries.{in_use_within}
 use Rattle.cpm_directory.specs.Directory.{slot_bytes, entries_of, with_slot}
 use Rattle.cpm_directory.proofs.DriveLemmas.{entries_length, entry_is, entry_record}
 use Rattle.cpm_directory.proofs.SlotLemmas.{put_in_directory, put_keeps, entry_size, slot_is}
-use Rattle.cpm_files.proofs.Formats.{each_format}
+use Rattle.cpm_volume.proofs.Formats.{each_format}
 use Rattle.cpm_directory.proofs.LawLemmas.{outside}
 use Rattle.cpm_drive.specs.Drive.{volume_of, after_write, after_writes}
 use Rattle.cpm_drive.specs.Laws.{Holds, HasBytes, IsDiskOf, IsOfBytes, Fits, AllFit}

@@ -5,14 +5,14 @@ use Rattle.std.specs.List.{list_any}
 use Rattle.std.proofs.lemmas.Bool.{cases_Bool, cond_both}
 use Rattle.cpm_geom.specs.declared.format.Format.{Format}
 use Rattle.cpm_geom.specs.Geometry.{dpb_of}
-use Rattle.cpm_files.specs.declared.extent.Extent.{Extent}
-use Rattle.cpm_files.specs.declared.extent.Entry.{Entry}
-use Rattle.cpm_files.specs.Files.{entry_at, Volume}
-use Rattle.cpm_files.specs.Encoding.{AreBytes}
-use Rattle.cpm_files.specs.Operations.{Outcome}
-use Rattle.cpm_files.specs.Names.{is_named, first_named, change_named, named_writes, Named, none_named, file_read_only, named, protects, deletion, renaming, with_attributes, marking, reserved_after, erase_files, rename_files, set_attributes}
-use Rattle.cpm_files.specs.LogLaws.{IsLogged}
-use Rattle.cpm_files.proofs.Logging.{calls_log, named_calls_log}
+use Rattle.cpm_volume.specs.declared.extent.Extent.{Extent}
+use Rattle.cpm_volume.specs.declared.extent.Entry.{Entry}
+use Rattle.cpm_volume.specs.Files.{entry_at, Volume}
+use Rattle.cpm_volume.specs.Encoding.{AreBytes}
+use Rattle.cpm_volume.specs.Operations.{Outcome}
+use Rattle.cpm_volume.specs.Names.{is_named, first_named, change_named, named_writes, Named, none_named, file_read_only, named, protects, deletion, renaming, with_attributes, marking, reserved_after, erase_files, rename_files, set_attributes}
+use Rattle.cpm_volume.specs.LogLaws.{IsLogged}
+use Rattle.cpm_volume.proofs.Logging.{calls_log, named_calls_log}
 use Rattle.cpm_directory.proofs.DriveLemmas.{entries_length}
 use Rattle.cpm_drive.specs.declared.drive.Drive.{Drive}
 use Rattle.cpm_drive.specs.Drive.{volume_of, after_writes, drive_after}

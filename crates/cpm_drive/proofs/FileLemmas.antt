@@ -1,12 +1,12 @@
 -- What a close, an open and a make of a file leave, case by case.
 use Rattle.std.proofs.Common.{◌≡◌, ℕ, ◌%◌, ◌<◌, ◌≤◌, cond, ltb, List, Some, None, Result, Option, length, set, refl, sym, ap, arith}
 use Rattle.cpm_geom.specs.declared.dpb.Dpb.{Dpb}
-use Rattle.cpm_files.specs.declared.extent.Extent.{Extent}
-use Rattle.cpm_files.specs.declared.extent.Entry.{Entry}
-use Rattle.cpm_files.specs.declared.fcb.Fcb.{Fcb}
-use Rattle.cpm_files.specs.declared.answer.Fault.{Fault as FileFault}
-use Rattle.cpm_files.specs.Files.{extent_number, entry_at, first_match, group_of, first_free}
-use Rattle.cpm_files.specs.Operations.{with_entry, Close, opened, open_file, make_extent, make_file}
+use Rattle.cpm_volume.specs.declared.extent.Extent.{Extent}
+use Rattle.cpm_volume.specs.declared.extent.Entry.{Entry}
+use Rattle.cpm_volume.specs.declared.fcb.Fcb.{Fcb}
+use Rattle.cpm_volume.specs.declared.answer.Fault.{Fault as FileFault}
+use Rattle.cpm_volume.specs.Files.{extent_number, entry_at, first_match, group_of, first_free}
+use Rattle.cpm_volume.specs.Operations.{with_entry, Close, opened, open_file, make_extent, make_file}
 use Rattle.cpm_geom.specs.Geometry.{dpb_of}
 use Rattle.cpm_directory.specs.Directory.{entries_of}
 use Rattle.cpm_directory.proofs.DriveLemmas.{entries_length}

@@ -3,7 +3,7 @@ use Rattle.std.proofs.Common.{◌≡◌, ℕ, zero, suc, ◌<◌, Bool, ◌&&◌
 use Rattle.std.specs.List.{list_all, list_any, zip}
 use Rattle.std.proofs.lemmas.Grind.{same_number_lists}
 use Rattle.cpm_geom.specs.declared.dpb.Dpb.{Dpb}
-use Rattle.cpm_files.specs.Operations.{merged, agree, has_bad_block, same_numbers}
+use Rattle.cpm_volume.specs.Operations.{merged, agree, has_bad_block, same_numbers}
 use Rattle.cpm_drive.specs.Judged.{agreeing}
 
 pub agree_zip : (xs ys : List ℕ) → list_all agreeing (zip xs ys) ≡ agree xs ys

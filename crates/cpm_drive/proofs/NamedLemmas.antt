@@ -7,10 +7,10 @@ use Rattle.std.proofs.lemmas.List.{map-append, drop_more, drop_all}
 use Rattle.std.proofs.lemmas.List.Sums.{fold-append}
 use Rattle.std.proofs.lemmas.Bool.{lt-ltb, le-ltb}
 use Rattle.cpm_geom.specs.declared.dpb.Dpb.{Dpb}
-use Rattle.cpm_files.specs.declared.extent.Entry.{Entry}
-use Rattle.cpm_files.specs.declared.answer.Fault.TheVariants.{FileReadOnly}
-use Rattle.cpm_files.specs.Files.{name_matches, entry_at, no_entry, Write, entry_put, Volume}
-use Rattle.cpm_files.specs.Names.{is_named, first_named, with_attributes, records_to, compute_size, protects, change_named, named_writes, deletion, renaming, marking, reserved_after, erase_files, rename_files, set_attributes}
+use Rattle.cpm_volume.specs.declared.extent.Entry.{Entry}
+use Rattle.cpm_volume.specs.declared.answer.Fault.TheVariants.{FileReadOnly}
+use Rattle.cpm_volume.specs.Files.{name_matches, entry_at, no_entry, Write, entry_put, Volume}
+use Rattle.cpm_volume.specs.Names.{is_named, first_named, with_attributes, records_to, compute_size, protects, change_named, named_writes, deletion, renaming, marking, reserved_after, erase_files, rename_files, set_attributes}
 use Rattle.cpm_geom.specs.Geometry.{dpb_of}
 use Rattle.cpm_geom.specs.Disk.{Disk, records_of}
 use Rattle.cpm_directory.specs.Directory.{entries_of, PutsEntry}

@@ -2,10 +2,10 @@
 use Rattle.std.proofs.Common.{◌≡◌, ℕ, ◌<◌, ◌≤◌, List, Some, None, cond, ltb, length, set, refl}
 use Rattle.std.proofs.lemmas.Bool.{lt-ltb, le-ltb}
 use Rattle.cpm_geom.specs.declared.dpb.Dpb.{Dpb}
-use Rattle.cpm_files.specs.declared.extent.Extent.{Extent}
-use Rattle.cpm_files.specs.declared.extent.Entry.{Entry}
-use Rattle.cpm_files.specs.Files.{extent_number, group_of, entry_at, first_match, first_free}
-use Rattle.cpm_files.specs.Operations.{opened, open_extent, open_to_read, made, make_extent}
+use Rattle.cpm_volume.specs.declared.extent.Extent.{Extent}
+use Rattle.cpm_volume.specs.declared.extent.Entry.{Entry}
+use Rattle.cpm_volume.specs.Files.{extent_number, group_of, entry_at, first_match, first_free}
+use Rattle.cpm_volume.specs.Operations.{opened, open_extent, open_to_read, made, make_extent}
 
 module _ (d : Dpb) (es : List Entry) (user : ℕ) (name : List ℕ) (number : ℕ) where
   module _ (h : length es ≤ first_match d es user name (group_of d number)) where

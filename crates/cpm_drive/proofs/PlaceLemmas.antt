@@ -3,11 +3,11 @@ use Rattle.std.proofs.Common.{◌≡◌, ◌≢◌, ℕ, ◌<◌, ◌≤◌, Boo
 use Rattle.std.proofs.lemmas.Bool.{lt-ltb, le-ltb, eq-eqb, ne_eqb}
 use Rattle.cpm_geom.specs.declared.dpb.Dpb.{Dpb}
 use Rattle.cpm_geom.specs.Disk.{Disk}
-use Rattle.cpm_files.specs.declared.extent.Extent.{Extent}
-use Rattle.cpm_files.specs.declared.answer.Fault.{Fault}
-use Rattle.cpm_files.specs.declared.answer.Answer.TheVariants.{Fault as fault, NoRecord as no_record}
-use Rattle.cpm_files.specs.Files.{extent_number, first_free, Volume}
-use Rattle.cpm_files.specs.Operations.{close_extent, refused, close_fault, closed, open_extent, open_to_read, make_extent, Purpose, reading, writing, Target, stopped, standing, opened_in, made_in, opened_or_made, have_extent, closed_in, cross, next_target, next_place, place_at}
+use Rattle.cpm_volume.specs.declared.extent.Extent.{Extent}
+use Rattle.cpm_volume.specs.declared.answer.Fault.{Fault}
+use Rattle.cpm_volume.specs.declared.answer.Answer.TheVariants.{Fault as fault, NoRecord as no_record}
+use Rattle.cpm_volume.specs.Files.{extent_number, first_free, Volume}
+use Rattle.cpm_volume.specs.Operations.{close_extent, refused, close_fault, closed, open_extent, open_to_read, make_extent, Purpose, reading, writing, Target, stopped, standing, opened_in, made_in, opened_or_made, have_extent, closed_in, cross, next_target, next_place, place_at}
 use Rattle.cpm_directory.specs.Directory.{entries_of}
 use Rattle.cpm_drive.specs.Drive.{volume_of}
 use Rattle.cpm_drive.specs.declared.change.Change.{Change}

@@ -9,14 +9,14 @@ use Rattle.cpm_geom.specs.declared.dpb.Dpb.{Dpb}
 use Rattle.cpm_geom.specs.Geometry.{record_index}
 use Rattle.cpm_geom.specs.Disk.{with_sector}
 use Rattle.cpm_geom.specs.Disk.{Disk}
-use Rattle.cpm_files.specs.declared.extent.Extent.{Extent}
-use Rattle.cpm_files.specs.declared.fcb.Fcb.{Fcb}
-use Rattle.cpm_files.specs.declared.answer.Answer.{Answer}
-use Rattle.cpm_files.specs.declared.answer.Answer.TheVariants.{Fault as fault, Done as done, NoBlock as no_block}
-use Rattle.cpm_files.specs.declared.answer.Fault.{Fault}
-use Rattle.cpm_files.specs.Files.{Volume, Write, entry_put, record_put, block_number, place_of}
-use Rattle.cpm_files.specs.Reserved.{least_free}
-use Rattle.cpm_files.specs.Operations.{Found, no_such_block, none_free, old_block, new_block, block_to_write, put_found, put_record, taken_writes, record_in_block, with_block, counting, ends}
+use Rattle.cpm_volume.specs.declared.extent.Extent.{Extent}
+use Rattle.cpm_volume.specs.declared.fcb.Fcb.{Fcb}
+use Rattle.cpm_volume.specs.declared.answer.Answer.{Answer}
+use Rattle.cpm_volume.specs.declared.answer.Answer.TheVariants.{Fault as fault, Done as done, NoBlock as no_block}
+use Rattle.cpm_volume.specs.declared.answer.Fault.{Fault}
+use Rattle.cpm_volume.specs.Files.{Volume, Write, entry_put, record_put, block_number, place_of}
+use Rattle.cpm_volume.specs.Reserved.{least_free}
+use Rattle.cpm_volume.specs.Operations.{Found, no_such_block, none_free, old_block, new_block, block_to_write, put_found, put_record, taken_writes, record_in_block, with_block, counting, ends}
 use Rattle.cpm_drive.specs.declared.drive.Drive.{Drive}
 use Rattle.cpm_drive.specs.declared.change.Change.{Change}
 use Rattle.cpm_drive.specs.Drive.{volume_of, after_write, after_writes, drive_after, called, after_call}

@@ -6,16 +6,16 @@ use Rattle.cpm_geom.specs.declared.format.Format.{Format}
 use Rattle.cpm_geom.specs.declared.format.Format.TheVariants.{Ibm3740, Large}
 use Rattle.cpm_geom.specs.Geometry.{dpb_of, tracks_of, sectors_per_track, track_of, IsRecord}
 use Rattle.cpm_geom.specs.Disk.{records_of}
-use Rattle.cpm_files.specs.declared.extent.Extent.{Extent}
-use Rattle.cpm_files.specs.declared.fcb.Fcb.{Fcb}
-use Rattle.cpm_files.specs.declared.answer.Answer.{Answer}
-use Rattle.cpm_files.specs.declared.answer.Answer.TheVariants.{Fault as fault, NoRecord as no_record, NoExtent as no_extent, Done as done}
-use Rattle.cpm_files.specs.declared.answer.Fault.{Fault}
-use Rattle.cpm_files.specs.Files.{Volume, block_number, place_of, directory_records, open_file_record}
-use Rattle.cpm_files.specs.Laws.{position, HasRead}
-use Rattle.cpm_files.proofs.Reading.{reads_next, reads_at}
+use Rattle.cpm_volume.specs.declared.extent.Extent.{Extent}
+use Rattle.cpm_volume.specs.declared.fcb.Fcb.{Fcb}
+use Rattle.cpm_volume.specs.declared.answer.Answer.{Answer}
+use Rattle.cpm_volume.specs.declared.answer.Answer.TheVariants.{Fault as fault, NoRecord as no_record, NoExtent as no_extent, Done as done}
+use Rattle.cpm_volume.specs.declared.answer.Fault.{Fault}
+use Rattle.cpm_volume.specs.Files.{Volume, block_number, place_of, directory_records, open_file_record}
+use Rattle.cpm_volume.specs.Laws.{position, HasRead}
+use Rattle.cpm_volume.proofs.Reading.{reads_next, reads_at}
 use Rattle.cpm_directory.specs.Directory.{entries_of}
-use Rattle.cpm_files.specs.Operations.{Outcome, ends, gives, get_record, read_in, read_next, read_random, record_in_block}
+use Rattle.cpm_volume.specs.Operations.{Outcome, ends, gives, get_record, read_in, read_next, read_random, record_in_block}
 use Rattle.cpm_drive.specs.Drive.{volume_of, drive_after, Called, called, after_call, buffer_after}
 use Rattle.cpm_drive.specs.declared.drive.Drive.{Drive}
 use Rattle.cpm_drive.specs.declared.change.Change.{Change}

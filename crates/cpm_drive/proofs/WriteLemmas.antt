@@ -1,7 +1,7 @@
 -- What is written to a drive, one after the other.
 use Rattle.std.proofs.Common.{◌≡◌, Bool, true, false, cond, List, [], ◌∷◌, ◌++◌, Some, None, Option, refl, ap}
 use Rattle.cpm_geom.specs.Disk.{Disk}
-use Rattle.cpm_files.specs.Files.{Write}
+use Rattle.cpm_volume.specs.Files.{Write}
 use Rattle.cpm_directory.specs.Directory.{PutsEntry}
 use Rattle.cpm_drive.specs.declared.drive.Drive.{Drive}
 use Rattle.cpm_drive.specs.declared.change.Change.{Change}

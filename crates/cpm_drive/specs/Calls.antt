@@ -1,12 +1,12 @@
 -- What the calls that close, open and make a file leave, and a login.
 use Rattle.std.specs.Prelude.{true, ℕ, ◌%◌, List, Option, Some, None, Result, Ok, Err}
 use Rattle.cpm_geom.specs.declared.dpb.Dpb.{Dpb}
-use Rattle.cpm_files.specs.declared.extent.Extent.{Extent}
-use Rattle.cpm_files.specs.declared.extent.Entry.{Entry}
-use Rattle.cpm_files.specs.declared.fcb.Fcb.{Fcb}
-use Rattle.cpm_files.specs.declared.answer.Fault.{Fault}
-use Rattle.cpm_files.specs.Files.{group_of, first_match}
-use Rattle.cpm_files.specs.Operations.{Close, refused, close_fault, closed, with_entry}
+use Rattle.cpm_volume.specs.declared.extent.Extent.{Extent}
+use Rattle.cpm_volume.specs.declared.extent.Entry.{Entry}
+use Rattle.cpm_volume.specs.declared.fcb.Fcb.{Fcb}
+use Rattle.cpm_volume.specs.declared.answer.Fault.{Fault}
+use Rattle.cpm_volume.specs.Files.{group_of, first_match}
+use Rattle.cpm_volume.specs.Operations.{Close, refused, close_fault, closed, with_entry}
 use Rattle.cpm_geom.specs.Geometry.{dpb_of}
 use Rattle.cpm_geom.specs.Disk.{Disk}
 use Rattle.cpm_directory.specs.Directory.{entries_of}

@@ -3,11 +3,11 @@ use Rattle.std.specs.Prelude.{ℕ, ◌+◌, ◌/◌, ◌%◌, Bool, false, if◌
 use Rattle.cpm_geom.specs.declared.format.Format.{Format}
 use Rattle.cpm_geom.specs.Geometry.{dpb_of, record_index}
 use Rattle.cpm_geom.specs.Disk.{Disk, records_of, sector_at, with_sector}
-use Rattle.cpm_files.specs.declared.fcb.Fcb.{Fcb}
-use Rattle.cpm_files.specs.declared.answer.Answer.{Answer}
-use Rattle.cpm_files.specs.Encoding.{entry_bytes}
-use Rattle.cpm_files.specs.Files.{Volume, Write, entry_put, record_put}
-use Rattle.cpm_files.specs.Operations.{Outcome}
+use Rattle.cpm_volume.specs.declared.fcb.Fcb.{Fcb}
+use Rattle.cpm_volume.specs.declared.answer.Answer.{Answer}
+use Rattle.cpm_volume.specs.Encoding.{entry_bytes}
+use Rattle.cpm_volume.specs.Files.{Volume, Write, entry_put, record_put}
+use Rattle.cpm_volume.specs.Operations.{Outcome}
 use Rattle.cpm_directory.specs.Directory.{entries_of, with_slot}
 use Rattle.cpm_drive.specs.declared.drive.Drive.{Drive}
 use Rattle.cpm_drive.specs.declared.drive.Marks.{Marks}

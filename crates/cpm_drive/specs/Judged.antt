@@ -1,11 +1,11 @@
 -- What a call on a file comes to before anything is written: the entries that it is going to write, and where it stands.
 use Rattle.std.specs.Prelude.{ℕ, ◌≤◌, Bool, ◌||◌, ◌==◌, List, [], ◌∷◌, ◌++◌, Option, Some, None, Result, Ok, Err, IfSome, slice_set}
 use Rattle.cpm_geom.specs.declared.dpb.Dpb.{Dpb}
-use Rattle.cpm_files.specs.declared.extent.Extent.{Extent}
-use Rattle.cpm_files.specs.declared.extent.Entry.{Entry}
-use Rattle.cpm_files.specs.declared.answer.Answer.{Answer}
-use Rattle.cpm_files.specs.Files.{Volume, entry_put}
-use Rattle.cpm_files.specs.Operations.{Close, refused, close_fault, closed, Place, stopped, standing, Target, Purpose, reading, writing}
+use Rattle.cpm_volume.specs.declared.extent.Extent.{Extent}
+use Rattle.cpm_volume.specs.declared.extent.Entry.{Entry}
+use Rattle.cpm_volume.specs.declared.answer.Answer.{Answer}
+use Rattle.cpm_volume.specs.Files.{Volume, entry_put}
+use Rattle.cpm_volume.specs.Operations.{Close, refused, close_fault, closed, Place, stopped, standing, Target, Purpose, reading, writing}
 use Rattle.cpm_drive.specs.declared.change.Change.{Change}
 use Rattle.cpm_drive.specs.declared.closing.Closing.{Closing}
 use Rattle.cpm_drive.specs.declared.closing.Closing.TheVariants.{Refused, Fault, Closed}

@@ -4,13 +4,13 @@ use Rattle.cpm_geom.specs.declared.format.Format.{Format}
 use Rattle.cpm_geom.specs.declared.dpb.Dpb.{Dpb}
 use Rattle.cpm_geom.specs.Geometry.{dpb_of}
 use Rattle.cpm_geom.specs.Disk.{Disk, IsDisk, record_count, records_of, sector_at}
-use Rattle.cpm_files.specs.declared.extent.Extent.{Extent}
-use Rattle.cpm_files.specs.declared.extent.Entry.{Entry}
-use Rattle.cpm_files.specs.Files.{deleted, directory_records, file_record, open_file_record, Volume, Write, entry_put, record_put, first_free, IsVolume, IsSound, IsSoundDrive}
-use Rattle.cpm_files.specs.Encoding.{IsStorable, AreBytes}
-use Rattle.cpm_files.specs.Operations.{Outcome, with_entry, closed, close_file, make_file, read_next, read_random, write_next, write_random, write_random_cleared}
-use Rattle.cpm_files.specs.Names.{named, erase_files, rename_files, set_attributes}
-use Rattle.cpm_files.specs.LogLaws.{logged_all}
+use Rattle.cpm_volume.specs.declared.extent.Extent.{Extent}
+use Rattle.cpm_volume.specs.declared.extent.Entry.{Entry}
+use Rattle.cpm_volume.specs.Files.{deleted, directory_records, file_record, open_file_record, Volume, Write, entry_put, record_put, first_free, IsVolume, IsSound, IsSoundDrive}
+use Rattle.cpm_volume.specs.Encoding.{IsStorable, AreBytes}
+use Rattle.cpm_volume.specs.Operations.{Outcome, with_entry, closed, close_file, make_file, read_next, read_random, write_next, write_random, write_random_cleared}
+use Rattle.cpm_volume.specs.Names.{named, erase_files, rename_files, set_attributes}
+use Rattle.cpm_volume.specs.LogLaws.{logged_all}
 use Rattle.cpm_directory.specs.Directory.{entries_of}
 use Rattle.cpm_drive.specs.declared.drive.Drive.{Drive}
 use Rattle.cpm_drive.specs.Drive.{volume_of, after_writes, drive_after}

@@ -2,10 +2,10 @@
 use Rattle.std.specs.Prelude.{ℕ, ◌/◌, if◌then◌else◌, nat_lt, List, [], Option, Some, None, Result, Ok, Err, length, slice_index_or}
 use Rattle.cpm_geom.specs.Geometry.{dpb_of}
 use Rattle.cpm_geom.specs.Disk.{Disk, records_of}
-use Rattle.cpm_files.specs.declared.extent.Entry.{Entry}
-use Rattle.cpm_files.specs.declared.answer.Fault.{Fault}
-use Rattle.cpm_files.specs.declared.answer.Fault.TheVariants.{FileReadOnly}
-use Rattle.cpm_files.specs.Names.{Named, none_named, file_read_only, named, deletion, renaming, marking}
+use Rattle.cpm_volume.specs.declared.extent.Entry.{Entry}
+use Rattle.cpm_volume.specs.declared.answer.Fault.{Fault}
+use Rattle.cpm_volume.specs.declared.answer.Fault.TheVariants.{FileReadOnly}
+use Rattle.cpm_volume.specs.Names.{Named, none_named, file_read_only, named, deletion, renaming, marking}
 use Rattle.cpm_directory.specs.declared.pattern.Pattern.{Pattern}
 use Rattle.cpm_directory.specs.Matching.{match_from}
 use Rattle.cpm_directory.specs.Directory.{entries_of}

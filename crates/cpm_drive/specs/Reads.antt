@@ -2,11 +2,11 @@
 use Rattle.std.specs.Prelude.{◌≡◌, ◌≢◌, ◌≤◌, ℕ, List, [], Option, Some, None, Result, Ok, Err, slice_index_or}
 use Rattle.cpm_geom.specs.Geometry.{dpb_of}
 use Rattle.cpm_geom.specs.Disk.{Disk, records_of}
-use Rattle.cpm_files.specs.declared.fcb.Fcb.{Fcb}
-use Rattle.cpm_files.specs.declared.answer.Answer.{Answer}
-use Rattle.cpm_files.specs.declared.answer.Answer.TheVariants.{Done as done}
-use Rattle.cpm_files.specs.Files.{deleted, IsSound, open_file_record}
-use Rattle.cpm_files.specs.Operations.{Outcome, read_next}
+use Rattle.cpm_volume.specs.declared.fcb.Fcb.{Fcb}
+use Rattle.cpm_volume.specs.declared.answer.Answer.{Answer}
+use Rattle.cpm_volume.specs.declared.answer.Answer.TheVariants.{Done as done}
+use Rattle.cpm_volume.specs.Files.{deleted, IsSound, open_file_record}
+use Rattle.cpm_volume.specs.Operations.{Outcome, read_next}
 use Rattle.cpm_directory.specs.Directory.{entries_of}
 use Rattle.cpm_drive.specs.declared.drive.Drive.{Drive}
 use Rattle.cpm_drive.specs.declared.drive.Marks.{Marks}

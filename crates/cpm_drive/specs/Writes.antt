@@ -1,8 +1,8 @@
 -- What a write leaves once its entries are written.
 use Rattle.std.specs.Prelude.{ℕ, List}
-use Rattle.cpm_files.specs.declared.extent.Extent.{Extent}
-use Rattle.cpm_files.specs.declared.fcb.Fcb.{Fcb}
-use Rattle.cpm_files.specs.Files.{Write}
+use Rattle.cpm_volume.specs.declared.extent.Extent.{Extent}
+use Rattle.cpm_volume.specs.declared.fcb.Fcb.{Fcb}
+use Rattle.cpm_volume.specs.Files.{Write}
 use Rattle.cpm_drive.specs.declared.drive.Drive.{Drive}
 use Rattle.cpm_drive.specs.Drive.{after_writes}
 

@@ -2,13 +2,13 @@
 
 ghost use Rattle.std.specs.Prelude.{◌≡◌, ◌<◌, ◌≤◌, MatchOption, length};
 ghost use Rattle.cpm_geom.specs.Geometry.{dpb_of};
-ghost use Rattle.cpm_files.specs.Files.{entry_at, group_of, first_match, first_free, matches};
+ghost use Rattle.cpm_volume.specs.Files.{entry_at, group_of, first_match, first_free, matches};
 ghost use Rattle.cpm_directory.specs.Directory.{entries_of};
 ghost use Rattle.cpm_drive.specs.Judged.{entries_after};
 
 use cpm_directory::directory::DELETED;
 use cpm_directory::{LentImage, Pattern};
-use cpm_files::Entry;
+use cpm_volume::Entry;
 
 /// An entry of the directory that a call is about to write.
 #[derive(Clone, Copy, PartialEq, Eq, Debug)]

@@ -3,8 +3,8 @@
 ghost use Rattle.std.specs.Prelude.{◌≡◌, ◌==◌, ◌&&◌, not, nat_lt, true, List};
 ghost use Rattle.std.specs.List.{list_any, list_all, zip};
 ghost use Rattle.cpm_geom.specs.Geometry.{dpb_of};
-ghost use Rattle.cpm_files.specs.Files.{group_of};
-ghost use Rattle.cpm_files.specs.Operations.{close_extent, close_file, merged, agree, has_bad_block, closed_entry, is_unchanged, same_numbers};
+ghost use Rattle.cpm_volume.specs.Files.{group_of};
+ghost use Rattle.cpm_volume.specs.Operations.{close_extent, close_file, merged, agree, has_bad_block, closed_entry, is_unchanged, same_numbers};
 ghost use Rattle.cpm_directory.specs.Directory.{entries_of};
 ghost use Rattle.cpm_drive.specs.Calls.{closed_file, close_answer, after_close};
 ghost use Rattle.cpm_drive.specs.Judged.{close_of, change_of, IsWithin, agreeing};
@@ -12,7 +12,7 @@ ghost use Rattle.cpm_drive.specs.Judged.{close_of, change_of, IsWithin, agreeing
 use crate::change::{Change, first_match};
 use crate::drive::{Drive, directory_code};
 use cpm_directory::LentImage;
-use cpm_files::{Entry, Extent, Fault, Fcb};
+use cpm_volume::{Entry, Extent, Fault, Fcb};
 use cpm_geom::{Dpb, Image};
 
 /// What a close of an extent comes to.
@@ -104,7 +104,7 @@ pub fn judge_close(image: &LentImage<'_>, is_protected: bool, user: u8, extent: 
 }
 
 /// The group of an extent.
-#[tactic(auto, unfolding(cpm_files::specs::Files::group_of))]
+#[tactic(auto, unfolding(cpm_volume::specs::Files::group_of))]
 pub(crate) fn group_of(dpb: &Dpb, number: u16) -> u16
     ensures { result ≡ group_of dpb.now number }
 {
@@ -156,7 +156,7 @@ fn merged(blocks: &[u16; 16], stored: &[u16; 16]) -> [u16; 16]
 }
 
 /// The entry once an extent is closed into it.
-#[tactic(auto, unfolding(cpm_files::specs::Operations::closed_entry))]
+#[tactic(auto, unfolding(cpm_volume::specs::Operations::closed_entry))]
 fn closed_entry(stored: &Entry, extent: &Extent) -> Entry
     ensures { result ≡ closed_entry stored.now extent.now }
 {
@@ -189,7 +189,7 @@ fn must_stay(is_protected: bool, old: &Extent, new: &Extent) -> bool
 }
 
 /// Whether a close writes nothing that is another than it was.
-#[tactic(auto, unfolding(cpm_files::specs::Operations::is_unchanged))]
+#[tactic(auto, unfolding(cpm_volume::specs::Operations::is_unchanged))]
 fn is_unchanged(old: &Extent, new: &Extent) -> bool
     ensures { result ≡ is_unchanged old.now new.now }
 {

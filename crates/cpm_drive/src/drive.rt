@@ -3,7 +3,7 @@
 ghost use Rattle.std.specs.Prelude.{IfOk, ◌≡◌, ◌≤◌, ℕ, [], false, slice_index_or};
 ghost use Rattle.cpm_geom.specs.Geometry.{dpb_of};
 ghost use Rattle.cpm_geom.specs.Disk.{records_of};
-ghost use Rattle.cpm_files.specs.Files.{directory_records};
+ghost use Rattle.cpm_volume.specs.Files.{directory_records};
 ghost use Rattle.cpm_drive.specs.Calls.{logged_in_marks, logged_in};
 ghost use Rattle.cpm_drive.specs.Drive.{directory_code, new_marks, volume_of, drive_after};
 ghost use Rattle.cpm_drive.specs.Judged.{with_change, IsWithin};

@@ -3,7 +3,7 @@
 ghost use Rattle.std.specs.Prelude.{◌≡◌, ◌<◌, ◌≤◌, false, MatchOption, Ok, length};
 ghost use Rattle.std.specs.List.{list_any};
 ghost use Rattle.cpm_geom.specs.Geometry.{dpb_of};
-ghost use Rattle.cpm_files.specs.Names.{first_named, protects, change_named, named_writes, renaming, with_attributes, erase_files, rename_files, set_attributes};
+ghost use Rattle.cpm_volume.specs.Names.{first_named, protects, change_named, named_writes, renaming, with_attributes, erase_files, rename_files, set_attributes};
 ghost use Rattle.cpm_directory.specs.Directory.{entries_of};
 ghost use Rattle.cpm_drive.specs.Drive.{volume_of};
 ghost use Rattle.cpm_drive.specs.Named.{altered, after_named};
@@ -12,7 +12,7 @@ ghost use Rattle.cpm_drive.specs.Writes.{drive_written};
 use crate::drive::{Drive, directory_code};
 use cpm_directory::directory::DELETED;
 use cpm_directory::{LentImage, Pattern, find, is_named, without_files};
-use cpm_files::{Entry, Extent, Fault};
+use cpm_volume::{Entry, Extent, Fault};
 
 /// What becomes of each entry of a name.
 #[derive(Clone, Copy, PartialEq, Eq, Debug)]
@@ -26,7 +26,7 @@ pub enum Alteration {
 
 impl Alteration {
     /// What becomes of an entry.
-    #[tactic(auto, unfolding(cpm_files::specs::Names::deletion, cpm_files::specs::Names::renaming, cpm_files::specs::Names::marking))]
+    #[tactic(auto, unfolding(cpm_volume::specs::Names::deletion, cpm_volume::specs::Names::renaming, cpm_volume::specs::Names::marking))]
     fn of(&self, entry: &Entry) -> Entry
         ensures { result ≡ altered self.now entry.now }
     {
@@ -44,7 +44,7 @@ impl Alteration {
 }
 
 /// The entry under another name.
-#[tactic(auto, unfolding(cpm_files::specs::Names::renaming))]
+#[tactic(auto, unfolding(cpm_volume::specs::Names::renaming))]
 fn with_name(entry: &Entry, name: &[u8; 11]) -> Entry
     ensures { result ≡ renaming name.now entry.now }
 {
@@ -96,7 +96,7 @@ fn has_read_only(image: &LentImage<'_>, user: u8, name: &[u8; 11]) -> bool
 }
 
 /// Whether an entry is one of a name and read-only.
-#[tactic(auto, unfolding(cpm_files::specs::Names::protects))]
+#[tactic(auto, unfolding(cpm_volume::specs::Names::protects))]
 fn protects(user: u8, name: &[u8; 11], entry: &Entry) -> bool
     ensures { result ≡ protects user name.now entry.now }
 {

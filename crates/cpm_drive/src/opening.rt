@@ -2,8 +2,8 @@
 
 ghost use Rattle.std.specs.Prelude.{◌≡◌, ◌<◌, IfSome, Some, None, if◌then◌else◌, nat_lt};
 ghost use Rattle.cpm_geom.specs.Geometry.{dpb_of};
-ghost use Rattle.cpm_files.specs.Files.{record_count_of, extent_number, first_free};
-ghost use Rattle.cpm_files.specs.Operations.{opened, open_extent, open_to_read, open_file, made, make_extent, make_file};
+ghost use Rattle.cpm_volume.specs.Files.{record_count_of, extent_number, first_free};
+ghost use Rattle.cpm_volume.specs.Operations.{opened, open_extent, open_to_read, open_file, made, make_extent, make_file};
 ghost use Rattle.cpm_directory.specs.Directory.{entries_of};
 ghost use Rattle.cpm_drive.specs.Calls.{after_open, open_index, made_file, after_make};
 ghost use Rattle.cpm_drive.specs.Judged.{entries_after, make_of, IsWithin};
@@ -12,7 +12,7 @@ use crate::change::{Change, entry_after, first_free, first_match};
 use crate::closing::group_of;
 use crate::drive::{Drive, directory_code};
 use cpm_directory::LentImage;
-use cpm_files::{Entry, Extent, Fcb};
+use cpm_volume::{Entry, Extent, Fcb};
 
 /// OPEN FILE on an image that is lent: as `Drive::open_file`.
 pub fn open_file_lent(image: &LentImage<'_>, user: u8, fcb: &mut Fcb) -> Option<u8>
@@ -60,7 +60,7 @@ impl Drive {
 }
 
 /// The records in the extent of a number, by an entry of number `own` and count `count`.
-#[tactic(auto, unfolding(cpm_files::specs::Files::record_count_of))]
+#[tactic(auto, unfolding(cpm_volume::specs::Files::record_count_of))]
 fn record_count_of(number: u16, own: u16, count: u8) -> u8
     ensures { result ≡ record_count_of number own count }
 {
@@ -74,7 +74,7 @@ fn record_count_of(number: u16, own: u16, count: u8) -> u8
 }
 
 /// The extent of a number, by the entry of its group.
-#[tactic(auto, unfolding(cpm_files::specs::Operations::opened))]
+#[tactic(auto, unfolding(cpm_volume::specs::Operations::opened))]
 fn opened(stored: &Extent, number: u16) -> Extent
     requires { number < 512 }
     ensures { result ≡ opened stored.now number }
@@ -136,7 +136,7 @@ pub(crate) fn open_to_read(
 }
 
 /// A new extent of a number.
-#[tactic(auto, unfolding(cpm_files::specs::Operations::made))]
+#[tactic(auto, unfolding(cpm_volume::specs::Operations::made))]
 fn made(extent: &Extent, number: u16) -> Extent
     requires { number < 512 }
     ensures { result ≡ made extent.now number }

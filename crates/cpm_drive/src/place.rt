@@ -3,7 +3,7 @@
 
 ghost use Rattle.std.specs.Prelude.{◌≡◌, ◌<◌, ◌≤◌, IfOk, Some, None};
 ghost use Rattle.cpm_geom.specs.Geometry.{dpb_of};
-ghost use Rattle.cpm_files.specs.Operations.{have_extent, cross, next_place, place_at, target_of};
+ghost use Rattle.cpm_volume.specs.Operations.{have_extent, cross, next_place, place_at, target_of};
 ghost use Rattle.cpm_drive.specs.Drive.{volume_of};
 ghost use Rattle.cpm_drive.specs.Judged.{with_change, arrived, standing_in, stopped_in, purpose_of, place_of_arrival, IsArrival, target_by};
 
@@ -12,7 +12,7 @@ use crate::closing::{Closing, judge_close};
 use crate::drive::Marks;
 use crate::opening::{make_extent, open_extent, open_to_read};
 use cpm_directory::LentImage;
-use cpm_files::{Answer, Extent, Fcb};
+use cpm_volume::{Answer, Extent, Fcb};
 
 /// A record in another extent, and the answers where the open extent can't be closed and that one can't be had.
 #[derive(Clone, Copy, PartialEq, Eq, Debug)]

@@ -2,9 +2,9 @@
 
 ghost use Rattle.std.specs.Prelude.{◌≡◌, ◌+◌, ◌<◌, ◌≤◌, ℕ, IfOk, List, MatchResult, Ok, Err, true};
 ghost use Rattle.cpm_geom.specs.Geometry.{dpb_of, IsRecord};
-ghost use Rattle.cpm_files.specs.Files.{Volume};
-ghost use Rattle.cpm_files.specs.Laws.{position};
-ghost use Rattle.cpm_files.specs.Operations.{get_record, read_in, read_next, read_random, record_in_block};
+ghost use Rattle.cpm_volume.specs.Files.{Volume};
+ghost use Rattle.cpm_volume.specs.Laws.{position};
+ghost use Rattle.cpm_volume.specs.Operations.{get_record, read_in, read_next, read_random, record_in_block};
 ghost use Rattle.cpm_drive.specs.Drive.{volume_of, called, after_call, buffer_after};
 ghost use Rattle.cpm_drive.specs.Judged.{IsWithin, place_of_arrival};
 ghost use Rattle.cpm_drive.specs.Reads.{record_found, ahead, answer_of, read_of, after_record, after_reading, lent_drive, GivesRecord};
@@ -13,7 +13,7 @@ use crate::change::Change;
 use crate::drive::{Drive, Marks};
 use crate::place::{Access, Arrival, next_place, place_at};
 use cpm_directory::{LentImage, block_at};
-use cpm_files::{Answer, Fault, Fcb};
+use cpm_volume::{Answer, Fault, Fcb};
 use cpm_geom::{Format, Image};
 
 /// What a read comes to before anything is written: the number of its record or what it answers without one, and the

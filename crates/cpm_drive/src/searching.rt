@@ -2,12 +2,12 @@
 
 ghost use Rattle.std.specs.Prelude.{◌≡◌, ◌<◌, ◌≤◌, ℕ, IfSome, MatchOption, max};
 ghost use Rattle.cpm_geom.specs.Geometry.{dpb_of};
-ghost use Rattle.cpm_files.specs.Names.{records_to, compute_size};
+ghost use Rattle.cpm_volume.specs.Names.{records_to, compute_size};
 ghost use Rattle.cpm_directory.specs.Directory.{entries_of};
 ghost use Rattle.cpm_drive.specs.Named.{searched};
 
 use cpm_directory::{LentImage, Pattern, find, is_named};
-use cpm_files::Entry;
+use cpm_volume::Entry;
 
 /// SEARCH FOR FIRST and SEARCH FOR NEXT: the index of the first entry from a place on that is looked for. Its record of
 /// the directory comes into the buffer.
@@ -45,7 +45,7 @@ pub fn compute_size(image: &LentImage<'_>, user: u8, name: &[u8; 11]) -> Option<
 }
 
 /// The records up to the end of an entry.
-#[tactic(auto, unfolding(cpm_files::specs::Names::records_to))]
+#[tactic(auto, unfolding(cpm_volume::specs::Names::records_to))]
 fn records_to(entry: &Entry) -> u32
     ensures value { result ≡ records_to entry.now }
     ensures small { result < 65664 }

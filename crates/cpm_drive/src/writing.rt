@@ -2,8 +2,8 @@
 
 ghost use Rattle.std.specs.Prelude.{◌≡◌, ◌+◌, ◌<◌, ◌≤◌, IfOk, false, true, [], ◌∷◌};
 ghost use Rattle.cpm_geom.specs.Geometry.{dpb_of};
-ghost use Rattle.cpm_files.specs.Files.{place_of, record_put};
-ghost use Rattle.cpm_files.specs.Operations.{writing, place_at, target_of, put_record, taken_writes, record_in_block, with_block, write_in, write_next, write_random, write_random_cleared, counting};
+ghost use Rattle.cpm_volume.specs.Files.{place_of, record_put};
+ghost use Rattle.cpm_volume.specs.Operations.{writing, place_at, target_of, put_record, taken_writes, record_in_block, with_block, write_in, write_next, write_random, write_random_cleared, counting};
 ghost use Rattle.cpm_drive.specs.Drive.{volume_of, called, after_call};
 ghost use Rattle.cpm_drive.specs.Judged.{IsArrival, place_of_arrival};
 ghost use Rattle.cpm_drive.specs.Writes.{drive_written, stood_on};
@@ -12,11 +12,11 @@ use crate::drive::Drive;
 use crate::place::{Access, Arrival, next_place, place_at};
 use crate::reading::record_in_block;
 use cpm_directory::block_at;
-use cpm_files::{Answer, Extent, Fault, Fcb};
+use cpm_volume::{Answer, Extent, Fault, Fcb};
 use cpm_geom::Format;
 
 /// The place of a record of an extent in its map.
-#[tactic(auto, unfolding(cpm_files::specs::Files::place_of))]
+#[tactic(auto, unfolding(cpm_volume::specs::Files::place_of))]
 fn place_of(format: Format, extent: &Extent, current: u8) -> usize
     requires { current < 128 }
     ensures place { result ≡ place_of (dpb_of format) extent.now current }
@@ -29,7 +29,7 @@ fn place_of(format: Format, extent: &Extent, current: u8) -> usize
 }
 
 /// The extent counts a record.
-#[tactic(auto, unfolding(cpm_files::specs::Operations::counting))]
+#[tactic(auto, unfolding(cpm_volume::specs::Operations::counting))]
 fn counting(extent: &Extent, current: u8) -> Extent
     requires { current < 128 }
     ensures { result ≡ counting extent.now current }
@@ -41,7 +41,7 @@ fn counting(extent: &Extent, current: u8) -> Extent
 }
 
 /// The extent with a block at a place of its map.
-#[tactic(auto, unfolding(cpm_files::specs::Operations::with_block))]
+#[tactic(auto, unfolding(cpm_volume::specs::Operations::with_block))]
 fn with_block(extent: &Extent, place: usize, block: u16) -> Extent
     requires { place < 16 }
     ensures { result ≡ with_block extent.now place block }
@@ -179,7 +179,7 @@ impl Drive {
     }
 
     /// WRITE RANDOM: record `number` of the file, for which the extent may be closed and another one opened or made.
-    #[tactic(auto, unfolding(cpm_files::specs::Operations::write_random))]
+    #[tactic(auto, unfolding(cpm_volume::specs::Operations::write_random))]
     pub fn write_random(
         &mut self,
         user: u8,
@@ -194,7 +194,7 @@ impl Drive {
     }
 
     /// WRITE RANDOM WITH ZERO FILL: as `write_random`, but a block that is taken is cleared first.
-    #[tactic(auto, unfolding(cpm_files::specs::Operations::write_random_cleared))]
+    #[tactic(auto, unfolding(cpm_volume::specs::Operations::write_random_cleared))]
     pub fn write_random_cleared(
         &mut self,
         user: u8,

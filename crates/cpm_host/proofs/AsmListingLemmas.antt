@@ -3,7 +3,7 @@ use Rattle.std.proofs.Common.{◌≡◌, ◌∙◌, ◌++◌, ◌-◌, ap, sym, 
 use Rattle.std.specs.Prelude.{◌==◌, replicate}
 use Rattle.std.proofs.lemmas.Bool.{eqb-true}
 use Rattle.std.specs.Str.Lines.{lines}
-use Rattle.cpm_lines.specs.Digits.{padded}
+use Rattle.cpm_listing.specs.Digits.{padded}
 use Rattle.cpm_asm.specs.declared.placed.Placed.{Placed}
 use Rattle.cpm_host.specs.AsmListing.{digits_of, front, head, lines_after}
 use Rattle.cpm_host.specs.declared.asm_listing.Cell.{Cell}

@@ -6,7 +6,7 @@ use Rattle.std.proofs.lemmas.List.{append_assoc, append-nil, length-drop, drop_a
 use Rattle.std.proofs.KnownBytes.{Appends-nil, Appends-trans}
 use Rattle.std.specs.Io.KnownBytes.{Appends}
 use Rattle.cpm_flags.specs.declared.regs.Cpu.{Cpu}
-use Rattle.cpm_lines.specs.Instruction.{instruction_length, instruction_line}
+use Rattle.cpm_listing.specs.Instruction.{instruction_length, instruction_line}
 use Rattle.cpm_host.specs.Listing.{four, listing}
 
 -- ---- what is passed over

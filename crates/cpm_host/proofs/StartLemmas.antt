@@ -2,10 +2,10 @@
 use Rattle.std.proofs.Common.{◌≡◌, ◌∙◌, ap, sym, subst, refl, ℕ, ◌<◌, ◌≤◌, Bool, true, false, ◌||◌, cond, ltb, eqb, not, List, [], ◌∷◌, Option, Some, None, length, arith}
 use Rattle.std.proofs.lemmas.Bool.{ltb-true, ltb-false, le-ltb, ne_eqb}
 use Rattle.cpm_geom.specs.Disk.{Disk}
-use Rattle.cpm_slots.specs.Opening.{IsRefusal, drives_fault, first_fault, program_fault}
-use Rattle.cpm_slots.specs.declared.opening.OpenError.{OpenError}
-use Rattle.cpm_slots.specs.declared.opening.OpenError.TheVariants as opening
-use Rattle.cpm_slots.specs.declared.opening.Opening.{Opening}
+use Rattle.cpm_machine.specs.Opening.{IsRefusal, drives_fault, first_fault, program_fault}
+use Rattle.cpm_machine.specs.declared.opening.OpenError.{OpenError}
+use Rattle.cpm_machine.specs.declared.opening.OpenError.TheVariants as opening
+use Rattle.cpm_machine.specs.declared.opening.Opening.{Opening}
 use Rattle.cpm_host.specs.Com.{Given, IsStartRefusal, drives_or_blank}
 use Rattle.cpm_host.specs.Refusals.{host_error_of_opening}
 

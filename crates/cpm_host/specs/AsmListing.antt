@@ -2,7 +2,7 @@
 use Rattle.std.specs.Prelude.{ℕ, zero, suc, ◌+◌, ◌%◌, ◌==◌, Bool, not, List, [], ◌∷◌, ◌++◌, take, drop}
 use Rattle.std.specs.List.{position_or_len}
 use Rattle.std.specs.Str.Lines.{lines}
-use Rattle.cpm_lines.specs.Digits.{four_digits, padded, two_digits}
+use Rattle.cpm_listing.specs.Digits.{four_digits, padded, two_digits}
 use Rattle.cpm_asm.specs.Lines.{source_text}
 use Rattle.cpm_asm.specs.Placing.{bytes_at}
 use Rattle.cpm_asm.specs.declared.placed.Placed.{Placed}

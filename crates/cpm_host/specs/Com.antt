@@ -1,7 +1,7 @@
 -- What running a program shows, and when it is refused.
 use Rattle.std.specs.Prelude.{⊤, ◌≡◌, ◌<◌, ◌≤◌, ℕ, List, [], ◌∷◌, length, chars, Option, Some, None, Result, Ok, Err}
 use Rattle.cpm_batch.specs.declared.error.ReadError.TheVariants as read
-use Rattle.cpm_command.specs.Shown.{shown_of}
+use Rattle.cpm_command_line.specs.Shown.{shown_of}
 use Rattle.cpm_flags.specs.declared.regs.Cpu.{Cpu}
 use Rattle.cpm_geom.specs.Disk.{Disk, blank_disk}
 use Rattle.cpm_geom.specs.declared.format.Format.TheVariants.{Ibm3740}
@@ -11,9 +11,9 @@ use Rattle.cpm_script.specs.declared.fault.ScriptError.{ScriptError}
 use Rattle.cpm_script.specs.declared.fault.ScriptError.TheVariants.{Line}
 use Rattle.cpm_script.specs.declared.fault.ScriptError.TheVariants as script_error
 use Rattle.cpm_script.specs.declared.script.Key.{Key}
-use Rattle.cpm_slots.specs.MachineState.{MachineState, opened_with, with_tail}
-use Rattle.cpm_slots.specs.declared.opening.OpenError.TheVariants.{BadDrives}
-use Rattle.cpm_turns.specs.Playing.{HasText, alone_by}
+use Rattle.cpm_machine.specs.MachineState.{MachineState, opened_with, with_tail}
+use Rattle.cpm_machine.specs.declared.opening.OpenError.TheVariants.{BadDrives}
+use Rattle.cpm_play.specs.Playing.{HasText, alone_by}
 use Rattle.cpm_run.specs.Illegal.{bytes_at_pc}
 use Rattle.cpm_host.specs.declared.com.Script.{Script}
 use Rattle.cpm_host.specs.declared.com.Start.{Start}

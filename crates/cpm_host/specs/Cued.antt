@@ -2,8 +2,8 @@
 use Rattle.std.specs.Prelude.{⊤, ◌≡◌, ◌⊎◌, ◌≤◌, ◌++◌, ℕ, List, length, map, chars, Option, Ok, Err}
 use Rattle.std.specs.Io.KnownBytes.{Appends}
 use Rattle.cpm_batch.specs.declared.error.ReadError.TheVariants as read
-use Rattle.cpm_command.specs.Shown.{shown_of}
-use Rattle.cpm_disks.specs.Disks.{images_of}
+use Rattle.cpm_command_line.specs.Shown.{shown_of}
+use Rattle.cpm_drives.specs.Disks.{images_of}
 use Rattle.cpm_geom.specs.Disk.{Disk, blank_disk}
 use Rattle.cpm_geom.specs.declared.format.Format.TheVariants.{Ibm3740}
 use Rattle.cpm_script.specs.Cues.{Counted, Said, all_said, cues}
@@ -12,13 +12,13 @@ use Rattle.cpm_script.specs.Recording.{recorded}
 use Rattle.cpm_script.specs.Script.{script}
 use Rattle.cpm_script.specs.declared.cue.Cue.{Cue}
 use Rattle.cpm_script.specs.declared.script.Key.{Key}
-use Rattle.cpm_slots.specs.MachineState.{MachineState}
-use Rattle.cpm_slots.specs.Opening.{opening_fault}
-use Rattle.cpm_turns.specs.Cued.{AreAscii, HasEndedCued, IsCued, IsCutOff, key_count, waits_at}
-use Rattle.cpm_turns.specs.Live.{AreGiven}
-use Rattle.cpm_turns.specs.Playing.{alone_by}
-use Rattle.cpm_turns.specs.declared.cued.Cued.{Cued}
-use Rattle.cpm_turns.specs.declared.live.LiveError.{LiveError}
+use Rattle.cpm_machine.specs.MachineState.{MachineState}
+use Rattle.cpm_machine.specs.Opening.{opening_fault}
+use Rattle.cpm_play.specs.Cued.{AreAscii, HasEndedCued, IsCued, IsCutOff, key_count, waits_at}
+use Rattle.cpm_play.specs.Live.{AreGiven}
+use Rattle.cpm_play.specs.Playing.{alone_by}
+use Rattle.cpm_play.specs.declared.cued.Cued.{Cued}
+use Rattle.cpm_play.specs.declared.live.LiveError.{LiveError}
 use Rattle.cpm_host.specs.Com.{Given, IsStartRefusal, ending_of, machine_of, text_of}
 use Rattle.cpm_host.specs.Live.{IsOpeningRefused, begun}
 use Rattle.cpm_host.specs.Refusals.{host_error_of_live}

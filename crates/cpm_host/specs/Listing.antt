@@ -1,7 +1,7 @@
 -- What listing a program shows.
 use Rattle.std.specs.Prelude.{◌≢◌, ℕ, zero, suc, ◌-◌, ◌%◌, List, [], ◌∷◌, ◌++◌}
 use Rattle.cpm_flags.specs.declared.regs.Cpu.{Cpu}
-use Rattle.cpm_lines.specs.Instruction.{instruction_length, instruction_line}
+use Rattle.cpm_listing.specs.Instruction.{instruction_length, instruction_line}
 use Rattle.cpm_host.specs.declared.error.HostError.{HostError}
 use Rattle.cpm_host.specs.declared.error.HostError.TheVariants.{OutputUnwritable}
 

@@ -1,19 +1,19 @@
 -- A program, or a session, whose keys are typed. All of it is own.
 use Rattle.std.specs.Prelude.{⊤, ◌≡◌, ◌⊎◌, ◌≤◌, ℕ, List, chars, Option, Some, Ok}
 use Rattle.std.specs.Io.KnownBytes.{Appends}
-use Rattle.cpm_command.specs.Shown.{shown_of}
-use Rattle.cpm_disks.specs.Disks.{images_of}
+use Rattle.cpm_command_line.specs.Shown.{shown_of}
+use Rattle.cpm_drives.specs.Disks.{images_of}
 use Rattle.cpm_geom.specs.Disk.{Disk, blank_disk}
 use Rattle.cpm_geom.specs.declared.format.Format.TheVariants.{Ibm3740}
 use Rattle.cpm_script.specs.Recording.{recorded}
 use Rattle.cpm_script.specs.Script.{script}
-use Rattle.cpm_slots.specs.MachineState.{MachineState, opened_machine}
-use Rattle.cpm_slots.specs.Opening.{opening_fault}
-use Rattle.cpm_slots.specs.declared.opening.OpenError.{OpenError}
-use Rattle.cpm_turns.specs.Cued.{waits_at}
-use Rattle.cpm_turns.specs.Live.{AreGiven, AreRead, IsCutShort}
-use Rattle.cpm_turns.specs.Playing.{alone_by}
-use Rattle.cpm_turns.specs.declared.live.LiveError.{LiveError}
+use Rattle.cpm_machine.specs.MachineState.{MachineState, opened_machine}
+use Rattle.cpm_machine.specs.Opening.{opening_fault}
+use Rattle.cpm_machine.specs.declared.opening.OpenError.{OpenError}
+use Rattle.cpm_play.specs.Cued.{waits_at}
+use Rattle.cpm_play.specs.Live.{AreGiven, AreRead, IsCutShort}
+use Rattle.cpm_play.specs.Playing.{alone_by}
+use Rattle.cpm_play.specs.declared.live.LiveError.{LiveError}
 use Rattle.cpm_host.specs.Com.{Given, IsStartRefusal, ending_of, machine_of, text_of}
 use Rattle.cpm_host.specs.Refusals.{host_error_of_live}
 use Rattle.cpm_host.specs.declared.live.SessionStart.{SessionStart}

@@ -1,7 +1,7 @@
 -- The exit statuses, and what a refused command line becomes.
 use Rattle.std.specs.Prelude.{⊤, ℕ}
-use Rattle.cpm_command.specs.declared.fault.UsageError.{UsageError}
-use Rattle.cpm_command.specs.declared.fault.UsageError.TheVariants as usage
+use Rattle.cpm_command_line.specs.declared.fault.UsageError.{UsageError}
+use Rattle.cpm_command_line.specs.declared.fault.UsageError.TheVariants as usage
 use Rattle.cpm_host.specs.declared.error.HostError.{HostError}
 use Rattle.cpm_host.specs.declared.error.HostError.TheVariants.{Usage, NotText, CheckRefused, DiskRefused, FileUnreadable, FileUnwritable, InputUnreadable, NoSession, NotAFolder, NotOpened, OutputUnwritable, SourceRefused, OutOfMemory, OpeningRefused, ProgramTooLong, RecordUnwritable, RunRefused, TailRefused}
 use Rattle.cpm_check.specs.Check.{status_of as status_of_check}
@@ -11,16 +11,16 @@ use Rattle.cpm_config.specs.declared.fault.ConfigError.{ConfigError}
 use Rattle.cpm_config.specs.declared.fault.ConfigError.TheVariants as config
 use Rattle.cpm_debug.specs.declared.error.DebugError.{DebugError}
 use Rattle.cpm_debug.specs.declared.error.DebugError.TheVariants as debug
-use Rattle.cpm_filing.specs.Refusals.{status_of as status_of_filing}
-use Rattle.cpm_filing.specs.declared.error.FilingError.{FilingError}
-use Rattle.cpm_filing.specs.declared.error.FilingError.TheVariants as filing
+use Rattle.cpm_disk_commands.specs.Refusals.{status_of as status_of_filing}
+use Rattle.cpm_disk_commands.specs.declared.error.FilingError.{FilingError}
+use Rattle.cpm_disk_commands.specs.declared.error.FilingError.TheVariants as filing
 use Rattle.cpm_run.specs.Refusals.{status_of as status_of_run}
 use Rattle.cpm_run.specs.declared.error.RunError.{RunError}
 use Rattle.cpm_run.specs.declared.error.RunError.TheVariants as run
-use Rattle.cpm_slots.specs.declared.opening.OpenError.{OpenError}
-use Rattle.cpm_slots.specs.declared.opening.OpenError.TheVariants as opening
-use Rattle.cpm_turns.specs.declared.live.LiveError.{LiveError}
-use Rattle.cpm_turns.specs.declared.live.LiveError.TheVariants as live
+use Rattle.cpm_machine.specs.declared.opening.OpenError.{OpenError}
+use Rattle.cpm_machine.specs.declared.opening.OpenError.TheVariants as opening
+use Rattle.cpm_play.specs.declared.live.LiveError.{LiveError}
+use Rattle.cpm_play.specs.declared.live.LiveError.TheVariants as live
 
 -- the number of the code that the text begins with
 abbrev pub status_of : HostError → ℕ

@@ -1,7 +1,7 @@
 //! A source beside its program.
 ghost use Rattle.std.specs.Prelude.{◌≡◌, ◌-◌, ◌++◌, ◌<◌, ◌≤◌, IfOk, OnOk, drop, length, replicate, take};
 ghost use Rattle.std.specs.List.{position};
-ghost use Rattle.cpm_lines.specs.Digits.{hexadecimal, two_digits};
+ghost use Rattle.cpm_listing.specs.Digits.{hexadecimal, two_digits};
 ghost use Rattle.cpm_asm.specs.Placing.{bytes_at};
 ghost use Rattle.cpm_host.specs.AsmListing.{at_address, cells_at, cells_of, digits_of, front, further_rows, head, is_behind, later_places, left_after, line_text, listing, own_places, row_start};
 
@@ -70,7 +70,7 @@ fn digit_of(value: u8) -> u8
 }
 
 /// Adds a byte in two digits.
-#[tactic(auto, unfolding(cpm_lines::specs::Digits::two_digits))]
+#[tactic(auto, unfolding(cpm_listing::specs::Digits::two_digits))]
 fn add_byte(text: &mut Vec<u8>, byte: u8) -> Result<(), AllocError>
     ensures { OnOk result (text.new.items ≡ text.old.items ++ two_digits byte) }
 {
@@ -80,7 +80,7 @@ fn add_byte(text: &mut Vec<u8>, byte: u8) -> Result<(), AllocError>
 }
 
 /// Adds an address in four digits, a space on each side.
-#[tactic(auto, unfolding(cpm_lines::specs::Digits::four_digits))]
+#[tactic(auto, unfolding(cpm_listing::specs::Digits::four_digits))]
 fn add_address(text: &mut Vec<u8>, address: u16) -> Result<(), AllocError>
     ensures { OnOk result (text.new.items ≡ text.old.items ++ at_address address) }
 {

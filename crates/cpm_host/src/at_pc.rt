@@ -2,10 +2,10 @@
 ghost use Rattle.std.specs.Prelude.{◌≡◌};
 ghost use Rattle.cpm_run.specs.Illegal.{bytes_at_pc};
 
-use cpm_slots::Machine;
+use cpm_machine::Machine;
 
 /// The four bytes at the program counter of a machine.
-#[tactic(auto, unfolding(cpm_slots::specs::Serve::look_of, cpm_memory::specs::Contents::run_at))]
+#[tactic(auto, unfolding(cpm_machine::specs::Serve::look_of, cpm_memory::specs::Contents::run_at))]
 pub(crate) fn bytes_of_machine(machine: &Machine) -> [u8; 4]
     ensures { result ≡ bytes_at_pc machine.now }
 {

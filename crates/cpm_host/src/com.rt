@@ -1,22 +1,22 @@
 //! The command `com`.
 ghost use Rattle.std.specs.Prelude.{◌≡◌, ◌≢◌, ◌↔◌, ◌<◌, ◌≤◌, None, IfErr, IfOk, IsErrOf, OnOk, length};
 ghost use Rattle.std.specs.Io.KnownBytes.{Appends};
-ghost use Rattle.cpm_disks.specs.Disks.{images_of};
-ghost use Rattle.cpm_slots.specs.MachineState.{opened_with};
-ghost use Rattle.cpm_slots.specs.Opening.{program_fault, IsRefusal};
-ghost use Rattle.cpm_turns.specs.Playing.{IsFresh};
+ghost use Rattle.cpm_drives.specs.Disks.{images_of};
+ghost use Rattle.cpm_machine.specs.MachineState.{opened_with};
+ghost use Rattle.cpm_machine.specs.Opening.{program_fault, IsRefusal};
+ghost use Rattle.cpm_play.specs.Playing.{IsFresh};
 ghost use Rattle.cpm_host.specs.Com.{HasScript, IsComRefusal, IsScriptRefusal, IsScriptTold, IsStartRefusal, drives_or_blank, ending_of, given, keys_given, machine_of, ran_alone, text_of, with_tail_if_any};
 
 use crate::ending::Ending;
 use crate::error::HostError;
 use cpm_batch::ReadError;
-use cpm_command::shown;
+use cpm_command_line::shown;
 use cpm_flags::Cpu;
 use cpm_geom::{Format, Image};
 use cpm_run::RunError;
 use cpm_script::{Key, ScriptError, read_keys};
-use cpm_slots::{Closed, MOST_DRIVES, MOST_PROGRAM, MOST_QUOTA, Machine, OpenError, Opening, Tail};
-use cpm_turns::{Watcher, play_machine};
+use cpm_machine::{Closed, MOST_DRIVES, MOST_PROGRAM, MOST_QUOTA, Machine, OpenError, Opening, Tail};
+use cpm_play::{Watcher, play_machine};
 use std::alloc::Global;
 use std::io::Write;
 

@@ -5,7 +5,7 @@ ghost use Rattle.cpm_run.specs.Illegal.{illegal_of};
 
 use crate::at_pc::bytes_of_machine;
 use cpm_run::IllegalBytes;
-use cpm_slots::{End, Machine};
+use cpm_machine::{End, Machine};
 use std::fmt;
 
 /// How the run of a program ended, and where. Its text is `end END count N pc HHHH`.
@@ -23,7 +23,7 @@ pub struct Ending {
 
 impl Ending {
     /// The ending of a machine that stands as it is now.
-    #[tactic(auto, unfolding(cpm_slots::specs::Serve::look_of))]
+    #[tactic(auto, unfolding(cpm_machine::specs::Serve::look_of))]
     pub(crate) fn of(machine: &Machine) -> Ending
         ensures { result ≡ ending_of machine.now }
     {

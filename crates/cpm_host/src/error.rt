@@ -5,13 +5,13 @@ ghost use Rattle.cpm_host.specs.Refusals.{status_of, host_error_of, host_error_o
 
 use cpm_asm::AsmErrorKind;
 use cpm_check::CheckError;
-use cpm_command::{Fault, UsageError, Word};
+use cpm_command_line::{Fault, UsageError, Word};
 use cpm_config::ConfigError;
 use cpm_debug::DebugError;
-use cpm_filing::FilingError;
+use cpm_disk_commands::FilingError;
 use cpm_run::RunError;
-use cpm_slots::OpenError;
-use cpm_turns::LiveError;
+use cpm_machine::OpenError;
+use cpm_play::LiveError;
 use std::alloc::{AllocError, AllocFailed};
 use std::{fmt, io};
 use thiserror::Error;

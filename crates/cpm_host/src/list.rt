@@ -5,7 +5,7 @@ ghost use Rattle.cpm_host.specs.Listing.{IsListRefusal, four, listing};
 
 use crate::error::HostError;
 use cpm_flags::Cpu;
-use cpm_lines::{instruction_length, instruction_line};
+use cpm_listing::{instruction_length, instruction_line};
 use std::io;
 use std::io::Write;
 

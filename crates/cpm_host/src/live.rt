@@ -2,21 +2,21 @@
 
 ghost use Rattle.std.specs.Prelude.{◌≤◌, IfErr, IfOk, OnOk, Option, length};
 ghost use Rattle.cpm_geom.specs.Disk.{blank_disk};
-ghost use Rattle.cpm_slots.specs.Opening.{IsRefusal};
-ghost use Rattle.cpm_slots.specs.declared.opening.OpenError.{OpenError as OpenErrorValue};
-ghost use Rattle.cpm_turns.specs.Playing.{IsFresh};
+ghost use Rattle.cpm_machine.specs.Opening.{IsRefusal};
+ghost use Rattle.cpm_machine.specs.declared.opening.OpenError.{OpenError as OpenErrorValue};
+ghost use Rattle.cpm_play.specs.Playing.{IsFresh};
 ghost use Rattle.cpm_host.specs.Com.{given, machine_of};
 ghost use Rattle.cpm_host.specs.Live.{IsCut, IsLiveRefusal, IsOpeningRefused, IsPlayedLive, IsSessionRefusal, begun, streams};
 
 use crate::com::{Ran, Start, left_of, machine_of};
 use crate::error::HostError;
-use cpm_command::shown;
+use cpm_command_line::shown;
 use cpm_geom::{Format, Image};
 use cpm_run::RunError;
 use cpm_script::Key;
 use cpm_script::laws::recorded_keys;
-use cpm_slots::{Machine, OpenError, Opening};
-use cpm_turns::{Live, play_live};
+use cpm_machine::{Machine, OpenError, Opening};
+use cpm_play::{Live, play_live};
 use std::alloc::Global;
 use std::io::{Read, Write};
 

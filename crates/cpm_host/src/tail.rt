@@ -5,8 +5,8 @@ ghost use Rattle.std.specs.List.{list_all};
 ghost use Rattle.cpm_host.specs.Tails.{fits, is_typed, tail_from, with_word, IsTailRefusal};
 
 use crate::error::HostError;
-use cpm_command::shown;
-use cpm_slots::Tail;
+use cpm_command_line::shown;
+use cpm_machine::Tail;
 use std::alloc::{AllocError, Global};
 
 /// The most bytes that a tail has.

@@ -2,16 +2,16 @@
 use Rattle.std.proofs.Common.{◌≡◌, ◌∙◌, ℕ, Some, Ok, Err, ap, subst}
 use Rattle.std.specs.Prelude.{⊤}
 use Rattle.cpm_memory.specs.Contents.{byte_at}
-use Rattle.cpm_sessions.specs.Host.{Host, look_reply, peek_reply, reply_at, slot_at}
-use Rattle.cpm_sessions.specs.Serving.{Calls}
-use Rattle.cpm_sessions.specs.declared.event.Refusal.{Refusal}
-use Rattle.cpm_sessions.specs.declared.event.Reply.{Reply}
-use Rattle.cpm_sessions.specs.declared.event.Reply.TheVariants as reply
-use Rattle.cpm_slots.specs.Calls.{LookAt, Peek, serve}
-use Rattle.cpm_slots.specs.MachineState.{MachineState}
-use Rattle.cpm_slots.specs.Serve.{look_of}
-use Rattle.cpm_slots.specs.declared.reply.Look.{Look}
-use Rattle.cpm_turns.proofs.HostLemmas.{reply-served}
+use Rattle.cpm_slots.specs.Host.{Host, look_reply, peek_reply, reply_at, slot_at}
+use Rattle.cpm_slots.specs.Serving.{Calls}
+use Rattle.cpm_slots.specs.declared.event.Refusal.{Refusal}
+use Rattle.cpm_slots.specs.declared.event.Reply.{Reply}
+use Rattle.cpm_slots.specs.declared.event.Reply.TheVariants as reply
+use Rattle.cpm_machine.specs.Calls.{LookAt, Peek, serve}
+use Rattle.cpm_machine.specs.MachineState.{MachineState}
+use Rattle.cpm_machine.specs.Serve.{look_of}
+use Rattle.cpm_machine.specs.declared.reply.Look.{Look}
+use Rattle.cpm_play.proofs.HostLemmas.{reply-served}
 
 -- ---- what a slot that is open replies
 

@@ -6,22 +6,22 @@ use Rattle.cpm_batch.specs.Inputs.{SessionInput}
 use Rattle.cpm_batch.specs.Outputs.{SessionOutput, left_by}
 use Rattle.cpm_batch.specs.declared.output.SessionFiles.{SessionFiles}
 use Rattle.cpm_config.specs.declared.config.Session.{Session}
-use Rattle.cpm_disks.specs.Disks.{images_of}
+use Rattle.cpm_drives.specs.Disks.{images_of}
 use Rattle.cpm_flags.specs.declared.regs.Regs.{Regs}
 use Rattle.cpm_geom.specs.Disk.{Disk}
 use Rattle.cpm_memory.specs.Contents.{Contents, run_at}
-use Rattle.cpm_sessions.specs.Host.{Host, SlotState, slot_at}
-use Rattle.cpm_slots.specs.MachineState.{MachineState}
-use Rattle.cpm_slots.specs.Serve.{look_of}
-use Rattle.cpm_slots.specs.declared.reply.Closed.{Closed}
-use Rattle.cpm_slots.specs.declared.reply.End.{End}
-use Rattle.cpm_slots.specs.declared.reply.Look.{Look}
-use Rattle.cpm_turns.specs.Players.{AllDiffer, AllPlayed, ids_of}
-use Rattle.cpm_turns.specs.ScriptedSlots.{IsNone}
-use Rattle.cpm_turns.specs.Playing.{IsPlayed}
-use Rattle.cpm_turns.specs.declared.player.Player.{Player}
-use Rattle.cpm_turns.specs.declared.player.Player.TheVariants.{Playing}
-use Rattle.cpm_turns.specs.declared.scripted_slot.ScriptedSlot.{ScriptedSlot}
+use Rattle.cpm_slots.specs.Host.{Host, SlotState, slot_at}
+use Rattle.cpm_machine.specs.MachineState.{MachineState}
+use Rattle.cpm_machine.specs.Serve.{look_of}
+use Rattle.cpm_machine.specs.declared.reply.Closed.{Closed}
+use Rattle.cpm_machine.specs.declared.reply.End.{End}
+use Rattle.cpm_machine.specs.declared.reply.Look.{Look}
+use Rattle.cpm_play.specs.Players.{AllDiffer, AllPlayed, ids_of}
+use Rattle.cpm_play.specs.ScriptedSlots.{IsNone}
+use Rattle.cpm_play.specs.Playing.{IsPlayed}
+use Rattle.cpm_play.specs.declared.player.Player.{Player}
+use Rattle.cpm_play.specs.declared.player.Player.TheVariants.{Playing}
+use Rattle.cpm_play.specs.declared.scripted_slot.ScriptedSlot.{ScriptedSlot}
 use Rattle.cpm_run.proofs.PlayLemmas.{all_ended}
 use Rattle.cpm_run.specs.Illegal.{bytes_at_pc}
 use Rattle.cpm_run.specs.Playing.{AllEnded, AreFinished, HavePlayers, IsClosed, files_by, report_by}

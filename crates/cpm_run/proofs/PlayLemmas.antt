@@ -6,17 +6,17 @@ use Rattle.cpm_flags.specs.declared.regs.Cpu.{Cpu}
 use Rattle.cpm_geom.specs.Disk.{Disk}
 use Rattle.cpm_script.specs.Fork.{keys_before}
 use Rattle.cpm_script.specs.declared.script.Key.{Key}
-use Rattle.cpm_sessions.specs.Host.{Host, SlotState}
-use Rattle.cpm_slots.specs.MachineState.{MachineState, opened_machine}
-use Rattle.cpm_slots.specs.declared.opening.OpenError.{OpenError}
-use Rattle.cpm_slots.specs.declared.opening.OpenError.TheVariants as fault
-use Rattle.cpm_turns.specs.Players.{AllReady, HasPlayed, HasRoomFor, IsForkReady, IsPlayerReady, fork_pages, forks_of, is_fork, pages_of, player_keys, player_steps, quota_of, slot_of, start_at}
-use Rattle.cpm_turns.specs.Playing.{IsInOrder, IsPlayed}
-use Rattle.cpm_turns.specs.ScriptedSlots.{IsReady, keys_of}
-use Rattle.cpm_turns.specs.declared.player.Fork.{Fork}
-use Rattle.cpm_turns.specs.declared.player.Player.{Player}
-use Rattle.cpm_turns.specs.declared.player.Player.TheVariants.{Playing, Waiting}
-use Rattle.cpm_turns.specs.declared.scripted_slot.ScriptedSlot.{ScriptedSlot}
+use Rattle.cpm_slots.specs.Host.{Host, SlotState}
+use Rattle.cpm_machine.specs.MachineState.{MachineState, opened_machine}
+use Rattle.cpm_machine.specs.declared.opening.OpenError.{OpenError}
+use Rattle.cpm_machine.specs.declared.opening.OpenError.TheVariants as fault
+use Rattle.cpm_play.specs.Players.{AllReady, HasPlayed, HasRoomFor, IsForkReady, IsPlayerReady, fork_pages, forks_of, is_fork, pages_of, player_keys, player_steps, quota_of, slot_of, start_at}
+use Rattle.cpm_play.specs.Playing.{IsInOrder, IsPlayed}
+use Rattle.cpm_play.specs.ScriptedSlots.{IsReady, keys_of}
+use Rattle.cpm_play.specs.declared.player.Fork.{Fork}
+use Rattle.cpm_play.specs.declared.player.Player.{Player}
+use Rattle.cpm_play.specs.declared.player.Player.TheVariants.{Playing, Waiting}
+use Rattle.cpm_play.specs.declared.scripted_slot.ScriptedSlot.{ScriptedSlot}
 use Rattle.cpm_config.specs.declared.config.Config.{Config}
 use Rattle.cpm_run.specs.Playing.{AllEnded, ArePressable, HasEnded, HasPlayer, HasPlayerBy, HasSlot, HavePlayers, IsForkFor, IsForkPressable, IsForkRefusal, IsPlayRefusal, IsPressableBy}
 use Rattle.cpm_run.specs.Run.{HasForkRoom, IsFirstRefused, IsShortFor, fork_of, fork_pages_in, forks_in, opening_at, opening_of, pages_by, start_by}

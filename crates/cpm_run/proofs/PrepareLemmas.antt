@@ -9,17 +9,17 @@ use Rattle.cpm_config.specs.declared.config.Session.{Session}
 use Rattle.cpm_flags.specs.declared.regs.Cpu.{Cpu}
 use Rattle.cpm_geom.specs.Disk.{Disk}
 use Rattle.cpm_script.specs.declared.script.Key.{Key}
-use Rattle.cpm_sessions.specs.Host.{AllBelow, Host, SlotState, opened_slot, slot_at, with_opened}
-use Rattle.cpm_sessions.proofs.SlotLaws.{AllBelow-added, slot_at-added, slot_at-new}
-use Rattle.cpm_slots.specs.MachineState.{MachineState, opened_machine}
-use Rattle.cpm_slots.specs.declared.opening.OpenError.{OpenError}
-use Rattle.cpm_slots.specs.declared.opening.Opening.{Opening}
-use Rattle.cpm_turns.specs.Players.{AllDiffer, ids_of}
-use Rattle.cpm_turns.specs.ScriptedSlots.{AreDifferent, IsNone}
-use Rattle.cpm_turns.specs.declared.player.Fork.{Fork}
-use Rattle.cpm_turns.specs.declared.player.Player.{Player}
-use Rattle.cpm_turns.specs.declared.player.Player.TheVariants.{Playing, Waiting}
-use Rattle.cpm_turns.specs.declared.scripted_slot.ScriptedSlot.{ScriptedSlot}
+use Rattle.cpm_slots.specs.Host.{AllBelow, Host, SlotState, opened_slot, slot_at, with_opened}
+use Rattle.cpm_slots.proofs.SlotLaws.{AllBelow-added, slot_at-added, slot_at-new}
+use Rattle.cpm_machine.specs.MachineState.{MachineState, opened_machine}
+use Rattle.cpm_machine.specs.declared.opening.OpenError.{OpenError}
+use Rattle.cpm_machine.specs.declared.opening.Opening.{Opening}
+use Rattle.cpm_play.specs.Players.{AllDiffer, ids_of}
+use Rattle.cpm_play.specs.ScriptedSlots.{AreDifferent, IsNone}
+use Rattle.cpm_play.specs.declared.player.Fork.{Fork}
+use Rattle.cpm_play.specs.declared.player.Player.{Player}
+use Rattle.cpm_play.specs.declared.player.Player.TheVariants.{Playing, Waiting}
+use Rattle.cpm_play.specs.declared.scripted_slot.ScriptedSlot.{ScriptedSlot}
 use Rattle.cpm_run.specs.Playing.{HasPlayer, HasPlayerBy, HasSlot, HavePlayers, IsForkFor, IsOpeningRefusal, IsPrepared, IsPreparedBy, IsSlotRefusal, IsStartRefusal, OpensSlot}
 use Rattle.cpm_run.specs.declared.error.RunError.{RunError}
 use Rattle.cpm_run.specs.declared.error.RunError.TheVariants as refusal

@@ -9,7 +9,7 @@ use Rattle.cpm_config.specs.declared.config.Config.{Config}
 use Rattle.cpm_config.specs.declared.config.Session.{Session}
 use Rattle.cpm_geom.specs.Disk.{Disk}
 use Rattle.cpm_store.specs.Files.{Files}
-use Rattle.cpm_sessions.specs.Host.{new_host}
+use Rattle.cpm_slots.specs.Host.{new_host}
 use Rattle.cpm_store.specs.Log.{Access, AreNoWrites, AreWrites, RanBy, StopsAfter, Then}
 use Rattle.cpm_store.specs.Writes.{Named}
 use Rattle.cpm_store.proofs.LogLemmas.{ran_then}

@@ -21,8 +21,8 @@ use Rattle.cpm_script.specs.declared.fault.LineFault.{LineFault}
 use Rattle.cpm_script.specs.declared.script.Key.{Key}
 use Rattle.cpm_script.proofs.ForkLemmas.{forked_script-keys, length-keys_before}
 use Rattle.cpm_store.specs.Files.{Files, Text}
-use Rattle.cpm_turns.specs.Playing.{IsInOrder}
-use Rattle.cpm_turns.proofs.ScriptLemmas.{script-order}
+use Rattle.cpm_play.specs.Playing.{IsInOrder}
+use Rattle.cpm_play.proofs.ScriptLemmas.{script-order}
 use Rattle.cpm_run.specs.Playing.{ArePressable, IsForkPressable, IsPressableBy}
 
 -- the keys can be pressed

@@ -1,22 +1,22 @@
 -- A slot that is refused, and a slot that is closed.
 use Rattle.std.proofs.Common.{◌≡◌, ◌≢◌, ◌∙◌, ℕ, ◌∷◌, List, Option, Some, None, ap, subst, sym, refl}
 use Rattle.std.specs.Prelude.{⊤, IfSome, Err}
-use Rattle.cpm_disks.specs.Disks.{images_of}
-use Rattle.cpm_sessions.specs.Host.{Host, after_ask, close_reply, reply_at, slot_at}
-use Rattle.cpm_sessions.specs.Serving.{Closes, serve_slot}
-use Rattle.cpm_sessions.specs.declared.event.Refusal.{Refusal}
-use Rattle.cpm_sessions.specs.declared.event.Reply.{Reply}
-use Rattle.cpm_sessions.specs.declared.event.Reply.TheVariants as reply
-use Rattle.cpm_sessions.proofs.EventLaws.{apart}
-use Rattle.cpm_slots.specs.MachineState.{MachineState}
-use Rattle.cpm_slots.specs.Opening.{IsRefusal}
-use Rattle.cpm_slots.specs.Serve.{look_of}
-use Rattle.cpm_slots.specs.declared.opening.OpenError.{OpenError}
-use Rattle.cpm_slots.specs.declared.opening.OpenError.TheVariants.{OutOfMemory}
-use Rattle.cpm_slots.specs.declared.reply.Closed.{Closed}
-use Rattle.cpm_turns.specs.declared.player.Player.{Player}
-use Rattle.cpm_turns.specs.declared.player.Player.TheVariants.{Playing}
-use Rattle.cpm_turns.specs.declared.scripted_slot.ScriptedSlot.{ScriptedSlot}
+use Rattle.cpm_drives.specs.Disks.{images_of}
+use Rattle.cpm_slots.specs.Host.{Host, after_ask, close_reply, reply_at, slot_at}
+use Rattle.cpm_slots.specs.Serving.{Closes, serve_slot}
+use Rattle.cpm_slots.specs.declared.event.Refusal.{Refusal}
+use Rattle.cpm_slots.specs.declared.event.Reply.{Reply}
+use Rattle.cpm_slots.specs.declared.event.Reply.TheVariants as reply
+use Rattle.cpm_slots.proofs.EventLaws.{apart}
+use Rattle.cpm_machine.specs.MachineState.{MachineState}
+use Rattle.cpm_machine.specs.Opening.{IsRefusal}
+use Rattle.cpm_machine.specs.Serve.{look_of}
+use Rattle.cpm_machine.specs.declared.opening.OpenError.{OpenError}
+use Rattle.cpm_machine.specs.declared.opening.OpenError.TheVariants.{OutOfMemory}
+use Rattle.cpm_machine.specs.declared.reply.Closed.{Closed}
+use Rattle.cpm_play.specs.declared.player.Player.{Player}
+use Rattle.cpm_play.specs.declared.player.Player.TheVariants.{Playing}
+use Rattle.cpm_play.specs.declared.scripted_slot.ScriptedSlot.{ScriptedSlot}
 use Rattle.cpm_run.specs.Illegal.{bytes_at_pc}
 use Rattle.cpm_run.specs.Playing.{IsClosed}
 

@@ -1,9 +1,9 @@
 -- What is told of a session that ended at bytes that are no instruction. All of it is own.
 use Rattle.std.specs.Prelude.{ℕ, List, Option, Some, None}
 use Rattle.cpm_memory.specs.Contents.{run_at}
-use Rattle.cpm_slots.specs.MachineState.{MachineState}
-use Rattle.cpm_slots.specs.declared.reply.End.{End}
-use Rattle.cpm_slots.specs.declared.reply.End.TheVariants.{Illegal}
+use Rattle.cpm_machine.specs.MachineState.{MachineState}
+use Rattle.cpm_machine.specs.declared.reply.End.{End}
+use Rattle.cpm_machine.specs.declared.reply.End.TheVariants.{Illegal}
 use Rattle.cpm_run.specs.declared.illegal.IllegalBytes.{IllegalBytes}
 
 -- the four bytes from the program counter on; 0000h follows FFFFh

@@ -5,22 +5,22 @@ use Rattle.cpm_batch.specs.Outputs.{SessionOutput, left_by}
 use Rattle.cpm_batch.specs.declared.output.SessionFiles.{SessionFiles}
 use Rattle.cpm_config.specs.declared.config.Config.{Config}
 use Rattle.cpm_config.specs.declared.config.Session.{Session}
-use Rattle.cpm_disks.specs.Disks.{images_of}
+use Rattle.cpm_drives.specs.Disks.{images_of}
 use Rattle.cpm_geom.specs.Disk.{Disk}
 use Rattle.cpm_script.specs.Fork.{keys_before}
 use Rattle.cpm_script.specs.declared.script.Key.{Key}
-use Rattle.cpm_sessions.specs.Host.{Host, SlotState, refusal_of, slot_at, with_opened}
-use Rattle.cpm_slots.specs.MachineState.{MachineState, opened_machine}
-use Rattle.cpm_slots.specs.Serve.{look_of}
-use Rattle.cpm_slots.specs.declared.opening.Opening.{Opening}
-use Rattle.cpm_slots.specs.declared.opening.OpenError.TheVariants.{NoFrames}
-use Rattle.cpm_slots.specs.declared.reply.Closed.{Closed}
-use Rattle.cpm_turns.specs.Playing.{IsInOrder, IsPlayed}
-use Rattle.cpm_turns.specs.ScriptedSlots.{IsNew, keys_of, steps_of}
-use Rattle.cpm_turns.specs.declared.player.Fork.{Fork}
-use Rattle.cpm_turns.specs.declared.player.Player.{Player}
-use Rattle.cpm_turns.specs.declared.player.Player.TheVariants.{Playing, Waiting}
-use Rattle.cpm_turns.specs.declared.scripted_slot.ScriptedSlot.{ScriptedSlot}
+use Rattle.cpm_slots.specs.Host.{Host, SlotState, refusal_of, slot_at, with_opened}
+use Rattle.cpm_machine.specs.MachineState.{MachineState, opened_machine}
+use Rattle.cpm_machine.specs.Serve.{look_of}
+use Rattle.cpm_machine.specs.declared.opening.Opening.{Opening}
+use Rattle.cpm_machine.specs.declared.opening.OpenError.TheVariants.{NoFrames}
+use Rattle.cpm_machine.specs.declared.reply.Closed.{Closed}
+use Rattle.cpm_play.specs.Playing.{IsInOrder, IsPlayed}
+use Rattle.cpm_play.specs.ScriptedSlots.{IsNew, keys_of, steps_of}
+use Rattle.cpm_play.specs.declared.player.Fork.{Fork}
+use Rattle.cpm_play.specs.declared.player.Player.{Player}
+use Rattle.cpm_play.specs.declared.player.Player.TheVariants.{Playing, Waiting}
+use Rattle.cpm_play.specs.declared.scripted_slot.ScriptedSlot.{ScriptedSlot}
 use Rattle.cpm_run.specs.Run.{IsFirstRefused, IsOpening, IsShortFor, Reported, files_left, quotas_of, report_view, reports_of, start_of}
 use Rattle.cpm_run.specs.Illegal.{bytes_at_pc}
 use Rattle.cpm_run.specs.declared.report.SessionReport.{SessionReport}

@@ -13,22 +13,22 @@ use Rattle.cpm_config.specs.declared.fault.ConfigError.TheVariants.{Range}
 use Rattle.cpm_config.specs.declared.field.Field.{Field}
 use Rattle.cpm_config.specs.declared.field.Field.TheVariants.{Frames, Quantum}
 use Rattle.cpm_config.specs.declared.field.Place.{Place}
-use Rattle.cpm_disks.specs.Disks.{images_of}
+use Rattle.cpm_drives.specs.Disks.{images_of}
 use Rattle.cpm_flags.specs.declared.regs.Cpu.{Cpu}
 use Rattle.cpm_flags.specs.declared.regs.Cpu.TheVariants.{I8080}
 use Rattle.cpm_geom.specs.Disk.{Disk}
-use Rattle.cpm_sessions.specs.Host.{Host, new_host, refusal_of, with_opened}
-use Rattle.cpm_sessions.specs.declared.event.ForkError.TheVariants as fork
-use Rattle.cpm_slots.specs.MachineState.{MachineState, opened_machine}
-use Rattle.cpm_slots.specs.declared.opening.Opening.{Opening}
-use Rattle.cpm_slots.specs.declared.opening.OpenError.{OpenError}
-use Rattle.cpm_slots.specs.declared.opening.OpenError.TheVariants.{NoFrames, NoSlot}
-use Rattle.cpm_slots.specs.declared.reply.End.{End}
+use Rattle.cpm_slots.specs.Host.{Host, new_host, refusal_of, with_opened}
+use Rattle.cpm_slots.specs.declared.event.ForkError.TheVariants as fork
+use Rattle.cpm_machine.specs.MachineState.{MachineState, opened_machine}
+use Rattle.cpm_machine.specs.declared.opening.Opening.{Opening}
+use Rattle.cpm_machine.specs.declared.opening.OpenError.{OpenError}
+use Rattle.cpm_machine.specs.declared.opening.OpenError.TheVariants.{NoFrames, NoSlot}
+use Rattle.cpm_machine.specs.declared.reply.End.{End}
 use Rattle.cpm_store.specs.Files.{Files, Text, Told}
 use Rattle.cpm_store.specs.Log.{Access, AreNoWrites, AreWrites, RanBy, StopsAfter, Then}
 use Rattle.cpm_store.specs.Writes.{Named, StopsAt, WritesAll}
-use Rattle.cpm_turns.specs.Players.{HasRoomFor, IsLackFor}
-use Rattle.cpm_turns.specs.Playing.{alone_by}
+use Rattle.cpm_play.specs.Players.{HasRoomFor, IsLackFor}
+use Rattle.cpm_play.specs.Playing.{alone_by}
 use Rattle.cpm_run.specs.Illegal.{bytes_at_pc}
 use Rattle.cpm_run.specs.declared.error.RunError.{RunError}
 use Rattle.cpm_run.specs.declared.error.RunError.TheVariants as refusal

@@ -1,11 +1,11 @@
 //! The bytes at the program counter of a slot.
 ghost use Rattle.std.specs.Prelude.{◌≡◌, Some};
 ghost use Rattle.cpm_memory.specs.Contents.{byte_at};
-ghost use Rattle.cpm_sessions.specs.Host.{slot_at};
-ghost use Rattle.cpm_slots.specs.MachineState.{MachineState};
+ghost use Rattle.cpm_slots.specs.Host.{slot_at};
+ghost use Rattle.cpm_machine.specs.MachineState.{MachineState};
 ghost use Rattle.cpm_run.specs.Illegal.{bytes_at_pc};
 
-use cpm_sessions::{Host, SlotId};
+use cpm_slots::{Host, SlotId};
 
 /// The program counter of a slot that is open.
 fn pc_of(host: &mut Host, id: SlotId) -> u16

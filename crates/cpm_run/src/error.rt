@@ -4,9 +4,9 @@ ghost use Rattle.cpm_run.specs.declared.error.RunError.TheVariants.{OutOfMemory}
 ghost use Rattle.cpm_run.specs.Refusals.{run_error_of_reading, status_of};
 
 use cpm_batch::ReadError;
-use cpm_command::Word;
+use cpm_command_line::Word;
 use cpm_config::ConfigError;
-use cpm_slots::OpenError;
+use cpm_machine::OpenError;
 use std::alloc::{AllocError, AllocFailed};
 use std::fmt;
 use thiserror::Error;

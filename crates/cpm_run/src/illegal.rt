@@ -2,7 +2,7 @@
 ghost use Rattle.std.specs.Prelude.{◌≡◌};
 ghost use Rattle.cpm_run.specs.Illegal.{illegal_of};
 
-use cpm_slots::End;
+use cpm_machine::End;
 use std::fmt;
 
 /// The bytes at which a session ended that are no instruction. Its text is `illegal at HHHH: HH HH HH HH`.

@@ -4,7 +4,7 @@ ghost use Rattle.std.specs.Prelude.{◌≡◌};
 ghost use Rattle.cpm_run.specs.Illegal.{illegal_of};
 
 use crate::illegal::IllegalBytes;
-use cpm_slots::End;
+use cpm_machine::End;
 use std::fmt;
 
 /// How a session ended. Its text is `NAME END COUNT BYTES`.

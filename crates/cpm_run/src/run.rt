@@ -1,7 +1,7 @@
 //! The command `run`.
 ghost use Rattle.std.specs.Prelude.{◌≡◌, ◌⊎◌, ◌<◌, ◌≤◌, ℕ, IfErr, IfOk, OnOk, length, map};
 ghost use Rattle.cpm_batch.specs.Inputs.{given};
-ghost use Rattle.cpm_sessions.specs.Host.{new_host};
+ghost use Rattle.cpm_slots.specs.Host.{new_host};
 ghost use Rattle.cpm_store.specs.Files.{CountsFailure, Told};
 ghost use Rattle.cpm_store.specs.Log.{AreNoWrites, AreWrites, RanBy, StopsAfter};
 ghost use Rattle.cpm_store.specs.Writes.{StopsAt, WritesAll, named};
@@ -12,11 +12,11 @@ use crate::error::RunError;
 use crate::play::{Played, open_all, play_all};
 use crate::report::Report;
 use cpm_batch::{Inputs, outputs_of, read_inputs};
-use cpm_command::shown;
+use cpm_command_line::shown;
 use cpm_config::{Config, ConfigError, Field, Place};
-use cpm_sessions::{LEAST_FRAMES, MOST_FRAMES};
+use cpm_slots::{LEAST_FRAMES, MOST_FRAMES};
 use cpm_store::{Output, Store, StoreError, write_all};
-use cpm_turns::Watcher;
+use cpm_play::Watcher;
 use std::alloc::Global;
 
 /// A number of the configuration with which nothing can be run.

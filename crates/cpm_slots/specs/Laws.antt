@@ -1,70 +1,113 @@
--- Laws over the step, whatever the system drive.
-use Rattle.std.specs.Prelude.{◌≡◌, ℕ, ◌+◌, ◌<◌, ◌≤◌, List, [], ◌++◌, length, Bool, true, false}
+-- The laws of a host, for every list of what happens to it. (own)
+use Rattle.std.specs.Prelude.{◌≡◌, ◌≢◌, ℕ, ◌+◌, ◌<◌, ◌≤◌, List, [], sum_by, Option, Some, None}
 use Rattle.cpm_geom.specs.Disk.{Disk}
-use Rattle.cpm_memory.specs.Contents.{touched_of}
-use Rattle.cpm_console.specs.Terminal.{IsWithin}
-use Rattle.cpm_bdos.specs.Bounds.{IsFit}
-use Rattle.cpm_bdos.specs.KeysTaken.{IsFromFront}
-use Rattle.cpm_slots.specs.declared.steps.Outcome.TheVariants as outcome
-use Rattle.cpm_slots.specs.MachineState.{MachineState}
-use Rattle.cpm_slots.specs.Step.{step, after, can_step, after_part, made}
-use Rattle.cpm_slots.specs.Serve.{executed, look_of}
-use Rattle.cpm_slots.specs.ToWait.{can_work, executed_to_wait}
-use Rattle.cpm_slots.specs.Waits.{WaitsWhereItSays}
-use Rattle.cpm_slots.specs.Alone.{Press, due, alone}
-use Rattle.cpm_slots.specs.Calls.{Call, no_account, account_after, state_after, state_behind}
+use Rattle.cpm_machine.specs.MachineState.{MachineState}
+use Rattle.cpm_machine.specs.Calls.{Grant, GrantUntil, no_account}
+use Rattle.cpm_machine.specs.declared.opening.Opening.{Opening}
+use Rattle.cpm_slots.specs.declared.event.Reply.{Reply}
+use Rattle.cpm_slots.specs.declared.event.Reply.TheVariants as reply
+use Rattle.cpm_slots.specs.Serving.{Ask, Calls}
+use Rattle.cpm_slots.specs.Account.{account_by, slot_after, replies_of, IsAlone}
+use Rattle.cpm_slots.specs.declared.event.ForkError.{ForkError}
+use Rattle.cpm_slots.specs.Host.{Host, Happening, Opens, Forks, Asks, new_host, slot_at, with_opened, opened_slot, fork_fault, reply_at, after_ask, after_one, host_after, told, told_of, own, IsHost}
+use Rattle.cpm_slots.specs.Lives.{Life, NamedLife, life_of, lives}
 
--- the number is the greatest up to n below which the test holds everywhere
-pub record IsLongest (test : ℕ → Bool) (n k : ℕ) : Type 0 where
-  pub within : k ≤ n
-  pub each : (i : ℕ) → i < k → test i ≡ true
-  pub greatest : k < n → test k ≡ false
+-- what is asked of one slot leaves every other
+abbrev pub Apart : Type 0
+Apart = (h : Host) (id other : ℕ) (ask : Ask) → other ≢ id → slot_at other (after_ask h id ask).slots ≡ slot_at other h.slots
 
--- what a grant executes is the greatest number of steps that can be made
-abbrev pub Greatest : Type 0
-Greatest = (system : Disk) (n : ℕ) (s : MachineState) → IsLongest (λ k. can_step (after system k s)) n (executed system n s)
+-- after anything that happens, a slot's state and its replies are those of the slot by itself, by its own events
+abbrev pub Isolation : Type 0
+Isolation = (h : Host) (events : List Happening) (id : ℕ) → id < h.openings →
+    (slot_at id (host_after events h).slots ≡ slot_after h.system (own id events) (slot_at id h.slots))
+    × (told_of id (told events h) ≡ replies_of h.system (own id events) (slot_at id h.slots))
 
--- a grant up to a wait executes the greatest number of steps of which each can be made and waits for no key
-abbrev pub GreatestToWait : Type 0
-GreatestToWait = (system : Disk) (n : ℕ) (s : MachineState) → IsLongest (λ k. can_work (after system k s)) n (executed_to_wait system n s)
+-- The headline. In a host that was made, to which anything happened, a slot is opened, and then anything happens, more openings among it. The slot's replies are those that its machine gives by itself, and while it is open it is the machine run alone for its opening, its accepted keys with the counts at which they came, its executed steps and the system drive.
+pub record StandsAlone (system : Disk) (opening : Opening) (asks : List Ask) (replies : List Reply) (now : Option MachineState) : Type 0 where
+  pub replied : replies ≡ replies_of system asks (Some (opened_slot opening))
+  pub state : IsAlone system (opened_slot opening) (account_by no_account asks replies) now
 
--- two grants are one of the sum
-abbrev pub Cutting : Type 0
-Cutting = (system : Disk) (a b : ℕ) (s : MachineState) →
-    let k = executed system a s in
-    let l = executed system b (after system k s) in
-    (executed system (a + b) s ≡ k + l) × (after system (k + l) s ≡ after system l (after system k s))
-
--- a step newly writes at most 8 pages, and puts at most 4,096 bytes on each device
-pub record IsBounded (old new : MachineState) : Type 0 where
-  pub pages : touched_of new.memory ≤ touched_of old.memory + 8
-  pub output : IsWithin 4096 old.cpm.console new.cpm.console
-
-abbrev pub Bounded : Type 0
-Bounded = (system : Disk) (s : MachineState) → IsFit s.cpm → IsBounded s (step system s)
-
--- a step takes pending keys from the front alone, and adds none
-abbrev pub KeysLeave : Type 0
-KeysLeave = (system : Disk) (s : MachineState) → length (step system s).cpm.console.keys ≤ length s.cpm.console.keys
-
--- it takes the first one or none, and the others stay in their order
-abbrev pub KeysFromFront : Type 0
-KeysFromFront = (system : Disk) (s : MachineState) → IsFromFront s.cpm.console.keys (step system s).cpm.console.keys
-
--- After any calls the state, with the bytes that were taken put back in front, is that of the machine run alone from the start, for the keys that were accepted and the steps that were executed: whatever was taken and looked at, however the grants were cut, and as if the keys had been known beforehand.
 abbrev pub Alone : Type 0
-Alone = (system : Disk) (calls : List Call) (start : MachineState) →
-    let a = account_after system calls no_account start in
-    state_behind a.screen a.printer (state_after system calls start) ≡ alone system a.presses a.executed start
+Alone = (system : Disk) (frames : ℕ) (before : List Happening) (opening : Opening) (events : List Happening) →
+    let h = host_after before (new_host system frames) in
+    let id = h.openings in
+    let now = with_opened h opening in
+    StandsAlone system opening (own id events) (told_of id (told events now)) (slot_at id (host_after events now).slots)
 
--- a step of a machine that waits for a key changes its count alone, and its end by that
-abbrev pub Waiting : Type 0
-Waiting = (system : Disk) (s : MachineState) → (look_of s).waiting ≡ true → step system s ≡ after_part s (made s.cpm s.memory outcome.GoesOn)
+-- what happened to one slot, opened or forked, and what its state is now: it stands alone by its life
+pub record HasLived (system : Disk) (all : List NamedLife) (id : ℕ) (now : Option MachineState) : Type 0 where
+  pub life : Life
+  pub named : life_of id all ≡ Some life
+  pub stands : StandsAlone system life.opening life.asks life.replies now
 
--- And it is said to wait nowhere else: exactly where its next step is that of a call which needs a key and finds none.
-abbrev pub WaitsExactly : Type 0
-WaitsExactly = (system : Disk) (s : MachineState) → WaitsWhereItSays system s
+-- And each slot that was ever opened or forked stands so: one that was forked by the events of the slot that it was forked from, up to the fork, followed by its own.
+abbrev pub EachAlone : Type 0
+EachAlone = (system : Disk) (frames : ℕ) (events : List Happening) (id : ℕ) →
+    let h = new_host system frames in
+    id < (host_after events h).openings → HasLived system (lives events h []) id (slot_at id (host_after events h).slots)
 
--- keys that come later make no difference
-abbrev pub LateKeys : Type 0
-LateKeys = (system : Disk) (presses later : List Press) (n : ℕ) (start : MachineState) → ((i : ℕ) → i ≤ n → due i later ≡ []) → alone system (presses ++ later) n start ≡ alone system presses n start
+-- a slot goes on from a state by its own events alone
+pub record GoesOn (h : Host) (events : List Happening) (id : ℕ) (from : MachineState) : Type 0 where
+  pub state : slot_at id (host_after events h).slots ≡ slot_after h.system (own id events) (Some from)
+  pub replied : told_of id (told events h) ≡ replies_of h.system (own id events) (Some from)
+
+-- A fork that is not refused adds a slot whose whole state is that of the other one, and changes no slot. Whatever happens afterwards, each of the two goes on from there by its own events: neither's replies or state depend on the other's.
+pub record Parts (h : Host) (id : ℕ) (s : MachineState) (events : List Happening) : Type 0 where
+  pub number : (after_one h (Forks id)).openings ≡ h.openings + 1
+  pub child : slot_at h.openings (after_one h (Forks id)).slots ≡ Some s
+  pub others : (other : ℕ) → other < h.openings → slot_at other (after_one h (Forks id)).slots ≡ slot_at other h.slots
+  pub child_goes : GoesOn (after_one h (Forks id)) events h.openings s
+  pub parent_goes : GoesOn (after_one h (Forks id)) events id s
+
+abbrev pub Parting : Type 0
+Parting = (h : Host) (id : ℕ) (s : MachineState) (events : List Happening) → IsHost h →
+    slot_at id h.slots ≡ Some s → fork_fault h (Some s) ≡ None → Parts h id s events
+
+-- one that is refused changes nothing
+abbrev pub NoParting : Type 0
+NoParting = (h : Host) (id : ℕ) (fault : ForkError) → fork_fault h (slot_at id h.slots) ≡ Some fault → after_one h (Forks id) ≡ h
+
+-- two hosts that agree on the system drive, on a slot of each and on its own events agree on its replies and its state: whatever other slots do, and whatever their numbers, quotas and frames are
+abbrev pub TwoWorlds : Type 0
+TwoWorlds = (h g : Host) (i j : ℕ) (es ds : List Happening) → i < h.openings → j < g.openings →
+    h.system ≡ g.system → slot_at i h.slots ≡ slot_at j g.slots → own i es ≡ own j ds →
+    (told_of i (told es h) ≡ told_of j (told ds g)) × (slot_at i (host_after es h).slots ≡ slot_at j (host_after ds g).slots)
+
+-- the steps that a grant executed
+abbrev pub executed_in : Reply → ℕ
+executed_in reply.Done = 0
+executed_in (reply.Granted granted) = granted.executed
+executed_in (reply.Bytes bytes) = 0
+executed_in (reply.Looked look) = 0
+executed_in (reply.Peeked byte) = 0
+executed_in (reply.Refused fault) = 0
+
+-- the steps that are granted
+abbrev pub granted_in : Ask → ℕ
+granted_in (Calls (Grant steps)) = steps
+granted_in (Calls (GrantUntil steps pc)) = steps
+granted_in _ = 0
+
+abbrev pub granted_by : Happening → ℕ
+granted_by (Opens opening) = 0
+granted_by (Forks id) = 0
+granted_by (Asks id ask) = granted_in ask
+
+-- no more steps are executed than are granted
+abbrev pub Within : Type 0
+Within = (h : Host) (events : List Happening) → sum_by (λ t. executed_in t.reply) (told events h) ≤ sum_by granted_by events
+
+-- two grants to a slot, one after the other, are one of the sum
+abbrev pub Cutting : Type 0
+Cutting = (h : Host) (id a b : ℕ) →
+    let first = after_ask h id (Calls (Grant a)) in
+    (after_ask first id (Calls (Grant b)) ≡ after_ask h id (Calls (Grant (a + b))))
+    × (executed_in (reply_at h id (Calls (Grant a))) + executed_in (reply_at first id (Calls (Grant b))) ≡ executed_in (reply_at h id (Calls (Grant (a + b)))))
+
+-- a number that was given, and whose slot is closed, is never open again
+abbrev pub NeverAgain : Type 0
+NeverAgain = (h : Host) (events : List Happening) (id : ℕ) → id < h.openings → slot_at id h.slots ≡ None → slot_at id (host_after events h).slots ≡ None
+
+-- a host that was made stays one: its slots are in the order of their numbers, all given, at most 64, and their quotas are within the frames
+abbrev pub Orderly : Type 0
+Orderly = (system : Disk) (frames : ℕ) (events : List Happening) → IsHost (host_after events (new_host system frames))

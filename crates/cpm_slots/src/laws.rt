@@ -1,55 +1,60 @@
-//! Laws of machines, as contracts.
+//! The laws of a host, as contracts.
 
-ghost use Rattle.cpm_slots.specs.Laws.{Greatest, GreatestToWait, Cutting, Bounded, KeysLeave, KeysFromFront, Alone, LateKeys, Waiting, WaitsExactly};
+ghost use Rattle.cpm_slots.specs.Laws.{Apart, Isolation, Alone, EachAlone, Parting, NoParting, TwoWorlds, Within, Cutting, NeverAgain, Orderly};
 
-/// A grant executes the greatest number of steps that can be made.
-pub fn greatest()
-    ensures { Greatest }
+/// What is asked of one slot leaves every other.
+pub fn apart()
+    ensures { Apart }
 {}
 
-/// A grant up to a wait executes the greatest number of steps of which each can be made and waits for no key.
-pub fn greatest_to_wait()
-    ensures { GreatestToWait }
+/// A slot's state and its replies follow from its own events, whatever other slots do.
+pub fn isolation()
+    ensures { Isolation }
 {}
 
-/// Cutting a grant changes nothing.
-pub fn cutting()
-    ensures { Cutting }
-{}
-
-/// A step newly writes at most 8 pages, and puts at most 4,096 bytes on each device, where the session's columns and
-/// its line's length are bytes.
-pub fn bounded()
-    ensures { Bounded }
-{}
-
-/// A step leaves at most as many keys as were pending.
-pub fn keys_leave()
-    ensures { KeysLeave }
-{}
-
-/// A step takes the first pending key or none; the others stay in their order, and none comes.
-pub fn keys_from_front()
-    ensures { KeysFromFront }
-{}
-
-/// After any calls a machine is the machine run alone by its accepted keys and executed steps, but for the bytes that
-/// were taken.
+/// After anything that happens to a host, each open slot is the machine run alone by its accepted keys and executed steps, and its
+/// replies are those of that machine.
 pub fn alone()
     ensures { Alone }
 {}
 
-/// A step of a machine that waits for a key changes its count alone, and its end by that.
-pub fn waiting()
-    ensures { Waiting }
+/// After anything that happens to a host, each slot stands alone by its life: by its opening, and its own events since; or, where it was
+/// forked, by those of the slot that it was forked from, up to the fork, and then its own.
+pub fn each_alone()
+    ensures { EachAlone }
 {}
 
-/// A machine is said to wait exactly where its next step is that of a call which needs a key and finds none.
-pub fn waits_exactly()
-    ensures { WaitsExactly }
+/// A fork adds a slot whose whole state is that of the other one, and changes no slot. Afterwards neither depends on the other's events.
+pub fn parting()
+    ensures { Parting }
 {}
 
-/// Keys that come later make no difference to the machine run alone.
-pub fn late_keys()
-    ensures { LateKeys }
+/// A fork that is refused changes nothing.
+pub fn no_parting()
+    ensures { NoParting }
+{}
+
+/// Two hosts that agree on the system drive, on a slot of each and on its own events agree on its replies and its state.
+pub fn two_worlds()
+    ensures { TwoWorlds }
+{}
+
+/// No more steps are executed than are granted.
+pub fn within()
+    ensures { Within }
+{}
+
+/// Cutting a grant to a slot changes nothing.
+pub fn cutting()
+    ensures { Cutting }
+{}
+
+/// The number of a closed slot never comes again.
+pub fn never_again()
+    ensures { NeverAgain }
+{}
+
+/// A host that was made keeps its slots in order, at most 64, and their quotas within its frames.
+pub fn orderly()
+    ensures { Orderly }
 {}

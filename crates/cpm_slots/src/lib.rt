@@ -1,17 +1,12 @@
-//! One machine: a session with its memory, run step by step.
+//! A host of up to 64 sessions over one system drive, each of which is a machine alone.
 #![tactic(auto)]
 
+pub mod event;
+mod fork;
+pub mod host;
 pub mod laws;
-pub mod machine;
-pub mod opening;
-mod program;
-pub mod reply;
-pub mod steps;
-pub mod to_wait;
-mod trap;
-pub mod until;
+mod run;
+mod slots;
 
-pub use cpm_ccp::{MOST_TAIL, Tail};
-pub use machine::Machine;
-pub use opening::{LEAST_QUOTA, MOST_DRIVES, MOST_PROGRAM, MOST_QUOTA, OpenError, Opening};
-pub use reply::{Closed, End, Granted, KeysFull, Look, Why};
+pub use event::{Event, ForkError, Refusal, Reply, Request, SlotId};
+pub use host::{Host, LEAST_FRAMES, MOST_FRAMES, MOST_SLOTS};

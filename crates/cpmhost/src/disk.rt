@@ -1,19 +1,19 @@
 //! The commands on disk images: files of the machine are put into them and taken out.
 
 ghost use Rattle.std.specs.Prelude.{◌≡◌, ◌<◌};
-ghost use Rattle.cpm_command.specs.DiskLine.{HasUser};
+ghost use Rattle.cpm_command_line.specs.DiskLine.{HasUser};
 
 use crate::files::{check_file, read_file, write_file};
 use crate::output::Outputs;
 use crate::place::check_taken;
 use crate::refused::Refused;
-use cpm_filing::{
+use cpm_disk_commands::{
     FilingError, base_name, check_new, file_name, get_file, host_name, image_of, list_files,
     matching_files, new_image, put_file, remove_file, rename_file, split_pair, write_list,
 };
 use cpm_geom::Image;
 use cpm_host::{DiskTask, HostError, shown};
-use cpm_shelf::FileName;
+use cpm_image_files::FileName;
 use std::alloc::AllocError;
 use std::io::ErrorKind;
 use std::path::Path;

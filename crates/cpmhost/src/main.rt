@@ -2,7 +2,7 @@
 #![tactic(auto)]
 
 ghost use Rattle.std.specs.Prelude.{IfErr};
-ghost use Rattle.cpm_command.specs.Line.{HasUsers};
+ghost use Rattle.cpm_command_line.specs.Line.{HasUsers};
 ghost use Rattle.cpm_host.specs.Refusals.{IsWordRefusal};
 
 mod com;

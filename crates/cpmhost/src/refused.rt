@@ -1,7 +1,7 @@
 //! A refusal with what the machine says of it.
 ghost use Rattle.std.specs.Prelude.{◌≡◌};
 
-use cpm_filing::FilingError;
+use cpm_disk_commands::FilingError;
 use cpm_host::{HostError, Word};
 use std::alloc::{AllocError, AllocFailed};
 use std::{fmt, io};

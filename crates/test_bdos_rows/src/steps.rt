@@ -4,7 +4,7 @@ use crate::session::{BACK, Session};
 use crate::text::{add_quoted, small, taken};
 use cpm_bdos::{Mode, Went};
 use cpm_ccp::{ccp_step, load_step};
-use cpm_files::Fault as DiskFault;
+use cpm_volume::Fault as DiskFault;
 use cpm_memory::has_room;
 use std::alloc::Global;
 use test_language::{Answer, Fault, Word, address, bytes_of};

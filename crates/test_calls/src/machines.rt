@@ -1,15 +1,15 @@
 //! Memories, machines and hosts.
 
 ghost use Rattle.std.specs.Prelude.{IfOk};
-ghost use Rattle.cpm_turns.specs.Playing.{IsFresh};
+ghost use Rattle.cpm_play.specs.Playing.{IsFresh};
 
 use crate::same::same;
 use cpm_flags::Cpu;
 use cpm_geom::{Format, Image};
 use cpm_memory::FrameStore;
-use cpm_sessions::{ForkError, Host, SlotId};
-use cpm_slots::{Machine, OpenError, Opening, Tail};
-use cpm_turns::{LiveError, play_live};
+use cpm_slots::{ForkError, Host, SlotId};
+use cpm_machine::{Machine, OpenError, Opening, Tail};
+use cpm_play::{LiveError, play_live};
 use std::alloc::Global;
 use std::io;
 use std::io::{ErrorKind, Read, Write};

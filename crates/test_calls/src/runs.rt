@@ -8,7 +8,7 @@ use cpm_host::{
     Config, DebugError, Fault, HostError, MOST_FILE, MemoryStore, Origin, Store, Unwatched,
     UsageError, read_whole, run_debug, run_host, shown,
 };
-use cpm_slots::OpenError;
+use cpm_machine::OpenError;
 use std::io;
 use std::io::{BufReader, ErrorKind, Read};
 use std::process::Abort;

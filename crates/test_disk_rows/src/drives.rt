@@ -3,8 +3,8 @@
 use crate::fcb::FcbBytes;
 use crate::runs::Runs;
 use crate::words::{done, filled, name, number, small};
-use cpm_disks::{Disks, FileFunction};
-use cpm_files::Fault as DriveError;
+use cpm_drives::{Disks, FileFunction};
+use cpm_volume::Fault as DriveError;
 use cpm_geom::{Format, Image};
 use std::alloc::{AllocError, Global};
 use std::mem;

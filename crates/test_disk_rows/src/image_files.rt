@@ -2,9 +2,9 @@
 
 use crate::words::{name as name_of, small, write_name};
 use cpm_drive::Drive;
-use cpm_files::{Answer as RecordAnswer, Extent, Fcb};
+use cpm_volume::{Answer as RecordAnswer, Extent, Fcb};
 use cpm_geom::Image;
-use cpm_shelf::{FileName, Listed, ShelfError, from_text, get, list, put, remove, rename, to_text};
+use cpm_image_files::{FileName, Listed, ShelfError, from_text, get, list, put, remove, rename, to_text};
 use std::alloc::{AllocError, Global};
 use test_images::Images;
 use test_language::{Answer, Fault, Line, Scene, Word, bytes_of};

@@ -7,7 +7,7 @@ use cpm_drive::{
     Drive, Marks, close_file_lent, compute_size, open_file_lent, read_next_protected,
     read_random_protected, search,
 };
-use cpm_files::{Answer as RecordAnswer, Fault as DriveError, Fcb};
+use cpm_volume::{Answer as RecordAnswer, Fault as DriveError, Fcb};
 use cpm_geom::{Format, Image};
 use std::alloc::{AllocError, Global};
 use std::fmt::Display;

@@ -2,12 +2,12 @@
 
 use crate::files::{lines_of, named, shown_files, user_of};
 use crate::names::{act_on_names, characters, text_of};
-use cpm_filing::{
+use cpm_disk_commands::{
     FilingError, check_new, file_name, get_file, host_name, image_of, list_files, matching_files,
     new_image, put_file, remove_file, rename_file, text_of_name,
 };
 use cpm_geom::{Format, Image};
-use cpm_shelf::{FileName, Listed, Refusal, Shelf};
+use cpm_image_files::{FileName, Listed, Refusal, Shelf};
 use std::alloc::{AllocError, Global};
 use test_images::Images;
 use test_language::{Answer, Fault, Line, Scene, Word};
@@ -362,7 +362,7 @@ impl DiskCommands {
             Ok(file) => self.refused(
                 alloc,
                 FilingError::Refused {
-                    image: cpm_command::shown(image.text),
+                    image: cpm_command_line::shown(image.text),
                     file: named(&file),
                     reason,
                 },

@@ -1,8 +1,8 @@
 //! What is told of files on images.
 
-use cpm_filing::{NamedFile, write_list};
+use cpm_disk_commands::{NamedFile, write_list};
 use cpm_geom::Format;
-use cpm_shelf::{FileName, Shelf};
+use cpm_image_files::{FileName, Shelf};
 use std::alloc::Global;
 use test_language::{Answer, Fault, Word};
 

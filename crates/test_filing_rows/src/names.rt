@@ -1,6 +1,6 @@
 //! Names of files and patterns as a person writes them.
 
-use cpm_filing::{base_name, name_of, pattern_of, split_pair, text_of_name};
+use cpm_disk_commands::{base_name, name_of, pattern_of, split_pair, text_of_name};
 use std::alloc::Global;
 use test_language::{Answer, Fault, Line, Word, bytes_of};
 

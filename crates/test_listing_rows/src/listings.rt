@@ -2,7 +2,7 @@
 
 use crate::filled;
 use cpm_flags::{Alternate, Cpu, Flags, Regs, unpack};
-use cpm_lines::{dump_line, length_z80, list_line, list_line_z80, regs_line};
+use cpm_listing::{dump_line, length_z80, list_line, list_line_z80, regs_line};
 use std::alloc::{AllocError, Global};
 use test_language::{Answer, Fault, Line, Scene, Word, address, byte, bytes_of, number};
 

@@ -2,9 +2,9 @@
 
 use crate::filled;
 use cpm_asm::{AsmError, Placed, assemble, assemble_placed};
-use cpm_expression::{LONGEST_NAME, Names, Valued, keyword_of, letters_of, name_of, value_of};
+use cpm_asm_expression::{LONGEST_NAME, Names, Valued, keyword_of, letters_of, name_of, value_of};
 use cpm_flags::Cpu;
-use cpm_lines::{instruction_length, list_line};
+use cpm_listing::{instruction_length, list_line};
 use std::alloc::{AllocError, Global};
 use std::collections::BTreeMap;
 use test_language::{Answer, Fault, Line, Scene, Word, address, bytes_of};

@@ -4,8 +4,8 @@ use crate::look::{field, granted};
 use crate::machines::cpu_of;
 use crate::shown::{Shown, room};
 use cpm_geom::{Format, Image};
-use cpm_sessions::{Event, Host, Reply, Request, SlotId};
-use cpm_slots::{Look, Opening};
+use cpm_slots::{Event, Host, Reply, Request, SlotId};
+use cpm_machine::{Look, Opening};
 use std::alloc::{AllocError, Global};
 use test_images::Images;
 use test_language::{

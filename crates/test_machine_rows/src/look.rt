@@ -1,6 +1,6 @@
 //! What is seen of a machine, a field at a time.
 
-use cpm_slots::{Granted, Look};
+use cpm_machine::{Granted, Look};
 use std::alloc::Global;
 use test_language::{Answer, Fault, Word};
 use test_memory_rows::register;

@@ -1,13 +1,13 @@
 //! Rows of machines by themselves.
 
 ghost use Rattle.std.specs.Prelude.{IfOk};
-ghost use Rattle.cpm_turns.specs.Playing.{IsFresh};
+ghost use Rattle.cpm_play.specs.Playing.{IsFresh};
 
 use crate::look::{field, granted};
 use crate::shown::{Shown, room};
 use cpm_flags::Cpu;
 use cpm_geom::{Format, Image};
-use cpm_slots::{Machine, OpenError, Opening, Tail};
+use cpm_machine::{Machine, OpenError, Opening, Tail};
 use std::alloc::{AllocError, Global};
 use test_images::Images;
 use test_language::{Answer, Fault, Line, Scene, Word, address, bytes_of, count, number};

@@ -4,9 +4,9 @@ use crate::machines::{Machines, Start};
 use cpm_geom::Image;
 use cpm_script::laws::cues_in_order;
 use cpm_script::{read_cues, read_keys};
-use cpm_slots::Machine;
-use cpm_turns::laws::scripts_in_order;
-use cpm_turns::{Cued, Live, Unwatched, play_cues, play_live, play_machine};
+use cpm_machine::Machine;
+use cpm_play::laws::scripts_in_order;
+use cpm_play::{Cued, Live, Unwatched, play_cues, play_live, play_machine};
 use std::alloc::Global;
 use test_language::{Answer, Fault, Line, Word, count, number};
 

@@ -1,7 +1,7 @@
 //! Command lines: the tasks that they name, or their refusals.
 
 use crate::tasks::shown_task;
-use cpm_command::{HELP_TEXT, command, help};
+use cpm_command_line::{HELP_TEXT, command, help};
 use std::alloc::{AllocError, Global};
 use test_language::{Answer, Fault, Line, Scene, Word, bytes_of};
 

@@ -1,7 +1,7 @@
 //! What a command line asks for, in words: the names of the task's fields, each with its value where it has one.
 
 use crate::{add_text, add_texts};
-use cpm_command::{ComTask, DiskTask, RunTask, Task};
+use cpm_command_line::{ComTask, DiskTask, RunTask, Task};
 use cpm_flags::Cpu;
 use std::alloc::Global;
 use test_language::Fault;

@@ -1,6 +1,6 @@
 -- What was added, and what is left.
 use Rattle.std.proofs.Common.{◌≡◌, ◌++◌, false}
-use Rattle.cpm_expression.specs.Names.{in_table}
+use Rattle.cpm_asm_expression.specs.Names.{in_table}
 use Rattle.cpm_asm.specs.Data.{all_bytes, all_doubts, no_doubt}
 use Rattle.cpm_asm.specs.Lines.{parts, parts_behind}
 use Rattle.cpm_asm.specs.Pieces.{bytes_behind}

@@ -1,6 +1,6 @@
 use Rattle.std.proofs.Common.{ap, sym, ◌∙◌, ◌++◌, ◌%◌}
-use Rattle.cpm_expression.specs.Names.{in_table}
-use Rattle.cpm_expression.specs.declared.values.Valued.{Valued}
+use Rattle.cpm_asm_expression.specs.Names.{in_table}
+use Rattle.cpm_asm_expression.specs.declared.values.Valued.{Valued}
 use Rattle.cpm_decode.specs.declared.operation.Op.{Op}
 use Rattle.cpm_asm.specs.Data.{byte_doubt}
 use Rattle.cpm_asm.specs.Emitting.{emitted}

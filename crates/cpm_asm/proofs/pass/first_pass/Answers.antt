@@ -1,6 +1,6 @@
 use Rattle.std.proofs.Common.{ap, sym, ◌∙◌, subst, arith}
 use Rattle.std.specs.Prelude.{Result}
-use Rattle.cpm_expression.specs.Names.{Table, in_table}
+use Rattle.cpm_asm_expression.specs.Names.{Table, in_table}
 use Rattle.cpm_asm.specs.Pieces.{seen_piece, left}
 use Rattle.cpm_asm.specs.Statements.{seen_statement}
 use Rattle.cpm_asm.specs.Passes.{Gives, first_pass}

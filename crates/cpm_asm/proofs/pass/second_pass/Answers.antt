@@ -1,5 +1,5 @@
 use Rattle.std.proofs.Common.{◌++◌, ap, sym, ◌∙◌}
-use Rattle.cpm_expression.specs.Names.{in_table}
+use Rattle.cpm_asm_expression.specs.Names.{in_table}
 use Rattle.cpm_asm.specs.Pieces.{seen_piece, left}
 use Rattle.cpm_asm.specs.Statements.{seen_statement}
 use Rattle.cpm_asm.specs.Passes.{second_pass}

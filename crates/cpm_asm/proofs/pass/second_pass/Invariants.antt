@@ -1,6 +1,6 @@
 -- The image and the places so far, and what is left.
 use Rattle.std.proofs.Common.{◌≡◌, ◌<◌, ◌+◌, ◌++◌, ◌^◌, [], length}
-use Rattle.cpm_expression.specs.Names.{in_table}
+use Rattle.cpm_asm_expression.specs.Names.{in_table}
 use Rattle.cpm_asm.specs.Pieces.{bytes_left, left, pieces}
 use Rattle.cpm_asm.specs.Places.{IsPlace, start}
 use Rattle.cpm_asm.specs.Passes.{second_pass}

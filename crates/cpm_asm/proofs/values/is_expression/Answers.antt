@@ -1,6 +1,6 @@
 use Rattle.std.proofs.Common.{ap, ◌∙◌}
 use Rattle.std.specs.Prelude.{is_some}
-use Rattle.cpm_expression.specs.Reading.{value_at}
+use Rattle.cpm_asm_expression.specs.Reading.{value_at}
 use Rattle.cpm_asm.specs.Data.{is_expression}
 use Rattle.cpm_asm.proofs.Empty.{in_table-empty}
 use Rattle.cpm_asm.proofs.values.is_expression.Goals as goal

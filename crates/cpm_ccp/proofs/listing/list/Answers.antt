@@ -1,4 +1,4 @@
-use Rattle.cpm_disks.specs.Disks.{drive_at}
+use Rattle.cpm_drives.specs.Disks.{drive_at}
 use Rattle.cpm_ccp.specs.Parts.{drive_of}
 use Rattle.cpm_ccp.proofs.ListingLemmas.{index_within, index_small}
 use Rattle.cpm_ccp.proofs.listing.list.Goals as goal

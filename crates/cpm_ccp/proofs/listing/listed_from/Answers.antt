@@ -1,7 +1,7 @@
 use Rattle.std.proofs.Common.{◌≡◌, ◌<◌, length, true, sym, ap, arith}
 use Rattle.cpm_geom.specs.Geometry.{dpb_of}
 use Rattle.cpm_geom.specs.declared.dpb.Dpb.{Dpb}
-use Rattle.cpm_files.specs.Files.{entry_at}
+use Rattle.cpm_volume.specs.Files.{entry_at}
 use Rattle.cpm_directory.specs.Directory.{entries_of}
 use Rattle.cpm_directory.proofs.DriveLemmas.{last_entry_small, entries_length}
 use Rattle.cpm_ccp.specs.Listing.{is_listed}

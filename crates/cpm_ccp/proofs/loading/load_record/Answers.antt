@@ -1,6 +1,6 @@
 use Rattle.std.proofs.Common.{◌≡◌, List, ℕ, Ok, ap, sym, ◌∙◌, arith}
 use Rattle.std.proofs.lemmas.List.{take_all}
-use Rattle.cpm_disks.specs.Calls.{FileCall}
+use Rattle.cpm_drives.specs.Calls.{FileCall}
 use Rattle.cpm_bdos.specs.Did.{did}
 use Rattle.cpm_bdos.specs.declared.cpm.Cpm.{Cpm}
 use Rattle.cpm_bdos.specs.declared.cpm.Went.TheVariants.{GoesOn}

@@ -1,7 +1,7 @@
 use Rattle.std.proofs.Common.{◌≡◌, ℕ, List, [], ◌∷◌, refl, ap, ◌∙◌}
 use Rattle.std.specs.Prelude.{◌||◌}
 use Rattle.std.specs.List.{list_any}
-use Rattle.cpm_files.specs.Files.{has_wildcard}
+use Rattle.cpm_volume.specs.Files.{has_wildcard}
 use Rattle.cpm_ccp.specs.Names.{is_wildcard}
 use Rattle.cpm_ccp.proofs.names.has_wildcard.Goals as goal
 

@@ -1,5 +1,5 @@
 use Rattle.std.proofs.Common.{ap, ◌∙◌}
-use Rattle.cpm_disks.specs.Calls.{FileCall}
+use Rattle.cpm_drives.specs.Calls.{FileCall}
 use Rattle.cpm_ccp.specs.Parts.{own_record, with_call}
 use Rattle.cpm_ccp.specs.Showing.{show_begun, after_type_open}
 use Rattle.cpm_ccp.proofs.showing.begin_show.Goals as goal

@@ -1,6 +1,6 @@
 use Rattle.std.proofs.Common.{◌≡◌, List, ℕ, Ok, ap, sym, ◌∙◌, arith}
 use Rattle.std.proofs.lemmas.List.{take_all}
-use Rattle.cpm_disks.specs.Calls.{FileCall}
+use Rattle.cpm_drives.specs.Calls.{FileCall}
 use Rattle.cpm_ccp.specs.Parts.{record_of, with_call}
 use Rattle.cpm_ccp.specs.Showing.{next_shown, after_type_read, record_shown}
 use Rattle.cpm_ccp.proofs.showing.show_next.Goals as goal

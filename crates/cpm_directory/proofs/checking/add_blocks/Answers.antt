@@ -1,7 +1,7 @@
 use Rattle.std.proofs.Common.{◌≡◌, ◌<◌, ◌||◌, eqb, true, false, length, get_or, sym, ap, ◌∙◌, arith}
 use Rattle.std.specs.List.{list_any}
-use Rattle.cpm_files.specs.declared.extent.Entry.{Entry}
-use Rattle.cpm_files.specs.Files.{entry_at, no_entry}
+use Rattle.cpm_volume.specs.declared.extent.Entry.{Entry}
+use Rattle.cpm_volume.specs.Files.{entry_at, no_entry}
 use Rattle.cpm_directory.specs.Directory.{entries_of}
 use Rattle.cpm_directory.proofs.DriveLemmas.{entries_length}
 use Rattle.cpm_directory.proofs.LoginLemmas.{entry_in_use, entry_unused}

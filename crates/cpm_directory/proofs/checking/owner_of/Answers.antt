@@ -2,7 +2,7 @@ use Rattle.std.proofs.Common.{◌≡◌, ◌+◌, true, sym, ap, ◌∙◌, arit
 use Rattle.std.proofs.lemmas.List.Sums.{position_or_len_is}
 use Rattle.cpm_geom.specs.Geometry.{dpb_of}
 use Rattle.cpm_geom.specs.declared.dpb.Dpb.{Dpb}
-use Rattle.cpm_files.specs.Files.{entry_at, no_entry}
+use Rattle.cpm_volume.specs.Files.{entry_at, no_entry}
 use Rattle.cpm_directory.specs.Directory.{entries_of}
 use Rattle.cpm_directory.specs.Login.{has_block}
 use Rattle.cpm_directory.specs.WellFormed.{owner_of}

@@ -1,5 +1,5 @@
 use Rattle.std.proofs.Common.{◌≡◌, ◌<◌, ℕ, false}
-use Rattle.cpm_files.specs.Files.{entry_at}
+use Rattle.cpm_volume.specs.Files.{entry_at}
 use Rattle.cpm_directory.specs.Directory.{entries_of}
 use Rattle.cpm_directory.specs.Login.{has_block}
 use Rattle.cpm_directory.proofs.checking.owner_of.Given as goal

@@ -1,5 +1,5 @@
 use Rattle.std.proofs.Common.{◌≡◌, ◌<◌, true, length, get_or, below_more, sym, ap, ◌∙◌, arith}
-use Rattle.cpm_files.specs.declared.extent.Entry.{Entry}
+use Rattle.cpm_volume.specs.declared.extent.Entry.{Entry}
 use Rattle.cpm_directory.specs.Directory.{entries_of}
 use Rattle.cpm_directory.specs.WellFormed.{stands_before}
 use Rattle.cpm_directory.proofs.DriveLemmas.{entries_length}

@@ -1,7 +1,7 @@
 use Rattle.std.proofs.Common.{◌≡◌, true, sym, ap, ◌∙◌, arith}
 use Rattle.cpm_geom.specs.Geometry.{dpb_of}
 use Rattle.cpm_geom.specs.declared.dpb.Dpb.{Dpb}
-use Rattle.cpm_files.specs.Files.{entry_at, is_of, group_of, extent_number}
+use Rattle.cpm_volume.specs.Files.{entry_at, is_of, group_of, extent_number}
 use Rattle.cpm_directory.specs.Directory.{entries_of}
 use Rattle.cpm_directory.specs.WellFormed.{twice_entry_in}
 use Rattle.cpm_directory.proofs.DriveLemmas.{entries_length}

@@ -1,5 +1,5 @@
 use Rattle.std.proofs.Common.{◌≡◌, ◌<◌, ℕ, false}
-use Rattle.cpm_files.specs.Files.{entry_at, is_of, group_of, extent_number}
+use Rattle.cpm_volume.specs.Files.{entry_at, is_of, group_of, extent_number}
 use Rattle.cpm_directory.specs.Directory.{entries_of}
 use Rattle.cpm_directory.proofs.checking.twice_entry.Given as goal
 

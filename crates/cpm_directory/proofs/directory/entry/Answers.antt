@@ -2,7 +2,7 @@ use Rattle.std.proofs.Common.{◌≡◌, ◌%◌, ◌/◌, refl, sym, ap, ◌∙
 use Rattle.cpm_geom.specs.Geometry.{dpb_of, record_index}
 use Rattle.cpm_geom.specs.Disk.{sector_at}
 use Rattle.cpm_geom.specs.declared.dpb.Dpb.{Dpb}
-use Rattle.cpm_files.specs.Encoding.{entry_of}
+use Rattle.cpm_volume.specs.Encoding.{entry_of}
 use Rattle.cpm_directory.specs.Directory.{slot_bytes}
 use Rattle.cpm_directory.proofs.DriveLemmas.{entry_record, entry_is}
 use Rattle.cpm_directory.proofs.SlotLemmas.{must_be_ok}

@@ -1,8 +1,8 @@
 use Rattle.std.proofs.Common.{◌≡◌, ◌/◌, ◌%◌, [], get_or, ap, ◌∙◌}
 use Rattle.cpm_geom.specs.Geometry.{dpb_of, record_index}
 use Rattle.cpm_geom.specs.Disk.{records_of, sector_at, with_sector}
-use Rattle.cpm_files.specs.Files.{entry_at}
-use Rattle.cpm_files.specs.Encoding.{entry_bytes}
+use Rattle.cpm_volume.specs.Files.{entry_at}
+use Rattle.cpm_volume.specs.Encoding.{entry_bytes}
 use Rattle.cpm_directory.specs.Directory.{entries_of, with_slot}
 use Rattle.cpm_directory.proofs.DriveLemmas.{entry_record}
 use Rattle.cpm_directory.proofs.SlotLemmas.{must_be_ok, slot_written, put_in_directory, put_leaves, put_keeps}

@@ -4,8 +4,8 @@ use Rattle.std.proofs.lemmas.List.{get_or-set_same, get_or-set_other, length-set
 use Rattle.cpm_geom.specs.Geometry.{dpb_of}
 use Rattle.cpm_geom.specs.Disk.{Disk}
 use Rattle.cpm_geom.specs.declared.dpb.Dpb.{Dpb}
-use Rattle.cpm_files.specs.declared.extent.Entry.{Entry}
-use Rattle.cpm_files.specs.Files.{entry_at, no_entry}
+use Rattle.cpm_volume.specs.declared.extent.Entry.{Entry}
+use Rattle.cpm_volume.specs.Files.{entry_at, no_entry}
 use Rattle.cpm_directory.specs.Directory.{entries_of}
 use Rattle.cpm_directory.proofs.DriveLemmas.{last_entry_small}
 use Rattle.cpm_directory.proofs.listed.entries_in.Goals as goal

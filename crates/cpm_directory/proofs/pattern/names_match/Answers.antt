@@ -1,5 +1,5 @@
 use Rattle.std.proofs.Common.{◌∙◌, sym}
-use Rattle.cpm_files.proofs.NameLemmas.{name_matches_zip}
+use Rattle.cpm_volume.proofs.NameLemmas.{name_matches_zip}
 use Rattle.cpm_directory.proofs.pattern.names_match.Goals as goal
 
 pub returns : goal.returns

@@ -1,5 +1,5 @@
 use Rattle.std.proofs.Common.{◌≡◌, ◌<◌, ◌≤◌, ℕ, length, get_or, true, false}
-use Rattle.cpm_files.specs.Reserved.{is_directory_block}
+use Rattle.cpm_volume.specs.Reserved.{is_directory_block}
 use Rattle.cpm_directory.proofs.reserved.directory_blocks.Given as goal
 
 abbrev pub invariant-loop-block : goal.invariant-loop-block

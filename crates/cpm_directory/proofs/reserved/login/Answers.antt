@@ -4,10 +4,10 @@ use Rattle.std.specs.List.{list_any}
 use Rattle.std.proofs.Math.Seq.{take-length}
 use Rattle.cpm_geom.specs.Geometry.{dpb_of}
 use Rattle.cpm_geom.specs.declared.dpb.Dpb.{Dpb}
-use Rattle.cpm_files.specs.declared.extent.Entry.{Entry}
-use Rattle.cpm_files.specs.Files.{entry_at, no_entry}
+use Rattle.cpm_volume.specs.declared.extent.Entry.{Entry}
+use Rattle.cpm_volume.specs.Files.{entry_at, no_entry}
 use Rattle.cpm_directory.specs.Directory.{entries_of}
-use Rattle.cpm_files.specs.Reserved.{is_directory_block}
+use Rattle.cpm_volume.specs.Reserved.{is_directory_block}
 use Rattle.cpm_directory.specs.Login.{reserved_at_login, has_block}
 use Rattle.cpm_directory.proofs.DriveLemmas.{last_entry_small, last_block_small, entries_length}
 use Rattle.cpm_directory.proofs.LoginLemmas.{entry_in_use, entry_unused, logged_in}

@@ -1,7 +1,7 @@
 use Rattle.std.proofs.Common.{◌≡◌, ◌<◌, ◌||◌, ℕ, length, get_or, take, true}
 use Rattle.std.specs.List.{list_any}
 use Rattle.cpm_directory.specs.Directory.{entries_of}
-use Rattle.cpm_files.specs.Reserved.{is_directory_block}
+use Rattle.cpm_volume.specs.Reserved.{is_directory_block}
 use Rattle.cpm_directory.specs.Login.{has_block}
 use Rattle.cpm_directory.proofs.reserved.login.Given as goal
 

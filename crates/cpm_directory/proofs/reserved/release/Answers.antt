@@ -1,6 +1,6 @@
 use Rattle.std.proofs.Common.{get_or, true, false, sym, ◌∙◌, arith}
 use Rattle.std.proofs.lemmas.List.{length-set}
-use Rattle.cpm_files.specs.Reserved.{is_directory_block}
+use Rattle.cpm_volume.specs.Reserved.{is_directory_block}
 use Rattle.cpm_directory.proofs.LoginLemmas.{more_released, release_at, not_released}
 use Rattle.cpm_directory.proofs.reserved.release.Goals as goal
 use Rattle.cpm_directory.proofs.reserved.release.Goals.{then-number-gt0+then-not-is_directory_block, else-number-gt0, else-number-gt0-via-then-number-gt0+else-not-is_directory_block, else-number-gt0-via-else-number-gt0}

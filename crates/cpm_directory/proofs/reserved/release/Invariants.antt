@@ -1,6 +1,6 @@
 use Rattle.std.proofs.Common.{◌≡◌, ◌<◌, ◌&&◌, ◌||◌, not, ltb, eqb, ℕ, length, get_or, take, true}
 use Rattle.std.specs.List.{list_any}
-use Rattle.cpm_files.specs.Reserved.{is_directory_block}
+use Rattle.cpm_volume.specs.Reserved.{is_directory_block}
 use Rattle.cpm_directory.proofs.reserved.release.Given as goal
 
 abbrev pub invariant-loop-number : goal.invariant-loop-number

@@ -1,7 +1,7 @@
 use Rattle.std.proofs.Common.{◌≡◌, ◌<◌, ◌&&◌, ◌||◌, not, ℕ, length, get_or, take, true}
 use Rattle.cpm_directory.specs.Directory.{entries_of}
-use Rattle.cpm_files.specs.Reserved.{is_directory_block}
-use Rattle.cpm_files.specs.Names.{is_erased}
+use Rattle.cpm_volume.specs.Reserved.{is_directory_block}
+use Rattle.cpm_volume.specs.Names.{is_erased}
 use Rattle.cpm_directory.proofs.reserved.without_files.Given as goal
 
 abbrev pub invariant-loop-index : goal.invariant-loop-index

@@ -1,5 +1,5 @@
 use Rattle.std.proofs.Common.{◌≡◌, ◌<◌, Some, None, length, sym, ap, ◌∙◌, arith}
-use Rattle.cpm_files.specs.Files.{entry_at}
+use Rattle.cpm_volume.specs.Files.{entry_at}
 use Rattle.cpm_directory.specs.Directory.{entries_of}
 use Rattle.cpm_directory.proofs.DriveLemmas.{entries_length}
 use Rattle.cpm_drive.specs.Judged.{entries_after}

@@ -1,5 +1,5 @@
 use Rattle.std.proofs.Common.{ap, ◌∙◌}
-use Rattle.cpm_files.specs.Operations.{close_file}
+use Rattle.cpm_volume.specs.Operations.{close_file}
 use Rattle.cpm_directory.specs.Directory.{entries_of}
 use Rattle.cpm_drive.specs.Calls.{close_answer}
 use Rattle.cpm_drive.proofs.closing.close_file_lent.Goals as goal

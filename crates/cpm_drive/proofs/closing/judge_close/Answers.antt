@@ -1,7 +1,7 @@
 use Rattle.std.proofs.Common.{◌≡◌, ◌≤◌, true, false, length, sym, arith}
 use Rattle.cpm_geom.specs.Geometry.{dpb_of}
-use Rattle.cpm_files.specs.Files.{extent_number, group_of, first_match}
-use Rattle.cpm_files.specs.Operations.{has_bad_block}
+use Rattle.cpm_volume.specs.Files.{extent_number, group_of, first_match}
+use Rattle.cpm_volume.specs.Operations.{has_bad_block}
 use Rattle.cpm_directory.specs.Directory.{entries_of}
 use Rattle.cpm_directory.proofs.DriveLemmas.{entries_length}
 use Rattle.cpm_drive.proofs.CloseLemmas.{close_none, close_bad, close_unlike, close_protected, close_closed}

@@ -4,8 +4,8 @@ use Rattle.std.proofs.Math.Seq.{take-length}
 use Rattle.std.proofs.lemmas.List.Folds.{list_any_more, list_any_at}
 use Rattle.cpm_geom.specs.Geometry.{dpb_of}
 use Rattle.cpm_geom.specs.declared.dpb.Dpb.{Dpb}
-use Rattle.cpm_files.specs.Files.{entry_at, no_entry}
-use Rattle.cpm_files.specs.Names.{protects}
+use Rattle.cpm_volume.specs.Files.{entry_at, no_entry}
+use Rattle.cpm_volume.specs.Names.{protects}
 use Rattle.cpm_directory.specs.Directory.{entries_of}
 use Rattle.cpm_directory.proofs.DriveLemmas.{last_entry_small, entries_length}
 use Rattle.cpm_drive.proofs.named.has_read_only.Goals as goal

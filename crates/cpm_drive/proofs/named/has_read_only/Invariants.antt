@@ -1,6 +1,6 @@
 use Rattle.std.proofs.Common.{◌≡◌, take, false}
 use Rattle.std.specs.List.{list_any}
-use Rattle.cpm_files.specs.Names.{protects}
+use Rattle.cpm_volume.specs.Names.{protects}
 use Rattle.cpm_directory.specs.Directory.{entries_of}
 use Rattle.cpm_drive.proofs.named.has_read_only.Given as goal
 

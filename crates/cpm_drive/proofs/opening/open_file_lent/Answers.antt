@@ -1,6 +1,6 @@
 use Rattle.std.proofs.Common.{◌≡◌, ◌%◌, arith}
 use Rattle.cpm_geom.specs.Geometry.{dpb_of}
-use Rattle.cpm_files.specs.Files.{group_of}
+use Rattle.cpm_volume.specs.Files.{group_of}
 use Rattle.cpm_directory.specs.Directory.{entries_of}
 use Rattle.cpm_directory.proofs.DriveLemmas.{entries_length}
 use Rattle.cpm_drive.proofs.FileLemmas.{open_missing, open_lesser, opens}

@@ -1,7 +1,7 @@
 use Rattle.std.proofs.Common.{◌≡◌, ◌<◌, Some, None, set, length, sym, ap, ◌∙◌, arith}
 use Rattle.cpm_geom.specs.Geometry.{dpb_of}
-use Rattle.cpm_files.specs.Files.{first_free}
-use Rattle.cpm_files.specs.Operations.{open_extent, open_to_read, make_extent, standing, stopped}
+use Rattle.cpm_volume.specs.Files.{first_free}
+use Rattle.cpm_volume.specs.Operations.{open_extent, open_to_read, make_extent, standing, stopped}
 use Rattle.cpm_directory.specs.Directory.{entries_of}
 use Rattle.cpm_directory.proofs.DriveLemmas.{entries_length}
 use Rattle.cpm_drive.specs.declared.place.Access.{Access}

@@ -1,8 +1,8 @@
 use Rattle.std.proofs.Common.{◌≡◌, ◌≢◌, sym, ap, ◌∙◌, arith}
 use Rattle.cpm_geom.specs.Geometry.{dpb_of}
-use Rattle.cpm_files.specs.declared.answer.Answer.{Answer}
-use Rattle.cpm_files.specs.Files.{extent_number}
-use Rattle.cpm_files.specs.Operations.{standing, stopped, next_target}
+use Rattle.cpm_volume.specs.declared.answer.Answer.{Answer}
+use Rattle.cpm_volume.specs.Files.{extent_number}
+use Rattle.cpm_volume.specs.Operations.{standing, stopped, next_target}
 use Rattle.cpm_drive.specs.Drive.{volume_of}
 use Rattle.cpm_drive.specs.Judged.{purpose_of}
 use Rattle.cpm_drive.proofs.PlaceLemmas.{no_changes, next_here, next_last, next_crosses}

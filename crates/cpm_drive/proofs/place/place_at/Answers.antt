@@ -1,7 +1,7 @@
 use Rattle.std.proofs.Common.{◌≡◌, ◌≢◌, ◌/◌, ◌%◌, sym, ap, ◌∙◌, arith}
 use Rattle.cpm_geom.specs.Geometry.{dpb_of}
-use Rattle.cpm_files.specs.Files.{extent_number}
-use Rattle.cpm_files.specs.Operations.{standing, target_of}
+use Rattle.cpm_volume.specs.Files.{extent_number}
+use Rattle.cpm_volume.specs.Operations.{standing, target_of}
 use Rattle.cpm_drive.specs.Drive.{volume_of}
 use Rattle.cpm_drive.specs.Judged.{purpose_of}
 use Rattle.cpm_drive.proofs.PlaceLemmas.{no_changes, at_here, at_crosses}

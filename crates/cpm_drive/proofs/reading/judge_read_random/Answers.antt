@@ -1,6 +1,6 @@
 use Rattle.std.proofs.Common.{◌≡◌, None, refl}
 use Rattle.cpm_geom.specs.Geometry.{dpb_of}
-use Rattle.cpm_files.specs.Operations.{read_random}
+use Rattle.cpm_volume.specs.Operations.{read_random}
 use Rattle.cpm_drive.specs.Drive.{volume_of}
 use Rattle.cpm_drive.specs.Reads.{lent_drive}
 use Rattle.cpm_drive.proofs.ReadLemmas.{reading_is}

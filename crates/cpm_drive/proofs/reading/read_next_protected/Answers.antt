@@ -1,6 +1,6 @@
 use Rattle.std.proofs.Common.{refl, sym, ap, ◌∙◌}
 use Rattle.cpm_geom.specs.Geometry.{dpb_of}
-use Rattle.cpm_files.specs.Operations.{read_next}
+use Rattle.cpm_volume.specs.Operations.{read_next}
 use Rattle.cpm_drive.specs.Drive.{volume_of, after_call}
 use Rattle.cpm_drive.specs.Reads.{lent_drive}
 use Rattle.cpm_drive.proofs.ReadLemmas.{taken, next_gives}

@@ -1,7 +1,7 @@
 use Rattle.std.proofs.Common.{◌≡◌, ◌+◌, ◌*◌, ◌%◌, ◌<◌, refl, ap, ◌∙◌, arith}
 use Rattle.cpm_geom.specs.declared.dpb.Dpb.{Dpb}
 use Rattle.cpm_geom.specs.Geometry.{dpb_of}
-use Rattle.cpm_files.specs.Operations.{record_in_block}
+use Rattle.cpm_volume.specs.Operations.{record_in_block}
 use Rattle.cpm_drive.proofs.ReadLemmas.{in_block_small, in_block_there}
 use Rattle.cpm_drive.proofs.reading.record_in_block.Goals as goal
 

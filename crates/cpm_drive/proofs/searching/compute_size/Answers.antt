@@ -2,8 +2,8 @@ use Rattle.std.proofs.Common.{◌≡◌, ◌<◌, length, get_or, take, refl, sy
 use Rattle.std.proofs.Math.Seq.{take-length}
 use Rattle.cpm_geom.specs.Geometry.{dpb_of}
 use Rattle.cpm_geom.specs.declared.dpb.Dpb.{Dpb}
-use Rattle.cpm_files.specs.Files.{entry_at, no_entry}
-use Rattle.cpm_files.specs.Names.{is_named, compute_size}
+use Rattle.cpm_volume.specs.Files.{entry_at, no_entry}
+use Rattle.cpm_volume.specs.Names.{is_named, compute_size}
 use Rattle.cpm_directory.specs.Directory.{entries_of}
 use Rattle.cpm_directory.proofs.DriveLemmas.{last_entry_small, entries_length}
 use Rattle.cpm_drive.proofs.NamedLemmas.{size_named, size_other}

@@ -1,5 +1,5 @@
 use Rattle.std.proofs.Common.{◌≡◌, ◌<◌, take, IfSome}
-use Rattle.cpm_files.specs.Names.{compute_size}
+use Rattle.cpm_volume.specs.Names.{compute_size}
 use Rattle.cpm_directory.specs.Directory.{entries_of}
 use Rattle.cpm_drive.proofs.searching.compute_size.Given as goal
 

@@ -1,6 +1,6 @@
 use Rattle.std.proofs.Common.{◌≤◌, List, length, subst, sym}
 use Rattle.cpm_script.specs.declared.script.Key.{Key}
-use Rattle.cpm_turns.specs.Playing.{IsInOrder}
+use Rattle.cpm_play.specs.Playing.{IsInOrder}
 use Rattle.cpm_host.proofs.ScriptLemmas.{script_good}
 use Rattle.cpm_host.proofs.com.run_com.Goals as goal
 

@@ -1,6 +1,6 @@
 use Rattle.std.proofs.Common.{◌∙◌, ap, arith, refl, rules}
 use Rattle.std.proofs.lemmas.Result.{err_from_is_err_and}
-use Rattle.cpm_slots.specs.declared.reply.Look.{Look}
+use Rattle.cpm_machine.specs.declared.reply.Look.{Look}
 use Rattle.cpm_host.proofs.cued.play_cued.Goals as goal
 
 pub returns-in_err-keys-clause-refusal : goal.returns-in_err-keys-clause-refusal

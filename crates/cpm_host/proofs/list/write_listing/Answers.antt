@@ -1,7 +1,7 @@
 use Rattle.std.proofs.Common.{◌≡◌, ◌∙◌, ◌++◌, ◌+◌, ◌-◌, ◌%◌, ◌<◌, ◌≤◌, ap, sym, subst, List, [], ◌∷◌, ℕ, length, drop, min, arith}
 use Rattle.std.proofs.KnownBytes.{Appends-kept}
 use Rattle.std.specs.Io.KnownBytes.{Appends}
-use Rattle.cpm_lines.specs.Instruction.{instruction_length, instruction_line}
+use Rattle.cpm_listing.specs.Instruction.{instruction_length, instruction_line}
 use Rattle.cpm_host.specs.Listing.{four}
 use Rattle.cpm_host.proofs.ListLemmas.{IsListed, IsListed-all, IsListed-more, IsListed-none, less_left, none_left, some_left}
 use Rattle.cpm_host.proofs.list.write_listing.Goals as goal

@@ -1,5 +1,5 @@
 use Rattle.std.proofs.Common.{◌∙◌, ap}
-use Rattle.cpm_sessions.specs.declared.event.SlotId.{SlotId}
+use Rattle.cpm_slots.specs.declared.event.SlotId.{SlotId}
 use Rattle.cpm_run.proofs.play.open_slot.Goals as goal
 
 pub returns-in-Ok-clause-opened : goal.returns-in-Ok-clause-opened

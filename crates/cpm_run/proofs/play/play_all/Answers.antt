@@ -1,8 +1,8 @@
 use Rattle.std.proofs.Common.{◌≡◌, sym, subst, arith, List, length, map}
 use Rattle.cpm_batch.specs.Inputs.{given}
-use Rattle.cpm_sessions.specs.Host.{new_host}
-use Rattle.cpm_turns.specs.Players.{AllDiffer, AllReady}
-use Rattle.cpm_turns.specs.declared.player.Player.{Player}
+use Rattle.cpm_slots.specs.Host.{new_host}
+use Rattle.cpm_play.specs.Players.{AllDiffer, AllReady}
+use Rattle.cpm_play.specs.declared.player.Player.{Player}
 use Rattle.cpm_run.proofs.FinishLemmas.{all_finished, written_back}
 use Rattle.cpm_run.proofs.PlayLemmas.{all_ready, fork_refused, has_room}
 use Rattle.cpm_run.proofs.play.play_all.Goals as goal

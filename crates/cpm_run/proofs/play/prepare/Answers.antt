@@ -1,6 +1,6 @@
 use Rattle.std.proofs.Common.{refl}
 use Rattle.std.proofs.lemmas.Result.{err_from_is_err_and}
-use Rattle.cpm_slots.specs.declared.opening.Opening.{Opening}
+use Rattle.cpm_machine.specs.declared.opening.Opening.{Opening}
 use Rattle.cpm_run.proofs.PrepareLemmas.{opens_slot, start_refused, waits}
 use Rattle.cpm_run.proofs.play.prepare.Goals as goal
 

@@ -1,7 +1,7 @@
 use Rattle.std.proofs.Common.{◌∙◌, ap, subst, List, map}
 use Rattle.cpm_batch.specs.Inputs.{SessionInput, given}
-use Rattle.cpm_sessions.specs.Host.{Host}
-use Rattle.cpm_slots.specs.declared.opening.OpenError.{OpenError}
+use Rattle.cpm_slots.specs.Host.{Host}
+use Rattle.cpm_machine.specs.declared.opening.OpenError.{OpenError}
 use Rattle.cpm_run.specs.Playing.{IsPlayRefusal}
 use Rattle.cpm_run.specs.Run.{AllAccepted, AreOpenable, HasForkRoom, IsFirstRefused, IsShortFor, fork_pages_in, forks_in}
 use Rattle.cpm_run.proofs.play.prepare_host.Goals as goal

@@ -1,5 +1,5 @@
 use Rattle.cpm_run.proofs.SlotLemmas.{fault_of}
-use Rattle.cpm_sessions.specs.Host.{refusal_of}
+use Rattle.cpm_slots.specs.Host.{refusal_of}
 use Rattle.cpm_run.proofs.play.refused.Goals as goal
 
 pub returns-in_default : goal.returns-in_default

@@ -1,5 +1,5 @@
-use Rattle.cpm_slots.proofs.AloneLaws.{alone-after}
+use Rattle.cpm_slots.proofs.OpeningLaws.{stands-alone}
 use Rattle.cpm_slots.proofs.laws.alone.Goals as goal
 
 pub returns : goal.returns
-returns c system calls start = alone-after system calls start
+returns c = λ system frames before opening events. stands-alone system frames before opening events

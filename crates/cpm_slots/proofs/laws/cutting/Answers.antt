@@ -1,8 +1,5 @@
-use Rattle.cpm_slots.specs.Step.{after}
-use Rattle.cpm_slots.specs.Serve.{executed}
-use Rattle.cpm_slots.proofs.GrantLaws.{cut, after-add}
+use Rattle.cpm_slots.proofs.CutLaws.{cut-host, cut-replies}
 use Rattle.cpm_slots.proofs.laws.cutting.Goals as goal
 
 pub returns : goal.returns
-returns c system a b s =
-    (cut system a b s, after-add system (executed system a s) (executed system b (after system (executed system a s) s)) s)
+returns c = λ h id a b. (cut-host h id a b, cut-replies h id a b)

@@ -1,9 +1,9 @@
 use Rattle.std.proofs.Common.{ℕ, List, ap, ◌∙◌}
 use Rattle.cpm_memory.specs.Contents.{Contents, after_run}
-use Rattle.cpm_disks.specs.declared.disks.Disks.{Disks}
-use Rattle.cpm_disks.specs.Disks.{drive_at}
-use Rattle.cpm_disks.specs.Selecting.{used}
-use Rattle.cpm_disks.specs.Vectors.{allocation_of}
+use Rattle.cpm_drives.specs.declared.disks.Disks.{Disks}
+use Rattle.cpm_drives.specs.Disks.{drive_at}
+use Rattle.cpm_drives.specs.Selecting.{used}
+use Rattle.cpm_drives.specs.Vectors.{allocation_of}
 use Rattle.cpm_bdos.specs.Did.{answered}
 use Rattle.cpm_bdos.specs.Disks.{with_disks, give_allocation}
 use Rattle.cpm_bdos.proofs.Marks.{current-used}

@@ -1,6 +1,6 @@
 use Rattle.std.proofs.Common.{◌<◌, ◌*◌, ◌+◌, ◌^◌, get_or, sym, ap, ◌∙◌, arith, rules, inl, inr}
 use Rattle.std.proofs.lemmas.Bool.{cases_lt}
-use Rattle.cpm_files.specs.Reserved.{least_free}
+use Rattle.cpm_volume.specs.Reserved.{least_free}
 use Rattle.cpm_directory.proofs.BitsLemmas.{lowest_in_row, full_row, all_hold}
 use Rattle.cpm_directory.proofs.bits.Bits.lowest_clear.Goals as goal
 

@@ -2,7 +2,7 @@ use Rattle.std.proofs.Common.{◌≤◌, ap, ◌∙◌, arith}
 use Rattle.std.proofs.lemmas.List.{get_or_default}
 use Rattle.cpm_geom.specs.Disk.{Disk}
 use Rattle.cpm_geom.specs.Geometry.{dpb_of}
-use Rattle.cpm_files.specs.Files.{entry_at, no_entry}
+use Rattle.cpm_volume.specs.Files.{entry_at, no_entry}
 use Rattle.cpm_directory.specs.Directory.{entries_of, Lists}
 use Rattle.cpm_directory.proofs.DriveLemmas.{last_entry_small}
 use Rattle.cpm_directory.proofs.lent.LentImage.entry.Goals as goal

@@ -1,6 +1,6 @@
 use Rattle.std.proofs.Common.{◌≡◌, arith, sym, ap, take, ◌∙◌}
 use Rattle.std.proofs.lemmas.Bool.{le-leb}
-use Rattle.cpm_files.specs.Reserved.{is_reserved}
+use Rattle.cpm_volume.specs.Reserved.{is_reserved}
 use Rattle.cpm_directory.proofs.ReservedLemmas.{past_is_reserved, below_is_reserved}
 use Rattle.cpm_directory.proofs.reserved.Reserved.contains.Goals as goal
 

@@ -1,7 +1,7 @@
 use Rattle.std.proofs.Common.{◌<◌, ◌≤◌, ◌⊎◌, sym, arith, ◌∙◌, refl, true, inl, inr}
 use Rattle.std.proofs.Math.Seq.{take-set-lt}
 use Rattle.std.proofs.lemmas.List.{length-take-le, length-set}
-use Rattle.cpm_files.specs.Reserved.{least_free}
+use Rattle.cpm_volume.specs.Reserved.{least_free}
 use Rattle.cpm_directory.proofs.ReservedLemmas.{lowest_within, none_within}
 use Rattle.cpm_directory.proofs.reserved.Reserved.take_lowest.Goals as goal
 use Rattle.cpm_directory.proofs.reserved.Reserved.take_lowest.Goals.{then-lowest-self-via-then-lowest-self, then-lowest-self-via-else-lowest-self+then-lowest-from}

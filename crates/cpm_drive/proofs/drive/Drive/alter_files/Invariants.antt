@@ -1,5 +1,5 @@
 use Rattle.std.proofs.Common.{◌≡◌, ◌≤◌, ◌<◌, ℕ, length}
-use Rattle.cpm_files.specs.Files.{entry_at}
+use Rattle.cpm_volume.specs.Files.{entry_at}
 use Rattle.cpm_directory.specs.Directory.{entries_of}
 use Rattle.cpm_drive.specs.Named.{altered}
 use Rattle.cpm_drive.specs.Writes.{drive_written}

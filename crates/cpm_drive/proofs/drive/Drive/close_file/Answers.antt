@@ -1,4 +1,4 @@
-use Rattle.cpm_files.specs.Operations.{close_file}
+use Rattle.cpm_volume.specs.Operations.{close_file}
 use Rattle.cpm_directory.specs.Directory.{entries_of}
 use Rattle.cpm_drive.proofs.FileLemmas.{closes}
 use Rattle.cpm_drive.proofs.drive.Drive.close_file.Goals as goal

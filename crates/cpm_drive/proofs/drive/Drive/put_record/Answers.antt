@@ -1,7 +1,7 @@
 use Rattle.std.proofs.Common.{[], ◌∷◌, ◌≡◌, ◌≢◌, ap, ◌∙◌, arith}
 use Rattle.cpm_geom.specs.Geometry.{dpb_of}
-use Rattle.cpm_files.specs.Files.{record_put}
-use Rattle.cpm_files.specs.Operations.{record_in_block}
+use Rattle.cpm_volume.specs.Files.{record_put}
+use Rattle.cpm_volume.specs.Operations.{record_in_block}
 use Rattle.cpm_drive.specs.Writes.{drive_written}
 use Rattle.cpm_drive.specs.declared.drive.Drive.{Drive}
 use Rattle.cpm_drive.proofs.PutLemmas.{put_bad, put_old, put_none, put_taken, writes_format}

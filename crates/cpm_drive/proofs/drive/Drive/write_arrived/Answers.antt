@@ -1,6 +1,6 @@
 use Rattle.std.proofs.Common.{◌≡◌, ◌+◌, Ok, Err, ◌∙◌}
 use Rattle.cpm_geom.specs.Geometry.{dpb_of}
-use Rattle.cpm_files.specs.Operations.{write_in}
+use Rattle.cpm_volume.specs.Operations.{write_in}
 use Rattle.cpm_drive.specs.Drive.{volume_of, after_writes}
 use Rattle.cpm_drive.specs.Judged.{with_change}
 use Rattle.cpm_drive.proofs.PutLemmas.{twice, reserved_kept, writes_format, put_after, stops_after}

@@ -1,6 +1,6 @@
 use Rattle.std.proofs.Common.{◌≡◌, Some, None, true, false, sym, arith}
-use Rattle.cpm_files.specs.Files.{directory_records}
-use Rattle.cpm_files.proofs.Formats.{each_format}
+use Rattle.cpm_volume.specs.Files.{directory_records}
+use Rattle.cpm_volume.proofs.Formats.{each_format}
 use Rattle.cpm_drive.proofs.WriteLemmas.{drive_put, drive_kept, no_write}
 use Rattle.cpm_drive.proofs.drive.Drive.write_change.Goals as goal
 

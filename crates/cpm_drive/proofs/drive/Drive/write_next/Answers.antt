@@ -1,6 +1,6 @@
 use Rattle.std.proofs.Common.{false, ap, ◌∙◌}
 use Rattle.cpm_geom.specs.Geometry.{dpb_of}
-use Rattle.cpm_files.specs.Operations.{writing, write_in, next_place, write_next}
+use Rattle.cpm_volume.specs.Operations.{writing, write_in, next_place, write_next}
 use Rattle.cpm_drive.specs.Drive.{volume_of, after_call}
 use Rattle.cpm_drive.proofs.drive.Drive.write_next.Goals as goal
 

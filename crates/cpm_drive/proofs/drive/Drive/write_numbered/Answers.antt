@@ -1,7 +1,7 @@
 use Rattle.std.proofs.Common.{ap, ◌∙◌}
 use Rattle.cpm_geom.specs.Geometry.{dpb_of}
-use Rattle.cpm_files.specs.declared.answer.Answer.{Answer}
-use Rattle.cpm_files.specs.Operations.{writing, write_in, place_at, target_of}
+use Rattle.cpm_volume.specs.declared.answer.Answer.{Answer}
+use Rattle.cpm_volume.specs.Operations.{writing, write_in, place_at, target_of}
 use Rattle.cpm_drive.specs.Drive.{volume_of, after_call}
 use Rattle.cpm_drive.proofs.drive.Drive.write_numbered.Goals as goal
 

@@ -1,0 +1,259 @@
+//! Runs a program by one grant of a machine, `machine CPU FILE STEPS`, or with IMAGE as its drive A, `machine CPU FILE STEPS IMAGE`, or
+//! RUN.COM of a system drive in the sessions of a host by grants in turn, `host CPU IMAGE SESSIONS QUOTA STEPS ROUNDS`, and prints how
+//! many steps were executed; or RUN.COM in one session in turn with sessions that wait at their prompts, `waiting IMAGE NUMBER STEPS ROUNDS`.
+//! CPU is `8080` or `z80`. Or it looks at a session, `looks TIMES`, or opens and closes a slot with a new blank drive, `slots TIMES`, or makes such a
+//! drive alone, `openings TIMES`.
+//!
+//! Or it makes memories to see what room they take: `sessions NUMBER` in one store, each with one written page, or `flats NUMBER` of
+//! their own; or a host with up to 64 sessions of four blank drives each, `drives small NUMBER` or `drives large NUMBER`; or one whose sessions
+//! have run RUN.COM of a system drive, each itself, `opened IMAGE NUMBER`, or all but the first as forks of it, `forked IMAGE NUMBER`. It prints
+//! what Linux says of its own memory then. Or it forks such a session and closes the fork, `forks IMAGE TIMES`.
+//!
+//! Or it runs sessions of programs that nobody vouches for, `soak FOLDER NUMBER STEPS`, each by itself, or with a further word QUANTUM all on
+//! one host, and prints a line of what each showed and left.
+#![tactic(auto)]
+
+mod digest;
+mod forks;
+mod sessions;
+mod soak;
+
+use cpm_flags::Cpu;
+use cpm_geom::{Format, Image};
+use cpm_memory::{FlatMemory, FrameStore, has_room};
+use cpm_slots::Host;
+use forks::{fork_and_close, host_of_forks, host_of_opened};
+use sessions::{
+    Turns, host_of_drives, look_often, make_openings, open_and_close, run_beside, run_host,
+    run_machine, run_machine_with,
+};
+use soak::soak;
+use std::process::ExitCode;
+use std::{env, fs};
+
+/// The greatest resident memory of this process so far, in KiB, as Linux counts it.
+fn resident(rt: &HostRuntime) -> Option<u64> {
+    let status = fs::read_to_string(rt, "/proc/self/status").ok()?;
+    let line = status
+        .as_str()
+        .lines()
+        .find(|line| line.starts_with("VmHWM:"))?;
+    line.split_whitespace().nth(1)?.parse().ok()
+}
+
+/// Makes so many memories in one store, each with a quota of 16 pages and one page written, and keeps them to the end.
+fn share(rt: &HostRuntime, number: u16) -> Option<u64> {
+    if number > 64 {
+        return None;
+    }
+    let mut store = FrameStore::new(rt.alloc(), 16 * number).ok()?;
+    for _ in 0..number {
+        if store.taken() >= 64 {
+            return None;
+        }
+        let table = store.reserve(16).ok()?;
+        if !store.is_taken(table) {
+            return None;
+        }
+        let mut view = store.view(table);
+        if !has_room(&view) {
+            return None;
+        }
+        cpm_memory::set_byte(&mut view, 0x2000, 1);
+    }
+    resident(rt)
+}
+
+/// Makes so many memories of their own, each with one page written, and keeps them to the end.
+fn own(rt: &HostRuntime, number: u16) -> Option<u64> {
+    let mut memories = Vec::new(rt.alloc());
+    for _ in 0..number {
+        let mut memory = FlatMemory::new(rt.alloc()).ok()?;
+        if has_room(&memory) {
+            cpm_memory::set_byte(&mut memory, 0x2000, 1);
+        }
+        memories.push(memory).ok()?;
+    }
+    resident(rt)
+}
+
+/// Makes the host that the words ask for.
+fn host_by(rt: &HostRuntime, words: &[&str]) -> Option<Host> {
+    let alloc = rt.alloc();
+    match words {
+        ["drives", "small", number] => {
+            host_of_drives(alloc, Format::Ibm3740, number.parse().ok()?)
+        }
+        ["drives", "large", number] => host_of_drives(alloc, Format::Large, number.parse().ok()?),
+        ["opened", file, number] => {
+            host_of_opened(alloc, drive_of(rt, file)?, number.parse().ok()?)
+        }
+        ["forked", file, number] => host_of_forks(alloc, drive_of(rt, file)?, number.parse().ok()?),
+        _ => None,
+    }
+}
+
+/// Makes a host, and keeps it to the end.
+fn hold(rt: &HostRuntime, words: &[&str]) -> Option<u64> {
+    let _host = host_by(rt, words)?;
+    resident(rt)
+}
+
+/// The processor of that name.
+fn cpu_of(name: &str) -> Option<Cpu> {
+    match name {
+        "8080" => Some(Cpu::I8080),
+        "z80" => Some(Cpu::Z80),
+        _ => None,
+    }
+}
+
+/// The drive in a file.
+fn drive_of(rt: &HostRuntime, file: &str) -> Option<Image> {
+    Image::from_bytes(fs::read(rt, file).ok()?).ok()
+}
+
+/// The steps of a turn, where they are told.
+fn quantum_of(words: &[&str]) -> Option<Option<u64>> {
+    match words {
+        [] => Some(None),
+        [quantum] => Some(Some(quantum.parse().ok()?)),
+        _ => None,
+    }
+}
+
+/// Runs the sessions of a folder, where the words ask for it.
+fn run_soak(rt: &HostRuntime, words: &[&str]) -> Option<()> {
+    match words {
+        [folder, number, steps, rest @ ..] => {
+            let quantum = quantum_of(rest)?;
+            soak(
+                rt,
+                folder,
+                number.parse().ok()?,
+                steps.parse().ok()?,
+                quantum,
+            )
+        }
+        _ => None,
+    }
+}
+
+/// Runs a program by one grant of a machine, where the words ask for it.
+fn measure_machine(rt: &HostRuntime, words: &[&str]) -> Option<u64> {
+    match words {
+        [cpu, file, steps] => {
+            let program = fs::read(rt, file).ok()?;
+            run_machine(rt.alloc(), cpu_of(cpu)?, program, steps.parse().ok()?)
+        }
+        [cpu, file, steps, image] => {
+            let program = fs::read(rt, file).ok()?;
+            let drive = drive_of(rt, image)?;
+            run_machine_with(
+                rt.alloc(),
+                cpu_of(cpu)?,
+                program,
+                steps.parse().ok()?,
+                drive,
+            )
+        }
+        _ => None,
+    }
+}
+
+/// How many sessions of a host run by grants in turn, where four words say it.
+fn turns_of(words: &[&str]) -> Option<Turns> {
+    let [sessions, quota, steps, rounds] = words else {
+        return None;
+    };
+    Some(Turns {
+        sessions: sessions.parse().ok()?,
+        quota: quota.parse().ok()?,
+        steps: steps.parse().ok()?,
+        rounds: rounds.parse().ok()?,
+    })
+}
+
+/// Runs sessions of a host by grants in turn, where the words ask for it.
+fn measure_host(rt: &HostRuntime, words: &[&str]) -> Option<u64> {
+    let [cpu, file, rest @ ..] = words else {
+        return None;
+    };
+    let turns = turns_of(rest)?;
+    run_host(rt.alloc(), cpu_of(cpu)?, drive_of(rt, file)?, &turns)
+}
+
+/// Runs one session in turn with sessions that wait, where the words ask for it.
+fn measure_waiting(rt: &HostRuntime, words: &[&str]) -> Option<u64> {
+    let [file, waiting, steps, rounds] = words else {
+        return None;
+    };
+    let waiting = waiting.parse().ok()?;
+    let steps = steps.parse().ok()?;
+    let rounds = rounds.parse().ok()?;
+    run_beside(rt.alloc(), drive_of(rt, file)?, waiting, steps, rounds)
+}
+
+/// Forks and closes sessions, where the words ask for it.
+fn measure_forks(rt: &HostRuntime, words: &[&str]) -> Option<u64> {
+    let [file, times] = words else {
+        return None;
+    };
+    let times = times.parse().ok()?;
+    fork_and_close(rt.alloc(), drive_of(rt, file)?, times)
+}
+
+/// Makes one of what it names so many times.
+fn make(rt: &HostRuntime, what: &str, times: &str) -> Option<u64> {
+    match what {
+        "sessions" => share(rt, times.parse().ok()?),
+        "flats" => own(rt, times.parse().ok()?),
+        "looks" => look_often(rt.alloc(), times.parse().ok()?),
+        "slots" => open_and_close(rt.alloc(), times.parse().ok()?),
+        "openings" => make_openings(rt.alloc(), times.parse().ok()?),
+        _ => hold(rt, &[what, times]),
+    }
+}
+
+/// Does what the words ask for, and gives the number to print.
+fn measure(rt: &HostRuntime, words: &[&str]) -> Option<u64> {
+    match words {
+        ["machine", rest @ ..] => measure_machine(rt, rest),
+        ["host", rest @ ..] => measure_host(rt, rest),
+        ["waiting", rest @ ..] => measure_waiting(rt, rest),
+        ["forks", rest @ ..] => measure_forks(rt, rest),
+        [what, times] => make(rt, what, times),
+        words => hold(rt, words),
+    }
+}
+
+/// Prints that number.
+fn print_measure(rt: &HostRuntime, words: &[&str]) -> Option<()> {
+    let done = measure(rt, words)?;
+    println!(rt; "{done}").ok()
+}
+
+/// Does what the words behind the program's own name ask for.
+fn do_words(rt: &HostRuntime, words: &[&str]) -> Option<()> {
+    match words {
+        ["soak", rest @ ..] => run_soak(rt, rest),
+        words => print_measure(rt, words),
+    }
+}
+
+/// Does what the command line asks for.
+fn do_line(rt: &HostRuntime) -> Option<()> {
+    let words: Vec<String> = env::args(rt).ok()?.skip(1).collect(rt.alloc()).ok()?;
+    let mut texts = Vec::new(rt.alloc());
+    for word in &words {
+        texts.push(word.as_str()).ok()?;
+    }
+    do_words(rt, texts.as_slice())
+}
+
+fn main(rt: HostRuntime) -> ExitCode {
+    match do_line(&rt) {
+        Some(()) => ExitCode::SUCCESS,
+        None => ExitCode::from(1),
+    }
+}

@@ -1,0 +1,394 @@
+//! Sessions of programs that nobody vouches for: each by itself on a machine, or all on one host by grants in turn, with keys that come at
+//! given counts; and a line of what each showed and left, so that the two can be compared.
+
+use crate::digest::Digest;
+use cpm_flags::Cpu;
+use cpm_geom::Image;
+use cpm_slots::{Host, SlotId};
+use cpm_machine::{Closed, Granted, Machine, Opening, Why};
+use std::fs;
+
+/// The most sessions of a host.
+const MOST_SESSIONS: u16 = 64;
+
+/// The frames of a host: enough for all quotas.
+const MOST_FRAMES: u16 = 16_384;
+
+/// How many steps lie between two keys.
+const KEY_DISTANCE: u64 = 2503;
+
+/// The quotas of the sessions, in turn.
+const QUOTAS: [u16; 4] = [256, 64, 256, 24];
+
+/// How long sessions run, and by which turns.
+#[derive(Clone, Copy, Drop)]
+pub struct Turns {
+    pub steps: u64,
+    pub quantum: u64,
+}
+
+/// A session that runs: a machine, or a slot of a host.
+trait Session {
+    fn press(&mut self, key: u8) -> Option<()>;
+
+    fn grant(&mut self, steps: u64) -> Option<Granted>;
+
+    fn take(&mut self, out: &mut [u8]) -> Option<usize>;
+
+    fn take_list(&mut self, out: &mut [u8]) -> Option<usize>;
+
+    fn peek(&self, address: u16) -> Option<u8>;
+}
+
+/// A machine, with the system drive that is lent to it.
+#[derive(Drop)]
+struct ByItself<'a> {
+    machine: Machine,
+    system: &'a Image,
+}
+
+impl Session for ByItself<'_> {
+    fn press(&mut self, key: u8) -> Option<()> {
+        // (a key too many is dropped)
+        let _ = self.machine.key(key);
+        Some(())
+    }
+
+    fn grant(&mut self, steps: u64) -> Option<Granted> {
+        Some(self.machine.grant(self.system, steps))
+    }
+
+    fn take(&mut self, out: &mut [u8]) -> Option<usize> {
+        Some(self.machine.take(out))
+    }
+
+    fn take_list(&mut self, out: &mut [u8]) -> Option<usize> {
+        Some(self.machine.take_list(out))
+    }
+
+    fn peek(&self, address: u16) -> Option<u8> {
+        Some(self.machine.peek(address))
+    }
+}
+
+/// A slot of a host.
+#[derive(Drop)]
+struct Beside<'a> {
+    host: &'a mut Host,
+    id: SlotId,
+}
+
+impl Session for Beside<'_> {
+    fn press(&mut self, key: u8) -> Option<()> {
+        let _ = self.host.key(self.id, key);
+        Some(())
+    }
+
+    fn grant(&mut self, steps: u64) -> Option<Granted> {
+        self.host.grant(self.id, steps).ok()
+    }
+
+    fn take(&mut self, out: &mut [u8]) -> Option<usize> {
+        self.host.take(self.id, out).ok()
+    }
+
+    fn take_list(&mut self, out: &mut [u8]) -> Option<usize> {
+        self.host.take_list(self.id, out).ok()
+    }
+
+    fn peek(&self, address: u16) -> Option<u8> {
+        self.host.peek(self.id, address).ok()
+    }
+}
+
+/// How far a session is, and what it showed.
+#[derive(Drop)]
+struct Progress {
+    keys: Vec<u8>,
+    pressed: u64,
+    executed: u64,
+    console: Digest,
+    list: Digest,
+    is_over: bool,
+}
+
+impl Progress {
+    fn new(keys: Vec<u8>) -> Progress {
+        Progress {
+            keys,
+            pressed: 0,
+            executed: 0,
+            console: Digest::new(),
+            list: Digest::new(),
+            is_over: false,
+        }
+    }
+
+    /// The count at which the next key comes, the greatest number where there is none.
+    fn next_count(&self) -> u64 {
+        if self.pressed < self.keys.len() as u64 {
+            self.pressed.saturating_mul(KEY_DISTANCE)
+        } else {
+            u64::MAX
+        }
+    }
+
+    /// Presses the keys that are due.
+    fn press_due<S: Session>(&mut self, session: &mut S) -> Option<()> {
+        for place in 0..self.keys.len() {
+            if self.pressed == place as u64 && self.next_count() <= self.executed {
+                session.press(self.keys[place])?;
+                self.pressed += 1;
+            }
+        }
+        Some(())
+    }
+
+    /// Takes all output.
+    fn take_all<S: Session>(&mut self, session: &mut S) -> Option<()> {
+        let mut out = [0; 8192];
+        let count = session.take(&mut out)?;
+        self.console.add(out.get(..count)?);
+        let count = session.take_list(&mut out)?;
+        self.list.add(out.get(..count)?);
+        Some(())
+    }
+
+    /// A turn of the session.
+    fn turn<S: Session>(&mut self, session: &mut S, turns: &Turns) -> Option<()> {
+        self.press_due(session)?;
+        let left = turns.steps.saturating_sub(self.executed);
+        let before_key = self.next_count().saturating_sub(self.executed);
+        let granted = session.grant(left.min(turns.quantum).min(before_key))?;
+        self.executed = self.executed.saturating_add(granted.executed);
+        self.take_all(session)?;
+        self.is_over = self.executed >= turns.steps || granted.why == Why::Stopped;
+        Some(())
+    }
+}
+
+/// The digest of a session's memory.
+fn memory_of<S: Session>(session: &S) -> Option<Digest> {
+    let mut digest = Digest::new();
+    for address in 0..=0xFFFF {
+        digest.add(&[session.peek(address)?]);
+    }
+    Some(digest)
+}
+
+/// The bytes of a file of a folder, whose name is a number and an end.
+fn file_of(rt: &HostRuntime, folder: &str, number: u16, end: &str) -> Option<Vec<u8>> {
+    let name = format!(in rt.alloc(); "{folder}/{number}.{end}").ok()?;
+    fs::read(rt, name.as_str()).ok()
+}
+
+/// The opening of a session, by its number: the 8080 where that is even, the Z80 where it is odd.
+fn opening_of(rt: &HostRuntime, folder: &str, number: u16) -> Option<Opening> {
+    let image = Image::from_bytes(file_of(rt, folder, number, "img")?).ok()?;
+    let mut drives = Vec::new(rt.alloc());
+    drives.push(image).ok()?;
+    let cpu = if number % 2 == 0 {
+        Cpu::I8080
+    } else {
+        Cpu::Z80
+    };
+    Some(Opening {
+        cpu,
+        quota: QUOTAS[usize::from(number % 4)],
+        drives,
+    })
+}
+
+/// The digest of the drives that are left.
+fn disks_of(drives: [Option<Image>; 4]) -> Digest {
+    let mut disks = Digest::new();
+    for drive in drives {
+        if let Some(image) = drive {
+            disks.add(image.into_bytes().as_slice());
+        }
+    }
+    disks
+}
+
+/// Prints what a session showed and left.
+fn tell(rt: &HostRuntime, number: u16, progress: &Progress, memory: Digest, closed: Closed) {
+    let Closed { look, drives } = closed;
+    let disks = disks_of(drives);
+    let Progress { console, list, .. } = progress;
+    let _ = println!(rt;
+        "{number} console {console} list {list} memory {memory} disks {disks} {look:?}"
+    );
+}
+
+/// Gives a session turns until it is over, and answers the digest of its memory.
+fn play<S: Session>(session: &mut S, progress: &mut Progress, turns: &Turns) -> Option<Digest> {
+    for _turn in 0..u64::MAX {
+        if progress.is_over {
+            break;
+        }
+        progress.turn(session, turns)?;
+    }
+    memory_of(session)
+}
+
+/// Runs a session by itself.
+fn run_alone(
+    rt: &HostRuntime,
+    folder: &str,
+    number: u16,
+    system: &Image,
+    turns: &Turns,
+) -> Option<()> {
+    let mut progress = Progress::new(file_of(rt, folder, number, "keys")?);
+    let machine = Machine::new(rt.alloc(), opening_of(rt, folder, number)?).ok()?;
+    let mut session = ByItself { machine, system };
+    let memory = play(&mut session, &mut progress, turns)?;
+    tell(rt, number, &progress, memory, session.machine.finish());
+    Some(())
+}
+
+/// A session in a slot.
+#[derive(Drop)]
+struct Opened {
+    number: u16,
+    id: SlotId,
+    progress: Progress,
+}
+
+/// Opens a session on a host.
+fn open(rt: &HostRuntime, folder: &str, number: u16, host: &mut Host) -> Option<Opened> {
+    let id = host.open(rt.alloc(), opening_of(rt, folder, number)?).ok()?;
+    let progress = Progress::new(file_of(rt, folder, number, "keys")?);
+    Some(Opened {
+        number,
+        id,
+        progress,
+    })
+}
+
+/// Opens so many sessions.
+fn open_all(
+    rt: &HostRuntime,
+    folder: &str,
+    number: u16,
+    host: &mut Host,
+    sessions: &mut Vec<Opened>,
+) -> Option<()> {
+    for number in 0..number {
+        sessions.push(open(rt, folder, number, host)?).ok()?;
+    }
+    Some(())
+}
+
+/// Gives each session that isn't over a turn, and tells whether there was one.
+fn round(host: &mut Host, sessions: &mut [Opened], turns: &Turns) -> Option<bool> {
+    let mut has_run = false;
+    for session in sessions.iter_mut() {
+        if !session.progress.is_over {
+            has_run = true;
+            let mut slot = Beside {
+                host,
+                id: session.id,
+            };
+            session.progress.turn(&mut slot, turns)?;
+        }
+    }
+    Some(has_run)
+}
+
+/// Gives all sessions turns until they are over.
+fn play_all(host: &mut Host, sessions: &mut [Opened], turns: &Turns) -> Option<()> {
+    for _round in 0..u64::MAX {
+        if !round(host, sessions, turns)? {
+            break;
+        }
+    }
+    Some(())
+}
+
+/// Closes a session, and prints what it showed and left.
+fn close(rt: &HostRuntime, host: &mut Host, session: &Opened) -> Option<()> {
+    let memory = memory_of(&Beside {
+        host,
+        id: session.id,
+    })?;
+    let closed = host.close(session.id).ok()?;
+    tell(rt, session.number, &session.progress, memory, closed);
+    Some(())
+}
+
+/// Closes all sessions, and prints what each showed and left.
+fn close_all(rt: &HostRuntime, host: &mut Host, sessions: &[Opened]) -> Option<()> {
+    for session in sessions {
+        close(rt, host, session)?;
+    }
+    Some(())
+}
+
+/// Runs sessions on a host from their openings to their ends.
+fn run_all(
+    rt: &HostRuntime,
+    folder: &str,
+    number: u16,
+    host: &mut Host,
+    sessions: &mut Vec<Opened>,
+    turns: &Turns,
+) -> Option<()> {
+    open_all(rt, folder, number, host, sessions)?;
+    play_all(host, sessions.as_mut_slice(), turns)?;
+    close_all(rt, host, sessions.as_slice())
+}
+
+/// Runs all sessions on one host.
+fn run_beside(
+    rt: &HostRuntime,
+    folder: &str,
+    number: u16,
+    system: Image,
+    turns: &Turns,
+) -> Option<()> {
+    let mut host = Host::new(rt.alloc(), system, MOST_FRAMES).ok()?;
+    let mut sessions = Vec::new(rt.alloc());
+    run_all(rt, folder, number, &mut host, &mut sessions, turns)
+}
+
+/// Runs each session by itself.
+fn run_each(
+    rt: &HostRuntime,
+    folder: &str,
+    number: u16,
+    system: &Image,
+    turns: &Turns,
+) -> Option<()> {
+    for number in 0..number {
+        run_alone(rt, folder, number, system, turns)?;
+    }
+    Some(())
+}
+
+/// The system drive of a folder.
+fn system_of(rt: &HostRuntime, folder: &str) -> Option<Image> {
+    let name = format!(in rt.alloc(); "{folder}/system.img").ok()?;
+    let bytes = fs::read(rt, name.as_str()).ok()?;
+    Image::from_bytes(bytes).ok()
+}
+
+/// Runs the first sessions of a folder, of which number N has the files `N.img`, its drive A, and `N.keys`; `system.img` is the
+/// system drive. Each by itself where there is no quantum, else all on one host.
+pub fn soak(
+    rt: &HostRuntime,
+    folder: &str,
+    number: u16,
+    steps: u64,
+    quantum: Option<u64>,
+) -> Option<()> {
+    let number = number.min(MOST_SESSIONS);
+    let system = system_of(rt, folder)?;
+    match quantum {
+        Some(quantum) => run_beside(rt, folder, number, system, &Turns { steps, quantum }),
+        None => {
+            let quantum = u64::MAX;
+            run_each(rt, folder, number, &system, &Turns { steps, quantum })
+        }
+    }
+}

@@ -1,0 +1,113 @@
+-- Reading an expression from left to right, with a stack of what waits for its right operand (own). That it
+-- reads the grammar's expressions and no others is the law exact_reading.
+use Rattle.std.specs.Prelude.{ℕ, List, [], ◌∷◌, Option, None, Some, option_and_then, nat_le, cond, Bool, false, ◌≡◌}
+use Rattle.cpm_asm_expression.specs.Names.{Table}
+use Rattle.cpm_asm_expression.specs.Grammar.{level, right_level, prefix_level}
+use Rattle.cpm_asm_expression.specs.Values.{atom_value, changed, combined}
+use Rattle.cpm_asm_expression.specs.Tokens.{tokens_of}
+use Rattle.cpm_asm_expression.specs.declared.tokens.Operator.{Operator}
+use Rattle.cpm_asm_expression.specs.declared.tokens.Operator.TheVariants as operators
+use Rattle.cpm_asm_expression.specs.declared.tokens.Prefix.{Prefix}
+use Rattle.cpm_asm_expression.specs.declared.tokens.Prefix.TheVariants as prefixes
+use Rattle.cpm_asm_expression.specs.declared.tokens.Token.{Token}
+use Rattle.cpm_asm_expression.specs.declared.tokens.Token.TheVariants as tokens
+use Rattle.cpm_asm_expression.specs.declared.values.Valued.{Valued}
+use Rattle.cpm_asm_expression.specs.declared.reader.Stage.{Stage}
+use Rattle.cpm_asm_expression.specs.declared.reader.Stage.TheVariants as stages
+use Rattle.cpm_asm_expression.specs.declared.reader.Waiting.{Waiting}
+use Rattle.cpm_asm_expression.specs.declared.reader.Waiting.TheVariants as waiting
+
+-- how strongly the operand that is wanted has to bind
+abbrev pub wanted : List Waiting → ℕ
+wanted [] = 0
+wanted (waiting.Bracket ∷ ws) = 0
+wanted (waiting.Prefix p ∷ ws) = prefix_level p
+wanted (waiting.Left v o ∷ ws) = right_level o
+
+-- a value, and what still waits
+pub record Settled : Type 0 where
+  pub value : Valued
+  pub waiting : List Waiting
+
+-- the value with all that binds as strongly as a level, or more strongly
+abbrev pub settled : ℕ → Valued → List Waiting → Settled
+settled l v [] = record { value = v; waiting = [] }
+settled l v (waiting.Bracket ∷ ws) = record { value = v; waiting = waiting.Bracket ∷ ws }
+settled l v (waiting.Prefix p ∷ ws) = cond (nat_le l (prefix_level p)) (settled l (changed p v) ws) (record { value = v; waiting = waiting.Prefix p ∷ ws })
+settled l v (waiting.Left u o ∷ ws) = cond (nat_le l (level o)) (settled l (combined o u v) ws) (record { value = v; waiting = waiting.Left u o ∷ ws })
+
+abbrev pub sign_of : Operator → Option Prefix
+sign_of operators.Add = Some prefixes.Plus
+sign_of operators.Subtract = Some prefixes.Minus
+sign_of _ = None
+
+-- where reading stands: an operand is wanted, or there is one, or the text is no expression
+pub data State : Type 0 where
+  Wants : List Waiting → State
+  Has : Valued → List Waiting → State
+  Wrong : State
+
+abbrev pub with_prefix : List Waiting → Prefix → State
+with_prefix ws p = cond (nat_le (wanted ws) (prefix_level p)) (Wants (waiting.Prefix p ∷ ws)) Wrong
+
+abbrev pub with_sign : List Waiting → Option Prefix → State
+with_sign ws None = Wrong
+with_sign ws (Some p) = with_prefix ws p
+
+abbrev pub with_left : Operator → Settled → State
+with_left o s = Wants (waiting.Left s.value o ∷ s.waiting)
+
+abbrev pub closed : Valued → List Waiting → State
+closed v (waiting.Bracket ∷ ws) = Has v ws
+closed v _ = Wrong
+
+-- a token behind an operand
+abbrev pub after_operand : Valued → List Waiting → Token → State
+after_operand v ws (tokens.Operator o) = with_left o (settled (level o) v ws)
+after_operand v ws tokens.Close = closed (settled 0 v ws).value (settled 0 v ws).waiting
+after_operand v ws _ = Wrong
+
+abbrev pub after : Table → ℕ → State → Token → State
+after names here (Wants ws) (tokens.Atom x) = Has (atom_value names here x) ws
+after names here (Wants ws) (tokens.Operator o) = with_sign ws (sign_of o)
+after names here (Wants ws) tokens.Not = with_prefix ws prefixes.Not
+after names here (Wants ws) tokens.Open = Wants (waiting.Bracket ∷ ws)
+after names here (Wants ws) tokens.Close = Wrong
+after names here (Has v ws) t = after_operand v ws t
+after names here Wrong t = Wrong
+
+abbrev pub after_all : Table → ℕ → State → List Token → State
+after_all names here s [] = s
+after_all names here s (t ∷ ts) = after_all names here (after names here s t) ts
+
+abbrev pub ended : Valued → List Waiting → Option Valued
+ended v [] = Some v
+ended v (w ∷ ws) = None
+
+abbrev pub answer : State → Option Valued
+answer (Has v ws) = ended (settled 0 v ws).value (settled 0 v ws).waiting
+answer _ = None
+
+abbrev pub reading : Table → ℕ → List Token → Option Valued
+reading names here ts = answer (after_all names here (Wants []) ts)
+
+-- the value of the expression that a text is, in a statement at an address; None where it is none
+unfoldable pub value_at : Table → ℕ → List ℕ → Option Valued
+value_at names here text = option_and_then (reading names here) (tokens_of text)
+
+abbrev pub binds : ℕ → Waiting → Bool
+binds l waiting.Bracket = false
+binds l (waiting.Prefix p) = nat_le l (prefix_level p)
+binds l (waiting.Left u o) = nat_le l (level o)
+
+-- the value behind what waited
+abbrev pub behind : Waiting → Valued → Valued
+behind waiting.Bracket v = v
+behind (waiting.Prefix p) v = changed p v
+behind (waiting.Left u o) v = combined o u v
+
+-- where reading stands, with what waits beside it
+abbrev pub state : Stage → List Waiting → State
+state stages.Wants ws = Wants ws
+state (stages.Has v) ws = Has v ws
+state stages.Wrong ws = Wrong

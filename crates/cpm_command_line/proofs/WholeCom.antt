@@ -1,0 +1,230 @@
+-- Words with no fault give the whole entries of a subcommand.
+use Rattle.std.proofs.Common.{◌≡◌, ◌⊎◌, ◌∙◌, ◌||◌, ℕ, ap, sym, refl, inl, inr, Bool, true, false, cond, true≢false, List, [], Option, Some, None, option_map, is_some, codes}
+use Rattle.std.specs.Option.{option_map_or}
+use Rattle.std.specs.Str.{bytes_eq}
+use Rattle.clap.specs.Walk.{Row, Rule, Text, finished, nothing_held, one_of, rows_after, walk}
+use Rattle.clap.specs.Simple.{App, Shape, argument_words, built, built_leaf, entered, filled, inherited, label_of, marked_built, names_of, rows_at, subcommand_of, with_index, with_leaf_noted}
+use Rattle.clap.specs.Takes.{is_given}
+use Rattle.clap.specs.Walk.{answers_to}
+use Rattle.clap.specs.Faults.{check_fault, entered_fault, fault_of, level_fault}
+use Rattle.clap.specs.declared.builder.value_parser.ValueParser.TheVariants as parser
+use Rattle.clap.proofs.ValueTestLemmas.{accepts-Accepts}
+use Rattle.cpm_command_line.specs.CommandLine.{IsCountIfAny, IsPick, IsWhole, IsWholeAsm, IsWholeCheck, IsWholeCom, IsWholeDebug, IsWholeList, IsWholeRun, asm_app, check_app, com_app, debug_app, host_app, list_app, operand, repeated_option, run_app, steps_option, value_option, words_left_out}
+use Rattle.cpm_flags.specs.declared.regs.Cpu.TheVariants.{I8080, Z80}
+use Rattle.cpm_command_line.proofs.FilledRows.{HasText, IsPlain, IsSetting, plain_by_ids, same_bytes}
+use Rattle.cpm_command_line.proofs.LeafRows.{both_given, default_text, flag_in, flag_rule, flag_word, given_first, leaf_checked, one_given, text_or_none}
+use Rattle.cpm_command_line.proofs.WalkRows.{HasNoShorts, level_checked}
+
+-- ---- the subcommand `com` as clap builds it
+
+abbrev host_built : App
+host_built = built host_app
+
+abbrev leaf : Shape → Shape
+leaf s = built_leaf (inherited (with_leaf_noted (marked_built host_app.top)) s)
+
+abbrev com_built : Shape
+com_built = leaf com_app.top
+
+abbrev asm_built : Shape
+asm_built = leaf asm_app.top
+
+abbrev list_built : Shape
+list_built = leaf list_app.top
+
+abbrev check_built : Shape
+check_built = leaf check_app.top
+
+abbrev run_built : Shape
+run_built = leaf run_app.top
+
+abbrev debug_built : Shape
+debug_built = leaf debug_app.top
+
+operand_word : (index : ℕ) (id : Text) → IsSetting (with_index index (filled (operand id)))
+operand_word index id = record { action = inl refl; values = inl refl }
+
+tail_words : IsSetting (with_index 2 (filled (words_left_out (codes "tail"))))
+tail_words = record { action = inr (inr refl); values = inl refl }
+
+value_word : (name : Text) → IsSetting (filled (value_option name))
+value_word name = record { action = inl refl; values = inl refl }
+
+steps_word : IsSetting (filled steps_option)
+steps_word = record { action = inl refl; values = inl refl }
+
+repeated_words : (name : Text) → IsSetting (filled (repeated_option name))
+repeated_words name = record { action = inr (inr refl); values = inl refl }
+
+com_plain : IsPlain com_built.rules
+com_plain = plain_by_ids com_built.rules refl
+    (operand_word _ _, (tail_words, (flag_word _, (steps_word, (value_word _, (repeated_words _, (repeated_words _, (flag_word _, (value_word _, (flag_word _, (flag_word _, tt)))))))))))
+
+com_no_shorts : HasNoShorts com_built.rules
+com_no_shorts x = refl
+
+-- ---- the entries of `com`
+
+abbrev file_rule : Rule
+file_rule = with_index 1 (filled (operand (codes "file")))
+
+abbrev z80_rule : Rule
+z80_rule = flag_rule (codes "z80")
+
+abbrev steps_rule : Rule
+steps_rule = filled steps_option
+
+pick_of : (rows : List Row) → HasText z80_rule rows → IsPick (one_of (codes "z80") rows)
+pick_of rows has = go (bytes_eq has.text (codes "true")) refl has.passes
+  where
+    go : (b : Bool) → bytes_eq has.text (codes "true") ≡ b → (b || bytes_eq has.text (codes "false")) ≡ true → IsPick (one_of (codes "z80") rows)
+    go true e pass = record { cpu = Z80; given = has.one ∙ ap (λ (v : Text). Some v) (same_bytes _ _ e) }
+    go false e pass = record { cpu = I8080; given = has.one ∙ ap (λ (v : Text). Some v) (same_bytes _ _ pass) }
+
+count_of : (rows : List Row) → (one_of (codes "steps") rows ≡ None) ⊎ HasText steps_rule rows → IsCountIfAny (one_of (codes "steps") rows)
+count_of rows (inl none) = inl none
+count_of rows (inr has) =
+    let taken = accepts-Accepts false (parser.Unsigned 0 18446744073709551615) has.text has.passes in
+    inr (record { digits = has.text; given = has.one; numeral = taken.0; fits = taken.1 })
+
+com_whole : (words : List Text) → level_fault com_built [] nothing_held words false [] ≡ [] → IsWholeCom (rows_after com_built.rules [] words)
+com_whole words e =
+    let rows = rows_after com_built.rules [] words in
+    let file = one_given (is_given (codes "file") rows) (leaf_checked com_built com_plain com_no_shorts words e) in
+    record {
+      file = given_first com_built com_plain com_no_shorts words e file_rule (inl refl) file;
+      z80 = pick_of rows (default_text com_built com_plain com_no_shorts words e z80_rule (inr (inr (inl refl))) tt);
+      steps = count_of rows (text_or_none com_built com_plain com_no_shorts words e steps_rule (inr (inr (inr (inl refl)))));
+      keyboard = flag_in (codes "keyboard") rows
+          (default_text com_built com_plain com_no_shorts words e (flag_rule (codes "keyboard")) (inr (inr (inr (inr (inr (inr (inr (inl refl)))))))) tt);
+      progress = flag_in (codes "progress") rows
+          (default_text com_built com_plain com_no_shorts words e (flag_rule (codes "progress")) (inr (inr (inr (inr (inr (inr (inr (inr (inr (inl refl)))))))))) tt);
+      idle = flag_in (codes "stop-idle") rows
+          (default_text com_built com_plain com_no_shorts words e (flag_rule (codes "stop-idle"))
+          (inr (inr (inr (inr (inr (inr (inr (inr (inr (inr (inl refl))))))))))) tt);
+    }
+
+-- ---- the other subcommands
+
+list_plain : IsPlain list_built.rules
+list_plain = plain_by_ids list_built.rules refl (operand_word _ _, (flag_word _, tt))
+
+list_no_shorts : HasNoShorts list_built.rules
+list_no_shorts x = refl
+
+list_whole : (words : List Text) → level_fault list_built [] nothing_held words false [] ≡ [] → IsWholeList (rows_after list_built.rules [] words)
+list_whole words e =
+    let rows = rows_after list_built.rules [] words in
+    let file = one_given (is_given (codes "file") rows) (leaf_checked list_built list_plain list_no_shorts words e) in
+    record {
+      file = given_first list_built list_plain list_no_shorts words e file_rule (inl refl) file;
+      z80 = pick_of rows (default_text list_built list_plain list_no_shorts words e z80_rule (inr (inl refl)) tt);
+    }
+
+asm_plain : IsPlain asm_built.rules
+asm_plain = plain_by_ids asm_built.rules refl
+    (operand_word _ _, (operand_word _ _, (value_word _, tt)))
+
+asm_no_shorts : HasNoShorts asm_built.rules
+asm_no_shorts x = refl
+
+abbrev source_rule : Rule
+source_rule = with_index 1 (filled (operand (codes "source")))
+
+abbrev out_rule : Rule
+out_rule = with_index 2 (filled (operand (codes "out")))
+
+asm_whole : (words : List Text) → level_fault asm_built [] nothing_held words false [] ≡ [] → IsWholeAsm (rows_after asm_built.rules [] words)
+asm_whole words e =
+    let rows = rows_after asm_built.rules [] words in
+    let given = both_given (is_given (codes "source") rows) (is_given (codes "out") rows) (leaf_checked asm_built asm_plain asm_no_shorts words e) in
+    record {
+      source = given_first asm_built asm_plain asm_no_shorts words e source_rule (inl refl) given.0;
+      out = given_first asm_built asm_plain asm_no_shorts words e out_rule (inr (inl refl)) given.1;
+    }
+
+check_plain : IsPlain check_built.rules
+check_plain = plain_by_ids check_built.rules refl (operand_word _ _, tt)
+
+check_no_shorts : HasNoShorts check_built.rules
+check_no_shorts x = refl
+
+abbrev image_rule : Rule
+image_rule = with_index 1 (filled (operand (codes "image")))
+
+check_whole : (words : List Text) → level_fault check_built [] nothing_held words false [] ≡ [] → IsWholeCheck (rows_after check_built.rules [] words)
+check_whole words e =
+    let image = one_given (is_given (codes "image") (rows_after check_built.rules [] words)) (leaf_checked check_built check_plain check_no_shorts words e) in
+    record { image = given_first check_built check_plain check_no_shorts words e image_rule (inl refl) image }
+
+run_plain : IsPlain run_built.rules
+run_plain = plain_by_ids run_built.rules refl
+    (operand_word _ _, (value_word _, (value_word _, (flag_word _, (flag_word _, (value_word _, tt))))))
+
+run_no_shorts : HasNoShorts run_built.rules
+run_no_shorts x = refl
+
+abbrev config_rule : Rule
+config_rule = with_index 1 (filled (operand (codes "config")))
+
+run_whole : (words : List Text) → level_fault run_built [] nothing_held words false [] ≡ [] → IsWholeRun (rows_after run_built.rules [] words)
+run_whole words e =
+    let rows = rows_after run_built.rules [] words in
+    let config = one_given (is_given (codes "config") rows) (leaf_checked run_built run_plain run_no_shorts words e) in
+    record {
+      config = given_first run_built run_plain run_no_shorts words e config_rule (inl refl) config;
+      progress = flag_in (codes "progress") rows
+          (default_text run_built run_plain run_no_shorts words e (flag_rule (codes "progress")) (inr (inr (inr (inl refl)))) tt);
+      idle = flag_in (codes "stop-idle") rows
+          (default_text run_built run_plain run_no_shorts words e (flag_rule (codes "stop-idle")) (inr (inr (inr (inr (inl refl))))) tt);
+    }
+
+debug_plain : IsPlain debug_built.rules
+debug_plain = plain_by_ids debug_built.rules refl (operand_word _ _, (flag_word _, (value_word _, tt)))
+
+debug_no_shorts : HasNoShorts debug_built.rules
+debug_no_shorts x = refl
+
+debug_whole : (words : List Text) → level_fault debug_built [] nothing_held words false [] ≡ [] → IsWholeDebug (rows_after debug_built.rules [] words)
+debug_whole words e =
+    let rows = rows_after debug_built.rules [] words in
+    let file = one_given (is_given (codes "file") rows) (leaf_checked debug_built debug_plain debug_no_shorts words e) in
+    record {
+      file = given_first debug_built debug_plain debug_no_shorts words e file_rule (inl refl) file;
+      z80 = pick_of rows (default_text debug_built debug_plain debug_no_shorts words e z80_rule (inr (inl refl)) tt);
+    }
+
+-- ---- the whole command line
+
+-- the subcommand that a word names, by whether it is the name of each
+abbrev found : Bool → Bool → Bool → Bool → Bool → Bool → Option Shape
+found a b d k r g = cond a (Some com_built) (cond b (Some asm_built) (cond d (Some list_built)
+    (cond k (Some check_built) (cond r (Some run_built) (cond g (Some debug_built) None)))))
+
+-- words with no fault name a subcommand, and give it whole entries
+pub faultless_whole : (words : List Text) → fault_of host_app words ≡ [] → IsWhole (subcommand_of host_app words)
+faultless_whole words e =
+    let stop = (walk host_built.top.rules (names_of host_built) nothing_held (argument_words host_app words)).stopped in
+    let parts = level_checked host_built.top (names_of host_built) nothing_held (argument_words host_app words) (is_some (entered host_built stop)) (entered_fault host_built stop) e in
+    go stop (has (is_some (entered host_built stop)) parts.1) parts.0
+  where
+    has : (b : Bool) → check_fault host_built.top (finished host_built.top.rules (walk host_built.top.rules (names_of host_built) nothing_held (argument_words host_app words)).held) b ≡ []
+        → b ≡ true
+    has true h = refl
+    has false h = absurd (let bad : ⊥ = cc in bad)
+
+    named : (p : Text × List Text) (a b d k r g : Bool) → is_some (option_map (λ s. rows_at s p.1) (found a b d k r g)) ≡ true
+        → option_map_or (λ s. level_fault s [] nothing_held p.1 false []) (found a b d k r g) [] ≡ []
+        → IsWhole (option_map (λ s. rows_at s p.1) (found a b d k r g))
+    named p true b d k r g some h = inl (refl, com_whole p.1 h)
+    named p false true d k r g some h = inr (inl (refl, asm_whole p.1 h))
+    named p false false true k r g some h = inr (inr (inl (refl, list_whole p.1 h)))
+    named p false false false true r g some h = inr (inr (inr (inl (refl, check_whole p.1 h))))
+    named p false false false false true g some h = inr (inr (inr (inr (inl (refl, run_whole p.1 h)))))
+    named p false false false false false true some h = inr (inr (inr (inr (inr (refl, debug_whole p.1 h)))))
+    named p false false false false false false some h = absurd (true≢false (sym some))
+
+    go : (at : Option (Text × List Text)) → is_some (entered host_built at) ≡ true → entered_fault host_built at ≡ [] → IsWhole (entered host_built at)
+    go None some h = absurd (true≢false (sym some))
+    go (Some p) some h = named p (answers_to p.0 (label_of com_built)) (answers_to p.0 (label_of asm_built)) (answers_to p.0 (label_of list_built))
+        (answers_to p.0 (label_of check_built)) (answers_to p.0 (label_of run_built)) (answers_to p.0 (label_of debug_built)) some h

@@ -1,0 +1,25 @@
+use Rattle.std.proofs.Common.{◌≡◌, ◌∙◌, ap, subst, sym, true, [], map}
+use Rattle.clap.specs.Words.{App, fault_of, is_simple, is_simple_and_free, kind_of, subcommand_of, subcommand_rows_of}
+use Rattle.clap.specs.Kinds.{HasKind}
+use Rattle.cpm_command_line.specs.DiskLine.{IsWholeDisk, disk_app}
+use Rattle.cpm_command_line.proofs.RefusalLemmas.{refusal_of_kind}
+use Rattle.cpm_command_line.proofs.WholeDisk.{faultless_disk}
+use Rattle.cpm_command_line.proofs.disk.disk_task.Goals as goal
+
+pub task_of-requires : goal.task_of-requires
+task_of-requires c =
+    let words = map (λ w. w.now) c.args.words.now in
+    let app = c.in-Ok.ensures.app in
+    let rows : subcommand_rows_of c.in-Ok-try_get_matches_from.matches ≡ subcommand_of disk_app words =
+    (c.in-Ok-try_get_matches_from.ensures.matches (ap is_simple app)).1 ∙ ap (λ (a : App). subcommand_of a words) app in
+    let faultless : fault_of disk_app words ≡ [] =
+    sym (ap (λ (a : App). fault_of a words) app) ∙ c.in-Ok-try_get_matches_from.ensures.kinds (ap is_simple_and_free app) in
+    subst IsWholeDisk (sym rows) (faultless_disk words faultless)
+
+pub returns-in-Err-try_get_matches_from-clause-refusal : goal.returns-in-Err-try_get_matches_from-clause-refusal
+returns-in-Err-try_get_matches_from-clause-refusal c =
+    let words = map (λ w. w.now) c.args.words.now in
+    let app = c.in-Ok.ensures.app in
+    let fails = subst (λ (a : App). HasKind (fault_of a words) c.in-Err-try_get_matches_from.error) app
+    (c.in-Err-try_get_matches_from.ensures.kinds (ap is_simple_and_free app)) in
+    refusal_of_kind true disk_app words (kind_of c.in-Err-try_get_matches_from.error) c.refusal.result c.refusal.ensures.kind c.refusal.ensures.memory fails

@@ -1,0 +1,230 @@
+-- The program's subcommands, and the task that a subcommand's entries give.
+use Rattle.std.specs.Prelude.{◌≡◌, ◌⊎◌, [], ◌^◌, ◌<◌, Bool, IsSome, IsSomeAnd, ℕ, List, Option, Some, None, map, option_map, unwrap_or, true, false, codes}
+use Rattle.std.specs.Borrow.{Bor}
+use Rattle.std.specs.Str.Parse.{IsNumeral, digits_value, without_leading_plus}
+use Rattle.clap.specs.Lexer.{usize_max}
+use Rattle.clap.specs.Values.{bool_text}
+use Rattle.clap.specs.Words.{App, Row, Rule, Text, all_of, app_of, first_of, new_app, new_rule, one_of, rule_of, with_rule, with_subcommand}
+use Rattle.clap.specs.declared.builder.action.ArgAction.TheVariants.{Append, SetTrue}
+use Rattle.clap.specs.declared.builder.arg.Arg.{Arg}
+use Rattle.clap.specs.declared.builder.command.Command.{Command}
+use Rattle.clap.specs.declared.builder.command.Command.TheViews.{out-Command}
+use Rattle.clap.specs.declared.builder.value_parser.ValueParser.TheVariants as parser
+use Rattle.cpm_flags.specs.declared.regs.Cpu.{Cpu}
+use Rattle.cpm_flags.specs.declared.regs.Cpu.TheVariants.{I8080, Z80}
+use Rattle.cpm_command_line.specs.declared.task.Task.{Task}
+use Rattle.cpm_command_line.specs.declared.task.Task.TheVariants.{Asm, Check, Com, Debug, Disk, List as Listing, Run}
+
+-- a word that has to be there, with a name in usage
+abbrev pub operand : List ℕ → Rule
+operand id = record (new_rule id) { required = true; value_names = 1 }
+
+-- own: any number of words, which may be left out, with a name in usage
+abbrev pub words_left_out : List ℕ → Rule
+words_left_out id =
+    record (new_rule id) { range = Some (record { start_inclusive = 1; end_inclusive = usize_max }); value_names = 1 }
+
+-- own: a flag `--name`
+abbrev pub flag : List ℕ → Rule
+flag name = record (new_rule name) { long = Some name; action = Some SetTrue }
+
+-- own: an option `--name VALUE`, which may be left out
+abbrev pub value_option : List ℕ → Rule
+value_option name = record (new_rule name) { long = Some name; value_names = 1 }
+
+-- own: an option `--name VALUE`, which may be left out, and given several times
+abbrev pub repeated_option : List ℕ → Rule
+repeated_option name = record (value_option name) { action = Some Append }
+
+-- `--steps N`, of `u64`, which may be left out
+abbrev pub steps_option : Rule
+steps_option = record (value_option (codes "steps")) { parser = Some (parser.Unsigned 0 18446744073709551615) }
+
+-- ---- the subcommands
+
+-- own: `com FILE [TAIL..] [--z80] [--steps N] [--keys SCRIPT]`: the program and what it runs with
+abbrev pub program_app : App
+program_app = with_rule (with_rule (with_rule (with_rule (with_rule (new_app (codes "com"))
+    (operand (codes "file"))) (words_left_out (codes "tail"))) (flag (codes "z80"))) steps_option) (value_option (codes "keys"))
+
+-- own: `com`, with `[--disk IMAGE].. [--out-disk IMAGE].. [--keyboard] [--record SCRIPT] [--progress] [--stop-idle]`
+-- behind these
+abbrev pub com_app : App
+com_app = with_rule (with_rule (with_rule (with_rule (with_rule (with_rule program_app
+    (repeated_option (codes "disk"))) (repeated_option (codes "out-disk"))) (flag (codes "keyboard"))) (value_option (codes "record")))
+    (flag (codes "progress"))) (flag (codes "stop-idle"))
+
+-- own: `asm SOURCE OUT [--list FILE]`
+abbrev pub asm_app : App
+asm_app = with_rule (with_rule (with_rule (new_app (codes "asm"))
+    (operand (codes "source"))) (operand (codes "out"))) (value_option (codes "list"))
+
+-- `list FILE [--z80]`
+abbrev pub list_app : App
+list_app = with_rule (with_rule (new_app (codes "list")) (operand (codes "file"))) (flag (codes "z80"))
+
+-- `check IMAGE`
+abbrev pub check_app : App
+check_app = with_rule (new_app (codes "check")) (operand (codes "image"))
+
+-- own: `run CONFIG [--keyboard NAME] [--record SCRIPT] [--progress] [--stop-idle] [--record-all FOLDER]`
+abbrev pub run_app : App
+run_app = with_rule (with_rule (with_rule (with_rule (with_rule (with_rule (new_app (codes "run"))
+    (operand (codes "config"))) (value_option (codes "keyboard"))) (value_option (codes "record"))) (flag (codes "progress")))
+    (flag (codes "stop-idle"))) (value_option (codes "record-all"))
+
+-- own: `debug FILE [--z80] [--list FILE]`
+abbrev pub debug_app : App
+debug_app = with_rule (with_rule (with_rule (new_app (codes "debug"))
+    (operand (codes "file"))) (flag (codes "z80"))) (value_option (codes "list"))
+
+-- a command without its subcommands: it wants one, and adds no help of its own
+abbrev pub top_app : List ℕ → App
+top_app name = record (new_app name) {
+  top = record (new_app name).top {
+    subcommand_required = true;
+    disable_help_flag = true;
+    disable_help_subcommand = true;
+  };
+}
+
+-- the program's command, but for `disk`, which has commands of its own
+abbrev pub host_app : App
+host_app = with_subcommand (with_subcommand (with_subcommand (with_subcommand (with_subcommand (with_subcommand
+    (top_app (codes "cpmhost")) com_app.top) asm_app.top) list_app.top) check_app.top) run_app.top) debug_app.top
+
+-- an argument of clap with this rule, which is the command's own
+pub record IsArgumentOf (r : Rule) (a : Arg) : Type 0 where
+  pub rule : rule_of a ≡ r
+  pub own : a.global ≡ false
+
+-- a command of clap with these rules, and no argument that its subcommands share
+pub record IsCommandOf (a : App) (c : Command) : Type 0 where
+  pub app : app_of c ≡ a
+  pub globals : (out-Command c).has_globals ≡ false
+
+-- ---- the task of a subcommand's entries
+
+-- the text is a number of `u64` as `parse` reads it
+pub record ReadsCount (text : Option Text) (n : ℕ) : Type 0 where
+  pub digits : Text
+  pub given : text ≡ Some digits
+  pub numeral : IsNumeral 10 (without_leading_plus digits)
+  pub value : n ≡ digits_value 10 (without_leading_plus digits)
+
+-- own: the text is such a number, or both are left out
+abbrev pub ReadsCountIfAny : Option Text → Option ℕ → Type 0
+ReadsCountIfAny text None = text ≡ None
+ReadsCountIfAny text (Some n) = ReadsCount text n
+
+-- own: the texts are the words, of which there is none where they are left out
+abbrev pub ReadsWordsIfAny : Option (List Text) → List (Bor Text) → Type 0
+ReadsWordsIfAny texts words = unwrap_or texts [] ≡ map (λ w. w.now) words
+
+-- what the entry of `--z80` has for each processor: the flag was given, or was not
+abbrev pub flag_text : Cpu → Text
+flag_text I8080 = codes "false"
+flag_text Z80 = codes "true"
+
+-- the task has what the entries of the subcommand of this name give
+abbrev pub HasEntriesOf : Text × List Row → Task → Type 0
+HasEntriesOf given (Com task) =
+    (given.0 ≡ codes "com") × (first_of (codes "file") given.1 ≡ Some task.file.now)
+    × ReadsWordsIfAny (all_of (codes "tail") given.1) task.tail.items
+    × (one_of (codes "z80") given.1 ≡ Some (flag_text task.cpu))
+    × ReadsCountIfAny (one_of (codes "steps") given.1) task.steps
+    × (first_of (codes "keys") given.1 ≡ option_map (λ t. t.now) task.keys)
+    × ReadsWordsIfAny (all_of (codes "disk") given.1) task.drives.items
+    × ReadsWordsIfAny (all_of (codes "out-disk") given.1) task.outs.items
+    × (one_of (codes "keyboard") given.1 ≡ Some (bool_text task.is_live))
+    × (first_of (codes "record") given.1 ≡ option_map (λ t. t.now) task.«record»)
+    × (one_of (codes "progress") given.1 ≡ Some (bool_text task.has_progress))
+    × (one_of (codes "stop-idle") given.1 ≡ Some (bool_text task.stops_idle))
+HasEntriesOf given (Asm source out list) =
+    (given.0 ≡ codes "asm") × (first_of (codes "source") given.1 ≡ Some source.now)
+    × (first_of (codes "out") given.1 ≡ Some out.now)
+    × (first_of (codes "list") given.1 ≡ option_map (λ t. t.now) list)
+HasEntriesOf given (Listing file cpu) =
+    (given.0 ≡ codes "list") × (first_of (codes "file") given.1 ≡ Some file.now)
+    × (one_of (codes "z80") given.1 ≡ Some (flag_text cpu))
+HasEntriesOf given (Check image) =
+    (given.0 ≡ codes "check") × (first_of (codes "image") given.1 ≡ Some image.now)
+HasEntriesOf given (Run task) =
+    (given.0 ≡ codes "run") × (first_of (codes "config") given.1 ≡ Some task.config.now)
+    × (first_of (codes "keyboard") given.1 ≡ option_map (λ t. t.now) task.keyboard)
+    × (first_of (codes "record") given.1 ≡ option_map (λ t. t.now) task.«record»)
+    × (one_of (codes "progress") given.1 ≡ Some (bool_text task.has_progress))
+    × (one_of (codes "stop-idle") given.1 ≡ Some (bool_text task.stops_idle))
+    × (first_of (codes "record-all") given.1 ≡ option_map (λ t. t.now) task.scripts)
+HasEntriesOf given (Debug file cpu list) =
+    (given.0 ≡ codes "debug") × (first_of (codes "file") given.1 ≡ Some file.now)
+    × (one_of (codes "z80") given.1 ≡ Some (flag_text cpu))
+    × (first_of (codes "list") given.1 ≡ option_map (λ t. t.now) list)
+HasEntriesOf given (Disk task) = ⊥
+
+-- ---- entries that make a task
+
+-- the entry of a flag stands there, which picks a processor
+pub record IsPick (text : Option Text) : Type 0 where
+  pub cpu : Cpu
+  pub given : text ≡ Some (flag_text cpu)
+
+-- own: the entry of a flag stands there
+pub record IsFlag (text : Option Text) : Type 0 where
+  pub value : Bool
+  pub given : text ≡ Some (bool_text value)
+
+-- a number of `u64` stands there
+pub record IsCount (text : Option Text) : Type 0 where
+  pub digits : Text
+  pub given : text ≡ Some digits
+  pub numeral : IsNumeral 10 (without_leading_plus digits)
+  pub fits : digits_value 10 (without_leading_plus digits) < 2 ^ 64
+
+-- own: a number of `u64` stands there, or nothing
+abbrev pub IsCountIfAny : Option Text → Type 0
+IsCountIfAny text = (text ≡ None) ⊎ IsCount text
+
+-- the entries of `com` are whole
+pub record IsWholeCom (rows : List Row) : Type 0 where
+  pub file : IsSome (first_of (codes "file") rows)
+  pub z80 : IsPick (one_of (codes "z80") rows)
+  pub steps : IsCountIfAny (one_of (codes "steps") rows)
+  pub keyboard : IsFlag (one_of (codes "keyboard") rows)
+  pub progress : IsFlag (one_of (codes "progress") rows)
+  pub idle : IsFlag (one_of (codes "stop-idle") rows)
+
+-- the entries of `asm` are whole
+pub record IsWholeAsm (rows : List Row) : Type 0 where
+  pub source : IsSome (first_of (codes "source") rows)
+  pub out : IsSome (first_of (codes "out") rows)
+
+-- the entries of `list` are whole
+pub record IsWholeList (rows : List Row) : Type 0 where
+  pub file : IsSome (first_of (codes "file") rows)
+  pub z80 : IsPick (one_of (codes "z80") rows)
+
+-- the entries of `check` are whole
+pub record IsWholeCheck (rows : List Row) : Type 0 where
+  pub image : IsSome (first_of (codes "image") rows)
+
+-- the entries of `run` are whole
+pub record IsWholeRun (rows : List Row) : Type 0 where
+  pub config : IsSome (first_of (codes "config") rows)
+  pub progress : IsFlag (one_of (codes "progress") rows)
+  pub idle : IsFlag (one_of (codes "stop-idle") rows)
+
+-- the entries of `debug` are whole
+pub record IsWholeDebug (rows : List Row) : Type 0 where
+  pub file : IsSome (first_of (codes "file") rows)
+  pub z80 : IsPick (one_of (codes "z80") rows)
+
+-- the entries are whole as those of the subcommand of this name
+abbrev pub IsWholeOf : Text × List Row → Type 0
+IsWholeOf p = ((p.0 ≡ codes "com") × IsWholeCom p.1) ⊎ ((p.0 ≡ codes "asm") × IsWholeAsm p.1)
+    ⊎ ((p.0 ≡ codes "list") × IsWholeList p.1) ⊎ ((p.0 ≡ codes "check") × IsWholeCheck p.1)
+    ⊎ ((p.0 ≡ codes "run") × IsWholeRun p.1) ⊎ ((p.0 ≡ codes "debug") × IsWholeDebug p.1)
+
+-- the subcommand is one of the program's, and its entries are whole
+abbrev pub IsWhole : Option (Text × List Row) → Type 0
+IsWhole given = IsSomeAnd given IsWholeOf

@@ -1,0 +1,217 @@
+//! What was wrong with the words of a command line.
+ghost use Rattle.std.specs.Prelude.{◌≡◌, ◌+◌, ◌<◌, ◌≤◌, ◌++◌, false, IsTrue, if◌then◌else◌, chars, codes, encode_utf8, length};
+ghost use Rattle.clap.specs.Words.{kind_of};
+ghost use Rattle.cpm_command_line.specs.Refusals.{IsOfKind};
+ghost use Rattle.cpm_command_line.specs.Shown.{characters_of, has_room, shown_character, shown_of};
+
+use arrayvec::ArrayString;
+use clap::Error;
+use clap::error::ErrorKind;
+use std::alloc::Global;
+use thiserror::Error;
+
+/// What a word looks like in a message: `?` stands for each control character, and a word that is
+/// too long ends in dots.
+pub type Word = ArrayString<200>;
+
+/// What was wrong, with the word that was at fault where there is one.
+#[derive(Clone, Copy, Debug, PartialEq, Eq, Drop, Error)]
+pub enum Fault {
+    /// There is no word after the program's name.
+    #[error("no command was given; try 'cpmhost com FILE' or 'cpmhost --help'")]
+    NoCommand,
+    /// There is no word after `disk`.
+    #[error("no command of 'disk' was given: new, list, put, get, remove or rename; try 'cpmhost --help'")]
+    NoDiskCommand,
+    /// The word stands where a command does, and names none.
+    #[error("unknown command '{0}'; try 'cpmhost --help'")]
+    UnknownCommand(Word),
+    /// The command has no such option, or takes no more words.
+    #[error("unexpected argument '{0}'; try 'cpmhost --help'")]
+    UnexpectedArgument(Word),
+    /// A word that has to be there is not.
+    #[error("the argument {0} is missing; try 'cpmhost --help'")]
+    MissingArgument(Word),
+    /// An option stands without its value.
+    #[error("a value is wanted for '{0}'; try 'cpmhost --help'")]
+    MissingValue(Word),
+    /// The value of `--steps` is no number of 64 bits.
+    #[error("invalid value '{0}' for '--steps': a number from 0 to 18446744073709551615 is wanted; try 'cpmhost --help'")]
+    NotANumber(Word),
+    /// The value of `--user` is no number of a user.
+    #[error("invalid value '{0}' for '--user': a number from 0 to 15 is wanted; try 'cpmhost --help'")]
+    NotAUser(Word),
+    /// An option was given twice.
+    #[error("the argument '{0}' was given twice; try 'cpmhost --help'")]
+    GivenTwice(Word),
+    /// The keys of a program are to be recorded, and come from nowhere.
+    #[error("'--record' takes the keys of '--keyboard' or '--keys'; give one of these with it; try 'cpmhost --help'")]
+    RecordAlone,
+    /// The keys of a session are to be recorded, and none are typed.
+    #[error("'--record' takes the keys of '--keyboard'; give both, or neither; try 'cpmhost --help'")]
+    RecordUntyped,
+    /// The keys are to come from a script, and to be typed.
+    #[error("'--keys' and '--keyboard' both give the keys; give one of them; try 'cpmhost --help'")]
+    TwoScripts,
+    /// There are more images than drives.
+    #[error("'--disk' was given more than 4 times; give it for the drives A to D; try 'cpmhost --help'")]
+    TooManyDisks,
+    /// A drive is to be written, and has no image.
+    #[error("'--out-disk' was given more often than '--disk'; give a '--disk' for each; try 'cpmhost --help'")]
+    OutWithoutDisk,
+    /// The terminal is to show what is typed at, and how much is done.
+    #[error("'--progress' and '--keyboard' both write to the terminal; give one of them; try 'cpmhost --help'")]
+    ProgressAtKeyboard,
+    /// Anything else, in the words of the reader of command lines.
+    #[error("{0}; try 'cpmhost --help'")]
+    Other(Word),
+}
+
+/// Why a command line names no task.
+#[derive(Clone, Copy, Debug, PartialEq, Eq, Drop, Error)]
+pub enum UsageError {
+    /// The words name no task.
+    #[error("{0}")]
+    Usage(Fault),
+    /// Memory was refused.
+    #[error("out of memory")]
+    OutOfMemory,
+}
+
+/// A text as it is shown in a message of one line.
+pub fn shown(text: &str) -> Word
+    ensures { result.bytes ≡ shown_of (chars text.now) }
+{
+    let mut word = Word::new();
+    for c in text.chars() {
+        if !add_shown(&mut word, c) {
+            break;
+        }
+    }
+    word
+}
+
+/// A line of a file as it is shown in a message of one line, without the blanks at its ends.
+pub fn shown_line(line: &[u8]) -> Word
+    ensures { result.bytes ≡ shown_of (characters_of line.now) }
+{
+    let mut word = Word::new();
+    let trimmed = line.trim_ascii();
+    for byte in trimmed {
+        let c = if *byte == b'\t' {
+            ' '
+        } else {
+            char::from(*byte)
+        };
+        if !add_shown(&mut word, c) {
+            break;
+        }
+    }
+    word
+}
+
+/// Adds a character where there is room for more, else dots: it says which.
+fn add_shown(word: &mut Word, c: char) -> bool
+    ensures room { result ≡ has_room word.old.bytes }
+    ensures shown { IsTrue result → word.new.bytes ≡ word.old.bytes ++ encode_utf8 (shown_character c) }
+    ensures short { IsTrue result → length word.new.bytes ≤ 196 }
+    ensures dots { result ≡ false → length word.old.bytes + 3 ≤ 200 → word.new.bytes ≡ word.old.bytes ++ codes "..." }
+    ensures full { 200 < length word.old.bytes + 3 → word.new ≡ word.old }
+{
+    let c = if c.is_control() { '?' } else { c };
+    if word.remaining_capacity() < 8 || word.try_push(c).is_err() {
+        // There is room for the dots, since fewer than five bytes went in since the last look.
+        let _ = word.try_push_str("...");
+        return false;
+    }
+    true
+}
+
+/// What stands in the text from its first quote on, up to the last `end`.
+fn quoted(text: &str, end: &str) -> Word {
+    match text.split_once('\'') {
+        Some((_, rest)) => match rest.rsplit_once(end) {
+            Some((word, _)) => shown(word),
+            None => shown(rest),
+        },
+        None => shown(text),
+    }
+}
+
+/// The first name below the line that says that some are missing.
+fn missing_name(text: &str) -> Word {
+    match text.split_once(":\n") {
+        Some((_, names)) => shown(names.lines().next().unwrap_or("").trim()),
+        None => shown(text),
+    }
+}
+
+/// What an error of `clap` says was wrong, without what it adds on usage.
+fn message_of(text: &str) -> &str {
+    let message = match text.split_once("\n\n") {
+        Some((message, _)) => message,
+        None => text,
+    };
+    message.strip_prefix("error: ").unwrap_or(message)
+}
+
+/// What is wrong where no command was given, in a line of `disk` or another.
+fn missing_command(is_disk: bool) -> Fault
+    ensures { result ≡ (if is_disk then Fault.NoDiskCommand else Fault.NoCommand) }
+{
+    if is_disk {
+        Fault::NoDiskCommand
+    } else {
+        Fault::NoCommand
+    }
+}
+
+/// What is wrong where a number is none, in a line of `disk` or another.
+fn wrong_number(word: Word, is_disk: bool) -> Fault
+    ensures { result ≡ (if is_disk then Fault.NotAUser word else Fault.NotANumber word) }
+{
+    if is_disk {
+        Fault::NotAUser(word)
+    } else {
+        Fault::NotANumber(word)
+    }
+}
+
+/// The refusal for an error of `clap` of this kind, which says `message`, in a line of `disk` or
+/// another.
+fn refusal_of(kind: ErrorKind, message: &str, is_disk: bool) -> UsageError
+    ensures { IsOfKind is_disk kind result }
+{
+    let fault = match kind {
+        ErrorKind::OutOfMemory => return UsageError::OutOfMemory,
+        ErrorKind::MissingSubcommand | ErrorKind::DisplayHelpOnMissingArgumentOrSubcommand => {
+            missing_command(is_disk)
+        }
+        ErrorKind::InvalidSubcommand => Fault::UnknownCommand(quoted(message, "'")),
+        ErrorKind::UnknownArgument => Fault::UnexpectedArgument(quoted(message, "' found")),
+        ErrorKind::MissingRequiredArgument => Fault::MissingArgument(missing_name(message)),
+        ErrorKind::InvalidValue => Fault::MissingValue(quoted(message, "' but")),
+        ErrorKind::ValueValidation => wrong_number(quoted(message, "' for '"), is_disk),
+        ErrorKind::ArgumentConflict => Fault::GivenTwice(quoted(message, "' cannot")),
+        ErrorKind::NoEquals
+        | ErrorKind::TooManyValues
+        | ErrorKind::TooFewValues
+        | ErrorKind::WrongNumberOfValues
+        | ErrorKind::DisplayHelp
+        | ErrorKind::DisplayVersion
+        | ErrorKind::Io
+        | ErrorKind::Format => Fault::Other(shown(message)),
+    };
+    UsageError::Usage(fault)
+}
+
+/// The refusal for an error of `clap`, in a line of `disk` or another.
+pub(crate) fn refusal(alloc: Global, error: &Error, is_disk: bool) -> UsageError
+    ensures kind { IsOfKind is_disk (kind_of error.now) result }
+    ensures memory { kind_of error.now ≡ ErrorKind.OutOfMemory → result ≡ UsageError.OutOfMemory }
+{
+    match error.to_string(alloc) {
+        Ok(text) => refusal_of(error.kind(), message_of(text.as_str()), is_disk),
+        Err(_) => UsageError::OutOfMemory,
+    }
+}

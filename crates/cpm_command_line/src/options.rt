@@ -1,0 +1,52 @@
+//! Options that don't go together, in a task that the reader of command lines takes.
+ghost use Rattle.std.specs.Prelude.{◌≡◌};
+ghost use Rattle.cpm_command_line.specs.Options.{fault_of_com, fault_of_run, task_fault};
+
+use crate::fault::Fault;
+use crate::task::{ComTask, RunTask, Task};
+
+/// How many drives can have an image: A to D.
+const DRIVES: usize = 4;
+
+/// What is wrong first with the options of `com`.
+fn com_fault(task: &ComTask<'_>) -> Option<Fault>
+    ensures { result ≡ fault_of_com task.now }
+{
+    if task.record.is_some() && !task.is_live && task.keys.is_none() {
+        Some(Fault::RecordAlone)
+    } else if task.keys.is_some() && task.is_live {
+        Some(Fault::TwoScripts)
+    } else if task.drives.len() > DRIVES {
+        Some(Fault::TooManyDisks)
+    } else if task.outs.len() > task.drives.len() {
+        Some(Fault::OutWithoutDisk)
+    } else if task.has_progress && task.is_live {
+        Some(Fault::ProgressAtKeyboard)
+    } else {
+        None
+    }
+}
+
+/// What is wrong first with the options of `run`.
+fn run_fault(task: &RunTask<'_>) -> Option<Fault>
+    ensures { result ≡ fault_of_run task.now }
+{
+    if task.record.is_some() && task.keyboard.is_none() {
+        Some(Fault::RecordUntyped)
+    } else if task.has_progress && task.keyboard.is_some() {
+        Some(Fault::ProgressAtKeyboard)
+    } else {
+        None
+    }
+}
+
+/// What is wrong first with the options of the task.
+pub(crate) fn options_fault(task: &Task<'_>) -> Option<Fault>
+    ensures { result ≡ task_fault task.now }
+{
+    match task {
+        Task::Com(com) => com_fault(com),
+        Task::Run(run) => run_fault(run),
+        _ => None,
+    }
+}

@@ -1,0 +1,219 @@
+//! Reading the entries that a command line gave.
+ghost use Rattle.std.specs.Prelude.{◌≡◌, [], IfOk, IfErr, IsSomeAnd, None, codes, map, true, false};
+ghost use Rattle.clap.specs.Words.{fault_of, found_of, rows_of, subcommand_of, subcommand_rows_of, takes};
+ghost use Rattle.cpm_command_line.specs.CommandLine.{HasEntriesOf, IsWhole, IsWholeAsm, IsWholeCheck, IsWholeCom, IsWholeDebug, IsWholeList, IsWholeOf, IsWholeRun, host_app};
+ghost use Rattle.cpm_command_line.specs.Line.{HasUsers, IsTaskOf, app_of_line, names_disk, words_of_line};
+ghost use Rattle.cpm_command_line.specs.Options.{task_fault};
+ghost use Rattle.cpm_command_line.specs.Refusals.{IsRefusalBy, IsRefusalOf, IsTaskRefusal};
+
+use crate::build::host_command;
+use crate::disk::disk_task;
+use crate::entries::{cpu_of, flag_of, steps_of, text_if_any, text_of, texts_if_any};
+use crate::fault::{UsageError, refusal};
+use crate::options::options_fault;
+use crate::task::{ComTask, RunTask, Task};
+use clap::ArgMatches;
+use std::alloc::{AllocError, Global};
+
+/// The task of `com`.
+fn com_task<'a>(alloc: Global, matches: &ArgMatches<'a>) -> Result<Task<'a>, AllocError>
+    requires { IsWholeCom (rows_of (found_of matches.now)) }
+    ensures { IfOk result (HasEntriesOf (codes "com", rows_of (found_of matches.now))) }
+{
+    let tail = texts_if_any(alloc, matches, "tail")?;
+    let drives = texts_if_any(alloc, matches, "disk")?;
+    let outs = texts_if_any(alloc, matches, "out-disk")?;
+    Ok(Task::Com(ComTask {
+        file: text_of(matches, "file"),
+        tail,
+        cpu: cpu_of(matches),
+        steps: steps_of(matches),
+        keys: text_if_any(matches, "keys"),
+        drives,
+        outs,
+        is_live: flag_of(matches, "keyboard"),
+        record: text_if_any(matches, "record"),
+        has_progress: flag_of(matches, "progress"),
+        stops_idle: flag_of(matches, "stop-idle"),
+    }))
+}
+
+/// The task of `asm`.
+fn asm_task<'a>(matches: &ArgMatches<'a>) -> Task<'a>
+    requires { IsWholeAsm (rows_of (found_of matches.now)) }
+    ensures { HasEntriesOf (codes "asm", rows_of (found_of matches.now)) result }
+{
+    Task::Asm {
+        source: text_of(matches, "source"),
+        out: text_of(matches, "out"),
+        list: text_if_any(matches, "list"),
+    }
+}
+
+/// The task of `list`.
+fn list_task<'a>(matches: &ArgMatches<'a>) -> Task<'a>
+    requires { IsWholeList (rows_of (found_of matches.now)) }
+    ensures { HasEntriesOf (codes "list", rows_of (found_of matches.now)) result }
+{
+    let cpu = cpu_of(matches);
+    Task::List {
+        file: text_of(matches, "file"),
+        cpu,
+    }
+}
+
+/// The task of `check`.
+fn check_task<'a>(matches: &ArgMatches<'a>) -> Task<'a>
+    requires { IsWholeCheck (rows_of (found_of matches.now)) }
+    ensures { HasEntriesOf (codes "check", rows_of (found_of matches.now)) result }
+{
+    Task::Check {
+        image: text_of(matches, "image"),
+    }
+}
+
+/// The task of `run`.
+fn run_task<'a>(matches: &ArgMatches<'a>) -> Task<'a>
+    requires { IsWholeRun (rows_of (found_of matches.now)) }
+    ensures { HasEntriesOf (codes "run", rows_of (found_of matches.now)) result }
+{
+    Task::Run(RunTask {
+        config: text_of(matches, "config"),
+        keyboard: text_if_any(matches, "keyboard"),
+        record: text_if_any(matches, "record"),
+        has_progress: flag_of(matches, "progress"),
+        stops_idle: flag_of(matches, "stop-idle"),
+        scripts: text_if_any(matches, "record-all"),
+    })
+}
+
+/// The task of `debug`.
+fn debug_task<'a>(matches: &ArgMatches<'a>) -> Task<'a>
+    requires { IsWholeDebug (rows_of (found_of matches.now)) }
+    ensures { HasEntriesOf (codes "debug", rows_of (found_of matches.now)) result }
+{
+    let cpu = cpu_of(matches);
+    Task::Debug {
+        file: text_of(matches, "file"),
+        cpu,
+        list: text_if_any(matches, "list"),
+    }
+}
+
+/// The task of a subcommand's entries.
+fn task_named<'a>(
+    alloc: Global,
+    name: &str,
+    matches: &ArgMatches<'a>,
+) -> Result<Task<'a>, AllocError>
+    requires { IsWholeOf (name.now, rows_of (found_of matches.now)) }
+    ensures { IfOk result (HasEntriesOf (name.now, rows_of (found_of matches.now))) }
+{
+    match name {
+        "com" => com_task(alloc, matches),
+        "asm" => Ok(asm_task(matches)),
+        "list" => Ok(list_task(matches)),
+        "check" => Ok(check_task(matches)),
+        "run" => Ok(run_task(matches)),
+        _ => Ok(debug_task(matches)),
+    }
+}
+
+/// The task of a parse.
+fn task_of<'a>(alloc: Global, matches: &ArgMatches<'a>) -> Result<Task<'a>, AllocError>
+    requires { IsWhole (subcommand_rows_of matches.now) }
+    ensures { IfOk result (λ t. IsSomeAnd (subcommand_rows_of matches.now) (λ given. HasEntriesOf given t)) }
+{
+    match matches.subcommand() {
+        Some((name, inner)) => task_named(alloc, name, inner),
+        None => unreachable!(),
+    }
+}
+
+/// The task that words name which don't name `disk`.
+fn host_task<'a>(alloc: Global, words: &'a [&'a str]) -> Result<Task<'a>, UsageError>
+    ensures task { IfOk result (λ t. IsSomeAnd
+        (subcommand_of host_app (map (λ w. w.now) words.entry.now)) (λ given. HasEntriesOf given t)) }
+    ensures faultless { IfOk result (λ _. fault_of host_app (map (λ w. w.now) words.entry.now) ≡ []) }
+    ensures taken { takes host_app (map (λ w. w.now) words.entry.now) ≡ true
+        → IfErr result (λ e. e ≡ UsageError.OutOfMemory) }
+    ensures refusal { IfErr result (IsRefusalBy false host_app (map (λ w. w.now) words.entry.now)) }
+{
+    let command = match host_command(alloc) {
+        Ok(command) => command,
+        Err(_) => return Err(UsageError::OutOfMemory),
+    };
+    let matches = match command.try_get_matches_from(words) {
+        Ok(matches) => matches,
+        Err(error) => return Err(refusal(alloc, &error, false)),
+    };
+    match task_of(alloc, &matches) {
+        Ok(task) => Ok(task),
+        Err(_) => Err(UsageError::OutOfMemory),
+    }
+}
+
+/// Whether the word behind the program's name is `disk`.
+fn is_disk_line(words: &[&str]) -> bool
+    ensures { result ≡ names_disk (map (λ w. w.now) words.now) }
+{
+    match words {
+        [_, first, ..] => *first == "disk",
+        _ => false,
+    }
+}
+
+/// The task that the words name by clap's rules.
+fn task_by_rules<'a>(alloc: Global, words: &'a [&'a str]) -> Result<Task<'a>, UsageError>
+    ensures task { IfOk result (IsTaskOf (map (λ w. w.now) words.entry.now)) }
+    ensures faultless { IfOk result (λ _. fault_of (app_of_line (map (λ w. w.now) words.entry.now))
+        (words_of_line (map (λ w. w.now) words.entry.now)) ≡ []) }
+    ensures taken { takes (app_of_line (map (λ w. w.now) words.entry.now))
+        (words_of_line (map (λ w. w.now) words.entry.now)) ≡ true
+        → IfErr result (λ e. e ≡ UsageError.OutOfMemory) }
+    ensures refusal { IfErr result (IsRefusalBy (names_disk (map (λ w. w.now) words.entry.now))
+        (app_of_line (map (λ w. w.now) words.entry.now))
+        (words_of_line (map (λ w. w.now) words.entry.now))) }
+{
+    if is_disk_line(words) {
+        match disk_task(alloc, &words[1..]) {
+            Ok(task) => Ok(Task::Disk(task)),
+            Err(error) => Err(error),
+        }
+    } else {
+        host_task(alloc, words)
+    }
+}
+
+/// The task that the words name, of which the first is the program's own name.
+///
+/// `Usage` says what is wrong first with words that name none. `OutOfMemory` comes only where memory
+/// is refused, whatever is wrong with the words behind that place.
+pub fn command<'a>(alloc: Global, words: &'a [&'a str]) -> Result<Task<'a>, UsageError>
+    // The task has the subcommand and all entries that clap's rules give the words, and its options
+    // go together.
+    ensures task { IfOk result (λ t. IsTaskOf (map (λ w. w.now) words.entry.now) t × (task_fault t ≡ None)) }
+
+    // The number of a user is from 0 to 15.
+    ensures users { IfOk result HasUsers }
+
+    // Words with a fault are refused. Words that the rules take are refused for what is wrong first with
+    // the options of the task that they name.
+    ensures faultless { IfOk result (λ _. fault_of (app_of_line (map (λ w. w.now) words.entry.now))
+        (words_of_line (map (λ w. w.now) words.entry.now)) ≡ []) }
+    ensures taken { takes (app_of_line (map (λ w. w.now) words.entry.now))
+        (words_of_line (map (λ w. w.now) words.entry.now)) ≡ true
+        → IfErr result (IsTaskRefusal (map (λ w. w.now) words.entry.now)) }
+
+    // A refusal says what is wrong first.
+    ensures refusal { IfErr result (IsRefusalOf (map (λ w. w.now) words.entry.now)) }
+{
+    let task = match task_by_rules(alloc, words) {
+        Ok(task) => task,
+        Err(error) => return Err(error),
+    };
+    match options_fault(&task) {
+        Some(fault) => Err(UsageError::Usage(fault)),
+        None => Ok(task),
+    }
+}

@@ -1,0 +1,80 @@
+-- What is told where nothing is done. All of it is own.
+use Rattle.std.specs.Prelude.{⊤, ◌≡◌, ℕ, Bool, true, ◌&&◌, ◌==◌, List, None, Err, length, chars}
+use Rattle.std.specs.List.{list_any}
+use Rattle.cpm_command_line.specs.Shown.{shown_of}
+use Rattle.cpm_directory.specs.Directory.{entries_of}
+use Rattle.cpm_directory.specs.WellFormed.{IsChecked}
+use Rattle.cpm_directory.specs.declared.fault.DriveFault.{DriveFault}
+use Rattle.cpm_volume.specs.Files.{same_name}
+use Rattle.cpm_geom.specs.Disk.{Disk}
+use Rattle.cpm_geom.specs.Geometry.{dpb_of, format_of_length}
+use Rattle.cpm_image_files.specs.declared.name.FileName.{FileName}
+use Rattle.cpm_image_files.specs.declared.refusal.ShelfError.{ShelfError}
+use Rattle.cpm_image_files.specs.declared.refusal.ShelfError.TheVariants as shelf
+use Rattle.cpm_disk_commands.specs.Damage.{damage_of}
+use Rattle.cpm_disk_commands.specs.Names.{name_of}
+use Rattle.cpm_disk_commands.specs.declared.damage.NamedFile.{NamedFile}
+use Rattle.cpm_disk_commands.specs.declared.error.FilingError.{FilingError}
+use Rattle.cpm_disk_commands.specs.declared.error.FilingError.TheVariants.{NotName, NotPattern, NotPair, PutTwice, NotImage, Damaged, NoFile, NoHostName, Refused, OutputUnwritable, OutOfMemory}
+
+-- the number of the code that the text begins with
+abbrev pub status_of : FilingError → ℕ
+status_of (NotName text) = 1
+status_of (NotPattern text) = 1
+status_of (NotPair text) = 1
+status_of (PutTwice text file) = 1
+status_of (OutputUnwritable reason) = 5
+status_of (NotImage image count) = 6
+status_of (Damaged image damage) = 6
+status_of (NoFile image pattern user) = 6
+status_of (Refused image file refusal) = 6
+status_of (NoHostName image file) = 6
+status_of OutOfMemory = 8
+
+-- bytes are no image, by their number
+abbrev pub IsNotImage : (image bytes : List ℕ) → FilingError → Type 0
+IsNotImage image bytes (NotImage shown count) =
+    (shown.bytes ≡ shown_of (chars image)) × (count ≡ length bytes) × (format_of_length (length bytes) ≡ None)
+IsNotImage image bytes _ = ⊥
+
+-- the user and the name of a file
+abbrev pub named : FileName → NamedFile
+named file = record { user = file.user; name = file.name }
+
+-- the fault of a directory is told of the image in a file of the host
+abbrev pub IsDamageTold : Disk → (image : List ℕ) → DriveFault → FilingError → Type 0
+IsDamageTold disk image fault (Damaged shown damage) = (shown.bytes ≡ shown_of (chars image)) × (damage ≡ damage_of disk fault)
+IsDamageTold disk image fault _ = ⊥
+
+-- why nothing is done is told of the image and of a file of the disk
+abbrev pub IsTold : Disk → (image : List ℕ) → NamedFile → ShelfError → FilingError → Type 0
+IsTold disk image file (shelf.Damaged fault) f = IsDamageTold disk image fault f
+IsTold disk image file (shelf.Refused refusal) (Refused shown about reason) =
+    (shown.bytes ≡ shown_of (chars image)) × (about ≡ file) × (reason ≡ refusal)
+IsTold disk image file (shelf.Refused refusal) _ = ⊥
+IsTold disk image file shelf.OutOfMemory f = f ≡ OutOfMemory
+
+-- there is such a reason, and it is told
+abbrev pub IsToldRefusal : Disk → (image : List ℕ) → NamedFile → (ShelfError → Type 0) → FilingError → Type 0
+IsToldRefusal disk image file Is f = (e : ShelfError) × Is e × IsTold disk image file e f
+
+-- a fault is the disk's first
+abbrev pub IsFaultOf : Disk → ShelfError → Type 0
+IsFaultOf disk (shelf.Damaged fault) = IsChecked (dpb_of disk.format) (entries_of disk) (Err fault)
+IsFaultOf disk (shelf.Refused refusal) = ⊤
+IsFaultOf disk shelf.OutOfMemory = ⊤
+
+-- a text is no name of a file
+abbrev pub IsNotName : (text : List ℕ) → FilingError → Type 0
+IsNotName text (NotName shown) = (shown.bytes ≡ shown_of (chars text)) × (name_of text ≡ None)
+IsNotName text _ = ⊥
+
+-- two files are one on a disk: of one user, and of one name in the low seven bits of each character
+abbrev pub is_same_file : FileName → FileName → Bool
+is_same_file file other = (file.user == other.user) && same_name file.name other.name
+
+-- a word would put a file on a disk that one before it is already
+abbrev pub IsPutTwice : (before : List FileName) → FileName → (word : List ℕ) → FilingError → Type 0
+IsPutTwice before file word (PutTwice shown about) =
+    (shown.bytes ≡ shown_of (chars word)) × (about ≡ named file) × (list_any (is_same_file file) before ≡ true)
+IsPutTwice before file word _ = ⊥

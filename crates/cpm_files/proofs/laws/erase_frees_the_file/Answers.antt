@@ -1,5 +1,0 @@
-use Rattle.cpm_files.proofs.Erasing.{erases}
-use Rattle.cpm_files.proofs.laws.erase_frees_the_file.Goals as goal
-
-pub returns : goal.returns
-returns c = erases

@@ -1,5 +1,0 @@
-use Rattle.cpm_files.proofs.Functions.{makes_file}
-use Rattle.cpm_files.proofs.laws.make_changes_no_file.Goals as goal
-
-pub returns : goal.returns
-returns c = makes_file

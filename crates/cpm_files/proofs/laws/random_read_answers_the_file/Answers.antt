@@ -1,5 +1,0 @@
-use Rattle.cpm_files.proofs.Reading.{reads_at}
-use Rattle.cpm_files.proofs.laws.random_read_answers_the_file.Goals as goal
-
-pub returns : goal.returns
-returns c = reads_at

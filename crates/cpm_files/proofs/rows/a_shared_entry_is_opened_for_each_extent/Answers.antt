@@ -1,5 +1,0 @@
-use Rattle.cpm_files.proofs.Computed.{row_shared}
-use Rattle.cpm_files.proofs.rows.a_shared_entry_is_opened_for_each_extent.Goals as goal
-
-pub returns : goal.returns
-returns c = row_shared

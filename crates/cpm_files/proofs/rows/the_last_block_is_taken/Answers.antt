@@ -1,5 +1,0 @@
-use Rattle.cpm_files.proofs.Computed.{row_1928}
-use Rattle.cpm_files.proofs.rows.the_last_block_is_taken.Goals as goal
-
-pub returns : goal.returns
-returns c = row_1928

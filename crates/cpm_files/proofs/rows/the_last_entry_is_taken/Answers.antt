@@ -1,5 +1,0 @@
-use Rattle.cpm_files.proofs.Computed.{row_64}
-use Rattle.cpm_files.proofs.rows.the_last_entry_is_taken.Goals as goal
-
-pub returns : goal.returns
-returns c = row_64

@@ -1,5 +1,0 @@
-use Rattle.cpm_files.proofs.Computed.{row_300}
-use Rattle.cpm_files.proofs.rows.two_extents_share_an_entry.Goals as goal
-
-pub returns : goal.returns
-returns c = row_300

@@ -1,5 +1,0 @@
-use Rattle.cpm_files.proofs.Computed.{row_fill}
-use Rattle.cpm_files.proofs.rows.zero_fill_clears_a_new_block.Goals as goal
-
-pub returns : goal.returns
-returns c = row_fill

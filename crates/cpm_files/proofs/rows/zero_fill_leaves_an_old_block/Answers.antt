@@ -1,5 +1,0 @@
-use Rattle.cpm_files.proofs.Computed.{row_filled_before}
-use Rattle.cpm_files.proofs.rows.zero_fill_leaves_an_old_block.Goals as goal
-
-pub returns : goal.returns
-returns c = row_filled_before

@@ -1,7 +1,0 @@
-use Rattle.std.proofs.Common.{◌≡◌, ◌++◌, drop, map}
-use Rattle.cpm_filing.specs.Matching.{meant}
-use Rattle.cpm_filing.specs.Refusals.{named}
-use Rattle.cpm_filing.proofs.matching.files_of.Given as goal
-
-abbrev pub invariant-loop-file : goal.invariant-loop-file
-invariant-loop-file l = map named l.found.items ++ meant l.user l.pattern (drop l.file-index l.files) ≡ meant l.fn.user l.fn.pattern l.fn.files

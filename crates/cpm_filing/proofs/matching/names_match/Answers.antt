@@ -1,6 +1,0 @@
-use Rattle.std.proofs.Common.{◌∙◌, sym}
-use Rattle.cpm_files.proofs.NameLemmas.{name_matches_zip}
-use Rattle.cpm_filing.proofs.matching.names_match.Goals as goal
-
-pub returns : goal.returns
-returns c = c.all_match.ensures ∙ name_matches_zip c.args.pattern.now c.args.name.now (c.told-pattern ∙ sym c.told-name)

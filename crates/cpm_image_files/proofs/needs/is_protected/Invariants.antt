@@ -1,0 +1,9 @@
+use Rattle.std.proofs.Common.{◌≡◌, take, false}
+use Rattle.std.specs.List.{list_any}
+use Rattle.cpm_volume.specs.Names.{protects}
+use Rattle.cpm_directory.specs.Directory.{entries_of}
+use Rattle.cpm_image_files.proofs.needs.is_protected.Given as goal
+
+abbrev pub invariant-loop-index : goal.invariant-loop-index
+invariant-loop-index l =
+    list_any (protects l.file.user l.file.name) (take l.index (entries_of l.image)) ≡ false

@@ -1,0 +1,11 @@
+pub mod BusyLaws
+pub mod StepLaws
+pub mod UntilLaws
+pub mod ToWaitLaws
+pub mod GrantLaws
+pub mod PressLaws
+pub mod AloneLaws
+pub mod WaitLaws
+pub mod WaitCalls
+pub mod StepBounds
+pub mod KeyLaws

@@ -1,0 +1,14 @@
+pub mod Processor
+pub mod Trap
+pub mod Until
+pub mod MachineState
+pub mod Step
+pub mod Serve
+pub mod ToWait
+pub mod Waits
+pub mod Alone
+pub mod Runner
+pub mod Laws
+pub mod Opening
+pub mod Calls
+pub mod Parts

@@ -1,0 +1,17 @@
+//! One machine: a session with its memory, run step by step.
+#![tactic(auto)]
+
+pub mod laws;
+pub mod machine;
+pub mod opening;
+mod program;
+pub mod reply;
+pub mod steps;
+pub mod to_wait;
+mod trap;
+pub mod until;
+
+pub use cpm_ccp::{MOST_TAIL, Tail};
+pub use machine::Machine;
+pub use opening::{LEAST_QUOTA, MOST_DRIVES, MOST_PROGRAM, MOST_QUOTA, OpenError, Opening};
+pub use reply::{Closed, End, Granted, KeysFull, Look, Why};

@@ -1,0 +1,190 @@
+-- A session that is played by a script that may wait: one more cue, and where it ends.
+use Rattle.std.proofs.Common.{◌≡◌, ℕ, ◌+◌, ◌-◌, ◌<◌, ◌≤◌, max, Bool, true, false, true≢false, ◌⊎◌, inl, inr, ⊎_elim, Option, List, [], ◌∷◌, ◌++◌, length, refl, sym, ap, ◌∙◌, subst, arith}
+use Rattle.std.proofs.lemmas.Bool.{cases_lt}
+use Rattle.std.proofs.lemmas.Bool.Decides.{nat_tests}
+use Rattle.std.specs.Io.KnownBytes.{Appends}
+use Rattle.cpm_geom.specs.Disk.{Disk}
+use Rattle.cpm_script.specs.Recording.{key_line}
+use Rattle.cpm_script.specs.declared.script.Key.{Key}
+use Rattle.cpm_machine.specs.Calls.{state_behind}
+use Rattle.cpm_machine.specs.MachineState.{MachineState}
+use Rattle.cpm_machine.specs.Serve.{keyed, look_of, takes_key}
+use Rattle.cpm_machine.specs.declared.reply.End.{End}
+use Rattle.cpm_machine.specs.declared.reply.End.TheVariants.{Running, Halted, Illegal, Quota, CountEnd, Exited}
+use Rattle.cpm_machine.specs.declared.reply.Look.{Look}
+use Rattle.cpm_machine.specs.Step.{after, is_running}
+use Rattle.cpm_machine.proofs.AloneLaws.{after-behind}
+use Rattle.cpm_machine.proofs.PressLaws.{alone-add}
+use Rattle.cpm_play.specs.Cued.{HasEndedCued, HasIdled, HasMissed, HasNoWait, HasPressed, HasRun, HasStopped, IsCutOff, IsPressCut, IsRunCut, last_count, runs_at, screen_at, waits_at}
+use Rattle.cpm_play.specs.Live.{IsGoing}
+use Rattle.cpm_play.specs.declared.live.LiveError.{LiveError}
+use Rattle.cpm_play.specs.declared.live.LiveError.TheVariants.{Unreadable, Unwritable, Unrecorded, OutOfMemory}
+use Rattle.cpm_play.specs.Playing.{presses_of, alone_by}
+use Rattle.cpm_play.proofs.AloneLemmas.{after-ended, after-pending}
+use Rattle.cpm_play.proofs.GoingLemmas.{going-come, going-screen, going-text, going-turn, none-after}
+use Rattle.cpm_play.proofs.RunLemmas.{waits-bare, waits-behind}
+
+-- ---- keys
+
+-- the last key is the one that comes last
+pub last-more : (n : ℕ) (keys : List Key) (k : Key) → last_count n (keys ++ k ∷ []) ≡ k.count
+last-more n [] k = refl
+last-more n (x ∷ xs) k = last-more x.count xs k
+
+-- ---- a key and the steps up to it
+
+pub look-ended : (s : MachineState) (look : Look) → look ≡ look_of s → look.ended ≡ s.ended
+unfolding look_of
+look-ended s look is = ap (λ (l : Look). l.ended) is
+
+pub not-running : (e : End) → (e ≡ Running → ⊥) → is_running e ≡ false
+not-running Running other = absurd (other refl)
+not-running Halted other = refl
+not-running Illegal other = refl
+not-running Quota other = refl
+not-running CountEnd other = refl
+not-running Exited other = refl
+
+module _ (system : Disk) (k : ℕ) (old now : MachineState) (before written : Option (List ℕ)) (run : HasRun system k old now before written) where
+  pub takes-later : takes_key old ≡ true → takes_key now ≡ true
+  takes-later takes =
+      let left_it = after-pending system k old in
+      let same : length now.cpm.console.keys ≡ length (after system k old).cpm.console.keys = ap (λ (s : MachineState). length s.cpm.console.keys) run.state in
+      let room : length old.cpm.console.keys < 4096 = grind (arith, nat_tests) in
+      let still : length now.cpm.console.keys < 4096 = omega arith in
+      grind (arith, nat_tests)
+
+  pub reached : (key : Key) (done : ℕ) → done ≤ key.count → HasStopped false system (key.count - done) k old now → is_running now.ended ≡ true → done + k ≡ key.count
+  reached key done low (inl all) runs = omega arith
+  reached key done low (inr ended) runs = absurd (true≢false (sym runs ∙ ended))
+
+  pub missed-ended : (key : Key) (steps done done_now : ℕ) → done ≤ key.count → key.count < steps → k ≤ key.count - done → done_now ≡ done + k → is_running now.ended ≡ false →
+      HasMissed system key steps done done_now old now before written
+  missed-ended key steps done done_now low within fits at ended =
+      let count : k ≡ done_now - done = omega arith in
+      let P : ℕ → Type 0 = λ n. HasRun system n old now before written in
+      record { low = omega arith; run = subst P count run; why = inr (within, omega arith, ended) }
+
+  pub pressed-there : (key : Key) (done : ℕ) (next : MachineState) (unrecorded record_now : Option (List ℕ)) → done ≤ key.count → done + k ≡ key.count → is_running now.ended ≡ true → next ≡ keyed key.byte now →
+      Appends unrecorded record_now (key_line (record { count = done + k; byte = key.byte })) → HasPressed system key (key.count - done) old next before written unrecorded record_now
+  pressed-there key done next unrecorded record_now low there runs is notes =
+      let count : k ≡ key.count - done = omega arith in
+      let P : ℕ → Type 0 = λ n. HasPressed system key n old next before written unrecorded record_now in
+      let Q : ℕ → Type 0 = λ n. Appends unrecorded record_now (key_line (record { count = n; byte = key.byte })) in
+      subst P count (record {
+        runs = sym (ap (λ (s : MachineState). is_running s.ended) run.state) ∙ runs;
+        state = is ∙ ap (keyed key.byte) run.state;
+        text = run.text;
+        noted = subst Q there notes;
+      })
+
+-- ---- the machine run alone, from where the session is
+
+module _ {system : Disk} {steps most : ℕ} {start now : MachineState} {before written unrecorded record_now : Option (List ℕ)} {keys : List Key} {done : ℕ}
+    (going : IsGoing system steps most start now before written unrecorded record_now keys done) where
+  pub going-state : (i : ℕ) → alone_by system keys (done + i) start ≡ state_behind going.console going.list (after system i now)
+  going-state i =
+      alone-add system (presses_of keys) done i start (λ j past. none-after done j keys going.gone.come past)
+      ∙ ap (after system i) (sym going.gone.state) ∙ after-behind system going.console going.list i now
+
+  pub going-waits : (i : ℕ) → waits_at system start keys (done + i) ≡ (look_of (after system i now)).waiting
+  going-waits i = ap (λ (s : MachineState). (look_of s).waiting) (going-state i) ∙ waits-behind going.console going.list (after system i now)
+
+  pub going-runs : (i : ℕ) → runs_at system start keys (done + i) ≡ is_running (after system i now).ended
+  going-runs i = ap (λ (s : MachineState). is_running s.ended) (going-state i)
+
+  pub going-shows : (i : ℕ) → screen_at system start keys (done + i) ≡ screen_at system start keys done ++ (after system i now).cpm.console.screen
+  going-shows i =
+      ap (λ (s : MachineState). s.cpm.console.screen) (going-state i)
+      ∙ ap (λ xs. xs ++ (after system i now).cpm.console.screen) (going-screen system steps most start now before written unrecorded record_now keys done going)
+
+  -- steps whose text is taken
+  pub going-run : (k : ℕ) (next : MachineState) (written_then : Option (List ℕ)) → k ≤ steps - done → HasRun system k now next written written_then →
+      IsGoing system steps most start next before written_then unrecorded record_now keys (done + k)
+  going-run k next written_then fits run =
+      going-turn system steps most start now before written unrecorded record_now keys done going k (after system k now) next written_then fits refl run.state run.text
+
+  -- what is left where they are cut short
+  pub going-cut : (next : MachineState) (written_then : Option (List ℕ)) (e : LiveError) → IsRunCut system (steps - done) now next written written_then e →
+      IsCutOff system steps most start next before written_then unrecorded record_now e
+  going-cut next written_then (Unreadable e) cut = cut.2
+  going-cut next written_then (Unrecorded e) cut = absurd cut.2
+  going-cut next written_then (Unwritable e) cut =
+      (keys, going-text system steps most start now before written unrecorded record_now keys done going cut.0 (after system cut.0 now) cut.1 refl cut.2, going.noted)
+  going-cut next written_then OutOfMemory cut =
+      (keys, going-come system steps most start next before written_then unrecorded record_now keys (done + cut.0) (going-run cut.0 next written_then cut.1 cut.2), going.noted)
+
+  pub going-press-cut : (next : MachineState) (written_then record_then : Option (List ℕ)) (e : LiveError) → IsPressCut system (steps - done) now next written written_then record_now record_then e →
+      IsCutOff system steps most start next before written_then unrecorded record_then e
+  going-press-cut next written_then record_then (Unreadable e) cut = cut
+  going-press-cut next written_then record_then (Unrecorded e) cut =
+      (keys, going-come system steps most start next before written_then unrecorded record_now keys (done + cut.0) (going-run cut.0 next written_then cut.1 cut.2))
+  going-press-cut next written_then record_then (Unwritable e) cut =
+      subst (λ r. IsCutOff system steps most start next before written_then unrecorded r (Unwritable e)) (sym cut.1) (going-cut next written_then (Unwritable e) cut.0)
+  going-press-cut next written_then record_then OutOfMemory cut =
+      subst (λ r. IsCutOff system steps most start next before written_then unrecorded r OutOfMemory) (sym cut.1) (going-cut next written_then OutOfMemory cut.0)
+
+  -- where it ends
+  run-ended : (k : ℕ) (next : MachineState) (written_then : Option (List ℕ)) → HasRun system k now next written written_then → is_running now.ended ≡ false → is_running next.ended ≡ false
+  run-ended k next written_then run ended = ap (λ (s : MachineState). is_running s.ended) run.state ∙ after-ended system k now ended
+
+  run-waits : (k : ℕ) (next : MachineState) (written_then : Option (List ℕ)) → HasRun system k now next written written_then → waits_at system start keys (done + k) ≡ (look_of next).waiting
+  run-waits k next written_then run =
+      going-waits k ∙ sym (waits-bare (after system k now)) ∙ sym (ap (λ (s : MachineState). (look_of s).waiting) run.state)
+
+  -- steps up to a wait that counts
+  module _ {waits_from done_now : ℕ} {next : MachineState} {written_then : Option (List ℕ)} (idled : HasIdled system steps waits_from done done_now now next written written_then) where
+    past : done + (done_now - done) ≡ done_now
+    past = let low = idled.low in omega arith
+
+    -- the session goes on, with the same keys
+    pub idle-going : (more : List Key) → more ≡ keys → done_now ≤ steps → IsGoing system steps most start next before written_then unrecorded record_now more done_now
+    idle-going more same within =
+        let P : ℕ → Type 0 = λ n. IsGoing system steps most start next before written_then unrecorded record_now keys n in
+        let went : IsGoing system steps most start next before written_then unrecorded record_now keys done_now =
+        subst P past (going-run (done_now - done) next written_then (omega arith) idled.run) in
+        subst (λ ks. IsGoing system steps most start next before written_then unrecorded record_now ks done_now) (sym same) went
+
+    -- what it has shown then
+    pub idle-shows : screen_at system start keys done_now ≡ screen_at system start keys done ++ (after system (done_now - done) now).cpm.console.screen
+    idle-shows =
+        let P : ℕ → Type 0 = λ n. screen_at system start keys n ≡ screen_at system start keys done ++ (after system (done_now - done) now).cpm.console.screen in
+        subst P past (going-shows (done_now - done))
+
+    -- whether it waits there
+    pub idle-waits : waits_at system start keys done_now ≡ (look_of next).waiting
+    idle-waits =
+        let P : ℕ → Type 0 = λ n. waits_at system start keys n ≡ (look_of next).waiting in
+        subst P past (run-waits (done_now - done) next written_then idled.run)
+
+    -- where waits count it does not wait before
+    pub idle-none : HasNoWait system start keys (max waits_from done) done_now
+    idle-none i low high =
+        let at : done + (i - done) ≡ i = omega arith in
+        let P : ℕ → Type 0 = λ n. waits_at system start keys n ≡ false in
+        subst P at (going-waits (i - done) ∙ idled.busy i low high)
+
+    -- nor behind an earlier key, if it did not so far
+    pub idle-busy : (last : ℕ) → HasNoWait system start keys (max waits_from last) done → HasNoWait system start keys (max waits_from last) done_now
+    idle-busy last first i low high = ⊎_elim (λ less. first i low less) (λ later. idle-none i (omega arith) high) (cases_lt i done)
+
+    -- where it ends, if waits count from the same step on for as long as it stops where it is idle, and else from the last one on
+    pub idle-ends : (counted : ℕ) (stops : Bool) (more : List Key) → more ≡ keys → ((stops ≡ true) × (waits_from ≡ counted)) ⊎ ((stops ≡ false) × (waits_from ≡ steps)) → done_now ≤ steps →
+        (is_running now.ended ≡ false) ⊎ HasNoWait system start keys (max counted (last_count 0 keys)) done → HasEndedCued system start steps counted stops more done_now next
+    idle-ends counted stops more same (inl stop) within busy =
+        let P : List Key → Type 0 = λ ks. HasEndedCued system start steps counted stops ks done_now next in
+        let Q : Bool → Type 0 = λ b. HasEndedCued system start steps counted b keys done_now next in
+        subst P (sym same) (subst Q (sym stop.0) (⊎_elim (λ ended. inl (run-ended (done_now - done) next written_then idled.run ended)) (λ none. stopped-idle counted stop.1 none) busy))
+      where
+        stopped-idle : (counted : ℕ) → waits_from ≡ counted → HasNoWait system start keys (max counted (last_count 0 keys)) done → HasEndedCued system start steps counted true keys done_now next
+        stopped-idle counted at none =
+            let R : ℕ → Type 0 = λ n. HasNoWait system start keys (max n (last_count 0 keys)) done in
+            let S : ℕ → Type 0 = λ n. HasNoWait system start keys (max n (last_count 0 keys)) done_now in
+            let busy : HasNoWait system start keys (max counted (last_count 0 keys)) done_now = subst S at (idle-busy (last_count 0 keys) (subst R (sym at) none)) in
+            ⊎_elim (λ (all : done_now ≡ steps). inr (busy, inl all))
+            (λ rest. ⊎_elim (λ ended. inl ended) (λ waits. let from = waits.0 in inr (busy, inr ((let least : counted ≤ done_now = omega arith in least), idle-waits ∙ waits.1))) rest) idled.why
+    idle-ends counted stops more same (inr goes) within busy =
+        let Q : Bool → Type 0 = λ b. HasEndedCued system start steps counted b more done_now next in
+        let last = goes.1 in
+        subst Q (sym goes.0) (⊎_elim (λ (all : done_now ≡ steps). inl all)
+        (λ rest. ⊎_elim (λ ended. inr ended) (λ waits. let from = waits.0 in inl (omega arith)) rest) idled.why)

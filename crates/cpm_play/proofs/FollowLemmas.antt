@@ -1,0 +1,345 @@
+-- A script that is followed, cue by cue.
+use Rattle.std.proofs.Common.{◌≡◌, ℕ, suc, ◌+◌, ◌-◌, ◌^◌, ◌<◌, ◌≤◌, ◌==◌, ◌||◌, max, not, Bool, true, false, true≢false, ◌⊎◌, inl, inr, ⊎_elim, Option, List, [], ◌∷◌, ◌++◌, length, drop, Vec, refl, sym, ap, ◌∙◌, subst, arith}
+use Rattle.std.proofs.lemmas.Bool.{cases_lt}
+use Rattle.std.proofs.lemmas.Bool.Decides.{nat_tests}
+use Rattle.std.proofs.lemmas.List.{drop-append-le, drop_all, length_push, length-append, nil_from_length}
+use Rattle.std.specs.declared.alloc.Global.{Global}
+use Rattle.cpm_geom.specs.Disk.{Disk}
+use Rattle.cpm_script.specs.declared.cue.Cue.{Cue}
+use Rattle.cpm_script.specs.declared.cue.Cue.TheVariants.{Key as Timed, Wait, Press}
+use Rattle.cpm_script.specs.declared.script.Key.{Key}
+use Rattle.cpm_machine.specs.Alone.{alone}
+use Rattle.cpm_machine.specs.MachineState.{MachineState}
+use Rattle.cpm_machine.specs.Serve.{look_of, takes_key}
+use Rattle.cpm_machine.specs.Step.{after, is_running}
+use Rattle.cpm_machine.proofs.GrantLaws.{after-add}
+use Rattle.cpm_machine.proofs.PressLaws.{alone-pressed}
+use Rattle.cpm_play.specs.Cued.{AreAscii, Comes, HasIdled, HasMissed, HasNoWait, HasPressed, HasShown, IsCued, IsCuedFrom, IsMet, key_count, last_count, looks_back, runs_at, screen_at, waits_at}
+use Rattle.cpm_play.specs.Live.{IsGoing}
+use Rattle.cpm_play.specs.Playing.{presses_of, IsFresh}
+use Rattle.cpm_play.proofs.AloneLemmas.{after-ended, after-pending, presses-more}
+use Rattle.cpm_play.proofs.CuedLemmas.{going-run, going-runs, going-waits, idle-busy, idle-going, idle-none, idle-shows, idle-waits, last-more}
+use Rattle.cpm_play.proofs.GoingLemmas.{going-key, going-start}
+use Rattle.cpm_play.proofs.RunLemmas.{bare, ended-waits}
+
+-- ---- small facts
+
+-- a key changes no text
+screen-pressed : (system : Disk) (start : MachineState) (keys more : List Key) (key : Key) → more ≡ keys ++ key ∷ [] → screen_at system start more key.count ≡ screen_at system start keys key.count
+screen-pressed system start keys more key is =
+    ap (λ ks. screen_at system start ks key.count) is
+    ∙ ap (λ ps. (alone system ps key.count start).cpm.console.screen) (presses-more keys key)
+    ∙ ap (λ (s : MachineState). s.cpm.console.screen) (alone-pressed system (presses_of keys) key.count key.byte start)
+
+-- an empty text stands everywhere
+empty-shown : (text shown : List ℕ) → text ≡ [] → HasShown text shown
+empty-shown text shown none =
+    let P : List ℕ → Type 0 = λ t. HasShown t shown in
+    subst P (sym none) (0, record { fits = omega arith; reads = λ j below. absurd (omega arith) })
+
+or-left : (a b : Bool) → (a || b) ≡ false → a ≡ false
+or-left false b e = refl
+or-left true b e = e
+
+or-right : (a b : Bool) → b ≡ true → (a || b) ≡ true
+or-right false b e = e
+or-right true b e = refl
+
+none-empty : (text : List ℕ) → not (length text == 0) ≡ false → text ≡ []
+none-empty text e = nil_from_length text (by_test (length text == 0) refl e)
+  where
+    by_test : (b : Bool) → (length text == 0) ≡ b → not b ≡ false → length text ≡ 0
+    by_test true is e = grind (arith, nat_tests)
+    by_test false is e = absurd (let bad : ⊥ = cc in bad)
+
+-- ---- how a script is followed
+
+-- The session goes, its keys are those of the cues so far, and those of the other cues make them the script's.
+pub record IsFollowing (system : Disk) (start : MachineState) (steps waits_from most : ℕ) (cues : List Cue) (now : MachineState) (before written unrecorded record_now : Option (List ℕ))
+    (keys : List Key) (done : ℕ) (rest : List Cue) (shown : List ℕ) : Type 0 where
+  pub going : IsGoing system steps most start now before written unrecorded record_now keys done
+  pub mark : ℕ
+  pub marked : mark ≤ length (screen_at system start keys done)
+  pub cued : (ks : List Key) → IsCuedFrom system start steps waits_from keys done mark rest ks → IsCued system start steps waits_from cues ks
+  pub kept : looks_back rest ≡ true → shown ≡ drop mark (screen_at system start keys done)
+  pub busy : HasNoWait system start keys (max waits_from (last_count 0 keys)) done
+  pub ascii : AreAscii rest
+  pub room : length keys + key_count rest ≤ most
+  pub pending : length now.cpm.console.keys ≤ length keys
+
+pub follow-start : (system : Disk) (start : MachineState) (steps waits_from : ℕ) (cues : List Cue) (written record_now : Option (List ℕ)) (keys : List Key) (shown : List ℕ) → IsFresh start → AreAscii cues → keys ≡ [] → shown ≡ [] →
+    IsFollowing system start steps waits_from (key_count cues) cues start written written record_now record_now keys 0 cues shown
+follow-start system start steps waits_from cues written record_now keys shown fresh ascii none empty =
+    let P : List Key → Type 0 = λ ks. IsFollowing system start steps waits_from (key_count cues) cues start written written record_now record_now ks 0 cues shown in
+    subst P (sym none) (record {
+      going = going-start system steps (key_count cues) start written record_now fresh;
+      mark = 0;
+      marked = omega arith;
+      cued = λ ks is. is;
+      kept = λ looks. empty ∙ sym fresh.screen;
+      busy = λ i low high. absurd (omega arith);
+      ascii = ascii;
+      room = omega arith;
+      pending = let bare : length start.cpm.console.keys ≡ 0 = ap length fresh.keys in omega arith;
+    })
+
+-- this cue is a key at this count, where the one before it counts from another on
+abbrev pub IsKeyAt : Cue → (done count byte : ℕ) → Type 0
+IsKeyAt x done count byte = ((k : Key) × (x ≡ Timed k) × (count ≡ max done k.count) × (byte ≡ k.byte)) ⊎ ((x ≡ Press byte) × (count ≡ done))
+
+-- What a key of the script at this count makes of the keys that come behind it.
+pub record IsKeyCue (system : Disk) (start : MachineState) (steps waits_from most : ℕ) (cues : List Cue) (keys : List Key) (done : ℕ) (key : Key) (others : List Cue) : Type 0 where
+  pub later : done ≤ key.count
+  pub ascii : key.byte < 128
+  pub others_ascii : AreAscii others
+  pub room : length keys + suc (key_count others) ≤ most
+  pub cued : (ks : List Key) →
+      (Comes system start steps keys key.count × IsCuedFrom system start steps waits_from (keys ++ key ∷ []) key.count (length (screen_at system start keys key.count)) others ks)
+      ⊎ ((Comes system start steps keys key.count → ⊥) × (ks ≡ keys)) → IsCued system start steps waits_from cues ks
+
+module _ {system : Disk} {start : MachineState} {steps waits_from most : ℕ} {cues : List Cue} {now : MachineState} {before written unrecorded record_now : Option (List ℕ)}
+    {keys : List Key} {done : ℕ} {shown : List ℕ} where
+  -- the next cue is this one
+  at-cue : (x y : Cue) (rest others : List Cue) → rest ≡ x ∷ others → x ≡ y → IsFollowing system start steps waits_from most cues now before written unrecorded record_now keys done rest shown →
+      IsFollowing system start steps waits_from most cues now before written unrecorded record_now keys done (y ∷ others) shown
+  at-cue x y rest others first is f =
+      let P : List Cue → Type 0 = λ r. IsFollowing system start steps waits_from most cues now before written unrecorded record_now keys done r shown in
+      subst P (first ∙ ap (λ c. c ∷ others) is) f
+
+  -- a wait, behind the same keys
+  pub at-wait : (x : Cue) (text : Vec ℕ Global) (rest others : List Cue) (more : List Key) → rest ≡ x ∷ others → x ≡ Wait text → more ≡ keys →
+      IsFollowing system start steps waits_from most cues now before written unrecorded record_now keys done rest shown →
+      IsFollowing system start steps waits_from most cues now before written unrecorded record_now more done (Wait text ∷ others) shown
+  at-wait x text rest others more first is same f =
+      subst (λ ks. IsFollowing system start steps waits_from most cues now before written unrecorded record_now ks done (Wait text ∷ others) shown) (sym same) (at-cue x (Wait text) rest others first is f)
+
+  -- a key
+  pub at-key : (x : Cue) (rest others : List Cue) (count byte : ℕ) → rest ≡ x ∷ others → IsKeyAt x done count byte →
+      IsFollowing system start steps waits_from most cues now before written unrecorded record_now keys done rest shown →
+      IsKeyCue system start steps waits_from most cues keys done (record { count = count; byte = byte }) others
+  at-key x rest others count byte first (inl timed) following =
+      let k : Key = timed.0 in
+      let f = at-cue x (Timed k) rest others first timed.1 following in
+      let P : ℕ → Type 0 = λ n. IsKeyCue system start steps waits_from most cues keys done (record { count = n; byte = byte }) others in
+      let Q : ℕ → Type 0 = λ b. IsKeyCue system start steps waits_from most cues keys done (record { count = max done k.count; byte = b }) others in
+      subst P (sym timed.2) (subst Q (sym timed.3) (record { later = omega arith; ascii = f.ascii.0; others_ascii = f.ascii.1; room = f.room; cued = f.cued }))
+  at-key x rest others count byte first (inr press) following =
+      let f = at-cue x (Press byte) rest others first press.0 following in
+      let P : ℕ → Type 0 = λ n. IsKeyCue system start steps waits_from most cues keys done (record { count = n; byte = byte }) others in
+      subst P (sym press.1) (record { later = omega arith; ascii = f.ascii.0; others_ascii = f.ascii.1; room = f.room; cued = f.cued })
+
+  module _ {rest : List Cue} (following : IsFollowing system start steps waits_from most cues now before written unrecorded record_now keys done rest shown)
+      {key : Key} {others : List Cue} (cue : IsKeyCue system start steps waits_from most cues keys done key others) where
+    pub takes-cue : most ≤ 4096 → takes_key now ≡ true
+    takes-cue few =
+        let pending = following.pending in
+        let count = cue.room in
+        let room : length now.cpm.console.keys < 4096 = omega arith in
+        grind (arith, nat_tests)
+
+    -- a key that comes
+    pub follow-pressed : (next : MachineState) (written_then record_then : Option (List ℕ)) (more : List Key) (count : ℕ) (left : List ℕ) → key.count < steps → steps < 2 ^ 64 → count ≡ key.count →
+        HasPressed system key (key.count - done) now next written written_then record_now record_then → more ≡ keys ++ key ∷ [] → left ≡ [] →
+        IsFollowing system start steps waits_from most cues next before written_then unrecorded record_then more count others left
+    follow-pressed next written_then record_then more count left within fits at pressed is empty =
+        let low = cue.later in
+        let k = key.count - done in
+        let there : done + k ≡ key.count = omega arith in
+        let going = following.going in
+        let reached : MachineState = bare (after system k now) in
+        let P : ℕ → Type 0 = λ n. IsGoing system steps most start reached before written_then unrecorded record_now keys n in
+        let went : IsGoing system steps most start reached before written_then unrecorded record_now keys key.count =
+        subst P there (going-run going k reached written_then (omega arith) (record { state = refl; text = pressed.text })) in
+        let count_room = cue.room in
+        let same = screen-pressed system start keys more key is in
+        let mark : ℕ = length (screen_at system start keys key.count) in
+        let marks : length (screen_at system start more key.count) ≡ mark = ap length same in
+        let runs : Comes system start steps keys key.count =
+        (within, subst (λ n. runs_at system start keys n ≡ true) there (going-runs going k ∙ pressed.runs)) in
+        let longer : length more ≡ length keys + 1 = ap length is ∙ length_push keys key in
+        let Q : ℕ → Type 0 = λ n. IsFollowing system start steps waits_from most cues next before written_then unrecorded record_then more n others left in
+        subst Q (sym at) (record {
+          going = going-key system steps most start reached before written_then unrecorded record_now keys key.count went key.byte next record_then more cue.ascii (omega arith) (omega arith) is pressed.state pressed.noted;
+          mark = mark;
+          marked = omega arith;
+          cued = λ ks h. cue.cued ks (inl (runs, subst (λ gs. IsCuedFrom system start steps waits_from gs key.count mark others ks) is h));
+          kept = λ looks. empty ∙ sym (drop_all mark (screen_at system start more key.count) (omega arith));
+          busy = λ i from until. let last = ap (last_count 0) is ∙ last-more 0 keys key in absurd (omega arith);
+          ascii = cue.others_ascii;
+          room = omega arith;
+          pending =
+              let before_it = following.pending in
+              let left_it = after-pending system k now in
+              let one : length next.cpm.console.keys ≡ length (after system k now).cpm.console.keys + 1 =
+              ap (λ (s : MachineState). length s.cpm.console.keys) pressed.state ∙ length_push (after system k now).cpm.console.keys key.byte in
+              omega arith;
+        })
+
+    -- a key that does not
+    module _ {next : MachineState} {written_then record_then : Option (List ℕ)} {more : List Key} {done_now : ℕ} (missed : HasMissed system key steps done done_now now next written written_then)
+        (still : (more ≡ keys) × (record_then ≡ record_now)) where
+      never : Comes system start steps keys key.count → ⊥
+      never comes = ⊎_elim (λ past. let far = past.0 in let near = comes.0 in omega arith)
+          (λ ended.
+          let low = missed.low in
+          let high = ended.1 in
+          let k = done_now - done in
+          let j = key.count - done_now in
+          let there : done + (k + j) ≡ key.count = omega arith in
+          let stopped : is_running (after system k now).ended ≡ false = sym (ap (λ (s : MachineState). is_running s.ended) missed.run.state) ∙ ended.2 in
+          let last : is_running (after system (k + j) now).ended ≡ false =
+          ap (λ (s : MachineState). is_running s.ended) (after-add system k j now) ∙ after-ended system j (after system k now) stopped in
+          let P : ℕ → Type 0 = λ n. runs_at system start keys n ≡ false in
+          let off : runs_at system start keys key.count ≡ false =
+          subst P there (going-runs following.going (k + j) ∙ last) in
+          true≢false (sym comes.1 ∙ off)) missed.why
+
+      within-missed : done_now - done ≤ steps - done
+      within-missed = let within = following.going.within in let low = missed.low in
+          ⊎_elim (λ past. let same = past.1 in omega arith) (λ ended. let near = ended.0 in let high = ended.1 in omega arith) missed.why
+
+      pub missed-going : IsGoing system steps most start next before written_then unrecorded record_then more done_now
+      missed-going =
+          let low = missed.low in
+          let there : done + (done_now - done) ≡ done_now = omega arith in
+          let P : ℕ → Type 0 = λ n. IsGoing system steps most start next before written_then unrecorded record_now keys n in
+          let went : IsGoing system steps most start next before written_then unrecorded record_now keys done_now =
+          subst P there (going-run following.going (done_now - done) next written_then within-missed missed.run) in
+          subst (λ r. IsGoing system steps most start next before written_then unrecorded r more done_now) (sym still.1)
+          (subst (λ ks. IsGoing system steps most start next before written_then unrecorded record_now ks done_now) (sym still.0) went)
+
+      pub missed-cued : IsCued system start steps waits_from cues more
+      missed-cued = cue.cued more (inr (never, still.0))
+
+      pub missed-busy : (is_running next.ended ≡ false) ⊎ HasNoWait system start more (max waits_from (last_count 0 more)) done_now
+      missed-busy = subst (λ ks. (is_running next.ended ≡ false) ⊎ HasNoWait system start ks (max waits_from (last_count 0 ks)) done_now) (sym still.0) ((⊎_elim (λ past. inr (let P : ℕ → Type 0 = λ n. HasNoWait system start keys (max waits_from (last_count 0 keys)) n in subst P (sym past.1) following.busy)) (λ ended. inl ended.2) missed.why))
+
+  -- ---- waits
+
+  -- steps up to a wait that counts, whose text was kept if it is looked for
+  module _ {text : Vec ℕ Global} {others : List Cue} (following : IsFollowing system start steps waits_from most cues now before written unrecorded record_now keys done (Wait text ∷ others) shown)
+      {done_now : ℕ} {next : MachineState} {written_then : Option (List ℕ)} (left : List ℕ) (within_steps : done_now ≤ steps)
+      (idled : HasIdled system steps waits_from done done_now now next written written_then)
+      (kept : looks_back (Wait text ∷ others) ≡ true → left ≡ shown ++ (after system (done_now - done) now).cpm.console.screen) where
+    pub wait-going : IsGoing system steps most start next before written_then unrecorded record_now keys done_now
+    wait-going = idle-going following.going idled keys refl within_steps
+
+    none-before : HasNoWait system start keys (max waits_from done) done_now
+    none-before = idle-none following.going idled
+
+    pub wait-busy : HasNoWait system start keys (max waits_from (last_count 0 keys)) done_now
+    wait-busy = idle-busy following.going idled (last_count 0 keys) following.busy
+
+    waits-there : waits_at system start keys done_now ≡ (look_of next).waiting
+    waits-there = idle-waits following.going idled
+
+    grows : screen_at system start keys done_now ≡ screen_at system start keys done ++ (after system (done_now - done) now).cpm.console.screen
+    grows = idle-shows following.going idled
+
+    seen : looks_back (Wait text ∷ others) ≡ true → left ≡ drop following.mark (screen_at system start keys done_now)
+    seen looks =
+        kept looks ∙ ap (λ xs. xs ++ (after system (done_now - done) now).cpm.console.screen) (following.kept looks)
+        ∙ sym (drop-append-le following.mark (screen_at system start keys done) (after system (done_now - done) now).cpm.console.screen following.marked)
+        ∙ ap (drop following.mark) (sym grows)
+
+    shown-there : (b : Bool) → looks_back (Wait text ∷ others) ≡ b → HasShown text.items left → HasShown text.items (drop following.mark (screen_at system start keys done_now))
+    shown-there true looks found = subst (λ xs. HasShown text.items xs) (seen looks) found
+    shown-there false looks found = empty-shown text.items (drop following.mark (screen_at system start keys done_now)) (none-empty text.items (or-left (not (length text.items == 0)) (looks_back others) looks))
+
+    shown-here : (b : Bool) → looks_back (Wait text ∷ others) ≡ b → HasShown text.items (drop following.mark (screen_at system start keys done_now)) → HasShown text.items left
+    shown-here true looks found = subst (λ xs. HasShown text.items xs) (sym (seen looks)) found
+    shown-here false looks found = empty-shown text.items left (none-empty text.items (or-left (not (length text.items == 0)) (looks_back others) looks))
+
+    -- a wait within the steps counts
+    counts : done_now < steps → (look_of next).waiting ≡ true → waits_from ≤ done_now
+    counts within waits = ⊎_elim (λ (all : done_now ≡ steps). omega arith)
+        (λ halts. ⊎_elim (λ ended. absurd (true≢false (sym waits ∙ ended-waits next ended))) (λ counted. counted.0) halts) idled.why
+
+    -- where it waits, and has shown the text
+    pub follow-met : done_now < steps → (look_of next).waiting ≡ true → HasShown text.items left →
+        IsFollowing system start steps waits_from most cues next before written_then unrecorded record_now keys done_now others left
+    follow-met within waits found = record {
+      going = wait-going;
+      mark = following.mark;
+      marked =
+          let marked = following.marked in
+          let longer : length (screen_at system start keys done_now) ≡ length (screen_at system start keys done) + length (after system (done_now - done) now).cpm.console.screen =
+          ap length grows ∙ length-append (screen_at system start keys done) (after system (done_now - done) now).cpm.console.screen in
+          omega arith;
+      cued = λ ks h. following.cued ks (inl (
+        done_now,
+        record {
+          next = record { later = let low = idled.low in let counted = counts within waits in omega arith; waits = waits-there ∙ waits; first = none-before };
+          within = within;
+          shown = shown-there (looks_back (Wait text ∷ others)) refl found;
+        },
+        h,
+      ));
+      kept = λ looks. seen (or-right (not (length text.items == 0)) (looks_back others) looks);
+      busy = wait-busy;
+      ascii = following.ascii;
+      room = following.room;
+      pending =
+          let before_it = following.pending in
+          let left_it = after-pending system (done_now - done) now in
+          let same : length next.cpm.console.keys ≡ length (after system (done_now - done) now).cpm.console.keys = ap (λ (s : MachineState). length s.cpm.console.keys) idled.run.state in
+          omega arith;
+    }
+
+    -- and where not, it never does so within the steps
+    never-met : (steps ≤ done_now) ⊎ (((look_of next).waiting ≡ false) ⊎ (HasShown text.items left → ⊥)) → (at : ℕ) → IsMet system start steps waits_from keys done following.mark text.items at → ⊥
+    never-met why at met =
+        let low = met.next.later in
+        let high = met.within in
+        let late : done_now ≤ at = ⊎_elim (λ (early : at < done_now). absurd (true≢false (sym met.next.waits ∙ none-before at low early))) (λ (late : done_now ≤ at). late) (cases_lt at done_now) in
+        ⊎_elim (λ (past : steps ≤ done_now). omega arith)
+        (λ other. ⊎_elim (λ (all : done_now ≡ steps). omega arith)
+        (λ halts. ⊎_elim (ended-never at late met) (λ counted. waits-never at late met other counted.0 counted.1) halts) idled.why) why
+      where
+        ended-never : (at : ℕ) → done_now ≤ at → IsMet system start steps waits_from keys done following.mark text.items at → is_running next.ended ≡ false → ⊥
+        ended-never at late met ended =
+            let low = idled.low in
+            let k = done_now - done in
+            let j = at - done_now in
+            let there : done + (k + j) ≡ at = omega arith in
+            let halted : is_running (after system k now).ended ≡ false = sym (ap (λ (s : MachineState). is_running s.ended) idled.run.state) ∙ ended in
+            let last : is_running (after system (k + j) now).ended ≡ false =
+            ap (λ (s : MachineState). is_running s.ended) (after-add system k j now) ∙ after-ended system j (after system k now) halted in
+            let P : ℕ → Type 0 = λ n. waits_at system start keys n ≡ false in
+            let quiet : waits_at system start keys at ≡ false =
+            subst P there (going-waits following.going (k + j) ∙ ended-waits (after system (k + j) now) last) in
+            true≢false (sym met.next.waits ∙ quiet)
+
+        waits-never : (at : ℕ) → done_now ≤ at → IsMet system start steps waits_from keys done following.mark text.items at →
+            ((look_of next).waiting ≡ false) ⊎ (HasShown text.items left → ⊥) → waits_from ≤ done_now → (look_of next).waiting ≡ true → ⊥
+        waits-never at late met other counted waits =
+            let low = idled.low in
+            let here : at ≡ done_now = ⊎_elim (λ (past : done_now < at). absurd (true≢false (sym (waits-there ∙ waits) ∙ met.next.first done_now (omega arith) past))) (λ (upto : at ≤ done_now). omega arith) (cases_lt done_now at) in
+            let P : ℕ → Type 0 = λ n. HasShown text.items (drop following.mark (screen_at system start keys n)) in
+            let found = shown-here (looks_back (Wait text ∷ others)) refl (subst P here met.shown) in
+            ⊎_elim (λ still. true≢false (sym waits ∙ still)) (λ lacks. lacks found) other
+
+    -- the same of the slices in which it is looked for
+    module _ (needle hay : List ℕ) (is_text : needle ≡ text.items) (is_left : hay ≡ left) where
+      met-slices : HasShown needle hay → HasShown text.items left
+      met-slices found = subst (λ xs. HasShown xs left) is_text (subst (λ xs. HasShown needle xs) is_left found)
+
+      unmet-slices : (HasShown needle hay → ⊥) → HasShown text.items left → ⊥
+      unmet-slices lacks found = lacks (subst (λ xs. HasShown needle xs) (sym is_left) (subst (λ xs. HasShown xs left) (sym is_text) found))
+
+      pub follow-found : done_now < steps → ((look_of next).waiting ≡ true) × HasShown needle hay →
+          IsFollowing system start steps waits_from most cues next before written_then unrecorded record_now keys (done_now) others left
+      follow-found within met = follow-met within met.0 (met-slices met.1)
+
+      pub unfound-cued : ((look_of next).waiting ≡ false) ⊎ (HasShown needle hay → ⊥) → IsCued system start steps waits_from cues keys
+      unfound-cued why = following.cued keys (inr (never-met (inr (⊎_elim (λ still. inl still) (λ lacks. inr (unmet-slices lacks)) why)), refl))
+
+    pub past-cued : steps ≤ done_now → IsCued system start steps waits_from cues keys
+    past-cued past = following.cued keys (inr (never-met (inl past), refl))
+
+-- behind the last cue
+pub follow-end : {system : Disk} {start : MachineState} {steps waits_from most : ℕ} {cues : List Cue} {now : MachineState} {before written unrecorded record_now : Option (List ℕ)}
+    {keys : List Key} {done : ℕ} {rest : List Cue} {shown : List ℕ} → rest ≡ [] → IsFollowing system start steps waits_from most cues now before written unrecorded record_now keys done rest shown → IsCued system start steps waits_from cues keys
+follow-end {system} {start} {steps} {waits_from} {most} {cues} {now} {before} {written} {unrecorded} {record_now} {keys} {done} {rest} {shown} none following =
+    let P : List Cue → Type 0 = λ r. IsCuedFrom system start steps waits_from keys done following.mark r keys in
+    following.cued keys (subst P (sym none) refl)

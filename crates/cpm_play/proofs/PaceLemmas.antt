@@ -1,0 +1,361 @@
+-- A session that is played: one more key, turn and take, and its end.
+use Rattle.std.proofs.Common.{◌≡◌, ℕ, ◌+◌, ◌-◌, ◌<◌, ◌≤◌, nat_le, ◌==◌, ◌&&◌, min, Bool, true, false, Option, Some, None, Result, Ok, Err, IfOk, IfErr, true≢false, ◌⊎◌, inl, inr, ⊎_elim, List, [], ◌∷◌, ◌++◌, length, take, drop, refl, sym, ap, ap₂, ◌∙◌, subst, arith, append-nil, take-append-drop, if◌then◌else◌, slice_get}
+use Rattle.std.specs.Prelude.{⊤}
+use Rattle.std.proofs.lemmas.Bool.Decides.{nat_tests}
+use Rattle.std.proofs.lemmas.Bool.{cases_lt}
+use Rattle.std.specs.Io.KnownBytes.{Appends}
+use Rattle.std.proofs.lemmas.List.{take_more, length_push}
+use Rattle.std.proofs.lemmas.Option.{get_or_from_slice_get, slice_get_within}
+use Rattle.std.proofs.lemmas.Option.{none-some, same_Some}
+use Rattle.cpm_geom.specs.Disk.{Disk}
+use Rattle.cpm_console.specs.declared.device.Device.{Device}
+use Rattle.cpm_console.specs.declared.device.Device.TheVariants as device
+use Rattle.cpm_console.specs.Terminal.{Terminal, has_room, waiting_on}
+use Rattle.cpm_script.specs.declared.script.Key.{Key}
+use Rattle.cpm_machine.specs.Alone.{due, alone}
+use Rattle.cpm_machine.specs.Calls.{state_behind}
+use Rattle.cpm_machine.specs.declared.reply.End.{End}
+use Rattle.cpm_machine.specs.declared.reply.KeysFull.{KeysFull}
+use Rattle.cpm_machine.specs.MachineState.{MachineState}
+use Rattle.cpm_machine.specs.Serve.{executed, keyed, taken, taken_list, takes_key}
+use Rattle.cpm_machine.specs.Step.{after, can_step, is_running}
+use Rattle.cpm_machine.proofs.AloneLaws.{after-behind, taken-behind, taken_list-behind}
+use Rattle.cpm_machine.proofs.GrantLaws.{longest-is}
+use Rattle.cpm_machine.proofs.PressLaws.{alone-add, alone-pressed, with_keys-nil, AllCame-later, AllCame-pressed}
+use Rattle.cpm_slots.proofs.ServeLaws.{taken_from}
+use Rattle.cpm_play.specs.declared.pace.Pace.{Pace}
+use Rattle.cpm_play.specs.Pacing.{due_at, first_pace, left_in, turn_of, up_to, IsOfAll, IsOn, IsPressed, IsShown, without_list, without_text}
+use Rattle.cpm_play.specs.Playing.{presses_of, EndsAs, HasText, IsFresh, IsInOrder, IsPlayed, IsQuiet}
+use Rattle.cpm_play.specs.ScriptedSlots.{console_with, list_with}
+use Rattle.cpm_play.proofs.TextLemmas.{appends_more, appends_none, keeps_all, both_empty}
+use Rattle.cpm_play.proofs.AloneLemmas.{after-ended, after-pending, alone-ended, alone-taken, keyless, keyless-ended, none-due, presses-append, presses-more, text-alone}
+use Rattle.cpm_play.proofs.OrderLemmas.{order-first, order-later}
+
+-- ---- the keys that are still to come
+
+-- ---- one call more
+
+-- before the first turn
+pub on-start : (system : Disk) (keys : List Key) (steps : ℕ) (start : MachineState) → IsFresh start → IsInOrder 0 keys → IsOn system keys steps start (first_pace steps) [] [] start
+on-start system keys steps start fresh order = record {
+  state = sym (with_keys-nil start);
+  came = λ i past. refl;
+  later = order;
+  within = omega arith;
+  pending = let none : length start.cpm.console.keys ≡ 0 = ap length fresh.keys in omega arith;
+  all = record { within = omega arith; most = omega arith; all = inl refl };
+}
+
+-- a key that is due
+pub record IsDue (keys : List Key) (pace : Pace) (byte : ℕ) : Type 0 where
+  pub key : Key
+  pub at : slice_get keys pace.pressed ≡ Some key
+  pub early : key.count ≤ pace.done
+  pub is : key.byte ≡ byte
+
+pub due-key : (o : Option Key) (keys : List Key) (pace : Pace) (byte : ℕ) → slice_get keys pace.pressed ≡ o → due_at pace.done o ≡ Some byte → IsDue keys pace byte
+due-key None keys pace byte at h = absurd (none-some byte h)
+due-key (Some key) keys pace byte at h = by_test (nat_le key.count pace.done) refl h
+  where
+    by_test : (b : Bool) → nat_le key.count pace.done ≡ b → (if b then Some key.byte else None) ≡ Some byte → IsDue keys pace byte
+    by_test true e h = record { key = key; at = at; early = grind (arith, nat_tests); is = same_Some key.byte byte h }
+    by_test false e h = absurd (none-some byte h)
+
+pub key-more : (keys : List Key) (pace : Pace) (byte : ℕ) → (is : IsDue keys pace byte) → take (pace.pressed + 1) keys ≡ take pace.pressed keys ++ is.key ∷ []
+key-more keys pace byte is =
+    take_more keys pace.pressed is.key (slice_get_within keys pace.pressed is.key is.at) ∙ ap (λ k. take pace.pressed keys ++ k ∷ []) (get_or_from_slice_get keys pace.pressed is.key is.key is.at)
+
+pub on-key : (system : Disk) (keys : List Key) (steps byte : ℕ) (start : MachineState) (pace : Pace) (console list : List ℕ) (now : MachineState) →
+    IsDue keys pace byte → IsOn system keys steps start pace console list now → IsOn system keys steps start (record pace { pressed = pace.pressed + 1 }) console list (keyed byte now)
+on-key system keys steps byte start pace console list now is on =
+    let key = is.key in
+    let order = order-first pace.done pace.pressed keys key is.at on.later in
+    let low : pace.done ≤ key.count = order.0 in
+    let early = is.early in
+    let same : key.count ≡ pace.done = omega arith in
+    let within : pace.pressed < length keys = slice_get_within keys pace.pressed key is.at in
+    let pending = on.pending in
+    let presses : presses_of (take (pace.pressed + 1) keys) ≡ presses_of (take pace.pressed keys) ++ record { after = pace.done; key = byte } ∷ [] =
+    ap presses_of (key-more keys pace byte is) ∙ presses-more (take pace.pressed keys) key
+    ∙ ap₂ (λ (n b : ℕ). presses_of (take pace.pressed keys) ++ record { after = n; key = b } ∷ []) same is.is in
+    record {
+      state = ap (keyed byte) on.state ∙ sym (alone-pressed system (presses_of (take pace.pressed keys)) pace.done byte start) ∙ ap (λ ps. alone system ps pace.done start) (sym presses);
+      came = λ i past. ap (due i) presses ∙ AllCame-pressed (presses_of (take pace.pressed keys)) pace.done byte on.came i past;
+      later = subst (λ n. IsInOrder n (drop (pace.pressed + 1) keys)) same order.1;
+      within = omega arith;
+      pending = let longer : length (now.cpm.console.keys ++ byte ∷ []) ≡ length now.cpm.console.keys + 1 = length_push now.cpm.console.keys byte in omega arith;
+      all = record { within = on.all.within; most = on.all.most; all = on.all.all };
+    }
+
+-- which is never refused
+pub takes-due : (system : Disk) (keys : List Key) (steps byte : ℕ) (start : MachineState) (pace : Pace) (console list : List ℕ) (now : MachineState) →
+    length keys ≤ 4096 → IsDue keys pace byte → IsOn system keys steps start pace console list now → takes_key now ≡ true
+takes-due system keys steps byte start pace console list now few is on =
+    let within : pace.pressed < length keys = slice_get_within keys pace.pressed is.key is.at in
+    let pending = on.pending in
+    let room : length now.cpm.console.keys < 4096 = omega arith in
+    grind (arith, nat_tests)
+
+all-later : (steps k : ℕ) (pace : Pace) (now next : MachineState) → k ≤ left_in pace → (is_running now.ended ≡ false → is_running next.ended ≡ false) → IsOfAll steps pace now → IsOfAll steps (record pace { done = pace.done + k }) next
+all-later steps k pace now next fits ends all =
+    let within = all.within in
+    record { within = omega arith; most = all.most; all = ⊎_elim (λ whole. inl whole) (λ ended. inr (ends ended)) all.all }
+
+-- the steps of a turn
+pub on-turn : (system : Disk) (keys : List Key) (steps k m : ℕ) (start : MachineState) (pace : Pace) (console list : List ℕ) (now : MachineState) →
+    k ≤ turn_of pace keys m → IsOn system keys steps start pace console list now →
+    IsOn system keys steps start (record pace { done = pace.done + k }) console list (after system k now)
+on-turn system keys steps k m start pace console list now turn on =
+    let presses = presses_of (take pace.pressed keys) in
+    let fits : k ≤ left_in pace = turn-left (slice_get keys pace.pressed) turn in
+    let pending = on.pending in
+    let later = after-pending system k now in
+    record {
+      state = sym (after-behind system console list k now) ∙ ap (after system k) on.state ∙ sym (alone-add system presses pace.done k start on.came);
+      came = AllCame-later presses pace.done k on.came;
+      later = order-later (slice_get keys pace.pressed) keys pace.done k (min (left_in pace) m) pace.pressed refl on.later turn;
+      within = on.within;
+      pending = omega arith;
+      all = all-later steps k pace now (after system k now) fits (after-ended system k now) on.all;
+    }
+  where
+    turn-left : (o : Option Key) → k ≤ up_to o pace.done (min (left_in pace) m) → k ≤ left_in pace
+    turn-left None h = omega arith
+    turn-left (Some key) h = omega arith
+
+-- another state, with which other bytes were taken
+on-behind : (system : Disk) (keys : List Key) (steps : ℕ) (start : MachineState) (pace : Pace) (console list console' list' : List ℕ) (now next : MachineState) → state_behind console' list' next ≡ state_behind console list now →
+    IsOn system keys steps start pace console list now → IsOn system keys steps start pace console' list' next
+on-behind system keys steps start pace console list console' list' now next same on = record {
+  state = same ∙ on.state;
+  came = on.came;
+  later = on.later;
+  within = on.within;
+  pending = subst (λ (ks : List ℕ). length ks ≤ pace.pressed) (sym (ap (λ (s : MachineState). s.cpm.console.keys) same)) on.pending;
+  all = record {
+    within = on.all.within;
+    most = on.all.most;
+    all = subst (λ (e : End). (pace.until ≡ steps) ⊎ (is_running e ≡ false)) (sym (ap (λ (s : MachineState). s.ended) same)) on.all.all;
+  };
+}
+
+-- bytes of a device that are taken
+pub on-take : (system : Disk) (keys : List Key) (steps room : ℕ) (start : MachineState) (pace : Pace) (console list : List ℕ) (now : MachineState) (on_device : Device) → IsOn system keys steps start pace console list now →
+    let waits = waiting_on on_device now.cpm.console in
+    let bytes = take (min room (length waits)) waits in
+    IsOn system keys steps start pace (console_with on_device bytes console) (list_with on_device bytes list) (taken_from on_device room now)
+on-take system keys steps room start pace console list now device.Console on = on-behind system keys steps start pace console list _ _ now (taken room now) (taken-behind console list room now) on
+on-take system keys steps room start pace console list now device.List on = on-behind system keys steps start pace console list _ _ now (taken_list room now) (taken_list-behind console list room now) on
+
+-- ---- the end
+
+-- a session that ended may execute no more
+pub on-ended : (system : Disk) (keys : List Key) (steps : ℕ) (start : MachineState) (pace : Pace) (console list : List ℕ) (now : MachineState) → is_running now.ended ≡ false →
+    IsOn system keys steps start pace console list now → IsOn system keys steps start (record pace { until = pace.done }) console list now
+on-ended system keys steps start pace console list now ended on = record {
+  state = on.state;
+  came = on.came;
+  later = on.later;
+  within = on.within;
+  pending = on.pending;
+  all = let within = on.all.within in let most = on.all.most in record { within = omega arith; most = omega arith; all = inr ended };
+}
+
+-- a session with no output to take that makes no step has ended
+pub stopped : (system : Disk) (n : ℕ) (s : MachineState) → IsQuiet s → 0 < n → 0 ≡ executed system n s → is_running s.ended ≡ false
+unfolding executed
+stopped system n s none some is =
+    let longest = longest-is (λ k. can_step (after system k s)) n in
+    let blocked : can_step s ≡ false = subst (λ k. k < n → can_step (after system k s) ≡ false) (sym is) longest.greatest some in
+    go (is_running s.ended) (has_room s.cpm.console) (room s.cpm.console none.screen none.printer) blocked
+  where
+    room : (t : Terminal) → t.screen ≡ [] → t.printer ≡ [] → has_room t ≡ true
+    room t x y = ap₂ (λ (a b : List ℕ). nat_le (length a) 4096 && nat_le (length b) 4096) x y
+
+    go : (a b : Bool) → b ≡ true → (a && b) ≡ false → a ≡ false
+    go false b e f = refl
+    go true b e f = absurd (let bad : ⊥ = cc in bad)
+
+-- keys that were not pressed make no difference so far
+keys-taken : (system : Disk) (keys : List Key) (steps : ℕ) (start : MachineState) (pace : Pace) (console list : List ℕ) (now : MachineState) → IsOn system keys steps start pace console list now →
+    keyless (alone system (presses_of keys) pace.done start) ≡ keyless (state_behind console list now)
+keys-taken system keys steps start pace console list now on =
+    let pressed = take pace.pressed keys in
+    let rest = drop pace.pressed keys in
+    let split : presses_of keys ≡ presses_of pressed ++ presses_of rest = ap presses_of (sym (take-append-drop pace.pressed keys)) ∙ presses-append pressed rest in
+    ap (λ ps. keyless (alone system ps pace.done start)) split
+    ∙ alone-taken system (presses_of pressed) (presses_of rest) pace.done start (λ i below. none-due pace.done i rest on.later below)
+    ∙ ap keyless (sym on.state)
+
+-- all steps were executed, or the session has ended
+keys-all : (system : Disk) (keys : List Key) (steps : ℕ) (start : MachineState) (pace : Pace) (console list : List ℕ) (now : MachineState) → IsOn system keys steps start pace console list now → left_in pace ≡ 0 →
+    keyless (alone system (presses_of keys) steps start) ≡ keyless (state_behind console list now)
+keys-all system keys steps start pace console list now on none = by_case on.all.all
+  where
+    taken_so : keyless (alone system (presses_of keys) pace.done start) ≡ keyless (state_behind console list now)
+    taken_so = keys-taken system keys steps start pace console list now on
+
+    within : pace.done ≤ pace.until
+    within = on.all.within
+
+    most : pace.until ≤ steps
+    most = on.all.most
+
+    by_case : (pace.until ≡ steps) ⊎ (is_running now.ended ≡ false) → keyless (alone system (presses_of keys) steps start) ≡ keyless (state_behind console list now)
+    by_case (inl whole) =
+        let in_all : pace.done ≤ pace.until = within in
+        let spent : pace.until - pace.done ≡ 0 = none in
+        let same : steps ≡ pace.done = omega arith in ap (λ n. keyless (alone system (presses_of keys) n start)) same ∙ taken_so
+    by_case (inr ended) =
+        let in_all : pace.done ≤ pace.until = within in
+        let at_most : pace.until ≤ steps = most in
+        let same : steps ≡ pace.done + (steps - pace.done) = omega arith in
+        ap (λ n. keyless (alone system (presses_of keys) n start)) same
+        ∙ alone-ended system (presses_of keys) pace.done (steps - pace.done) start (keyless-ended (alone system (presses_of keys) pace.done start) (state_behind console list now) taken_so ended) ∙ taken_so
+
+pub on-end : (system : Disk) (keys : List Key) (steps : ℕ) (start : MachineState) (pace : Pace) (console list : List ℕ) (now : MachineState) → IsOn system keys steps start pace console list now → IsQuiet now → left_in pace ≡ 0 →
+    IsPlayed system keys steps start now console list
+on-end system keys steps start pace console list now on quiet none =
+    let same : keyless (alone system (presses_of keys) steps start) ≡ keyless (state_behind console list now) = keys-all system keys steps start pace console list now on none in
+    record {
+      screen = sym (append-nil console) ∙ ap (λ xs. console ++ xs) (sym quiet.screen) ∙ ap (λ (s : MachineState). s.cpm.console.screen) (sym same);
+      printer = sym (append-nil list) ∙ ap (λ xs. list ++ xs) (sym quiet.printer) ∙ ap (λ (s : MachineState). s.cpm.console.printer) (sym same);
+      count = ap (λ (s : MachineState). s.count) (sym same);
+      ended = ap (λ (s : MachineState). s.ended) (sym same);
+      regs = ap (λ (s : MachineState). s.cpm.regs) (sym same);
+      memory = ap (λ (s : MachineState). s.memory) (sym same);
+      disks = ap (λ (s : MachineState). s.cpm.disks) (sym same);
+    }
+
+-- text that a session shows is text of the whole
+pub on-text : (system : Disk) (keys : List Key) (steps : ℕ) (start : MachineState) (pace : Pace) (console list : List ℕ) (now : MachineState) → IsOn system keys steps start pace console list now → HasText now →
+    HasText (alone system (presses_of keys) steps start)
+on-text system keys steps start pace console list now on some =
+    let same = keys-taken system keys steps start pace console list now on in
+    let screen : (alone system (presses_of keys) pace.done start).cpm.console.screen ≡ console ++ now.cpm.console.screen =
+    ap (λ (s : MachineState). s.cpm.console.screen) same in
+    let here : HasText (alone system (presses_of keys) pace.done start) = λ none. some (both_empty console now.cpm.console.screen (sym screen ∙ none)) in
+    let within = on.all.within in let most = on.all.most in
+    let total : pace.done + (steps - pace.done) ≡ steps = omega arith in
+    subst (λ n. HasText (alone system (presses_of keys) n start)) total (text-alone system (presses_of keys) pace.done (steps - pace.done) start here)
+
+-- ---- a turn of one machine
+
+-- where no key is due and steps are left, a turn has some
+turn-some : (o : Option Key) (keys : List Key) (pace : Pace) (quantum : ℕ) → slice_get keys pace.pressed ≡ o → due_at pace.done o ≡ None → 0 < left_in pace → 1 ≤ quantum → 0 < up_to o pace.done (min (left_in pace) quantum)
+turn-some None keys pace quantum at none left some = omega arith
+turn-some (Some key) keys pace quantum at none left some = by_test (nat_le key.count pace.done) refl none
+  where
+    by_test : (b : Bool) → nat_le key.count pace.done ≡ b → (if b then Some key.byte else None) ≡ None → 0 < min (min (left_in pace) quantum) (key.count - pace.done)
+    by_test true e h = absurd (none-some key.byte (sym h))
+    by_test false e h = let later : pace.done < key.count = grind (arith, nat_tests) in omega arith
+
+-- the pace after a turn
+pub record IsAdvanced (k : ℕ) (old new : Pace) : Type 0 where
+  pub pressed : new.pressed ≡ old.pressed
+  pub done : new.done ≡ old.done + k
+  pub until : new.until ≡ (if k == 0 then old.done else old.until)
+
+advanced-is : (k : ℕ) (old new : Pace) → IsAdvanced k old new → new ≡ record old { done = old.done + k; until = if k == 0 then old.done else old.until }
+advanced-is k old new is =
+    ap (λ (n : ℕ). let p : Pace = record { pressed = n; done = new.done; until = new.until } in p) is.pressed
+    ∙ ap (λ (n : ℕ). let p : Pace = record { pressed = old.pressed; done = n; until = new.until } in p) is.done
+    ∙ ap (λ (n : ℕ). let p : Pace = record { pressed = old.pressed; done = old.done + k; until = n } in p) is.until
+
+-- the steps of a turn of a session with no output to take, in which no key is due
+pub on-advance : (system : Disk) (keys : List Key) (steps k quantum : ℕ) (start : MachineState) (old new : Pace) (console list : List ℕ) (now : MachineState) →
+    IsQuiet now → due_at old.done (slice_get keys old.pressed) ≡ None → 1 ≤ quantum → k ≡ executed system (turn_of old keys quantum) now → k ≤ turn_of old keys quantum → IsAdvanced k old new →
+    IsOn system keys steps start old console list now → IsOn system keys steps start new console list (after system k now)
+on-advance system keys steps k quantum start old new console list now quiet none some is turn moves on =
+    let P : Pace → Type 0 = λ p. IsOn system keys steps start p console list (after system k now) in
+    subst P (sym (advanced-is k old new moves)) (by_test (k == 0) refl)
+  where
+    moved : IsOn system keys steps start (record old { done = old.done + k }) console list (after system k now)
+    moved = on-turn system keys steps k quantum start old console list now turn on
+
+    over : k ≡ 0 → 0 < left_in old → is_running now.ended ≡ false
+    over zero_steps left =
+        stopped system (turn_of old keys quantum) now quiet (turn-some (slice_get keys old.pressed) keys old quantum refl none left some) (sym zero_steps ∙ is)
+
+    by_test : (b : Bool) → (k == 0) ≡ b → IsOn system keys steps start (record old { done = old.done + k; until = if b then old.done else old.until }) console list (after system k now)
+    by_test false e = moved
+    by_test true e =
+        let zero_steps : k ≡ 0 = grind (arith, nat_tests) in
+        let here : old.done ≡ old.done + k = omega arith in
+        let P : ℕ → Type 0 = λ n. IsOn system keys steps start (record old { done = old.done + k; until = n }) console list (after system k now) in
+        ⊎_elim (λ left. subst P (sym here) (on-ended system keys steps start (record old { done = old.done + k }) console list (after system k now) (after-ended system k now (over zero_steps left)) moved))
+        (λ spent. let within = on.all.within in let same : old.until ≡ old.done = omega arith in subst P same moved) (cases_lt 0 (left_in old))
+
+-- all bytes that wait are taken
+on-taken : (system : Disk) (keys : List Key) (steps : ℕ) (start : MachineState) (pace : Pace) (console list : List ℕ) (now : MachineState) → IsOn system keys steps start pace console list now →
+    IsOn system keys steps start pace (console ++ now.cpm.console.screen) (list ++ now.cpm.console.printer) (without_list (without_text now))
+on-taken system keys steps start pace console list now on =
+    on-behind system keys steps start pace console list _ _ now (without_list (without_text now))
+    (ap₂ (λ (xs ys : List ℕ). record now { cpm = record now.cpm { console = record now.cpm.console { screen = xs; printer = ys } } })
+    (append-nil (console ++ now.cpm.console.screen)) (append-nil (list ++ now.cpm.console.printer))) on
+
+pub shown-start : (system : Disk) (keys : List Key) (steps : ℕ) (start : MachineState) (o : Option (List ℕ)) → IsFresh start → IsInOrder 0 keys → IsShown system keys steps start (first_pace steps) start o o
+shown-start system keys steps start o fresh order = record {
+  text = [];
+  list = [];
+  on = on-start system keys steps start fresh order;
+  appended = appends_none o;
+  quiet = record { screen = fresh.screen; printer = fresh.printer };
+}
+
+-- a key more
+pub pressed-more : (keys : List Key) (byte : ℕ) (old pace : Pace) (now s next : MachineState) (r : Result ⊤ KeysFull) → length keys ≤ 4096 → due_at pace.done (slice_get keys pace.pressed) ≡ Some byte →
+    IfOk r (λ _. (takes_key s ≡ true) × (next ≡ keyed byte s)) → IfErr r (λ _. (takes_key s ≡ false) × (next ≡ s)) →
+    IsPressed keys old pace now s → IsPressed keys old (record pace { pressed = pace.pressed + 1 }) now next
+pressed-more keys byte old pace now s next (Ok done) few due accepted refused press =
+    let is : IsDue keys pace byte = due-key (slice_get keys pace.pressed) keys pace byte refl due in
+    record {
+      on = λ system steps start console list on.
+          let P : MachineState → Type 0 = λ t. IsOn system keys steps start (record pace { pressed = pace.pressed + 1 }) console list t in
+          subst P (sym accepted.1) (on-key system keys steps byte start pace console list s is (press.on system steps start console list on));
+      quiet = λ quiet. let before = press.quiet quiet in
+          subst IsQuiet (sym accepted.1) (record { screen = before.screen; printer = before.printer });
+    }
+pressed-more keys byte old pace now s next (Err fault) few due accepted refused press =
+    let is : IsDue keys pace byte = due-key (slice_get keys pace.pressed) keys pace byte refl due in
+    record {
+      on = λ system steps start console list on.
+          let room : takes_key s ≡ true = takes-due system keys steps byte start pace console list s few is (press.on system steps start console list on) in
+          absurd (true≢false (sym room ∙ refused.0));
+      quiet = λ quiet. subst IsQuiet (sym refused.1) (press.quiet quiet);
+    }
+
+pub shown-turn : (system : Disk) (keys : List Key) (steps k quantum : ℕ) (start : MachineState) (old pressed new : Pace) (now next turned last : MachineState) (before middle written : Option (List ℕ)) →
+    IsShown system keys steps start old now before middle → IsPressed keys old pressed now next → due_at pressed.done (slice_get keys pressed.pressed) ≡ None → 1 ≤ quantum →
+    k ≡ executed system (turn_of pressed keys quantum) next → k ≤ turn_of pressed keys quantum → turned ≡ after system k next → IsAdvanced k pressed new →
+    last ≡ without_list (without_text turned) → Appends middle written turned.cpm.console.screen → IsShown system keys steps start new last before written
+shown-turn system keys steps k quantum start old pressed new now next turned last before middle written shown press none some is turn state moves taken_all writes =
+    let here : IsOn system keys steps start pressed shown.text shown.list next = press.on system steps start shown.text shown.list shown.on in
+    let there : IsOn system keys steps start new shown.text shown.list (after system k next) =
+    on-advance system keys steps k quantum start pressed new shown.text shown.list next (press.quiet shown.quiet) none some is turn moves here in
+    let P : MachineState → Type 0 = λ s. IsOn system keys steps start new shown.text shown.list s in
+    let Q : MachineState → Type 0 = λ s. IsOn system keys steps start new (shown.text ++ turned.cpm.console.screen) (shown.list ++ turned.cpm.console.printer) s in
+    record {
+      text = shown.text ++ turned.cpm.console.screen;
+      list = shown.list ++ turned.cpm.console.printer;
+      on = subst Q (sym taken_all) (on-taken system keys steps start new shown.text shown.list turned (subst P (sym state) there));
+      appended = appends_more before middle written written shown.text turned.cpm.console.screen shown.appended writes (keeps_all written);
+      quiet = record { screen = ap (λ (s : MachineState). s.cpm.console.screen) taken_all; printer = ap (λ (s : MachineState). s.cpm.console.printer) taken_all };
+    }
+
+-- text of a turn is text of the whole
+pub shown-text : (system : Disk) (keys : List Key) (steps k quantum : ℕ) (start : MachineState) (old pressed new : Pace) (now next turned : MachineState) (before middle : Option (List ℕ)) →
+    IsShown system keys steps start old now before middle → IsPressed keys old pressed now next → due_at pressed.done (slice_get keys pressed.pressed) ≡ None → 1 ≤ quantum →
+    k ≡ executed system (turn_of pressed keys quantum) next → k ≤ turn_of pressed keys quantum → turned ≡ after system k next → IsAdvanced k pressed new → HasText turned →
+    HasText (alone system (presses_of keys) steps start)
+shown-text system keys steps k quantum start old pressed new now next turned before middle shown press none some is turn state moves text =
+    let here : IsOn system keys steps start pressed shown.text shown.list next = press.on system steps start shown.text shown.list shown.on in
+    let there : IsOn system keys steps start new shown.text shown.list (after system k next) =
+    on-advance system keys steps k quantum start pressed new shown.text shown.list next (press.quiet shown.quiet) none some is turn moves here in
+    on-text system keys steps start new shown.text shown.list (after system k next) there (subst HasText state text)
+
+pub shown-end : (system : Disk) (keys : List Key) (steps : ℕ) (start : MachineState) (pace : Pace) (now : MachineState) (before written : Option (List ℕ)) → IsShown system keys steps start pace now before written → left_in pace ≡ 0 →
+    Appends before written (alone system (presses_of keys) steps start).cpm.console.screen × EndsAs (alone system (presses_of keys) steps start) now
+shown-end system keys steps start pace now before written shown none =
+    let played : IsPlayed system keys steps start now shown.text shown.list = on-end system keys steps start pace shown.text shown.list now shown.on shown.quiet none in
+    (subst (λ xs. Appends before written xs) played.screen shown.appended, record { count = played.count; ended = played.ended; regs = played.regs; memory = played.memory; disks = played.disks })

@@ -1,0 +1,267 @@
+-- Steps that are executed in turns, whose output is taken after each, and those up to a wait.
+use Rattle.std.proofs.Common.{◌≡◌, ℕ, ◌+◌, ◌-◌, ◌<◌, ◌≤◌, ◌&&◌, nat_le, not, min, Bool, true, false, true≢false, ◌⊎◌, inl, inr, ⊎_elim, Option, Some, None, is_some, List, [], ◌++◌, length, refl, sym, ap, ap₂, ◌∙◌, subst, arith, append-nil}
+use Rattle.std.proofs.lemmas.List.{append_assoc}
+use Rattle.std.proofs.lemmas.Bool.{cases_lt}
+use Rattle.std.specs.Io.KnownBytes.{Appends}
+use Rattle.memchr.specs.Find.{FindsNeedle}
+use Rattle.cpm_geom.specs.Disk.{Disk}
+use Rattle.cpm_bdos.specs.Waiting.{is_waiting}
+use Rattle.cpm_console.specs.Terminal.{Terminal, has_room}
+use Rattle.cpm_machine.specs.Calls.{state_behind}
+use Rattle.cpm_machine.specs.MachineState.{MachineState}
+use Rattle.cpm_machine.specs.Serve.{executed, look_of}
+use Rattle.cpm_machine.specs.Step.{after, can_step, is_running}
+use Rattle.cpm_machine.specs.ToWait.{can_work, executed_to_wait}
+use Rattle.cpm_machine.proofs.AloneLaws.{after-behind}
+use Rattle.cpm_machine.proofs.GrantLaws.{after-add, longest-is}
+use Rattle.cpm_play.specs.Cued.{HasIdled, HasRun, HasShown, HasStopped, IsBusyFor, IsRunCut, IsTaken, IsUntaken}
+use Rattle.cpm_play.specs.declared.live.LiveError.{LiveError}
+use Rattle.cpm_play.specs.declared.live.LiveError.TheVariants.{Unreadable, Unwritable, Unrecorded, OutOfMemory}
+use Rattle.cpm_play.specs.Pacing.{without_list, without_text}
+use Rattle.cpm_play.specs.Playing.{IsQuiet}
+use Rattle.cpm_play.proofs.AloneLemmas.{after-ended}
+use Rattle.cpm_play.proofs.WaitLemmas.{waits-output}
+use Rattle.cpm_play.proofs.TextLemmas.{appends_more, appends_none, both_empty, keeps_all}
+
+-- ---- output that is taken
+
+-- the state with all of its output taken
+abbrev pub bare : MachineState → MachineState
+bare s = without_list (without_text s)
+
+behind-bare : (s : MachineState) → state_behind s.cpm.console.screen s.cpm.console.printer (bare s) ≡ s
+behind-bare s =
+    ap₂ (λ (xs ys : List ℕ). record s { cpm = record s.cpm { console = record s.cpm.console { screen = xs; printer = ys } } })
+    (append-nil s.cpm.console.screen) (append-nil s.cpm.console.printer)
+
+pub quiet-taken : (old now : MachineState) (before written : Option (List ℕ)) → IsTaken old now before written → IsQuiet now
+quiet-taken old now before written taken = record {
+  screen = ap (λ (s : MachineState). s.cpm.console.screen) taken.state;
+  printer = ap (λ (s : MachineState). s.cpm.console.printer) taken.state;
+}
+
+-- ---- a text that is looked for
+
+pub find-none : (shown text : List ℕ) (r : Option ℕ) → FindsNeedle shown text 0 r → is_some r ≡ false → HasShown text shown → ⊥
+find-none shown text None nowhere none found = let fits = found.1.fits in nowhere found.0 (omega arith) (omega arith) found.1
+find-none shown text (Some place) first none found = absurd (let bad : ⊥ = cc in bad)
+
+-- ---- one turn more
+
+pub run-none : (system : Disk) (s : MachineState) (written : Option (List ℕ)) → IsQuiet s → HasRun system 0 s s written written
+run-none system s written quiet = record {
+  state = ap₂ (λ (xs ys : List ℕ). record s { cpm = record s.cpm { console = record s.cpm.console { screen = xs; printer = ys } } }) quiet.screen quiet.printer;
+  text = subst (λ xs. Appends written written xs) (sym quiet.screen) (appends_none written);
+}
+
+pub kept-none : (s : MachineState) (old : List ℕ) → IsQuiet s → old ≡ old ++ s.cpm.console.screen
+kept-none s old quiet = sym (append-nil old) ∙ ap (λ xs. old ++ xs) (sym quiet.screen)
+
+module _ (system : Disk) (k : ℕ) (old mid : MachineState) (before middle : Option (List ℕ)) (run : HasRun system k old mid before middle) where
+  -- with the output that was taken put back in front the steps go on
+  pub run-on : (j : ℕ) → after system (k + j) old ≡ state_behind (after system k old).cpm.console.screen (after system k old).cpm.console.printer (after system j mid)
+  run-on j =
+      let far : MachineState = after system k old in
+      after-add system k j old ∙ ap (after system j) (sym (behind-bare far)) ∙ after-behind system far.cpm.console.screen far.cpm.console.printer j (bare far)
+      ∙ ap (λ s. state_behind far.cpm.console.screen far.cpm.console.printer (after system j s)) (sym run.state)
+
+  pub run-more : (j : ℕ) (turned next : MachineState) (written : Option (List ℕ)) → turned ≡ after system j mid → IsTaken turned next middle written → HasRun system (k + j) old next before written
+  run-more j turned next written is taken = record {
+    state = taken.state ∙ ap bare is ∙ sym (ap bare (run-on j));
+    text = subst (λ xs. Appends before written xs) (sym (ap (λ (s : MachineState). s.cpm.console.screen) (run-on j)))
+        (appends_more before middle written written (after system k old).cpm.console.screen (after system j mid).cpm.console.screen run.text
+        (subst (λ (s : MachineState). Appends middle written s.cpm.console.screen) is taken.text) (keeps_all written));
+  }
+
+  -- one that makes no step
+  pub run-still : (j : ℕ) (turned : MachineState) → turned ≡ after system j mid → j ≡ 0 → HasRun system k old turned before middle
+  run-still j turned is none =
+      let same : turned ≡ mid = is ∙ ap (λ n. after system n mid) none in
+      subst (λ s. HasRun system k old s before middle) (sym same) run
+
+  -- one that is cut short
+  pub run-cut : (steps j : ℕ) (turned next : MachineState) (written : Option (List ℕ)) (e : LiveError) → k + j ≤ steps → turned ≡ after system j mid → IsUntaken turned next middle written e →
+      IsRunCut system steps old next before written e
+  run-cut steps j turned next written (Unreadable e) fits is cut = absurd cut
+  run-cut steps j turned next written (Unrecorded e) fits is cut = absurd cut
+  run-cut steps j turned next written (Unwritable e) fits is cut = (
+    k + j,
+    fits,
+    λ none. cut (ap (λ (s : MachineState). s.cpm.console.screen) is
+        ∙ both_empty (after system k old).cpm.console.screen (after system j mid).cpm.console.screen (sym (ap (λ (s : MachineState). s.cpm.console.screen) (run-on j)) ∙ none)),
+  )
+  run-cut steps j turned next written OutOfMemory fits is cut = (k + j, fits, run-more j turned next written is cut)
+
+  -- what is kept grows with what is shown
+  pub kept-more : (j : ℕ) (turned : MachineState) (start kept more : List ℕ) → turned ≡ after system j mid → kept ≡ start ++ (after system k old).cpm.console.screen → more ≡ kept ++ turned.cpm.console.screen →
+      more ≡ start ++ (after system (k + j) old).cpm.console.screen
+  kept-more j turned start kept more turns had is =
+      is ∙ ap (λ (s : MachineState). kept ++ s.cpm.console.screen) turns ∙ ap (λ xs. xs ++ (after system j mid).cpm.console.screen) had ∙ append_assoc start (after system k old).cpm.console.screen (after system j mid).cpm.console.screen
+      ∙ ap (λ xs. start ++ xs) (sym (ap (λ (s : MachineState). s.cpm.console.screen) (run-on j)))
+
+-- ---- waits
+
+-- whatever output waits to be taken
+pub waits-behind : (p q : List ℕ) (s : MachineState) → (look_of (state_behind p q s)).waiting ≡ (look_of s).waiting
+waits-behind p q s = waits-output (p ++ s.cpm.console.screen) (q ++ s.cpm.console.printer) s
+
+pub waits-bare : (s : MachineState) → (look_of (bare s)).waiting ≡ (look_of s).waiting
+waits-bare s = waits-output [] [] s
+
+-- one that has ended does not
+pub ended-waits : (s : MachineState) → is_running s.ended ≡ false → (look_of s).waiting ≡ false
+unfolding look_of
+ended-waits s ended = ap (λ b. b && is_waiting s.cpm s.memory) ended
+
+pub busy-more : (system : Disk) (k j : ℕ) (old mid : MachineState) (before middle : Option (List ℕ)) → HasRun system k old mid before middle →
+    IsBusyFor system k old → IsBusyFor system j mid → IsBusyFor system (k + j) old
+busy-more system k j old mid before middle run first second i below = ⊎_elim (λ less. first i less)
+    (λ past.
+    let at : k + (i - k) ≡ i = omega arith in
+    let P : ℕ → Type 0 = λ n. (look_of (after system n old)).waiting ≡ false in
+    let far : MachineState = after system k old in
+    subst P at (ap (λ (s : MachineState). (look_of s).waiting) (run-on system k old mid before middle run (i - k))
+    ∙ waits-behind far.cpm.console.screen far.cpm.console.printer (after system (i - k) mid) ∙ second (i - k) (omega arith)))
+    (cases_lt i k)
+
+-- ---- what a turn executes
+
+room-quiet : (t : Terminal) → t.screen ≡ [] → t.printer ≡ [] → has_room t ≡ true
+room-quiet t x y = ap₂ (λ (a b : List ℕ). nat_le (length a) 4096 && nat_le (length b) 4096) x y
+
+-- a machine with no output to take that makes no step has ended
+pub stopped-ended : (system : Disk) (n k : ℕ) (s next : MachineState) → IsQuiet s → 0 < n → k ≡ executed system n s → k ≡ 0 → next ≡ after system k s → is_running next.ended ≡ false
+unfolding executed
+stopped-ended system n k s next quiet some is none at =
+    let longest = longest-is (λ i. can_step (after system i s)) n in
+    let blocked : can_step s ≡ false = subst (λ i. i < n → can_step (after system i s) ≡ false) (sym is ∙ none) longest.greatest some in
+    ap (λ (t : MachineState). is_running t.ended) (at ∙ ap (λ m. after system m s) none)
+    ∙ go (is_running s.ended) (has_room s.cpm.console) (room-quiet s.cpm.console quiet.screen quiet.printer) blocked
+  where
+    go : (a b : Bool) → b ≡ true → (a && b) ≡ false → a ≡ false
+    go false b e f = refl
+    go true b e f = absurd (let bad : ⊥ = cc in bad)
+
+-- or waits for a key, if it is to make none that does
+pub stopped-waits : (system : Disk) (n k : ℕ) (s next : MachineState) → IsQuiet s → 0 < n → k ≡ executed_to_wait system n s → k ≡ 0 → next ≡ after system k s →
+    (is_running next.ended ≡ false) ⊎ ((look_of next).waiting ≡ true)
+unfolding executed_to_wait look_of
+stopped-waits system n k s next quiet some is none at =
+    let longest = longest-is (λ i. can_work (after system i s)) n in
+    let blocked : can_work s ≡ false = subst (λ i. i < n → can_work (after system i s) ≡ false) (sym is ∙ none) longest.greatest some in
+    let same : next ≡ s = at ∙ ap (λ m. after system m s) none in
+    subst (λ (t : MachineState). (is_running t.ended ≡ false) ⊎ ((is_running t.ended && is_waiting t.cpm t.memory) ≡ true)) (sym same)
+    (go (is_running s.ended) (has_room s.cpm.console) (is_waiting s.cpm s.memory) (room-quiet s.cpm.console quiet.screen quiet.printer) blocked)
+  where
+    go : (a b w : Bool) → b ≡ true → ((a && b) && not w) ≡ false → (a ≡ false) ⊎ ((a && w) ≡ true)
+    go false b w e f = inl refl
+    go true b true e f = inr refl
+    go true b false e f = absurd (let bad : ⊥ = cc in bad)
+
+-- and so none of its steps does
+pub busy-granted : (system : Disk) (n k : ℕ) (s : MachineState) → k ≡ executed_to_wait system n s → IsBusyFor system k s
+unfolding executed_to_wait look_of
+busy-granted system n k s is i below =
+    let longest = longest-is (λ i. can_work (after system i s)) n in
+    let works : can_work (after system i s) ≡ true = longest.each i (subst (λ m. i < m) is below) in
+    let t : MachineState = after system i s in
+    go (is_running t.ended) (has_room t.cpm.console) (is_waiting t.cpm t.memory) works
+  where
+    go : (a b w : Bool) → ((a && b) && not w) ≡ true → (a && w) ≡ false
+    go false b w e = refl
+    go true b false e = refl
+    go true true true e = absurd (let bad : ⊥ = cc in bad)
+    go true false true e = absurd (let bad : ⊥ = cc in bad)
+
+-- ---- a turn up to the end of the steps, or to a wait
+
+-- what a turn of at most so many steps did, which goes no further than a wait if so asked
+pub record HasTurned (to_wait : Bool) (system : Disk) (most k : ℕ) (old now : MachineState) : Type 0 where
+  pub within : k ≤ most
+  pub state : now ≡ after system k old
+  pub busy : to_wait ≡ true → IsBusyFor system k old
+  pub stopped : IsQuiet old → k ≡ 0 → (is_running now.ended ≡ false) ⊎ ((to_wait ≡ true) × ((look_of now).waiting ≡ true))
+
+-- a grant up to a wait is such a turn
+pub turned-to-wait : (to_wait : Bool) (system : Disk) (most n k r : ℕ) (old now there : MachineState) → k ≡ r → now ≡ there → to_wait ≡ true → 0 < n → n ≤ most → r ≤ n → r ≡ executed_to_wait system n old → there ≡ after system r old →
+    HasTurned to_wait system most k old now
+turned-to-wait to_wait system most n k r old now there count state waits some fits within is at =
+    let done : k ≡ executed_to_wait system n old = count ∙ is in
+    let reached : now ≡ after system k old = state ∙ at ∙ ap (λ m. after system m old) (sym count) in
+    record {
+      within = omega arith;
+      state = reached;
+      busy = λ _. busy-granted system n k old done;
+      stopped = λ quiet none. ⊎_elim (λ ended. inl ended) (λ waiting. inr (waits, waiting)) (stopped-waits system n k old now quiet some done none reached);
+    }
+
+-- a grant that waits do not stop is one where it is not asked to stop
+pub turned-on : (to_wait : Bool) (system : Disk) (most n k r : ℕ) (old now there : MachineState) → k ≡ r → now ≡ there → to_wait ≡ false → 0 < n → n ≤ most → r ≤ n → r ≡ executed system n old → there ≡ after system r old →
+    HasTurned to_wait system most k old now
+turned-on to_wait system most n k r old now there count state not some fits within is at =
+    let reached : now ≡ after system k old = state ∙ at ∙ ap (λ m. after system m old) (sym count) in
+    record {
+      within = omega arith;
+      state = reached;
+      busy = λ waits. absurd (true≢false (sym waits ∙ not));
+      stopped = λ quiet none. inl (stopped-ended system n k old now quiet some (count ∙ is) none reached);
+    }
+
+-- a run whose last turn makes no step
+pub run-stopped : (to_wait : Bool) (system : Disk) (steps k : ℕ) (old now : MachineState) → (to_wait ≡ true → IsBusyFor system k old) →
+    (is_running now.ended ≡ false) ⊎ ((to_wait ≡ true) × ((look_of now).waiting ≡ true)) → HasStopped to_wait system steps k old now
+run-stopped false system steps k old now busy (inl ended) = inr ended
+run-stopped false system steps k old now busy (inr there) = absurd (true≢false (sym there.0))
+run-stopped true system steps k old now busy (inl ended) = (busy refl, inr (inl ended))
+run-stopped true system steps k old now busy (inr there) = (busy refl, inr (inr there.1))
+
+-- or that makes all steps
+pub run-all : (to_wait : Bool) (system : Disk) (steps k : ℕ) (old now : MachineState) → (to_wait ≡ true → IsBusyFor system k old) → k ≡ steps → HasStopped to_wait system steps k old now
+run-all false system steps k old now busy all = inl all
+run-all true system steps k old now busy all = (busy refl, inl all)
+
+-- ---- a pause, and then steps up to a wait
+
+module _ (system : Disk) (steps waits_from done pause k j : ℕ) (old mid next : MachineState) (before middle written : Option (List ℕ))
+    (within_steps : done ≤ steps) (paused : pause ≡ min waits_from steps - done) (fits : k ≤ pause) (run : HasRun system k old mid before middle) where
+  -- where the steps behind the pause are cut short
+  pub pause-cut : (e : LiveError) → IsRunCut system (steps - (done + k)) mid next middle written e → IsRunCut system (steps - done) old next before written e
+  pause-cut e cut = run-cut system k old mid before middle run (steps - done) cut.0 (after system cut.0 mid) next written e (let less = cut.1 in omega arith) refl cut.2
+
+  module _ (stopped : HasStopped false system pause k old mid) (fits_then : j ≤ steps - (done + k)) (run_then : HasRun system j mid next middle written)
+      (stopped_then : HasStopped true system (steps - (done + k)) j mid next) where
+    together : (done + k + j) - done ≡ k + j
+    together = omega arith
+
+    -- both together are the steps up to a wait that counts
+    pub pause-idled : HasIdled system steps waits_from done (done + k + j) old next before written
+    pause-idled = record {
+      low = omega arith;
+      run =
+          let P : ℕ → Type 0 = λ n. HasRun system n old next before written in
+          subst P (sym together) (run-more system k old mid before middle run j (after system j mid) next written refl run_then);
+      busy = λ i low high.
+          let at : k + (i - done - k) ≡ i - done = omega arith in
+          let P : ℕ → Type 0 = λ n. (look_of (after system n old)).waiting ≡ false in
+          let far : MachineState = after system k old in
+          subst P at (ap (λ (s : MachineState). (look_of s).waiting) (run-on system k old mid before middle run (i - done - k))
+          ∙ waits-behind far.cpm.console.screen far.cpm.console.printer (after system (i - done - k) mid) ∙ stopped_then.0 (i - done - k) (omega arith));
+      why = ⊎_elim (λ (all : j ≡ steps - (done + k)). inl (omega arith))
+          (λ rest. ⊎_elim (λ ended. inr (inl ended)) waits rest) stopped_then.1;
+    }
+      where
+        ended_then : is_running mid.ended ≡ false → is_running next.ended ≡ false
+        ended_then ended = ap (λ (s : MachineState). is_running s.ended) run_then.state ∙ after-ended system j mid ended
+
+        waits : (look_of next).waiting ≡ true →
+            (done + k + j ≡ steps) ⊎ ((is_running next.ended ≡ false) ⊎ ((waits_from ≤ done + k + j) × ((look_of next).waiting ≡ true)))
+        waits there = ⊎_elim (λ (all : k ≡ pause).
+            ⊎_elim (λ (past : steps < waits_from). inl (omega arith)) (λ (counts : waits_from ≤ steps). inr (inr (omega arith, there))) (cases_lt steps waits_from))
+            (λ ended. inr (inl (ended_then ended))) stopped
+
+    -- and what is kept is what both showed
+    pub pause-kept : (start kept more : List ℕ) → kept ≡ start ++ (after system k old).cpm.console.screen → more ≡ kept ++ (after system j mid).cpm.console.screen →
+        more ≡ start ++ (after system ((done + k + j) - done) old).cpm.console.screen
+    pause-kept start kept more had is =
+        let P : ℕ → Type 0 = λ n. more ≡ start ++ (after system n old).cpm.console.screen in
+        subst P (sym together) (kept-more system k old mid before middle run j (after system j mid) start kept more refl had is)

@@ -1,0 +1,102 @@
+-- Moving the bytes that wait out of a machine.
+use Rattle.std.proofs.Common.{◌≡◌, ◌∙◌, ◌++◌, ◌≤◌, ap, ap₂, sym, refl, Result, Ok, Err, OnErr, OnOk, Bool, true, ℕ, List, [], ◌∷◌, Option, Some, None, length, take, drop, min, arith, append-nil}
+use Rattle.std.proofs.lemmas.List.{append_assoc, length-take-le, take-append-drop, take_at}
+use Rattle.std.specs.Io.KnownBytes.{Appends, Keeps}
+use Rattle.cpm_machine.specs.MachineState.{MachineState}
+use Rattle.cpm_machine.specs.Serve.{taken}
+use Rattle.cpm_play.specs.Playing.{HasText}
+
+-- the state with other bytes on its console, or on its list device
+abbrev pub with_text : List ℕ → MachineState → MachineState
+with_text xs s = record s { cpm = record s.cpm { console = record s.cpm.console { screen = xs } } }
+
+abbrev pub with_list : List ℕ → MachineState → MachineState
+with_list xs s = record s { cpm = record s.cpm { console = record s.cpm.console { printer = xs } } }
+
+-- some of the console bytes were moved to the writer
+pub record IsMoved (start now : MachineState) (before after : Option (List ℕ)) : Type 0 where
+  pub text : List ℕ
+  pub written : Appends before after text
+  pub whole : text ++ now.cpm.console.screen ≡ start.cpm.console.screen
+  pub state : now ≡ with_text now.cpm.console.screen start
+
+-- known bytes grow twice, and then stay
+pub appends_more : (before middle grown kept : Option (List ℕ)) (xs ys : List ℕ) → Appends before middle xs → Appends middle grown ys → Keeps grown kept
+    → Appends before kept (xs ++ ys)
+appends_more None middle grown kept xs ys a b k = tt
+appends_more (Some w) None grown kept xs ys a b k = absurd a
+appends_more (Some w) (Some x) None kept xs ys a b k = absurd b
+appends_more (Some w) (Some x) (Some y) None xs ys a b k = absurd k
+appends_more (Some w) (Some x) (Some y) (Some z) xs ys a b k = k ∙ b ∙ ap (λ v. v ++ ys) a ∙ append_assoc w xs ys
+
+pub appends_none : (o : Option (List ℕ)) → Appends o o []
+appends_none None = tt
+appends_none (Some xs) = sym (append-nil xs)
+
+pub keeps_all : (o : Option (List ℕ)) → Keeps o o
+keeps_all None = tt
+keeps_all (Some xs) = refl
+
+-- one chunk more
+pub moved_more : (start now next : MachineState) (before middle grown kept : Option (List ℕ)) (room : ℕ) (chunk : List ℕ) → IsMoved start now before middle
+    → chunk ≡ take (min room (length now.cpm.console.screen)) now.cpm.console.screen → next ≡ taken room now → Appends middle grown chunk → Keeps grown kept
+    → IsMoved start next before kept
+moved_more start now next before middle grown kept room chunk moved is state writes keeps =
+    let screen = now.cpm.console.screen in
+    let count = min room (length screen) in
+    let left : next.cpm.console.screen ≡ drop count screen = ap (λ (s : MachineState). s.cpm.console.screen) state in
+    record {
+      text = moved.text ++ chunk;
+      written = appends_more before middle grown kept moved.text chunk moved.written writes keeps;
+      whole = ap₂ (λ a b. (moved.text ++ a) ++ b) is left ∙ append_assoc moved.text (take count screen) (drop count screen)
+          ∙ ap (λ v. moved.text ++ v) (take-append-drop count screen) ∙ moved.whole;
+      state = state ∙ ap (taken room) moved.state ∙ ap (λ v. with_text v start) (sym left);
+    }
+
+-- some of them, which were kept too if there was memory for them
+pub record IsMovedKept (start now : MachineState) (before after : Option (List ℕ)) (old held : List ℕ) (whole : Bool) : Type 0 where
+  pub moved : IsMoved start now before after
+  pub kept : whole ≡ true → held ≡ old ++ moved.text
+
+pub kept_none : (start : MachineState) (written : Option (List ℕ)) (old : List ℕ) (whole : Bool) → IsMovedKept start start written written old old whole
+kept_none start written old whole = record {
+  moved = record { text = []; written = appends_none written; whole = refl; state = refl };
+  kept = λ yes. sym (append-nil old);
+}
+
+pub kept_more : (start now next : MachineState) (before middle grown held : Option (List ℕ)) (room : ℕ) (chunk old kept more : List ℕ) (had whole : Bool) → IsMovedKept start now before middle old kept had
+    → chunk ≡ take (min room (length now.cpm.console.screen)) now.cpm.console.screen → next ≡ taken room now → Appends middle grown chunk → Keeps grown held
+    → (whole ≡ true → had ≡ true) → (whole ≡ true → more ≡ kept ++ chunk) → IsMovedKept start next before held old more whole
+unfolding moved_more
+kept_more start now next before middle grown held room chunk old kept more had whole so_far is state writes keeps all keeps_it = record {
+  moved = moved_more start now next before middle grown held room chunk so_far.moved is state writes keeps;
+  kept = λ yes. keeps_it yes ∙ ap (λ v. v ++ chunk) (so_far.kept (all yes)) ∙ append_assoc old so_far.moved.text chunk;
+}
+
+-- what lies in the buffer after bytes were taken into it
+pub chunk_taken : (screen old new : List ℕ) (n room : ℕ) → n ≡ min room (length screen) → new ≡ take n screen ++ drop n old → take n new ≡ take (min room (length screen)) screen
+chunk_taken screen old new n room count bytes =
+    let within : n ≤ length screen = omega arith in
+    ap (take n) bytes ∙ take_at (take n screen) (drop n old) n (length-take-le n screen within) ∙ ap (λ k. take k screen) count
+
+-- a fact holds at an error too
+pub on_err : {A E P : Type 0} (r : Result A E) → P → OnErr r P
+on_err (Ok x) p = tt
+on_err (Err e) p = p
+
+-- a fact holds after a success by three that do
+pub on_ok : {A E P Q R S : Type 0} (r : Result A E) → OnOk r P → OnOk r Q → OnOk r R → (P → Q → R → S) → OnOk r S
+on_ok (Ok x) p q s f = f p q s
+on_ok (Err e) p q s f = tt
+
+pub both_empty : (xs ys : List ℕ) → xs ++ ys ≡ [] → ys ≡ []
+both_empty [] ys e = e
+both_empty (x ∷ xs) ys e = absurd (let bad : ⊥ = cc in bad)
+
+-- bytes were there to be taken
+pub moved_text : (start now : MachineState) (before written : Option (List ℕ)) (room count : ℕ) → IsMoved start now before written
+    → count ≡ min room (length now.cpm.console.screen) → (count ≡ 0 → ⊥) → HasText start
+moved_text start now before written room count moved is some none =
+    let left : now.cpm.console.screen ≡ [] = both_empty moved.text now.cpm.console.screen (moved.whole ∙ none) in
+    let zero : length now.cpm.console.screen ≡ 0 = ap length left in
+    some (omega arith)

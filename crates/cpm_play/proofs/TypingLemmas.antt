@@ -1,0 +1,62 @@
+-- Bytes that are read, and the keys among them.
+use Rattle.std.proofs.Common.{◌≡◌, ℕ, ◌<◌, ◌==◌, nat_lt, ◌++◌, Bool, true, false, if◌then◌else◌, List, [], ◌∷◌, Option, Some, None, MatchOption, Result, Ok, IfOk, refl, sym, ap, ap₂, ◌∙◌, subst, arith}
+use Rattle.std.proofs.lemmas.Bool.Decides.{nat_tests}
+use Rattle.std.specs.Char.{is_ascii}
+use Rattle.std.proofs.lemmas.List.{append_assoc}
+use Rattle.std.specs.Io.KnownBytes.{Consumes, Keeps}
+use Rattle.cpm_play.specs.Typing.{HasRead, end_key, keys_in}
+
+-- bytes that are consumed twice
+pub consumes_more : (before middle after : Option (List ℕ)) (xs ys : List ℕ) → Consumes before middle xs → Consumes middle after ys → Consumes before after (xs ++ ys)
+consumes_more None middle after xs ys a b = tt
+consumes_more (Some w) None after xs ys a b = absurd a
+consumes_more (Some w) (Some x) None xs ys a b = absurd b
+consumes_more (Some w) (Some x) (Some y) xs ys a b = a ∙ ap (λ v. xs ++ v) b ∙ sym (append_assoc xs ys y)
+
+consumes_none : (o : Option (List ℕ)) → Consumes o o []
+consumes_none None = tt
+consumes_none (Some xs) = refl
+
+consumes_kept : (before after : Option (List ℕ)) → Keeps before after → Consumes before after []
+consumes_kept None after k = tt
+consumes_kept (Some xs) None k = k
+consumes_kept (Some xs) (Some ys) k = sym k
+
+pub read_none : (o : Option (List ℕ)) → HasRead o o []
+read_none o = record { bytes = []; consumed = consumes_none o; goes_on = λ rest. refl }
+
+pub read_kept : (before after : Option (List ℕ)) → Keeps before after → HasRead before after []
+read_kept before after k = record { bytes = []; consumed = consumes_kept before after k; goes_on = λ rest. refl }
+
+pub read_more : (before middle after : Option (List ℕ)) (keys more : List ℕ) → HasRead before middle keys → HasRead middle after more → HasRead before after (keys ++ more)
+read_more before middle after keys more a b = record {
+  bytes = a.bytes ++ b.bytes;
+  consumed = consumes_more before middle after a.bytes b.bytes a.consumed b.consumed;
+  goes_on = λ rest. ap keys_in (append_assoc a.bytes b.bytes rest) ∙ a.goes_on (b.bytes ++ rest) ∙ ap (λ v. keys ++ v) (b.goes_on rest) ∙ sym (append_assoc keys more (keys_in rest));
+}
+
+-- ---- one byte
+
+one_in : (b : ℕ) (rest : List ℕ) → (b == end_key) ≡ false → nat_lt b 0x80 ≡ true → keys_in (b ∷ rest) ≡ b ∷ keys_in rest
+one_in b rest other low = ap₂ (λ (x y : Bool). if x then [] else (if y then b ∷ keys_in rest else keys_in rest)) other low
+
+none_in : (b : ℕ) (rest : List ℕ) → (b == end_key) ≡ false → nat_lt b 0x80 ≡ false → keys_in (b ∷ rest) ≡ keys_in rest
+none_in b rest other high = ap₂ (λ (x y : Bool). if x then [] else (if y then b ∷ keys_in rest else keys_in rest)) other high
+
+module _ (before middle after : Option (List ℕ)) (b : ℕ) (read : HasRead before middle []) (next : Consumes middle after (b ∷ [])) (other : b ≡ end_key → ⊥) where
+  pub read_key : is_ascii b ≡ true → (b < 128) × HasRead before after (b ∷ [])
+  read_key low =
+      let not_end : (b == end_key) ≡ false = grind (arith, nat_tests) in
+      let below : b < 128 = grind (arith, nat_tests) in
+      let is : nat_lt b 0x80 ≡ true = grind (arith, nat_tests) in
+      (below, read_more before middle after [] (b ∷ []) read (record { bytes = b ∷ []; consumed = next; goes_on = λ rest. one_in b rest not_end is }))
+
+  pub pass_byte : is_ascii b ≡ false → HasRead before after []
+  pass_byte high =
+      let not_end : (b == end_key) ≡ false = grind (arith, nat_tests) in
+      let is : nat_lt b 0x80 ≡ false = grind (arith, nat_tests) in
+      read_more before middle after [] [] read (record { bytes = b ∷ []; consumed = next; goes_on = λ rest. none_in b rest not_end is })
+
+-- what is ensured of a byte that came
+pub of_byte : {E : Type 0} (P : Type 0) (Q : ℕ → Type 0) (r : Result (Option ℕ) E) (o : Option ℕ) (b : ℕ) → r ≡ Ok o → o ≡ Some b → IfOk r (λ x. MatchOption x P Q) → Q b
+of_byte P Q r o b is some h = subst (λ x. MatchOption x P Q) some (subst (λ x. IfOk x (λ y. MatchOption y P Q)) is h)

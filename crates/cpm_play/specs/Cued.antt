@@ -1,0 +1,175 @@
+-- One machine that is played by a script that may wait: which keys come by the script, where the session ends, and what its parts do. All of it is own: this project's form of key scripts.
+use Rattle.std.specs.Prelude.{◌≡◌, ℕ, ◌-◌, ◌<◌, ◌≤◌, max, Bool, true, false, ◌||◌, not, List, [], ◌∷◌, ◌++◌, length, map, drop, ◌==◌, Option, ◌⊎◌}
+use Rattle.std.specs.Io.KnownBytes.{Appends}
+use Rattle.memchr.specs.Find.{OccursAt}
+use Rattle.cpm_geom.specs.Disk.{Disk}
+use Rattle.cpm_script.specs.Cues.{keys_in, said}
+use Rattle.cpm_script.specs.Laws.{KeysAreAscii}
+use Rattle.cpm_script.specs.Recording.{key_line, recorded}
+use Rattle.cpm_script.specs.declared.cue.Cue.{Cue}
+use Rattle.cpm_script.specs.declared.cue.Cue.TheVariants.{Key as Timed, Wait, Press}
+use Rattle.cpm_script.specs.declared.script.Key.{Key}
+use Rattle.cpm_machine.specs.MachineState.{MachineState}
+use Rattle.cpm_machine.specs.Serve.{keyed, look_of}
+use Rattle.cpm_machine.specs.Step.{after, is_running}
+use Rattle.cpm_play.specs.Live.{HadText, HasCome}
+use Rattle.cpm_play.specs.declared.live.LiveError.{LiveError}
+use Rattle.cpm_play.specs.declared.live.LiveError.TheVariants.{Unreadable, Unwritable, Unrecorded, OutOfMemory}
+use Rattle.cpm_play.specs.Pacing.{without_list, without_text}
+use Rattle.cpm_play.specs.Playing.{HasText, alone_by}
+
+-- ---- the machine run alone
+
+-- after so many steps it waits for a key, it runs, and it has shown this
+abbrev pub waits_at : Disk → MachineState → List Key → ℕ → Bool
+waits_at system start keys n = (look_of (alone_by system keys n start)).waiting
+
+abbrev pub runs_at : Disk → MachineState → List Key → ℕ → Bool
+runs_at system start keys n = is_running (alone_by system keys n start).ended
+
+abbrev pub screen_at : Disk → MachineState → List Key → ℕ → List ℕ
+screen_at system start keys n = (alone_by system keys n start).cpm.console.screen
+
+-- it waits at none of the counts from one up to another
+abbrev pub HasNoWait : Disk → MachineState → List Key → (from until : ℕ) → Type 0
+HasNoWait system start keys from until = (i : ℕ) → from ≤ i → i < until → waits_at system start keys i ≡ false
+
+-- from one count on it first waits at another
+pub record IsNextWait (system : Disk) (start : MachineState) (keys : List Key) (from at : ℕ) : Type 0 where
+  pub later : from ≤ at
+  pub waits : waits_at system start keys at ≡ true
+  pub first : HasNoWait system start keys from at
+
+-- ---- the keys of a script
+
+-- this text stands somewhere in what was shown
+abbrev pub HasShown : List ℕ → List ℕ → Type 0
+HasShown text shown = (place : ℕ) × OccursAt shown text place
+
+-- a key comes at a count within the steps, while the machine runs
+abbrev pub Comes : Disk → MachineState → ℕ → List Key → ℕ → Type 0
+Comes system start steps keys at = (at < steps) × (runs_at system start keys at ≡ true)
+
+-- from one count on, and from where waits count, it next waits at another within the steps, and then has shown this text behind so many bytes
+pub record IsMet (system : Disk) (start : MachineState) (steps waits_from : ℕ) (keys : List Key) (from mark : ℕ) (text : List ℕ) (at : ℕ) : Type 0 where
+  pub next : IsNextWait system start keys (max waits_from from) at
+  pub within : at < steps
+  pub shown : HasShown text (drop mark (screen_at system start keys at))
+
+-- The keys of the rest of a script behind those that were given, where its next cue counts from this count on, and so many bytes had been shown when the last key came. A key that does not come is the end of the script, and so is a text that has not been shown where the machine next waits: while it waits it shows nothing more. A wait before `waits_from` steps does not count.
+abbrev pub IsCuedFrom : Disk → MachineState → (steps waits_from : ℕ) → (given : List Key) → (from mark : ℕ) → List Cue → List Key → Type 0
+IsCuedFrom system start steps waits_from given from mark [] keys = keys ≡ given
+IsCuedFrom system start steps waits_from given from mark (Timed k ∷ cues) keys =
+    let at = max from k.count in
+    (Comes system start steps given at × IsCuedFrom system start steps waits_from (given ++ record { count = at; byte = k.byte } ∷ []) at (length (screen_at system start given at)) cues keys)
+    ⊎ ((Comes system start steps given at → ⊥) × (keys ≡ given))
+IsCuedFrom system start steps waits_from given from mark (Press b ∷ cues) keys =
+    (Comes system start steps given from × IsCuedFrom system start steps waits_from (given ++ record { count = from; byte = b } ∷ []) from (length (screen_at system start given from)) cues keys)
+    ⊎ ((Comes system start steps given from → ⊥) × (keys ≡ given))
+IsCuedFrom system start steps waits_from given from mark (Wait text ∷ cues) keys =
+    ((at : ℕ) × IsMet system start steps waits_from given from mark text.items at × IsCuedFrom system start steps waits_from given at mark cues keys)
+    ⊎ (((at : ℕ) → IsMet system start steps waits_from given from mark text.items at → ⊥) × (keys ≡ given))
+
+-- the keys of a script, for at most so many steps, where waits count from this step on
+abbrev pub IsCued : Disk → MachineState → (steps waits_from : ℕ) → List Cue → List Key → Type 0
+IsCued system start steps waits_from cues keys = IsCuedFrom system start steps waits_from [] 0 0 cues keys
+
+-- ---- where a session ends
+
+-- the count of the last key, or this one where there is none
+abbrev pub last_count : ℕ → List Key → ℕ
+last_count n [] = n
+last_count n (k ∷ ks) = last_count k.count ks
+
+-- It ends where the machine has, and else behind its steps. One that stops where it is idle ends sooner, where the machine next waits after the last key, if waits count there.
+abbrev pub HasEndedCued : Disk → MachineState → (steps waits_from : ℕ) → (stops_idle : Bool) → List Key → ℕ → MachineState → Type 0
+HasEndedCued system start steps waits_from false keys done now = (done ≡ steps) ⊎ (is_running now.ended ≡ false)
+HasEndedCued system start steps waits_from true keys done now =
+    (is_running now.ended ≡ false)
+    ⊎ (HasNoWait system start keys (max waits_from (last_count 0 keys)) done × ((done ≡ steps) ⊎ ((waits_from ≤ done) × (waits_at system start keys done ≡ true))))
+
+-- Why it was not played to its end, and what it had come to. The writer fails where there is text, and all keys are recorded. The record fails at a key that is not pressed, and all is shown; where memory is refused all is shown and recorded.
+abbrev pub IsCutOff : Disk → (steps most : ℕ) → (start now : MachineState) → (before written unrecorded record_now : Option (List ℕ)) → LiveError → Type 0
+IsCutOff system steps most start now before written unrecorded record_now OutOfMemory =
+    (keys : List Key) × HasCome system steps most start now before written keys × Appends unrecorded record_now (recorded keys)
+IsCutOff system steps most start now before written unrecorded record_now (Unwritable e) =
+    (keys : List Key) × HadText system steps most start keys × Appends unrecorded record_now (recorded keys)
+IsCutOff system steps most start now before written unrecorded record_now (Unrecorded e) =
+    (keys : List Key) × HasCome system steps most start now before written keys
+IsCutOff system steps most start now before written unrecorded record_now (Unreadable e) = ⊥
+
+-- ---- what can be played
+
+-- how many keys a script has
+abbrev pub key_count : List Cue → ℕ
+key_count cues = keys_in (map said cues)
+
+-- each of them is below 80h
+abbrev pub AreAscii : List Cue → Type 0
+AreAscii cues = KeysAreAscii (map said cues)
+
+-- a text is looked for before the next key
+abbrev pub looks_back : List Cue → Bool
+looks_back [] = false
+looks_back (Timed k ∷ cues) = false
+looks_back (Press b ∷ cues) = false
+looks_back (Wait text ∷ cues) = not (length text.items == 0) || looks_back cues
+
+-- ---- the parts of a session
+
+-- the output of a state was taken: a writer got the console bytes
+pub record IsTaken (old now : MachineState) (before written : Option (List ℕ)) : Type 0 where
+  pub state : now ≡ without_list (without_text old)
+  pub text : Appends before written old.cpm.console.screen
+
+-- why it was not: the writer failed, and there was text; or it was, but memory was refused in which to keep it
+abbrev pub IsUntaken : (old now : MachineState) → (before written : Option (List ℕ)) → LiveError → Type 0
+IsUntaken old now before written (Unwritable e) = HasText old
+IsUntaken old now before written OutOfMemory = IsTaken old now before written
+IsUntaken old now before written (Unreadable e) = ⊥
+IsUntaken old now before written (Unrecorded e) = ⊥
+
+-- so many steps were executed, and their output taken
+abbrev pub HasRun : Disk → ℕ → (old now : MachineState) → (before written : Option (List ℕ)) → Type 0
+HasRun system k old now before written = IsTaken (after system k old) now before written
+
+-- the first of these steps did not wait for a key
+abbrev pub IsBusyFor : Disk → ℕ → MachineState → Type 0
+IsBusyFor system k s = (i : ℕ) → i < k → (look_of (after system i s)).waiting ≡ false
+
+-- the steps up to where it waits for a key and waits count, or to its end; else all
+pub record HasIdled (system : Disk) (steps waits_from done done_now : ℕ) (old now : MachineState) (before written : Option (List ℕ)) : Type 0 where
+  pub low : done ≤ done_now
+  pub run : HasRun system (done_now - done) old now before written
+  pub busy : (i : ℕ) → max waits_from done ≤ i → i < done_now → (look_of (after system (i - done) old)).waiting ≡ false
+  pub why : (done_now ≡ steps) ⊎ (is_running now.ended ≡ false) ⊎ ((waits_from ≤ done_now) × ((look_of now).waiting ≡ true))
+
+-- why not all of so many steps were executed, and what was
+abbrev pub IsRunCut : Disk → ℕ → (old now : MachineState) → (before written : Option (List ℕ)) → LiveError → Type 0
+IsRunCut system steps old now before written e = (k : ℕ) × (k ≤ steps) × IsUntaken (after system k old) now before written e
+
+-- so many steps were executed, after which the machine still runs, and a key was recorded and pressed
+pub record HasPressed (system : Disk) (key : Key) (k : ℕ) (old now : MachineState) (before written unrecorded record_now : Option (List ℕ)) : Type 0 where
+  pub runs : is_running (after system k old).ended ≡ true
+  pub state : now ≡ keyed key.byte (without_list (without_text (after system k old)))
+  pub text : Appends before written (after system k old).cpm.console.screen
+  pub noted : Appends unrecorded record_now (key_line key)
+
+-- a key does not come: its count is past the steps, and nothing was done; or the machine ends before it, and has shown all
+pub record HasMissed (system : Disk) (key : Key) (steps done done_now : ℕ) (old now : MachineState) (before written : Option (List ℕ)) : Type 0 where
+  pub low : done ≤ done_now
+  pub run : HasRun system (done_now - done) old now before written
+  pub why : ((steps ≤ key.count) × (done_now ≡ done)) ⊎ ((key.count < steps) × (done_now ≤ key.count) × (is_running now.ended ≡ false))
+
+-- why a key was not pressed after at most so many steps: not all of them were executed, or memory was refused, and nothing was recorded; or it can't be recorded, and all is shown
+abbrev pub IsPressCut : Disk → ℕ → (old now : MachineState) → (before written unrecorded record_now : Option (List ℕ)) → LiveError → Type 0
+IsPressCut system steps old now before written unrecorded record_now (Unrecorded e) = (k : ℕ) × (k ≤ steps) × HasRun system k old now before written
+IsPressCut system steps old now before written unrecorded record_now (Unwritable e) = IsRunCut system steps old now before written (Unwritable e) × (record_now ≡ unrecorded)
+IsPressCut system steps old now before written unrecorded record_now OutOfMemory = IsRunCut system steps old now before written OutOfMemory × (record_now ≡ unrecorded)
+IsPressCut system steps old now before written unrecorded record_now (Unreadable e) = ⊥
+
+-- as far as a session was run on, and why: for all steps, to the machine's end, or to where it waits for a key
+abbrev pub HasStopped : Bool → Disk → (steps k : ℕ) → (old now : MachineState) → Type 0
+HasStopped false system steps k old now = (k ≡ steps) ⊎ (is_running now.ended ≡ false)
+HasStopped true system steps k old now =
+    IsBusyFor system k old × ((k ≡ steps) ⊎ (is_running now.ended ≡ false) ⊎ ((look_of now).waiting ≡ true))

@@ -1,0 +1,104 @@
+-- One machine that is played live: its keys come as it wants them, and what it then has shown, recorded and become. All of it is own.
+use Rattle.std.specs.Prelude.{⊤, ◌≡◌, ℕ, ◌≤◌, List, [], ◌∷◌, length, map, Option, false, ◌⊎◌}
+use Rattle.std.specs.Io.KnownBytes.{Appends, IsAtEnd}
+use Rattle.cpm_geom.specs.Disk.{Disk}
+use Rattle.cpm_script.specs.Recording.{AreTyped, recorded}
+use Rattle.cpm_script.specs.declared.script.Key.{Key}
+use Rattle.cpm_machine.specs.Calls.{state_behind}
+use Rattle.cpm_machine.specs.MachineState.{MachineState}
+use Rattle.cpm_machine.specs.Step.{is_running}
+use Rattle.cpm_play.specs.declared.live.LiveError.{LiveError}
+use Rattle.cpm_play.specs.declared.live.LiveError.TheVariants.{Unreadable, Unwritable, Unrecorded, OutOfMemory}
+use Rattle.cpm_play.specs.Playing.{EndsAs, HasText, IsQuiet, alone_by}
+use Rattle.cpm_play.specs.Typing.{HasQuit, HasRead}
+
+-- ---- the keys
+
+-- each of the keys comes after no more steps than these
+abbrev pub AreBy : ℕ → List Key → Type 0
+AreBy n [] = ⊤
+AreBy n (k ∷ ks) = (k.count ≤ n) × AreBy n ks
+
+-- the keys of a live session of so many steps: typed in order, none of them past its end, and no more than it may have
+pub record AreGiven (most steps : ℕ) (keys : List Key) : Type 0 where
+  pub typed : AreTyped 0 keys
+  pub come : AreBy steps keys
+  pub few : length keys ≤ most
+
+-- their bytes
+abbrev pub bytes_of : List Key → List ℕ
+bytes_of keys = map (λ k. k.byte) keys
+
+-- ---- how a session goes
+
+-- The session went from a start so far: with the bytes that were taken put back in front, it is the machine run alone for its keys and steps, and all of them have come.
+pub record HasGone (system : Disk) (start : MachineState) (keys : List Key) (done : ℕ) (console list : List ℕ) (now : MachineState) : Type 0 where
+  pub state : state_behind console list now ≡ alone_by system keys done start
+  pub come : AreBy done keys
+  pub typed : AreTyped 0 keys
+
+-- and the writer got its text, and the record its keys
+pub record IsGoing (system : Disk) (steps most : ℕ) (start now : MachineState) (before written unrecorded record_now : Option (List ℕ)) (keys : List Key) (done : ℕ) : Type 0 where
+  pub console : List ℕ
+  pub list : List ℕ
+  pub gone : HasGone system start keys done console list now
+  pub shown : Appends before written console
+  pub quiet : IsQuiet now
+  pub within : done ≤ steps
+  pub few : length keys ≤ most
+  pub noted : Appends unrecorded record_now (recorded keys)
+
+-- ---- what is said of a session that was played
+
+-- the keys are those that were read: all bytes below 80h, up to ^], which ends the session
+abbrev pub AreRead : Option (List ℕ) → Option (List ℕ) → List Key → Type 0
+AreRead unread left keys = HasRead unread left (bytes_of keys) ⊎ HasQuit unread left (bytes_of keys)
+
+-- It ends after its steps, or where the machine has ended, or where a key is wanted: when it has had as many as it may, or the input is at its end, or with ^].
+abbrev pub HasReason : (steps most : ℕ) → (unread left : Option (List ℕ)) → List Key → ℕ → MachineState → Type 0
+HasReason steps most unread left keys done now =
+    (done ≡ steps) ⊎ (is_running now.ended ≡ false) ⊎ (length keys ≡ most) ⊎ IsAtEnd left ⊎ HasQuit unread left (bytes_of keys)
+
+-- ---- what is said of one that was not
+
+-- it has come so far by these keys, all of them and no other, and showed all of its text
+pub record HasCome (system : Disk) (steps most : ℕ) (start now : MachineState) (before written : Option (List ℕ)) (keys : List Key) : Type 0 where
+  pub done : ℕ
+  pub within : done ≤ steps
+  pub given : AreGiven most done keys
+  pub text : Appends before written (alone_by system keys done start).cpm.console.screen
+  pub ending : EndsAs (alone_by system keys done start) now
+
+-- it had text to show by these keys
+pub record HadText (system : Disk) (steps most : ℕ) (start : MachineState) (keys : List Key) : Type 0 where
+  pub done : ℕ
+  pub within : done ≤ steps
+  pub given : AreGiven most done keys
+  pub text : HasText (alone_by system keys done start)
+
+-- Why it was not played to its end, and what it had come to. The reader fails where a key is wanted, and all is shown and recorded; so it is where memory is refused. The writer fails where there is text, and all keys are recorded. The record fails at a key that is not pressed, and all is shown.
+abbrev pub IsCutShort : Disk → (steps most : ℕ) → (start now : MachineState) → (before written unrecorded record_now unread left : Option (List ℕ)) → LiveError → Type 0
+IsCutShort system steps most start now before written unrecorded record_now unread left (Unreadable e) =
+    (keys : List Key) × HasCome system steps most start now before written keys × Appends unrecorded record_now (recorded keys) × HasRead unread left (bytes_of keys)
+IsCutShort system steps most start now before written unrecorded record_now unread left OutOfMemory =
+    (keys : List Key) × HasCome system steps most start now before written keys × Appends unrecorded record_now (recorded keys)
+IsCutShort system steps most start now before written unrecorded record_now unread left (Unwritable e) =
+    (keys : List Key) × HadText system steps most start keys × Appends unrecorded record_now (recorded keys) × HasRead unread left (bytes_of keys)
+IsCutShort system steps most start now before written unrecorded record_now unread left (Unrecorded e) =
+    (keys : List Key) × HasCome system steps most start now before written keys
+
+-- ---- the errors of its parts
+
+-- why a key is not taken: memory was refused before it is recorded, or it can't be recorded
+abbrev pub IsNotGiven : LiveError → (unrecorded record_now : Option (List ℕ)) → Type 0
+IsNotGiven OutOfMemory unrecorded record_now = record_now ≡ unrecorded
+IsNotGiven (Unrecorded e) unrecorded record_now = ⊤
+IsNotGiven _ unrecorded record_now = ⊥
+
+abbrev pub IsUnreadable : LiveError → Type 0
+IsUnreadable (Unreadable e) = ⊤
+IsUnreadable _ = ⊥
+
+abbrev pub IsUnwritable : LiveError → Type 0
+IsUnwritable (Unwritable e) = ⊤
+IsUnwritable _ = ⊥

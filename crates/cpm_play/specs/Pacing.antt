@@ -1,0 +1,72 @@
+-- Where a session stands while it is played. All of it is own.
+use Rattle.std.specs.Prelude.{◌≡◌, ℕ, ◌-◌, ◌<◌, ◌≤◌, nat_le, min, List, [], length, take, drop, slice_get, Option, Some, None, ◌⊎◌, false, if◌then◌else◌}
+use Rattle.std.specs.Io.KnownBytes.{Appends}
+use Rattle.cpm_geom.specs.Disk.{Disk}
+use Rattle.cpm_script.specs.declared.script.Key.{Key}
+use Rattle.cpm_machine.specs.Alone.{due, alone}
+use Rattle.cpm_machine.specs.Calls.{state_behind}
+use Rattle.cpm_machine.specs.MachineState.{MachineState}
+use Rattle.cpm_machine.specs.Step.{is_running}
+use Rattle.cpm_play.specs.declared.pace.Pace.{Pace}
+use Rattle.cpm_play.specs.Playing.{presses_of, IsInOrder, IsQuiet}
+
+-- before the first turn
+abbrev pub first_pace : ℕ → Pace
+first_pace steps = record { pressed = 0; done = 0; until = steps }
+
+-- that of a fork, which has come as far and executes so many steps in all
+abbrev pub forked_pace : Pace → ℕ → Pace
+forked_pace pace steps = record pace { until = steps }
+
+-- the steps that it may still execute
+abbrev pub left_in : Pace → ℕ
+left_in pace = pace.until - pace.done
+
+-- a key that comes after no more steps than were executed
+abbrev pub due_at : ℕ → Option Key → Option ℕ
+due_at done None = None
+due_at done (Some key) = if nat_le key.count done then Some key.byte else None
+
+-- no more steps than those to the next key
+abbrev pub up_to : Option Key → ℕ → ℕ → ℕ
+up_to None done n = n
+up_to (Some key) done n = min n (key.count - done)
+
+-- the next turn: at most a quantum, and none past the next key
+abbrev pub turn_of : Pace → List Key → ℕ → ℕ
+turn_of pace keys quantum = up_to (slice_get keys pace.pressed) pace.done (min (left_in pace) quantum)
+
+-- the session is to execute all steps, or has ended
+pub record IsOfAll (steps : ℕ) (pace : Pace) (now : MachineState) : Type 0 where
+  pub within : pace.done ≤ pace.until
+  pub most : pace.until ≤ steps
+  pub all : (pace.until ≡ steps) ⊎ (is_running now.ended ≡ false)
+
+-- The session went from a start so far: with the bytes that were taken put back in front, it is the machine run alone for the keys that were pressed and the steps that were executed. The other keys are still to come.
+pub record IsOn (system : Disk) (keys : List Key) (steps : ℕ) (start : MachineState) (pace : Pace) (console list : List ℕ) (now : MachineState) : Type 0 where
+  pub state : state_behind console list now ≡ alone system (presses_of (take pace.pressed keys)) pace.done start
+  pub came : (i : ℕ) → pace.done < i → due i (presses_of (take pace.pressed keys)) ≡ []
+  pub later : IsInOrder pace.done (drop pace.pressed keys)
+  pub within : pace.pressed ≤ length keys
+  pub pending : length now.cpm.console.keys ≤ pace.pressed
+  pub all : IsOfAll steps pace now
+
+-- a machine and its pace, after the keys that are due
+pub record IsPressed (keys : List Key) (old new : Pace) (now next : MachineState) : Type 0 where
+  pub on : (system : Disk) (steps : ℕ) (start : MachineState) (console list : List ℕ) → IsOn system keys steps start old console list now → IsOn system keys steps start new console list next
+  pub quiet : IsQuiet now → IsQuiet next
+
+-- the state with its console bytes taken, and with its list bytes taken
+abbrev pub without_text : MachineState → MachineState
+without_text s = record s { cpm = record s.cpm { console = record s.cpm.console { screen = [] } } }
+
+abbrev pub without_list : MachineState → MachineState
+without_list s = record s { cpm = record s.cpm { console = record s.cpm.console { printer = [] } } }
+
+-- the same of a machine, whose console bytes a writer got and whose list bytes were dropped
+pub record IsShown (system : Disk) (keys : List Key) (steps : ℕ) (start : MachineState) (pace : Pace) (now : MachineState) (before written : Option (List ℕ)) : Type 0 where
+  pub text : List ℕ
+  pub list : List ℕ
+  pub on : IsOn system keys steps start pace text list now
+  pub appended : Appends before written text
+  pub quiet : IsQuiet now

@@ -1,0 +1,52 @@
+-- Sessions played by their keys: what each shows and leaves, whatever its turns are. All of it is own.
+use Rattle.std.specs.Prelude.{⊤, ◌≡◌, ◌≢◌, ℕ, ◌≤◌, List, [], ◌∷◌, map}
+use Rattle.cpm_geom.specs.Disk.{Disk}
+use Rattle.cpm_script.specs.declared.script.Key.{Key}
+use Rattle.cpm_machine.specs.Alone.{Press, alone}
+use Rattle.cpm_machine.specs.MachineState.{MachineState}
+
+-- the keys of a script, each with the number of steps executed before it
+abbrev pub presses_of : List Key → List Press
+presses_of keys = map (λ k. record { after = k.count; key = k.byte }) keys
+
+-- the counts are at least this one, and do not fall
+abbrev pub IsInOrder : ℕ → List Key → Type 0
+IsInOrder n [] = ⊤
+IsInOrder n (k ∷ ks) = (n ≤ k.count) × IsInOrder k.count ks
+
+-- the machine run alone for these keys and so many steps
+abbrev pub alone_by : Disk → List Key → ℕ → MachineState → MachineState
+alone_by system keys steps start = alone system (presses_of keys) steps start
+
+-- A session was played: it has shown what the machine run alone for its keys and steps shows, and has come to its end, count, registers, memory and drives, whatever the turns were.
+pub record IsPlayed (system : Disk) (keys : List Key) (steps : ℕ) (start now : MachineState) (console list : List ℕ) : Type 0 where
+  pub screen : console ≡ (alone system (presses_of keys) steps start).cpm.console.screen
+  pub printer : list ≡ (alone system (presses_of keys) steps start).cpm.console.printer
+  pub count : now.count ≡ (alone system (presses_of keys) steps start).count
+  pub ended : now.ended ≡ (alone system (presses_of keys) steps start).ended
+  pub regs : now.cpm.regs ≡ (alone system (presses_of keys) steps start).cpm.regs
+  pub memory : now.memory ≡ (alone system (presses_of keys) steps start).memory
+  pub disks : now.cpm.disks ≡ (alone system (presses_of keys) steps start).cpm.disks
+
+-- the end, count, registers, memory and drives of another state
+pub record EndsAs (other now : MachineState) : Type 0 where
+  pub count : now.count ≡ other.count
+  pub ended : now.ended ≡ other.ended
+  pub regs : now.cpm.regs ≡ other.cpm.regs
+  pub memory : now.memory ≡ other.memory
+  pub disks : now.cpm.disks ≡ other.cpm.disks
+
+-- no key is pending, and no byte waits to be taken
+pub record IsFresh (s : MachineState) : Type 0 where
+  pub keys : s.cpm.console.keys ≡ []
+  pub screen : s.cpm.console.screen ≡ []
+  pub printer : s.cpm.console.printer ≡ []
+
+-- no byte waits to be taken
+pub record IsQuiet (s : MachineState) : Type 0 where
+  pub screen : s.cpm.console.screen ≡ []
+  pub printer : s.cpm.console.printer ≡ []
+
+-- the machine run alone shows some text
+abbrev pub HasText : MachineState → Type 0
+HasText s = s.cpm.console.screen ≢ []

@@ -1,0 +1,349 @@
+//! One machine that is played by a script that may wait.
+
+ghost use Rattle.std.specs.Prelude.{◌≡◌, ◌-◌, ◌<◌, ◌≤◌, max, ◌++◌, ◌∷◌, [], ◌⊎◌, true, false, IfErr, IfOk, OnErr, OnOk};
+ghost use Rattle.std.specs.Io.KnownBytes.{Appends};
+ghost use Rattle.cpm_script.specs.Recording.{recorded};
+ghost use Rattle.cpm_machine.specs.Serve.{look_of, takes_key};
+ghost use Rattle.cpm_machine.specs.Step.{after, is_running};
+ghost use Rattle.cpm_play.specs.Cued.{AreAscii, HasEndedCued, HasIdled, HasMissed, HasNoWait, HasPressed, HasRun, HasShown, HasStopped, IsCued, IsCutOff, IsPressCut, IsRunCut, IsTaken, IsUntaken, key_count, last_count, looks_back, waits_at};
+ghost use Rattle.cpm_play.specs.Live.{AreGiven, IsGoing};
+ghost use Rattle.cpm_play.specs.Pacing.{without_text};
+ghost use Rattle.cpm_play.specs.Playing.{EndsAs, HasText, IsFresh, IsQuiet, alone_by};
+
+use crate::live::{Live, LiveError, show};
+use crate::machine::{CHUNK, QUANTUM, drop_list, quantum_of};
+use crate::progress::{Watcher, progress_of_one};
+use cpm_geom::Image;
+use cpm_script::{Cue, Key};
+use cpm_machine::{End, Machine};
+use memchr::memmem;
+use std::alloc::Global;
+use std::io;
+use std::io::Write;
+
+/// What a machine is played by.
+#[derive(Clone, Copy, Debug)]
+pub struct Cued<'a> {
+    /// What a script says whose lines may wait.
+    pub cues: &'a [Cue],
+    /// Where the machine waits for a key before so many steps, that does not count: a forked session's waits count from its fork on.
+    pub waits_from: u64,
+    /// Whether it ends where the machine waits, and that counts, and no key of the script will come.
+    pub stops_idle: bool,
+}
+
+/// Whether a text is looked for before the next key.
+fn looks_back(cues: &[Cue]) -> bool
+    ensures { result ≡ looks_back cues.now }
+{
+    let mut rest = cues;
+    while let Some((cue, after)) = rest.split_first() {
+        let Cue::Wait(text) = cue else {
+            return false;
+        };
+        if !text.as_slice().is_empty() {
+            return true;
+        }
+        rest = after;
+    }
+    false
+}
+
+/// Keeps more bytes; says whether all were kept, where those before were.
+fn keep(kept: &mut Vec<u8>, whole: bool, bytes: &[u8]) -> bool
+    ensures whole { result ≡ true → whole ≡ true }
+    ensures kept { result ≡ true → kept.new.items ≡ kept.old.items ++ bytes.now }
+{
+    kept.extend_from_slice(bytes).is_ok() && whole
+}
+
+/// Moves all console bytes to the writer, and keeps them; says whether there was memory for all.
+fn move_kept<W: Write>(machine: &mut Machine, kept: &mut Vec<u8>, out: &mut W) -> io::Result<bool>
+    ensures state { OnOk result (machine.new ≡ without_text machine.old) }
+    ensures text { OnOk result (Appends (W.contents out.old) (W.contents out.new) machine.old.cpm.console.screen) }
+    ensures kept { IfOk result (λ whole. whole ≡ true → kept.new.items ≡ kept.old.items ++ machine.old.cpm.console.screen) }
+    ensures refused { OnErr result (HasText machine.old) }
+{
+    let mut chunk = [0u8; CHUNK];
+    let mut whole = true;
+    loop {
+        let count = machine.take(&mut chunk);
+        if count == 0 {
+            return Ok(whole);
+        }
+        out.write_all(&chunk[..count])?;
+        out.flush()?;
+        whole = keep(kept, whole, &chunk[..count]);
+    }
+}
+
+/// Moves all console bytes to the writer, and keeps them if so asked. List bytes are dropped.
+fn show_kept<W: Write>(
+    machine: &mut Machine,
+    keeps: bool,
+    kept: &mut Vec<u8>,
+    out: &mut W,
+) -> Result<(), LiveError>
+    ensures taken { OnOk result (IsTaken machine.old machine.new (W.contents out.old) (W.contents out.new)) }
+    ensures kept { OnOk result (keeps ≡ true → kept.new.items ≡ kept.old.items ++ machine.old.cpm.console.screen) }
+    ensures refused { IfErr result (IsUntaken machine.old machine.new (W.contents out.old) (W.contents out.new)) }
+{
+    if !keeps {
+        return show(machine, out);
+    }
+    match move_kept(machine, kept, out) {
+        Err(error) => Err(LiveError::Unwritable(error)),
+        Ok(whole) => {
+            drop_list(machine);
+            if whole {
+                Ok(())
+            } else {
+                Err(LiveError::OutOfMemory)
+            }
+        }
+    }
+}
+
+/// Executes so many steps, or those up to the machine's end, or with `to_wait` to where it waits for a key. Shows their text, and keeps it if
+/// so asked; says how many. The watcher is told after each turn how far the machine has come of `until` steps.
+fn run<W: Write, T: Watcher>(
+    system: &Image,
+    machine: &mut Machine,
+    steps: u64,
+    to_wait: bool,
+    keeps: bool,
+    kept: &mut Vec<u8>,
+    out: &mut W,
+    until: u64,
+    watcher: &mut T,
+) -> Result<u64, LiveError>
+    requires { IsQuiet machine.old }
+    ensures within { IfOk result (λ k. k ≤ steps) }
+    ensures run { IfOk result (λ k. HasRun system.now k machine.old machine.new (W.contents out.old) (W.contents out.new)) }
+    ensures stopped { IfOk result (λ k. HasStopped to_wait system.now steps k machine.old machine.new) }
+    ensures kept { IfOk result (λ k. keeps ≡ true → kept.new.items ≡ kept.old.items ++ (after system.now k machine.old).cpm.console.screen) }
+    ensures refused { IfErr result (IsRunCut system.now steps machine.old machine.new (W.contents out.old) (W.contents out.new)) }
+{
+    let mut executed = 0;
+    while executed < steps {
+        let left = steps - executed;
+        let granted = if to_wait {
+            machine.grant_to_wait(system, QUANTUM.min(left))
+        } else {
+            machine
+                .grant(system, quantum_of(machine).min(left))
+                .executed
+        };
+        if granted == 0 {
+            return Ok(executed);
+        }
+        executed += granted;
+        show_kept(machine, keeps, kept, out)?;
+        watcher.see(progress_of_one(machine.look().count, until));
+    }
+    Ok(executed)
+}
+
+/// Whether the machine still runs.
+fn runs(machine: &Machine) -> bool
+    ensures { result ≡ is_running machine.now.ended }
+{
+    match machine.look().ended {
+        End::Running => true,
+        _ => false,
+    }
+}
+
+/// Whether the machine waits for a key and this text was shown.
+fn has_met(machine: &Machine, text: &[u8], shown: &[u8]) -> bool
+    ensures met { result ≡ true → ((look_of machine.now).waiting ≡ true) × HasShown text.now shown.now }
+    ensures unmet { result ≡ false → ((look_of machine.now).waiting ≡ false) ⊎ (HasShown text.now shown.now → ⊥) }
+{
+    machine.look().waiting && memmem::find(shown, text).is_some()
+}
+
+impl Live {
+    /// Presses a key at its count, if the machine then runs and that is within the steps; says whether it is. What was shown before is then forgotten.
+    fn press<W: Write, S: Write, T: Watcher>(
+        &mut self,
+        system: &Image,
+        machine: &mut Machine,
+        key: Key,
+        steps: u64,
+        shown: &mut Vec<u8>,
+        out: &mut W,
+        record: &mut S,
+        watcher: &mut T,
+    ) -> Result<bool, LiveError>
+        requires ascii { key.byte < 128 }
+        requires later { self.old.steps ≤ key.count }
+        requires quiet { IsQuiet machine.old }
+        requires room { takes_key machine.old ≡ true }
+        ensures pressed { IfOk result (λ comes. comes ≡ true → HasPressed system.now key (key.count - self.old.steps) machine.old machine.new
+            (W.contents out.old) (W.contents out.new) (S.contents record.old) (S.contents record.new)) }
+        ensures count { IfOk result (λ comes. comes ≡ true → (key.count < steps) × (self.new.steps ≡ key.count)) }
+        ensures keys { IfOk result (λ comes. comes ≡ true → self.new.keys.items ≡ self.old.keys.items ++ key ∷ []) }
+        ensures forgotten { IfOk result (λ comes. comes ≡ true → shown.new.items ≡ []) }
+        ensures missed { IfOk result (λ comes. comes ≡ false → HasMissed system.now key steps self.old.steps self.new.steps machine.old machine.new
+            (W.contents out.old) (W.contents out.new)) }
+        ensures still { IfOk result (λ comes. comes ≡ false → (self.new.keys.items ≡ self.old.keys.items) × (S.contents record.new ≡ S.contents record.old)) }
+        ensures refused { IfErr result (IsPressCut system.now (steps - self.old.steps) machine.old machine.new
+            (W.contents out.old) (W.contents out.new) (S.contents record.old) (S.contents record.new)) }
+    {
+        if key.count >= steps {
+            return Ok(false);
+        }
+        let left = key.count - self.steps;
+        self.steps += run(
+            system, machine, left, false, false, shown, out, steps, watcher,
+        )?;
+        if !runs(machine) {
+            return Ok(false);
+        }
+        self.give(machine, key.byte, record)?;
+        shown.clear();
+        Ok(true)
+    }
+
+    /// Executes steps up to where the machine waits for a key, not before `waits_from`, or has ended. Shows their text, and keeps it if so asked.
+    fn idle<W: Write, T: Watcher>(
+        &mut self,
+        system: &Image,
+        machine: &mut Machine,
+        steps: u64,
+        waits_from: u64,
+        keeps: bool,
+        shown: &mut Vec<u8>,
+        out: &mut W,
+        watcher: &mut T,
+    ) -> Result<(), LiveError>
+        requires quiet { IsQuiet machine.old }
+        requires within { self.old.steps ≤ steps }
+        ensures idled { OnOk result (HasIdled system.now steps waits_from self.old.steps self.new.steps machine.old machine.new (W.contents out.old) (W.contents out.new)) }
+        ensures within { OnOk result (self.new.steps ≤ steps) }
+        ensures still { self.new.keys.items ≡ self.old.keys.items }
+        ensures kept { OnOk result (keeps ≡ true → shown.new.items ≡ shown.old.items ++ (after system.now (self.new.steps - self.old.steps) machine.old).cpm.console.screen) }
+        ensures refused { IfErr result (IsRunCut system.now (steps - self.old.steps) machine.old machine.new (W.contents out.old) (W.contents out.new)) }
+    {
+        let pause = waits_from.min(steps).saturating_sub(self.steps);
+        self.steps += run(
+            system, machine, pause, false, keeps, shown, out, steps, watcher,
+        )?;
+        let left = steps - self.steps;
+        self.steps += run(
+            system, machine, left, true, keeps, shown, out, steps, watcher,
+        )?;
+        Ok(())
+    }
+}
+
+/// Plays a machine by a script as far as its keys come.
+fn follow<W: Write, S: Write, T: Watcher>(
+    alloc: Global,
+    system: &Image,
+    machine: &mut Machine,
+    steps: u64,
+    cued: Cued<'_>,
+    out: &mut W,
+    record: &mut S,
+    watcher: &mut T,
+) -> Result<Live, LiveError>
+    requires fresh { IsFresh machine.old }
+    requires ascii { AreAscii cued.cues.now }
+    requires few { key_count cued.cues.now ≤ 4096 }
+    ensures going { IfOk result (λ live. IsGoing system.now steps (key_count cued.entry.cues.now) machine.old machine.new (W.contents out.old) (W.contents out.new)
+        (S.contents record.old) (S.contents record.new) live.keys.items live.steps) }
+    ensures keys { IfOk result (λ live. IsCued system.now machine.old steps cued.entry.waits_from cued.entry.cues.now live.keys.items) }
+    ensures busy { IfOk result (λ live. (is_running machine.new.ended ≡ false)
+        ⊎ HasNoWait system.now machine.old live.keys.items (max cued.entry.waits_from (last_count 0 live.keys.items)) live.steps) }
+    ensures refused { IfErr result (IsCutOff system.now steps (key_count cued.entry.cues.now) machine.old machine.new (W.contents out.old) (W.contents out.new)
+        (S.contents record.old) (S.contents record.new)) }
+{
+    let mut live = Live {
+        keys: Vec::new(alloc),
+        steps: 0,
+    };
+    let mut shown = Vec::new(alloc);
+    let mut rest = cued.cues;
+    while let Some((cue, after)) = rest.split_first() {
+        let keeps = looks_back(rest);
+        rest = after;
+        let (count, byte) = match cue {
+            Cue::Key(key) => (live.steps.max(key.count), key.byte),
+            Cue::Press(byte) => (live.steps, *byte),
+            Cue::Wait(text) => {
+                live.idle(
+                    system,
+                    machine,
+                    steps,
+                    cued.waits_from,
+                    keeps,
+                    &mut shown,
+                    out,
+                    watcher,
+                )?;
+                if live.steps < steps && has_met(machine, text.as_slice(), shown.as_slice()) {
+                    continue;
+                }
+                return Ok(live);
+            }
+        };
+        let key = Key { count, byte };
+        if !live.press(
+            system, machine, key, steps, &mut shown, out, record, watcher,
+        )? {
+            return Ok(live);
+        }
+    }
+    Ok(live)
+}
+
+/// Plays one machine by a script that may wait, for at most so many steps, and writes its console bytes as they come. List bytes
+/// are dropped.
+///
+/// Each key is written to `record` as a line of a key script: by that script the machine shows and does the same again. The watcher is told after each turn how
+/// far it has come.
+pub fn play_cues<W: Write, S: Write, T: Watcher>(
+    alloc: Global,
+    system: &Image,
+    machine: &mut Machine,
+    steps: u64,
+    cued: Cued<'_>,
+    out: &mut W,
+    record: &mut S,
+    watcher: &mut T,
+) -> Result<Live, LiveError>
+    requires fresh { IsFresh machine.old }
+    requires ascii { AreAscii cued.cues.now }
+    requires few { key_count cued.cues.now ≤ 4096 }
+    ensures within { IfOk result (λ live. live.steps ≤ steps) }
+    ensures keys { IfOk result (λ live. IsCued system.now machine.old steps cued.entry.waits_from cued.entry.cues.now live.keys.items) }
+    ensures given { IfOk result (λ live. AreGiven (key_count cued.entry.cues.now) live.steps live.keys.items) }
+    ensures text { IfOk result (λ live. Appends (W.contents out.old) (W.contents out.new)
+        (alone_by system.now live.keys.items live.steps machine.old).cpm.console.screen) }
+    ensures ending { IfOk result (λ live. EndsAs (alone_by system.now live.keys.items live.steps machine.old) machine.new) }
+    ensures record { IfOk result (λ live. Appends (S.contents record.old) (S.contents record.new) (recorded live.keys.items)) }
+    ensures ends { IfOk result (λ live. HasEndedCued system.now machine.old steps cued.entry.waits_from cued.entry.stops_idle live.keys.items live.steps machine.new) }
+    ensures waits { IfOk result (λ live. (look_of machine.new).waiting ≡ waits_at system.now machine.old live.keys.items live.steps) }
+    ensures refused { IfErr result (IsCutOff system.now steps (key_count cued.entry.cues.now) machine.old machine.new (W.contents out.old) (W.contents out.new)
+        (S.contents record.old) (S.contents record.new)) }
+{
+    let mut live = follow(alloc, system, machine, steps, cued, out, record, watcher)?;
+    // One that does not stop where it is idle runs on as if waits counted from its end on.
+    let waits_from = if cued.stops_idle {
+        cued.waits_from
+    } else {
+        steps
+    };
+    live.idle(
+        system,
+        machine,
+        steps,
+        waits_from,
+        false,
+        &mut Vec::new(alloc),
+        out,
+        watcher,
+    )?;
+    Ok(live)
+}

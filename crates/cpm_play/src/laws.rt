@@ -1,0 +1,13 @@
+//! Laws of key scripts, as contracts.
+
+ghost use Rattle.cpm_play.specs.Laws.{PlainCuesGiveTheirKeys, ScriptsInOrder};
+
+/// The keys of a script are in order, and at most 4,096, so that they can be played.
+pub fn scripts_in_order()
+    ensures { ScriptsInOrder }
+{}
+
+/// A script that never waits gives its keys, where all of them come within the steps and the machine still runs behind these.
+pub fn plain_cues_give_their_keys()
+    ensures { PlainCuesGiveTheirKeys }
+{}

@@ -1,0 +1,43 @@
+//! Keys that are typed.
+
+ghost use Rattle.std.specs.Prelude.{[], ◌∷◌, IfOk, MatchOption, OnErr};
+ghost use Rattle.std.specs.Io.KnownBytes.{Consumes, IsAtEnd, Keeps};
+ghost use Rattle.cpm_play.specs.Typing.{HasRead, IsTyped};
+
+use std::io;
+use std::io::{ErrorKind, Read};
+
+/// ^], which ends a live session.
+const END_KEY: u8 = 0x1D;
+
+/// The next byte, or none at the end of the input.
+fn read_byte<I: Read>(input: &mut I) -> io::Result<Option<u8>>
+    ensures byte { IfOk result (λ byte. MatchOption byte (IsAtEnd (I.remaining input.new) × Consumes (I.remaining input.old) (I.remaining input.new) [])
+        (λ b. Consumes (I.remaining input.old) (I.remaining input.new) (b ∷ []))) }
+    ensures none { OnErr result (Keeps (I.remaining input.old) (I.remaining input.new)) }
+{
+    let mut bytes = [0u8; 1];
+    if input.read(&mut bytes)? == 0 {
+        Ok(None)
+    } else {
+        Ok(Some(bytes[0]))
+    }
+}
+
+/// The next key that is typed, or none after ^] and at the end of the input. A byte of 80h or more is no key and is passed over.
+pub(crate) fn next_key<I: Read>(input: &mut I) -> io::Result<Option<u8>>
+    ensures key { IfOk result (IsTyped (I.remaining input.old) (I.remaining input.new)) }
+    ensures none { OnErr result (HasRead (I.remaining input.old) (I.remaining input.new) []) }
+{
+    for _ in 0..u64::MAX {
+        match read_byte(input) {
+            Ok(None) => return Ok(None),
+            Ok(Some(END_KEY)) => return Ok(None),
+            Ok(Some(byte)) if byte.is_ascii() => return Ok(Some(byte)),
+            Ok(Some(_)) => {}
+            Err(error) if error.kind() == ErrorKind::Interrupted => {}
+            Err(error) => return Err(error),
+        }
+    }
+    Err(io::Error::new(ErrorKind::TimedOut, "no key came"))
+}

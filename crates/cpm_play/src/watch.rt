@@ -1,0 +1,121 @@
+//! When a machine that is played live wants a key.
+
+ghost use Rattle.std.specs.Prelude.{◌≡◌, ◌<◌, true};
+
+use cpm_flags::Regs;
+use cpm_memory::layout::{BDOS, FIRST_BIOS};
+use cpm_machine::{Look, Why};
+
+/// Where CONST is entered, the BIOS's call 2.
+const CONSOLE_STATUS: u16 = FIRST_BIOS + 2;
+
+/// The BDOS's direct console.
+const DIRECT_CONSOLE: u8 = 6;
+
+/// Its least parameter that asks for a key, or whether there is one. The others show a byte.
+const ASKS: u8 = 0xFE;
+
+/// The BDOS's console status.
+const STATUS: u8 = 11;
+
+/// How many polls in a row want a key.
+const POLLS: u32 = 64;
+
+/// How many steps a turn has at most, so that output appears as it comes.
+const QUANTUM: u64 = 100_000;
+
+/// How many the first turn has, and the first after a key: at the prompt, a turn ends for no wait, and the next key comes behind it.
+const FIRST_QUANTUM: u64 = 100;
+
+/// The most after a poll of CONST: so long the calls of the BDOS are watched, of which one may come between two polls.
+const PAUSE: u64 = 10_000;
+
+/// Whether a call of the BDOS with these registers asks whether a key is there.
+fn is_poll(regs: &Regs) -> bool {
+    regs.c == STATUS || (regs.c == DIRECT_CONSOLE && regs.e >= ASKS)
+}
+
+/// What a machine did of late, as far as it says whether it polls: again and again asks whether a key is there, and does nothing else.
+///
+/// The calls of the BDOS and of CONST are watched by turns, since a turn stops at one address alone.
+#[derive(Clone, Copy, Drop)]
+pub(crate) struct Watch {
+    /// How many polls came in a row.
+    polls: u32,
+    /// Before which address the next turn stops.
+    address: u16,
+    /// Whether the next turn is the one after a poll of CONST.
+    is_pause: bool,
+    /// How many steps the next turn has at most where it isn't.
+    quantum: u64,
+}
+
+impl Watch {
+    /// Before the first turn.
+    pub(crate) fn new() -> Watch {
+        Watch {
+            polls: 0,
+            address: BDOS,
+            is_pause: false,
+            quantum: FIRST_QUANTUM,
+        }
+    }
+
+    /// Before which address the next turn stops.
+    pub(crate) fn address(&self) -> u16 {
+        self.address
+    }
+
+    /// How many steps the next turn has at most.
+    pub(crate) fn most(&self) -> u64
+        ensures { 0 < result }
+    {
+        if self.is_pause {
+            PAUSE
+        } else {
+            self.quantum.max(FIRST_QUANTUM)
+        }
+    }
+
+    /// Whether the machine, of which this is seen, wants a key: it waits for one, or it polls, and none is pending.
+    pub(crate) fn wants_key(&self, look: &Look) -> bool
+        ensures { result ≡ true → look.now.keys ≡ 0 }
+    {
+        look.keys == 0 && (look.waiting || self.polls >= POLLS)
+    }
+
+    /// Sees what a turn left, before its text is taken, and why it ended.
+    pub(crate) fn see(&mut self, look: &Look, why: Why) {
+        if look.console > 0 {
+            self.polls = 0;
+        }
+        if why == Why::Break {
+            self.see_call(look);
+        } else {
+            self.is_pause = false;
+            self.quantum = self.quantum.saturating_mul(2).min(QUANTUM);
+            self.address = if self.address == BDOS {
+                CONSOLE_STATUS
+            } else {
+                BDOS
+            };
+        }
+    }
+
+    /// Sees the call before which a turn stopped.
+    fn see_call(&mut self, look: &Look) {
+        self.is_pause = self.address != BDOS;
+        if self.is_pause || is_poll(&look.regs) {
+            self.polls = self.polls.saturating_add(1);
+        } else {
+            self.polls = 0;
+        }
+        self.address = BDOS;
+    }
+
+    /// A key was given.
+    pub(crate) fn give(&mut self) {
+        self.polls = 0;
+        self.quantum = FIRST_QUANTUM;
+    }
+}

@@ -1,7 +1,0 @@
-use Rattle.std.proofs.Common.{subst}
-use Rattle.cpm_sessions.specs.Host.{IsHost}
-use Rattle.cpm_sessions.proofs.CallLaws.{same-host}
-use Rattle.cpm_sessions.proofs.host.Host.slots_are_orderly.Goals as goal
-
-pub returns : goal.returns
-returns c = subst IsHost (same-host c.self.view_is) c.self.invariant.0

@@ -1,5 +1,0 @@
-use Rattle.cpm_sessions.proofs.EventLaws.{apart}
-use Rattle.cpm_sessions.proofs.laws.apart.Goals as goal
-
-pub returns : goal.returns
-returns c = λ h id other ask ne. apart h id other ask ne

@@ -1,5 +1,0 @@
-use Rattle.cpm_sessions.proofs.CutLaws.{cut-host, cut-replies}
-use Rattle.cpm_sessions.proofs.laws.cutting.Goals as goal
-
-pub returns : goal.returns
-returns c = λ h id a b. (cut-host h id a b, cut-replies h id a b)

@@ -1,5 +1,0 @@
-use Rattle.cpm_sessions.proofs.EventLaws.{slot-after, told-after}
-use Rattle.cpm_sessions.proofs.laws.isolation.Goals as goal
-
-pub returns : goal.returns
-returns c = λ h events id below. (slot-after id events h below, told-after id events h below)

@@ -1,9 +1,0 @@
-use Rattle.std.proofs.Common.{ap, ◌∙◌}
-use Rattle.cpm_sessions.specs.Account.{slot_after}
-use Rattle.cpm_sessions.specs.Host.{own}
-use Rattle.cpm_sessions.proofs.EventLaws.{slot-after, slot_after-none}
-use Rattle.cpm_sessions.proofs.laws.never_again.Goals as goal
-
-pub returns : goal.returns
-returns c = λ h events id below none.
-    slot-after id events h below ∙ ap (λ o. slot_after h.system (own id events) o) none ∙ slot_after-none h.system (own id events)

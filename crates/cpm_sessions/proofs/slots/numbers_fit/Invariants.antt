@@ -1,6 +1,0 @@
-use Rattle.std.proofs.Common.{All, take}
-use Rattle.cpm_bdos.specs.Bounds.{IsFit}
-use Rattle.cpm_sessions.proofs.slots.numbers_fit.Given as goal
-
-abbrev pub invariant-loop-slot : goal.invariant-loop-slot
-invariant-loop-slot l = All (λ slot. IsFit slot.runner.cpm) (take l.slot-index l.slots)

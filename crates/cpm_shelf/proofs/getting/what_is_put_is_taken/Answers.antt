@@ -1,5 +1,0 @@
-use Rattle.cpm_shelf.proofs.FilledLemmas.{what_is_put}
-use Rattle.cpm_shelf.proofs.getting.what_is_put_is_taken.Goals as goal
-
-pub returns : goal.returns
-returns c = what_is_put

@@ -1,5 +1,0 @@
-use Rattle.cpm_shelf.specs.Listing.{AreListed}
-use Rattle.cpm_shelf.proofs.listing.files_of.Given as goal
-
-abbrev pub invariant-loop-index : goal.invariant-loop-index
-invariant-loop-index l = AreListed l.image l.index l.files.items

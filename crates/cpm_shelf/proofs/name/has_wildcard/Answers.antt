@@ -1,6 +1,0 @@
-use Rattle.std.proofs.Common.{◌∙◌}
-use Rattle.cpm_shelf.proofs.WildcardLemmas.{any_is_wildcard}
-use Rattle.cpm_shelf.proofs.name.has_wildcard.Goals as goal
-
-pub returns : goal.returns
-returns c = c.any_wildcard.ensures ∙ any_is_wildcard c.args.name.now

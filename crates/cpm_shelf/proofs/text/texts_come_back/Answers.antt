@@ -1,5 +1,0 @@
-use Rattle.cpm_shelf.proofs.TextLemmas.{texts_come_back}
-use Rattle.cpm_shelf.proofs.text.texts_come_back.Goals as goal
-
-pub returns : goal.returns
-returns c = texts_come_back

@@ -1,8 +1,0 @@
-//! The law that tells beforehand what a file needs of a disk.
-
-ghost use Rattle.cpm_shelf.specs.Laws.{AppendingLaw};
-
-/// At the end of a file a write of the next record takes what the record needs, and nothing else.
-pub fn appending_takes_what_it_needs()
-    ensures { AppendingLaw }
-{}

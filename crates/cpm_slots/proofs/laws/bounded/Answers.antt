@@ -1,5 +1,0 @@
-use Rattle.cpm_slots.proofs.StepBounds.{IsBounded-step}
-use Rattle.cpm_slots.proofs.laws.bounded.Goals as goal
-
-pub returns : goal.returns
-returns c system s fit = IsBounded-step system s fit

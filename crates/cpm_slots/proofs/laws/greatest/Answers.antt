@@ -1,8 +1,0 @@
-use Rattle.cpm_slots.specs.Step.{after, can_step}
-use Rattle.cpm_slots.specs.Serve.{executed}
-use Rattle.cpm_slots.proofs.GrantLaws.{longest-is}
-use Rattle.cpm_slots.proofs.laws.greatest.Goals as goal
-
-pub returns : goal.returns
-unfolding executed
-returns c system n s = longest-is (λ k. can_step (after system k s)) n

@@ -1,8 +1,0 @@
-use Rattle.cpm_slots.specs.Step.{after}
-use Rattle.cpm_slots.specs.ToWait.{can_work, executed_to_wait}
-use Rattle.cpm_slots.proofs.GrantLaws.{longest-is}
-use Rattle.cpm_slots.proofs.laws.greatest_to_wait.Goals as goal
-
-pub returns : goal.returns
-unfolding executed_to_wait
-returns c system n s = longest-is (λ k. can_work (after system k s)) n

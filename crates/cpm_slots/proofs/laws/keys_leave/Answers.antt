@@ -1,5 +1,0 @@
-use Rattle.cpm_slots.proofs.KeyLaws.{keys_leave-step}
-use Rattle.cpm_slots.proofs.laws.keys_leave.Goals as goal
-
-pub returns : goal.returns
-returns c system s = keys_leave-step system s

@@ -1,5 +1,0 @@
-use Rattle.cpm_slots.proofs.WaitLaws.{step-waits}
-use Rattle.cpm_slots.proofs.laws.waiting.Goals as goal
-
-pub returns : goal.returns
-returns c system s h = step-waits system s h

@@ -1,5 +1,0 @@
-use Rattle.cpm_turns.proofs.ScriptLemmas.{script-order}
-use Rattle.cpm_turns.proofs.laws.scripts_in_order.Goals as goal
-
-pub returns : goal.returns
-returns c = script-order

@@ -1,8 +1,0 @@
-use Rattle.std.proofs.Common.{◌<◌, arith}
-use Rattle.cpm_turns.proofs.LiveLemmas.{unmoved}
-use Rattle.cpm_turns.proofs.live.turn.Goals as goal
-
-pub returns-clause-ended : goal.returns-clause-ended
-returns-clause-ended c = λ none quiet.
-    let some : 0 < c.min-most.result = let least = c.min-most.ensures in let most = c.most.ensures in let left = c.requires in omega arith in
-    unmoved c.args.system.now c.address.result c.min-most.result c.grant_until-granted.result.executed c.args.machine.now quiet some c.grant_until-granted.ensures.executed none

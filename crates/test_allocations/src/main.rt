@@ -1,0 +1,188 @@
+//! Makes the calls that take memory, `test_allocations` all of them and `test_allocations NAME` one, and prints what came of each: `made`; `refused`, where
+//! memory was refused, what was passed by value came back and all else was as before; or `wrong`. For `tests/allocations`, which refuses
+//! each of their allocations in turn.
+#![tactic(auto)]
+
+mod commands;
+mod copies;
+mod disks;
+mod hosts;
+mod machines;
+mod stores;
+mod texts;
+mod waiting;
+
+use std::alloc::{AllocError, Global};
+use std::env;
+use std::process::ExitCode;
+
+/// What came of a call.
+#[derive(Clone, Copy, Debug, PartialEq, Eq)]
+pub enum Outcome {
+    /// It did what it should.
+    Made,
+    /// It answered that memory was refused, and left all else as it should.
+    Refused,
+    /// It answered something else, or left something else.
+    Wrong,
+    /// Memory was refused before the call.
+    Unprepared,
+}
+
+impl Outcome {
+    /// That of a call that was made, where what it gave is right.
+    pub fn made_if(is_right: bool) -> Outcome {
+        if is_right {
+            Outcome::Made
+        } else {
+            Outcome::Wrong
+        }
+    }
+
+    /// That of a call that was refused for want of memory, where the rest is as it should be.
+    pub fn refused_if(is_right: bool) -> Outcome {
+        if is_right {
+            Outcome::Refused
+        } else {
+            Outcome::Wrong
+        }
+    }
+
+    /// The word that is printed.
+    fn word(self) -> &'static str {
+        match self {
+            Outcome::Made => "made",
+            Outcome::Refused => "refused",
+            Outcome::Wrong => "wrong",
+            Outcome::Unprepared => "unprepared",
+        }
+    }
+}
+
+/// The calls, as they are named on the command line.
+const NAMES: [&str; 45] = [
+    "command",
+    "FlatMemory::new",
+    "FrameStore::new",
+    "Console::new",
+    "Image::copy",
+    "Console::copy",
+    "Cpm::copy",
+    "Machine::new",
+    "Machine::with_program",
+    "Machine::with_command",
+    "Host::new",
+    "Host::open",
+    "Host::fork",
+    "assemble",
+    "Config::read",
+    "read_keys",
+    "Store::read",
+    "Store::write",
+    "run_host",
+    "judge_host",
+    "put",
+    "get",
+    "remove",
+    "rename",
+    "list",
+    "to_text",
+    "from_text",
+    "new_image",
+    "put_file",
+    "get_file",
+    "remove_file",
+    "rename_file",
+    "matching_files",
+    "write_list",
+    "tail_of",
+    "run_com",
+    "run_live",
+    "run_asm",
+    "run_debug",
+    "run_list",
+    "cues_of",
+    "forked_cues_of",
+    "run_waiting",
+    "rehearse_session",
+    "run_asm_listed",
+];
+
+/// Makes the call of this name, if there is one.
+fn make(alloc: Global, name: &str) -> Result<Outcome, AllocError> {
+    match name {
+        "command" => Ok(texts::command_line(alloc)),
+        "FlatMemory::new" => Ok(machines::flat_memory(alloc)),
+        "FrameStore::new" => Ok(machines::frame_store(alloc)),
+        "Console::new" => Ok(machines::console(alloc)),
+        "Image::copy" => copies::image(alloc),
+        "Console::copy" => copies::console(alloc),
+        "Cpm::copy" => copies::session(alloc),
+        "Machine::new" => machines::machine(alloc),
+        "Machine::with_program" => machines::machine_with_program(alloc),
+        "Machine::with_command" => machines::machine_with_command(alloc),
+        "Host::new" => hosts::new(alloc),
+        "Host::open" => hosts::open(alloc),
+        "Host::fork" => hosts::fork(alloc),
+        "assemble" => Ok(texts::source(alloc)),
+        "Config::read" => Ok(texts::configuration(alloc)),
+        "read_keys" => Ok(texts::key_script(alloc)),
+        "Store::read" => stores::read(alloc),
+        "Store::write" => stores::write(alloc),
+        "run_host" => commands::run(alloc),
+        "judge_host" => commands::judge(alloc),
+        "put" | "get" | "remove" | "rename" | "list" | "to_text" | "from_text" => {
+            disks::of_shelf(alloc, name)
+        }
+        "new_image"
+        | "put_file"
+        | "get_file"
+        | "remove_file"
+        | "rename_file"
+        | "matching_files"
+        | "write_list" => disks::of_filing(alloc, name),
+        "tail_of" => Ok(commands::tail(alloc)),
+        "run_com" => commands::com(alloc),
+        "run_live" => commands::live(alloc),
+        "run_asm" => Ok(commands::asm(alloc)),
+        "run_debug" => commands::debug(alloc),
+        "run_list" => Ok(commands::list()),
+        "cues_of" => Ok(waiting::cues(alloc)),
+        "forked_cues_of" => Ok(waiting::forked_cues(alloc)),
+        "run_waiting" => waiting::com(alloc),
+        "rehearse_session" => waiting::session(alloc),
+        "run_asm_listed" => Ok(waiting::listed_source(alloc)),
+        _ => Ok(Outcome::Wrong),
+    }
+}
+
+/// Makes the call of this name, and prints what came of it.
+fn tell(rt: &(impl Print + AllocGlobal), name: &str) -> bool {
+    let outcome = make(rt.alloc(), name).unwrap_or(Outcome::Unprepared);
+    let word = outcome.word();
+    println!(rt; "{name}: {word}").is_ok() && outcome != Outcome::Wrong
+}
+
+/// Makes the call that the command line names, or all.
+fn tell_named(rt: &HostRuntime) -> Option<bool> {
+    let words: Vec<String> = env::args(rt).ok()?.collect(rt.alloc()).ok()?;
+    if let Some(name) = words.get(1) {
+        return Some(tell(rt, name.as_str()));
+    }
+    let mut is_right = true;
+    for name in NAMES {
+        is_right &= tell(rt, name);
+    }
+    Some(is_right)
+}
+
+fn main(rt: HostRuntime) -> ExitCode {
+    match tell_named(&rt) {
+        Some(true) => ExitCode::SUCCESS,
+        Some(false) => ExitCode::from(1),
+        None => {
+            let _ = println!(rt; "words: unprepared");
+            ExitCode::SUCCESS
+        }
+    }
+}
