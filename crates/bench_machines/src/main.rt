@@ -24,7 +24,7 @@ use cpm_memory::{FlatMemory, FrameStore, has_room};
 use cpm_slots::Host;
 use forks::{fork_and_close, host_of_forks, host_of_opened};
 use sessions::{
-    Turns, host_of_drives, look_often, make_openings, open_and_close, run_beside, run_host,
+    HostTurns, host_of_drives, look_often, make_openings, open_and_close, run_beside, run_host,
     run_machine, run_machine_with,
 };
 use soak::soak;
@@ -162,11 +162,11 @@ fn measure_machine(rt: &HostRuntime, words: &[&str]) -> Option<u64> {
 }
 
 /// How many sessions of a host run by grants in turn, where four words say it.
-fn turns_of(words: &[&str]) -> Option<Turns> {
+fn turns_of(words: &[&str]) -> Option<HostTurns> {
     let [sessions, quota, steps, rounds] = words else {
         return None;
     };
-    Some(Turns {
+    Some(HostTurns {
         sessions: sessions.parse().ok()?,
         quota: quota.parse().ok()?,
         steps: steps.parse().ok()?,

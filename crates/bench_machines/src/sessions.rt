@@ -11,7 +11,7 @@ const KEYS: [u8; 6] = *b"P:RUN\r";
 
 /// What a host's sessions do: so many of them, with a quota each, by grants in turn.
 #[derive(Drop)]
-pub struct Turns {
+pub struct HostTurns {
     pub sessions: u16,
     pub quota: u16,
     pub steps: u64,
@@ -108,7 +108,7 @@ fn in_turn(host: &mut Host, slots: &[SlotId], steps: u64, rounds: u64) -> Option
 }
 
 /// Runs the program RUN.COM of the system drive in sessions in turn, and says how many steps were executed in all.
-pub fn run_host(alloc: Global, cpu: Cpu, system: Image, turns: &Turns) -> Option<u64> {
+pub fn run_host(alloc: Global, cpu: Cpu, system: Image, turns: &HostTurns) -> Option<u64> {
     let mut host = host_of(alloc, system, turns.sessions)?;
     let mut slots = Vec::new(alloc);
     for _ in 0..turns.sessions {

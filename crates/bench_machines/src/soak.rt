@@ -22,13 +22,13 @@ const QUOTAS: [u16; 4] = [256, 64, 256, 24];
 
 /// How long sessions run, and by which turns.
 #[derive(Clone, Copy, Drop)]
-pub struct Turns {
+pub struct SoakTurns {
     pub steps: u64,
     pub quantum: u64,
 }
 
 /// A session that runs: a machine, or a slot of a host.
-trait Session {
+trait Grantee {
     fn press(&mut self, key: u8) -> Option<()>;
 
     fn grant(&mut self, steps: u64) -> Option<Granted>;
@@ -47,7 +47,7 @@ struct ByItself<'a> {
     system: &'a Image,
 }
 
-impl Session for ByItself<'_> {
+impl Grantee for ByItself<'_> {
     fn press(&mut self, key: u8) -> Option<()> {
         // (a key too many is dropped)
         let _ = self.machine.key(key);
@@ -78,7 +78,7 @@ struct Beside<'a> {
     id: SlotId,
 }
 
-impl Session for Beside<'_> {
+impl Grantee for Beside<'_> {
     fn press(&mut self, key: u8) -> Option<()> {
         let _ = self.host.key(self.id, key);
         Some(())
@@ -103,7 +103,7 @@ impl Session for Beside<'_> {
 
 /// How far a session is, and what it showed.
 #[derive(Drop)]
-struct Progress {
+struct SoakProgress {
     keys: Vec<u8>,
     pressed: u64,
     executed: u64,
@@ -112,9 +112,9 @@ struct Progress {
     is_over: bool,
 }
 
-impl Progress {
-    fn new(keys: Vec<u8>) -> Progress {
-        Progress {
+impl SoakProgress {
+    fn new(keys: Vec<u8>) -> SoakProgress {
+        SoakProgress {
             keys,
             pressed: 0,
             executed: 0,
@@ -134,7 +134,7 @@ impl Progress {
     }
 
     /// Presses the keys that are due.
-    fn press_due<S: Session>(&mut self, session: &mut S) -> Option<()> {
+    fn press_due<S: Grantee>(&mut self, session: &mut S) -> Option<()> {
         for place in 0..self.keys.len() {
             if self.pressed == place as u64 && self.next_count() <= self.executed {
                 session.press(self.keys[place])?;
@@ -145,7 +145,7 @@ impl Progress {
     }
 
     /// Takes all output.
-    fn take_all<S: Session>(&mut self, session: &mut S) -> Option<()> {
+    fn take_all<S: Grantee>(&mut self, session: &mut S) -> Option<()> {
         let mut out = [0; 8192];
         let count = session.take(&mut out)?;
         self.console.add(out.get(..count)?);
@@ -155,7 +155,7 @@ impl Progress {
     }
 
     /// A turn of the session.
-    fn turn<S: Session>(&mut self, session: &mut S, turns: &Turns) -> Option<()> {
+    fn turn<S: Grantee>(&mut self, session: &mut S, turns: &SoakTurns) -> Option<()> {
         self.press_due(session)?;
         let left = turns.steps.saturating_sub(self.executed);
         let before_key = self.next_count().saturating_sub(self.executed);
@@ -168,7 +168,7 @@ impl Progress {
 }
 
 /// The digest of a session's memory.
-fn memory_of<S: Session>(session: &S) -> Option<Digest> {
+fn memory_of<S: Grantee>(session: &S) -> Option<Digest> {
     let mut digest = Digest::new();
     for address in 0..=0xFFFF {
         digest.add(&[session.peek(address)?]);
@@ -211,17 +211,17 @@ fn disks_of(drives: [Option<Image>; 4]) -> Digest {
 }
 
 /// Prints what a session showed and left.
-fn tell(rt: &HostRuntime, number: u16, progress: &Progress, memory: Digest, closed: Closed) {
+fn tell(rt: &HostRuntime, number: u16, progress: &SoakProgress, memory: Digest, closed: Closed) {
     let Closed { look, drives } = closed;
     let disks = disks_of(drives);
-    let Progress { console, list, .. } = progress;
+    let SoakProgress { console, list, .. } = progress;
     let _ = println!(rt;
         "{number} console {console} list {list} memory {memory} disks {disks} {look:?}"
     );
 }
 
 /// Gives a session turns until it is over, and answers the digest of its memory.
-fn play<S: Session>(session: &mut S, progress: &mut Progress, turns: &Turns) -> Option<Digest> {
+fn play<S: Grantee>(session: &mut S, progress: &mut SoakProgress, turns: &SoakTurns) -> Option<Digest> {
     for _turn in 0..u64::MAX {
         if progress.is_over {
             break;
@@ -237,9 +237,9 @@ fn run_alone(
     folder: &str,
     number: u16,
     system: &Image,
-    turns: &Turns,
+    turns: &SoakTurns,
 ) -> Option<()> {
-    let mut progress = Progress::new(file_of(rt, folder, number, "keys")?);
+    let mut progress = SoakProgress::new(file_of(rt, folder, number, "keys")?);
     let machine = Machine::new(rt.alloc(), opening_of(rt, folder, number)?).ok()?;
     let mut session = ByItself { machine, system };
     let memory = play(&mut session, &mut progress, turns)?;
@@ -249,17 +249,17 @@ fn run_alone(
 
 /// A session in a slot.
 #[derive(Drop)]
-struct Opened {
+struct OpenSlot {
     number: u16,
     id: SlotId,
-    progress: Progress,
+    progress: SoakProgress,
 }
 
 /// Opens a session on a host.
-fn open(rt: &HostRuntime, folder: &str, number: u16, host: &mut Host) -> Option<Opened> {
+fn open(rt: &HostRuntime, folder: &str, number: u16, host: &mut Host) -> Option<OpenSlot> {
     let id = host.open(rt.alloc(), opening_of(rt, folder, number)?).ok()?;
-    let progress = Progress::new(file_of(rt, folder, number, "keys")?);
-    Some(Opened {
+    let progress = SoakProgress::new(file_of(rt, folder, number, "keys")?);
+    Some(OpenSlot {
         number,
         id,
         progress,
@@ -272,7 +272,7 @@ fn open_all(
     folder: &str,
     number: u16,
     host: &mut Host,
-    sessions: &mut Vec<Opened>,
+    sessions: &mut Vec<OpenSlot>,
 ) -> Option<()> {
     for number in 0..number {
         sessions.push(open(rt, folder, number, host)?).ok()?;
@@ -281,7 +281,7 @@ fn open_all(
 }
 
 /// Gives each session that isn't over a turn, and tells whether there was one.
-fn round(host: &mut Host, sessions: &mut [Opened], turns: &Turns) -> Option<bool> {
+fn round(host: &mut Host, sessions: &mut [OpenSlot], turns: &SoakTurns) -> Option<bool> {
     let mut has_run = false;
     for session in sessions.iter_mut() {
         if !session.progress.is_over {
@@ -297,7 +297,7 @@ fn round(host: &mut Host, sessions: &mut [Opened], turns: &Turns) -> Option<bool
 }
 
 /// Gives all sessions turns until they are over.
-fn play_all(host: &mut Host, sessions: &mut [Opened], turns: &Turns) -> Option<()> {
+fn play_all(host: &mut Host, sessions: &mut [OpenSlot], turns: &SoakTurns) -> Option<()> {
     for _round in 0..u64::MAX {
         if !round(host, sessions, turns)? {
             break;
@@ -307,7 +307,7 @@ fn play_all(host: &mut Host, sessions: &mut [Opened], turns: &Turns) -> Option<(
 }
 
 /// Closes a session, and prints what it showed and left.
-fn close(rt: &HostRuntime, host: &mut Host, session: &Opened) -> Option<()> {
+fn close(rt: &HostRuntime, host: &mut Host, session: &OpenSlot) -> Option<()> {
     let memory = memory_of(&Beside {
         host,
         id: session.id,
@@ -318,7 +318,7 @@ fn close(rt: &HostRuntime, host: &mut Host, session: &Opened) -> Option<()> {
 }
 
 /// Closes all sessions, and prints what each showed and left.
-fn close_all(rt: &HostRuntime, host: &mut Host, sessions: &[Opened]) -> Option<()> {
+fn close_all(rt: &HostRuntime, host: &mut Host, sessions: &[OpenSlot]) -> Option<()> {
     for session in sessions {
         close(rt, host, session)?;
     }
@@ -331,8 +331,8 @@ fn run_all(
     folder: &str,
     number: u16,
     host: &mut Host,
-    sessions: &mut Vec<Opened>,
-    turns: &Turns,
+    sessions: &mut Vec<OpenSlot>,
+    turns: &SoakTurns,
 ) -> Option<()> {
     open_all(rt, folder, number, host, sessions)?;
     play_all(host, sessions.as_mut_slice(), turns)?;
@@ -345,7 +345,7 @@ fn run_beside(
     folder: &str,
     number: u16,
     system: Image,
-    turns: &Turns,
+    turns: &SoakTurns,
 ) -> Option<()> {
     let mut host = Host::new(rt.alloc(), system, MOST_FRAMES).ok()?;
     let mut sessions = Vec::new(rt.alloc());
@@ -358,7 +358,7 @@ fn run_each(
     folder: &str,
     number: u16,
     system: &Image,
-    turns: &Turns,
+    turns: &SoakTurns,
 ) -> Option<()> {
     for number in 0..number {
         run_alone(rt, folder, number, system, turns)?;
@@ -385,10 +385,10 @@ pub fn soak(
     let number = number.min(MOST_SESSIONS);
     let system = system_of(rt, folder)?;
     match quantum {
-        Some(quantum) => run_beside(rt, folder, number, system, &Turns { steps, quantum }),
+        Some(quantum) => run_beside(rt, folder, number, system, &SoakTurns { steps, quantum }),
         None => {
             let quantum = u64::MAX;
-            run_each(rt, folder, number, &system, &Turns { steps, quantum })
+            run_each(rt, folder, number, &system, &SoakTurns { steps, quantum })
         }
     }
 }

@@ -9,27 +9,27 @@ use Rattle.cpm_asm.specs.Places.{at_address, depth, first_open, in_if, moved}
 use Rattle.cpm_asm.specs.Passes.{behind, given, is_last, laid, last_or, said, taken, with_bytes}
 use Rattle.cpm_asm.specs.Assembled.{EachLies, LiesAt, UnlessLast, image_from}
 use Rattle.cpm_asm.specs.declared.measure.Measure.{Measure}
-use Rattle.cpm_asm.specs.declared.place.Place.{Place}
+use Rattle.cpm_asm.specs.declared.place.Position.{Position}
 
 -- each statement has room for its bytes before the next
-abbrev pub AllFit : Table → Place → List Numbered → Type 0
+abbrev pub AllFit : Table → Position → List Numbered → Type 0
 AllFit t p [] = Unit {0}
 AllFit t p (x ∷ xs) = (p.address + length (given t p x).bytes ≤ (taken t p x).next) × UnlessLast (is_last (said p x).deed) (AllFit t (behind t p x) xs)
 
 -- ---- the address behind a statement
 
-if_address : (b c : Bool) (p q r : Place) (a : ℕ) → p.address ≡ a → q.address ≡ a → r.address ≡ a → (if b then p else if c then q else r).address ≡ a
+if_address : (b c : Bool) (p q r : Position) (a : ℕ) → p.address ≡ a → q.address ≡ a → r.address ≡ a → (if b then p else if c then q else r).address ≡ a
 if_address true c p q r a h i j = h
 if_address false true p q r a h i j = i
 if_address false false p q r a h i j = j
 
-in_if_address : (p : Place) (line : ℕ) (holds : Bool) → (in_if p line holds).address ≡ p.address
+in_if_address : (p : Position) (line : ℕ) (holds : Bool) → (in_if p line holds).address ≡ p.address
 in_if_address p line holds =
     if_address (nat_le 8 (depth p)) holds p
     (record { address = p.address; held = p.held + 1; skipped = p.skipped; outermost = first_open p line })
     (record { address = p.address; held = p.held; skipped = p.skipped + 1; outermost = first_open p line }) p.address refl refl refl
 
-moved_address : (p : Place) (line : ℕ) (d : Deed) (k : Measure) → (moved p line d k).address ≡ k.next
+moved_address : (p : Position) (line : ℕ) (d : Deed) (k : Measure) → (moved p line d k).address ≡ k.next
 moved_address p line Wrong k = refl
 moved_address p line Nothing k = refl
 moved_address p line End k = refl
@@ -82,7 +82,7 @@ last_adds : (last : Bool) (image rest : List ℕ) → Adds image rest → Adds i
 last_adds true image rest h = ([], sym (append-nil image))
 last_adds false image rest h = h
 
-from_adds : (t : Table) (xs : List Numbered) (image : List ℕ) (p : Place) → Adds image (image_from t image p xs)
+from_adds : (t : Table) (xs : List Numbered) (image : List ℕ) (p : Position) → Adds image (image_from t image p xs)
 from_adds t [] image p = ([], sym (append-nil image))
 from_adds t (x ∷ xs) image p =
     let wider = with_bytes t image p x in
@@ -91,12 +91,12 @@ from_adds t (x ∷ xs) image p =
 
 -- ---- all statements
 
-lies_behind : (last : Bool) (t : Table) (wider final : List ℕ) (p : Place) (xs : List Numbered) → final ≡ last_or last wider (image_from t wider p xs)
+lies_behind : (last : Bool) (t : Table) (wider final : List ℕ) (p : Position) (xs : List Numbered) → final ≡ last_or last wider (image_from t wider p xs)
     → UnlessLast last (AllFit t p xs) → (final ≡ image_from t wider p xs → AllFit t p xs → EachLies t final p xs) → UnlessLast last (EachLies t final p xs)
 lies_behind true t wider final p xs is fit later = tt
 lies_behind false t wider final p xs is fit later = later is fit
 
-pub lies : (t : Table) (xs : List Numbered) (image final : List ℕ) (p : Place) → final ≡ image_from t image p xs → AllFit t p xs → 256 ≤ p.address → length image ≤ p.address - 256
+pub lies : (t : Table) (xs : List Numbered) (image final : List ℕ) (p : Position) → final ≡ image_from t image p xs → AllFit t p xs → 256 ≤ p.address → length image ≤ p.address - 256
     → EachLies t final p xs
 lies t [] image final p is fit low short = tt
 lies t (x ∷ xs) image final p is fit low short =

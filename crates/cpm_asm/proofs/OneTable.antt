@@ -17,7 +17,7 @@ use Rattle.cpm_asm.specs.Places.{depth, first_fault, is_defined, is_misplaced, i
 use Rattle.cpm_asm.specs.Passes.{at_end, behind, both_passes, first_pass, is_last, last_or, named, said, second_behind, second_pass, table_after, taken, unless_first, unless_second, with_bytes}
 use Rattle.cpm_asm.specs.Assembled.{Assembled, HasLabel, IsNamed, IsTableOf, OrLater, UnlessLast, image_from}
 use Rattle.cpm_asm.specs.declared.measure.Measure.{Measure}
-use Rattle.cpm_asm.specs.declared.place.Place.{Place}
+use Rattle.cpm_asm.specs.declared.place.Position.{Position}
 use Rattle.cpm_asm.specs.declared.error.AsmError.{AsmError}
 use Rattle.cpm_asm.specs.declared.error.AsmErrorKind.{AsmErrorKind}
 use Rattle.cpm_asm.proofs.Fitting.{fits}
@@ -78,13 +78,13 @@ chain_none false false false true b5 f1 f2 f3 f4 f5 h = absurd (true≢false (ap
 chain_none false false false false true f1 f2 f3 f4 f5 h = absurd (true≢false (ap is_some h))
 chain_none false false false false false f1 f2 f3 f4 f5 h = (refl, refl, refl, refl, refl)
 
-nothing_found : (m : Table) (p : Place) (s : Said) (k : Measure) → first_fault m p s k ≡ None → (is_wrong s.deed ≡ false) × (is_defined m s.label ≡ false) × (k.is_unknown ≡ false) × (k.is_outside ≡ false) × (k.is_below ≡ false)
+nothing_found : (m : Table) (p : Position) (s : Said) (k : Measure) → first_fault m p s k ≡ None → (is_wrong s.deed ≡ false) × (is_defined m s.label ≡ false) × (k.is_unknown ≡ false) × (k.is_outside ≡ false) × (k.is_below ≡ false)
 unfolding first_fault
 nothing_found m p s k h =
     let none = chain_none (is_wrong s.deed || is_misplaced p s.deed || is_nameless s) (is_defined m s.label) (k.is_outside || placed_over p.address s) k.is_unknown k.is_below _ _ _ _ _ h in
     (first_of_three (is_wrong s.deed) (is_misplaced p s.deed) (is_nameless s) none.0, none.1, none.2, first_of_two k.is_outside (placed_over p.address s) none.3, none.4)
 
-unless_ok : (p : Place) (x : Numbered) (xs : List Numbered) (o : Option AsmErrorKind) (r : Result Table AsmError) (t : Table) → unless_first p x xs o r ≡ Ok t → (o ≡ None) × (r ≡ Ok t)
+unless_ok : (p : Position) (x : Numbered) (xs : List Numbered) (o : Option AsmErrorKind) (r : Result Table AsmError) (t : Table) → unless_first p x xs o r ≡ Ok t → (o ≡ None) × (r ≡ Ok t)
 unless_ok p x xs None r t h = (refl, h)
 unless_ok p x xs (Some kind) r t h = absurd (true≢false (ap is_ok (sym h)))
 
@@ -97,26 +97,26 @@ unfolding ok_or
 end_by true e m t h = ap ok_or h
 end_by false e m t h = absurd (true≢false (ap is_ok (sym h)))
 
-at_end_ok : (p : Place) (m t : Table) → at_end p m ≡ Ok t → m ≡ t
+at_end_ok : (p : Position) (m t : Table) → at_end p m ≡ Ok t → m ≡ t
 at_end_ok p m t h = end_by (depth p == 0) _ m t h
 
 -- ---- the table
 
 -- a table behind another, of the statements between, and of no others
-pub record Behind (m t : Table) (p : Place) (xs : List Numbered) : Type 0 where
+pub record Behind (m t : Table) (p : Position) (xs : List Numbered) : Type 0 where
   pub extends : Extends m t
   pub table : IsTableOf t p xs
   pub only : (n : Name) (v : ℕ) → t n ≡ Some v → (m n ≡ Some v) ⊎ IsNamed t n p xs
   pub fit : AllFit t p xs
 
 -- the same, where the source may have ended
-record BehindLast (last : Bool) (m t : Table) (p : Place) (xs : List Numbered) : Type 0 where
+record BehindLast (last : Bool) (m t : Table) (p : Position) (xs : List Numbered) : Type 0 where
   extends : Extends m t
   table : UnlessLast last (IsTableOf t p xs)
   only : (n : Name) (v : ℕ) → t n ≡ Some v → (m n ≡ Some v) ⊎ OrLater last (IsNamed t n p xs)
   fit : UnlessLast last (AllFit t p xs)
 
-after_last : (last : Bool) (m t : Table) (q p : Place) (xs : List Numbered) → last_or last (at_end q m) (first_pass m p xs) ≡ Ok t
+after_last : (last : Bool) (m t : Table) (q p : Position) (xs : List Numbered) → last_or last (at_end q m) (first_pass m p xs) ≡ Ok t
     → (first_pass m p xs ≡ Ok t → Behind m t p xs) → BehindLast last m t p xs
 after_last true m t q p xs h later =
     let same = at_end_ok q m t h in
@@ -128,7 +128,7 @@ combine : (m t : Table) (label : Option Name) (k : ℕ) (n : Name) (v : ℕ) (La
 combine m t label k n v Later (inl h) = elim (earlier_or_here m label k n v h) [ inl old ↦ inl old | inr here ↦ inr (inl here) ]
 combine m t label k n v Later (inr later) = inr (inr later)
 
-step : (m t : Table) (p : Place) (x : Numbered) (xs : List Numbered) → (is_wrong (said p x).deed ≡ false) × (is_defined m (said p x).label ≡ false) × ((taken m p x).is_unknown ≡ false) × ((taken m p x).is_outside ≡ false) × ((taken m p x).is_below ≡ false)
+step : (m t : Table) (p : Position) (x : Numbered) (xs : List Numbered) → (is_wrong (said p x).deed ≡ false) × (is_defined m (said p x).label ≡ false) × ((taken m p x).is_unknown ≡ false) × ((taken m p x).is_outside ≡ false) × ((taken m p x).is_below ≡ false)
     → BehindLast (is_last (said p x).deed) (named m p x) t (behind m p x) xs → Behind m t p (x ∷ xs)
 step m t p x xs quiet rest =
     let s = said p x in
@@ -147,7 +147,7 @@ step m t p x xs quiet rest =
       );
     }
 
-pub one_table : (m t : Table) (p : Place) (xs : List Numbered) → first_pass m p xs ≡ Ok t → Behind m t p xs
+pub one_table : (m t : Table) (p : Position) (xs : List Numbered) → first_pass m p xs ≡ Ok t → Behind m t p xs
 one_table m t p [] h =
     let same = at_end_ok p m t h in
     record { extends = λ n v k. ap (λ (r : Table). r n) (sym same) ∙ k; table = tt; only = λ n v k. inl (ap (λ (r : Table). r n) same ∙ k); fit = tt }
@@ -174,7 +174,7 @@ unfolding image_or
 image_last true image final rest r h later = sym (ap image_or h)
 image_last false image final rest r h later = later h
 
-pub laid_image : (names : Table) (xs : List Numbered) (image final : List ℕ) (p : Place) → second_pass names image p xs ≡ Ok final → final ≡ image_from names image p xs
+pub laid_image : (names : Table) (xs : List Numbered) (image final : List ℕ) (p : Position) → second_pass names image p xs ≡ Ok final → final ≡ image_from names image p xs
 unfolding image_or
 laid_image names [] image final p h = sym (ap image_or h)
 laid_image names (x ∷ xs) image final p h =

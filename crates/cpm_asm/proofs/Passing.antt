@@ -9,31 +9,31 @@ use Rattle.cpm_asm.specs.Emitting.{emitted, second_fault}
 use Rattle.cpm_asm.specs.Places.{first_fault, moved}
 use Rattle.cpm_asm.specs.Passes.{at_end, first_pass, is_last, laid, last_or, said, second_pass, table_after, unless_first, unless_second}
 use Rattle.cpm_asm.specs.Placing.{place_of, placed, places_from}
-use Rattle.cpm_asm.specs.declared.placed.Placed.{Placed}
+use Rattle.cpm_asm.specs.declared.placed.Placement.{Placement}
 use Rattle.cpm_asm.specs.declared.measure.Measure.{Measure}
-use Rattle.cpm_asm.specs.declared.place.Place.{Place}
+use Rattle.cpm_asm.specs.declared.place.Position.{Position}
 use Rattle.cpm_asm.specs.declared.emit.Doubt.{Doubt}
 use Rattle.cpm_asm.specs.declared.error.AsmError.{AsmError}
 use Rattle.cpm_asm.specs.declared.error.AsmErrorKind.{AsmErrorKind}
 
 -- ---- the first pass
 
-abbrev first_more : Table → Place → Numbered → List Numbered → Said → Measure → Result Table AsmError
+abbrev first_more : Table → Position → Numbered → List Numbered → Said → Measure → Result Table AsmError
 first_more names p x xs s m = last_or (is_last s.deed) (at_end p (table_after names s.label m.label)) (first_pass (table_after names s.label m.label) (moved p x.line s.deed m) xs)
 
-abbrev first_step : Table → Place → Numbered → List Numbered → Said → Measure → Result Table AsmError
+abbrev first_step : Table → Position → Numbered → List Numbered → Said → Measure → Result Table AsmError
 first_step names p x xs s m = unless_first p x xs (first_fault names p s m) (first_more names p x xs s m)
 
-first_at : (names : Table) (p : Place) (x : Numbered) (xs : List Numbered) (s : Said) (m : Measure) → s ≡ said p x → m ≡ measured names p.address s.deed
+first_at : (names : Table) (p : Position) (x : Numbered) (xs : List Numbered) (s : Said) (m : Measure) → s ≡ said p x → m ≡ measured names p.address s.deed
     → first_step names p x xs s m ≡ first_pass names p (x ∷ xs)
 first_at names p x xs s m is taken = ap (first_step names p x xs s) taken ∙ ap (λ (t : Said). first_step names p x xs t (measured names p.address t.deed)) is
 
-first_quiet : (names : Table) (p : Place) (x : Numbered) (xs : List Numbered) (s : Said) (m : Measure) → s ≡ said p x → m ≡ measured names p.address s.deed
+first_quiet : (names : Table) (p : Position) (x : Numbered) (xs : List Numbered) (s : Said) (m : Measure) → s ≡ said p x → m ≡ measured names p.address s.deed
     → first_fault names p s m ≡ None → first_more names p x xs s m ≡ first_pass names p (x ∷ xs)
 first_quiet names p x xs s m is taken none =
     sym (ap (λ o. unless_first p x xs o (first_more names p x xs s m)) none) ∙ first_at names p x xs s m is taken
 
-pub first-on : (names : Table) (p : Place) (x : Numbered) (xs : List Numbered) (s : Said) (m : Measure) (later : Table) (q : Place)
+pub first-on : (names : Table) (p : Position) (x : Numbered) (xs : List Numbered) (s : Said) (m : Measure) (later : Table) (q : Position)
     → s ≡ said p x → m ≡ measured names p.address s.deed → first_fault names p s m ≡ None → is_last s.deed ≡ false
     → later ≡ table_after names s.label m.label → q ≡ moved p x.line s.deed m
     → first_pass later q xs ≡ first_pass names p (x ∷ xs)
@@ -42,7 +42,7 @@ first-on names p x xs s m later q is taken none on named there =
     ∙ sym (ap (λ b. last_or b (at_end p (table_after names s.label m.label)) (first_pass (table_after names s.label m.label) (moved p x.line s.deed m) xs)) on)
     ∙ first_quiet names p x xs s m is taken none
 
-pub first-last : (names : Table) (p : Place) (x : Numbered) (xs : List Numbered) (s : Said) (m : Measure) (later : Table)
+pub first-last : (names : Table) (p : Position) (x : Numbered) (xs : List Numbered) (s : Said) (m : Measure) (later : Table)
     → s ≡ said p x → m ≡ measured names p.address s.deed → first_fault names p s m ≡ None → is_last s.deed ≡ true
     → later ≡ table_after names s.label m.label
     → at_end p later ≡ first_pass names p (x ∷ xs)
@@ -53,23 +53,23 @@ first-last names p x xs s m later is taken none last named =
 
 -- ---- the second pass
 
-abbrev second_more : Table → List ℕ → Place → Numbered → List Numbered → Said → Measure → Result (List ℕ) AsmError
+abbrev second_more : Table → List ℕ → Position → Numbered → List Numbered → Said → Measure → Result (List ℕ) AsmError
 second_more names image p x xs s m =
     last_or (is_last s.deed) (Ok (laid image p.address (emitted names p.address m.next s.deed).bytes)) (second_pass names (laid image p.address (emitted names p.address m.next s.deed).bytes) (moved p x.line s.deed m) xs)
 
-abbrev second_step : Table → List ℕ → Place → Numbered → List Numbered → Said → Measure → Result (List ℕ) AsmError
+abbrev second_step : Table → List ℕ → Position → Numbered → List Numbered → Said → Measure → Result (List ℕ) AsmError
 second_step names image p x xs s m = unless_second x.line (second_fault (emitted names p.address m.next s.deed).doubt) (second_more names image p x xs s m)
 
-second_at : (names : Table) (image : List ℕ) (p : Place) (x : Numbered) (xs : List Numbered) (s : Said) (m : Measure) → s ≡ said p x → m ≡ measured names p.address s.deed
+second_at : (names : Table) (image : List ℕ) (p : Position) (x : Numbered) (xs : List Numbered) (s : Said) (m : Measure) → s ≡ said p x → m ≡ measured names p.address s.deed
     → second_step names image p x xs s m ≡ second_pass names image p (x ∷ xs)
 second_at names image p x xs s m is taken = ap (second_step names image p x xs s) taken ∙ ap (λ (t : Said). second_step names image p x xs t (measured names p.address t.deed)) is
 
-second_quiet : (names : Table) (image : List ℕ) (p : Place) (x : Numbered) (xs : List Numbered) (s : Said) (m : Measure) (d : Doubt) → s ≡ said p x → m ≡ measured names p.address s.deed
+second_quiet : (names : Table) (image : List ℕ) (p : Position) (x : Numbered) (xs : List Numbered) (s : Said) (m : Measure) (d : Doubt) → s ≡ said p x → m ≡ measured names p.address s.deed
     → d ≡ (emitted names p.address m.next s.deed).doubt → second_fault d ≡ None → second_more names image p x xs s m ≡ second_pass names image p (x ∷ xs)
 second_quiet names image p x xs s m d is taken doubt none =
     sym (ap (λ o. unless_second x.line o (second_more names image p x xs s m)) (ap second_fault (sym doubt) ∙ none)) ∙ second_at names image p x xs s m is taken
 
-pub second-on : (names : Table) (image after : List ℕ) (p : Place) (x : Numbered) (xs : List Numbered) (s : Said) (m : Measure) (d : Doubt) (q : Place)
+pub second-on : (names : Table) (image after : List ℕ) (p : Position) (x : Numbered) (xs : List Numbered) (s : Said) (m : Measure) (d : Doubt) (q : Position)
     → s ≡ said p x → m ≡ measured names p.address s.deed → d ≡ (emitted names p.address m.next s.deed).doubt → second_fault d ≡ None → is_last s.deed ≡ false
     → after ≡ laid image p.address (emitted names p.address m.next s.deed).bytes → q ≡ moved p x.line s.deed m
     → second_pass names after q xs ≡ second_pass names image p (x ∷ xs)
@@ -78,7 +78,7 @@ second-on names image after p x xs s m d q is taken doubt none on bytes there =
     ∙ sym (ap (λ b. last_or b (Ok (laid image p.address (emitted names p.address m.next s.deed).bytes)) (second_pass names (laid image p.address (emitted names p.address m.next s.deed).bytes) (moved p x.line s.deed m) xs)) on)
     ∙ second_quiet names image p x xs s m d is taken doubt none
 
-pub second-last : (names : Table) (image after : List ℕ) (p : Place) (x : Numbered) (xs : List Numbered) (s : Said) (m : Measure) (d : Doubt)
+pub second-last : (names : Table) (image after : List ℕ) (p : Position) (x : Numbered) (xs : List Numbered) (s : Said) (m : Measure) (d : Doubt)
     → s ≡ said p x → m ≡ measured names p.address s.deed → d ≡ (emitted names p.address m.next s.deed).doubt → second_fault d ≡ None → is_last s.deed ≡ true
     → after ≡ laid image p.address (emitted names p.address m.next s.deed).bytes
     → second_pass names image p (x ∷ xs) ≡ Ok after
@@ -87,7 +87,7 @@ second-last names image after p x xs s m d is taken doubt none last bytes =
     ∙ ap (λ b. last_or b (Ok (laid image p.address (emitted names p.address m.next s.deed).bytes)) (second_pass names (laid image p.address (emitted names p.address m.next s.deed).bytes) (moved p x.line s.deed m) xs)) last
     ∙ ap (λ (i : List ℕ). Ok i) (sym bytes)
 
-pub second-ends : (names : Table) (image : List ℕ) (p : Place) (x : Numbered) (xs : List Numbered) (s : Said) (m : Measure) (d : Doubt) (kind : AsmErrorKind)
+pub second-ends : (names : Table) (image : List ℕ) (p : Position) (x : Numbered) (xs : List Numbered) (s : Said) (m : Measure) (d : Doubt) (kind : AsmErrorKind)
     → s ≡ said p x → m ≡ measured names p.address s.deed → d ≡ (emitted names p.address m.next s.deed).doubt → second_fault d ≡ Some kind
     → second_pass names image p (x ∷ xs) ≡ Err (record { line = x.line; kind = kind })
 second-ends names image p x xs s m d kind is taken doubt found =
@@ -95,34 +95,34 @@ second-ends names image p x xs s m d kind is taken doubt found =
 
 -- ---- places
 
-abbrev place_at : Table → Place → Numbered → Said → Measure → List Placed
+abbrev place_at : Table → Position → Numbered → Said → Measure → List Placement
 place_at names p x s m = place_of (placed x.line p.address (emitted names p.address m.next s.deed).bytes) s
 
-abbrev place_step : Table → Place → Numbered → List Numbered → Said → Measure → List Placed
+abbrev place_step : Table → Position → Numbered → List Numbered → Said → Measure → List Placement
 place_step names p x xs s m = place_at names p x s m ++ last_or (is_last s.deed) [] (places_from names (moved p x.line s.deed m) xs)
 
-place_is : (names : Table) (p : Place) (x : Numbered) (xs : List Numbered) (s : Said) (m : Measure) → s ≡ said p x → m ≡ measured names p.address s.deed
+place_is : (names : Table) (p : Position) (x : Numbered) (xs : List Numbered) (s : Said) (m : Measure) → s ≡ said p x → m ≡ measured names p.address s.deed
     → place_step names p x xs s m ≡ places_from names p (x ∷ xs)
 place_is names p x xs s m is taken = ap (place_step names p x xs s) taken ∙ ap (λ (t : Said). place_step names p x xs t (measured names p.address t.deed)) is
 
-pub place-on : (names : Table) (front after : List Placed) (p : Place) (x : Numbered) (xs : List Numbered) (s : Said) (m : Measure) (q : Place)
+pub place-on : (names : Table) (front after : List Placement) (p : Position) (x : Numbered) (xs : List Numbered) (s : Said) (m : Measure) (q : Position)
     → s ≡ said p x → m ≡ measured names p.address s.deed → is_last s.deed ≡ false
     → after ≡ front ++ place_of (placed x.line p.address (emitted names p.address m.next s.deed).bytes) s → q ≡ moved p x.line s.deed m
     → after ++ places_from names q xs ≡ front ++ places_from names p (x ∷ xs)
 place-on names front after p x xs s m q is taken on added there =
     let own = place_at names p x s m in
-    ap (λ (ps : List Placed). ps ++ places_from names q xs) added
+    ap (λ (ps : List Placement). ps ++ places_from names q xs) added
     ∙ append_assoc front own (places_from names q xs)
     ∙ ap (λ r. front ++ (own ++ places_from names r xs)) there
     ∙ sym (ap (λ b. front ++ (own ++ last_or b [] (places_from names (moved p x.line s.deed m) xs))) on)
-    ∙ ap (λ (ps : List Placed). front ++ ps) (place_is names p x xs s m is taken)
+    ∙ ap (λ (ps : List Placement). front ++ ps) (place_is names p x xs s m is taken)
 
-pub place-last : (names : Table) (front after : List Placed) (p : Place) (x : Numbered) (xs : List Numbered) (s : Said) (m : Measure)
+pub place-last : (names : Table) (front after : List Placement) (p : Position) (x : Numbered) (xs : List Numbered) (s : Said) (m : Measure)
     → s ≡ said p x → m ≡ measured names p.address s.deed → is_last s.deed ≡ true
     → after ≡ front ++ place_of (placed x.line p.address (emitted names p.address m.next s.deed).bytes) s
     → after ≡ front ++ places_from names p (x ∷ xs)
 place-last names front after p x xs s m is taken last added =
     let own = place_at names p x s m in
-    added ∙ ap (λ (ps : List Placed). front ++ ps) (sym (append-nil own))
+    added ∙ ap (λ (ps : List Placement). front ++ ps) (sym (append-nil own))
     ∙ sym (ap (λ b. front ++ (own ++ last_or b [] (places_from names (moved p x.line s.deed m) xs))) last)
-    ∙ ap (λ (ps : List Placed). front ++ ps) (place_is names p x xs s m is taken)
+    ∙ ap (λ (ps : List Placement). front ++ ps) (place_is names p x xs s m is taken)

@@ -12,8 +12,8 @@ use Rattle.cpm_asm.specs.Places.{start}
 use Rattle.cpm_asm.specs.Passes.{behind, both_passes, first_pass, given, is_last, laid, last_or, said, second_behind, taken, with_bytes}
 use Rattle.cpm_asm.specs.Assembled.{EachLies, LiesAt, UnlessLast, image_from}
 use Rattle.cpm_asm.specs.Placing.{ArePlaces, IsFilled, has_place, own_place, placed, places, places_behind, places_from, relaid, takes_place}
-use Rattle.cpm_asm.specs.declared.place.Place.{Place}
-use Rattle.cpm_asm.specs.declared.placed.Placed.{Placed}
+use Rattle.cpm_asm.specs.declared.place.Position.{Position}
+use Rattle.cpm_asm.specs.declared.placed.Placement.{Placement}
 use Rattle.cpm_asm.specs.declared.error.AsmError.{AsmError}
 use Rattle.cpm_asm.proofs.OneTable.{from_passes}
 
@@ -48,7 +48,7 @@ laid_nothing front a = refl
 
 -- ---- a statement
 
-relaid_own : (has : Bool) (image front bytes : List ℕ) (line a : ℕ) (more : List Placed) → LiesAt image a bytes → (has ≡ false → bytes ≡ [])
+relaid_own : (has : Bool) (image front bytes : List ℕ) (line a : ℕ) (more : List Placement) → LiesAt image a bytes → (has ≡ false → bytes ≡ [])
     → relaid image front ((if has then placed line a bytes ∷ [] else []) ++ more) ≡ relaid image (laid front a bytes) more
 relaid_own true image front bytes line a more lies none = ap (λ (bs : List ℕ). relaid image (laid front a bs) more) lies
 relaid_own false image front bytes line a more lies none =
@@ -60,7 +60,7 @@ filled_own false image bytes line a lies = All-nil (IsFilled image)
 
 -- ---- all statements
 
-relaid_last : (last : Bool) (image wider rest : List ℕ) (more : List Placed) → (last ≡ false → relaid image wider more ≡ rest) → relaid image wider (last_or last [] more) ≡ last_or last wider rest
+relaid_last : (last : Bool) (image wider rest : List ℕ) (more : List Placement) → (last ≡ false → relaid image wider more ≡ rest) → relaid image wider (last_or last [] more) ≡ last_or last wider rest
 relaid_last true image wider rest more later = refl
 relaid_last false image wider rest more later = later refl
 
@@ -68,7 +68,7 @@ lies_later : (last : Bool) (More : Type 0) → UnlessLast last More → last ≡
 lies_later true More h is = absurd (true≢false is)
 lies_later false More h is = h
 
-relaid_from : (t : Table) (xs : List Numbered) (image front : List ℕ) (p : Place) → EachLies t image p xs → relaid image front (places_from t p xs) ≡ image_from t front p xs
+relaid_from : (t : Table) (xs : List Numbered) (image front : List ℕ) (p : Position) → EachLies t image p xs → relaid image front (places_from t p xs) ≡ image_from t front p xs
 relaid_from t [] image front p each = refl
 relaid_from t (x ∷ xs) image front p each =
     let s = said p x in
@@ -78,11 +78,11 @@ relaid_from t (x ∷ xs) image front p each =
     ∙ relaid_last last image (with_bytes t front p x) (image_from t (with_bytes t front p x) (behind t p x) xs) (places_from t (behind t p x) xs)
     (λ on. relaid_from t xs image (with_bytes t front p x) (behind t p x) (lies_later last (EachLies t image (behind t p x) xs) each.1 on))
 
-filled_last : (last : Bool) (image : List ℕ) (more : List Placed) → (last ≡ false → All (IsFilled image) more) → All (IsFilled image) (last_or last [] more)
+filled_last : (last : Bool) (image : List ℕ) (more : List Placement) → (last ≡ false → All (IsFilled image) more) → All (IsFilled image) (last_or last [] more)
 filled_last true image more later = All-nil (IsFilled image)
 filled_last false image more later = later refl
 
-filled_from : (t : Table) (xs : List Numbered) (image : List ℕ) (p : Place) → EachLies t image p xs → All (IsFilled image) (places_from t p xs)
+filled_from : (t : Table) (xs : List Numbered) (image : List ℕ) (p : Position) → EachLies t image p xs → All (IsFilled image) (places_from t p xs)
 filled_from t [] image p each = All-nil (IsFilled image)
 filled_from t (x ∷ xs) image p each =
     let last = is_last (said p x).deed in
@@ -102,6 +102,6 @@ are_places source image (Ok names) p h =
     }
 are_places source image (Err e) p h = absurd (true≢false (ap is_ok (sym h)))
 
-pub found_places : (source image : List ℕ) (found : List Placed) → both_passes source ≡ Ok image → found ≡ places source → ArePlaces source image found
+pub found_places : (source image : List ℕ) (found : List Placement) → both_passes source ≡ Ok image → found ≡ places source → ArePlaces source image found
 unfolding both_passes
 found_places source image found h is = subst (ArePlaces source image) (sym is) (are_places source image (first_pass empty_table start (pieces source)) refl h)

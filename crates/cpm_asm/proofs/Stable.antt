@@ -5,7 +5,7 @@ use Rattle.std.proofs.lemmas.Bool.{true≢false}
 use Rattle.cpm_asm_expression.specs.Names.{Table, Extends, empty_table}
 use Rattle.cpm_asm_expression.specs.Reading.{value_at}
 use Rattle.cpm_asm_expression.specs.Values.{exactly}
-use Rattle.cpm_asm_expression.specs.declared.values.Valued.{Valued}
+use Rattle.cpm_asm_expression.specs.declared.values.CheckedValue.{CheckedValue}
 use Rattle.cpm_asm_expression.proofs.Stable.{expression_anywhere, value_stays}
 use Rattle.cpm_asm.specs.Data.{is_expression, value}
 use Rattle.cpm_asm.specs.Measures.{equated, is_wrong, measured, origin, spaced, tested}
@@ -15,7 +15,7 @@ not_false : (b : Bool) → not b ≡ false → b ≡ true
 not_false true h = refl
 not_false false h = absurd (true≢false h)
 
-found : (m t : Table) (a : ℕ) (text : List ℕ) (o : Option Valued) → Extends m t → value_at m a text ≡ o → is_some o ≡ true
+found : (m t : Table) (a : ℕ) (text : List ℕ) (o : Option CheckedValue) → Extends m t → value_at m a text ≡ o → is_some o ≡ true
     → (unwrap_or o (exactly 0)).is_unknown ≡ false → unwrap_or (value_at t a text) (exactly 0) ≡ unwrap_or o (exactly 0)
 found m t a text None e is some known = absurd (true≢false (sym some))
 found m t a text (Some v) e is some known = ap (λ o. unwrap_or o (exactly 0)) (value_stays m t a text v e is known)

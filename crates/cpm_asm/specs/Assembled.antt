@@ -5,7 +5,7 @@ use Rattle.cpm_asm_expression.specs.declared.names.Name.{Name}
 use Rattle.cpm_asm.specs.Pieces.{Numbered, pieces}
 use Rattle.cpm_asm.specs.Places.{start}
 use Rattle.cpm_asm.specs.Passes.{behind, given, is_last, last_or, said, taken, with_bytes}
-use Rattle.cpm_asm.specs.declared.place.Place.{Place}
+use Rattle.cpm_asm.specs.declared.place.Position.{Position}
 
 abbrev pub HasLabel : Table → Option Name → ℕ → Type 0
 HasLabel names None v = Unit {0}
@@ -16,7 +16,7 @@ UnlessLast true More = Unit {0}
 UnlessLast false More = More
 
 -- each label has the address of its statement and each EQU name its value, both under this same table
-abbrev pub IsTableOf : Table → Place → List Numbered → Type 0
+abbrev pub IsTableOf : Table → Position → List Numbered → Type 0
 IsTableOf names p [] = Unit {0}
 IsTableOf names p (x ∷ xs) = HasLabel names (said p x).label (taken names p x).label × UnlessLast (is_last (said p x).deed) (IsTableOf names (behind names p x) xs)
 
@@ -25,12 +25,12 @@ OrLater true More = ⊥
 OrLater false More = More
 
 -- a statement has the name as its label
-abbrev pub IsNamed : Table → Name → Place → List Numbered → Type 0
+abbrev pub IsNamed : Table → Name → Position → List Numbered → Type 0
 IsNamed names n p [] = ⊥
 IsNamed names n p (x ∷ xs) = ((said p x).label ≡ Some n) ⊎ OrLater (is_last (said p x).deed) (IsNamed names n (behind names p x) xs)
 
 -- the bytes of each statement at its address, gaps 0, all under one table
-abbrev pub image_from : Table → List ℕ → Place → List Numbered → List ℕ
+abbrev pub image_from : Table → List ℕ → Position → List Numbered → List ℕ
 image_from names image p [] = image
 image_from names image p (x ∷ xs) = last_or (is_last (said p x).deed) (with_bytes names image p x) (image_from names (with_bytes names image p x) (behind names p x) xs)
 
@@ -39,7 +39,7 @@ abbrev pub LiesAt : List ℕ → ℕ → List ℕ → Type 0
 LiesAt image a bytes = take (length bytes) (drop (a - 256) image) ≡ bytes
 
 -- the bytes of each statement stand at its address
-abbrev pub EachLies : Table → List ℕ → Place → List Numbered → Type 0
+abbrev pub EachLies : Table → List ℕ → Position → List Numbered → Type 0
 EachLies names image p [] = Unit {0}
 EachLies names image p (x ∷ xs) = LiesAt image p.address (given names p x).bytes × UnlessLast (is_last (said p x).deed) (EachLies names image (behind names p x) xs)
 

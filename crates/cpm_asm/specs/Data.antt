@@ -6,14 +6,14 @@ use Rattle.cpm_asm_expression.specs.Names.{Table, empty_table}
 use Rattle.cpm_asm_expression.specs.Quotes.{is_quote, quoted_text}
 use Rattle.cpm_asm_expression.specs.Reading.{value_at}
 use Rattle.cpm_asm_expression.specs.Values.{exactly}
-use Rattle.cpm_asm_expression.specs.declared.values.Valued.{Valued}
+use Rattle.cpm_asm_expression.specs.declared.values.CheckedValue.{CheckedValue}
 use Rattle.cpm_asm.specs.Heads.{is_blank_text}
 use Rattle.cpm_asm.specs.Lines.{parts}
 use Rattle.cpm_asm.specs.Operands.{comma}
 use Rattle.cpm_asm.specs.declared.emit.Doubt.{Doubt}
 
 -- the value of an expression in a statement at an address; 0 for a text that is none
-unfoldable pub value : Table → ℕ → List ℕ → Valued
+unfoldable pub value : Table → ℕ → List ℕ → CheckedValue
 value names here text = unwrap_or (value_at names here text) (exactly 0)
 
 -- whether a text is an expression depends on no names
@@ -77,20 +77,20 @@ certain bytes = record { bytes = bytes; doubt = no_doubt }
 abbrev pub is_byte : ℕ → Bool
 is_byte n = nat_lt n 256 || nat_le 0xFF80 n
 
-abbrev pub byte_doubt : Valued → Doubt
+abbrev pub byte_doubt : CheckedValue → Doubt
 byte_doubt v = record { is_unknown = v.is_unknown; is_outside = v.is_outside || not (is_byte v.number) }
 
-abbrev pub word_doubt : Valued → Doubt
+abbrev pub word_doubt : CheckedValue → Doubt
 word_doubt v = record { is_unknown = v.is_unknown; is_outside = v.is_outside }
 
 abbrev pub low_byte : ℕ → ℕ
 low_byte n = n % 256
 
-abbrev pub byte_of : Valued → Emitted
+abbrev pub byte_of : CheckedValue → Emitted
 byte_of v = record { bytes = low_byte v.number ∷ []; doubt = byte_doubt v }
 
 -- the low byte first
-abbrev pub word_of_value : Valued → Emitted
+abbrev pub word_of_value : CheckedValue → Emitted
 word_of_value v = record { bytes = low_byte v.number ∷ v.number / 256 ∷ []; doubt = word_doubt v }
 
 abbrev pub byte_item : Table → ℕ → List ℕ → Option (List ℕ) → Emitted

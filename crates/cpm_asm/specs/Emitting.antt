@@ -3,7 +3,7 @@
 -- "CP/M Assembler", "The DS Directive"
 use Rattle.std.specs.Prelude.{ℕ, ◌*◌, ◌-◌, ◌%◌, [], Option, None, Some, true, false, nat_lt, if◌then◌else◌, ◌||◌, replicate}
 use Rattle.cpm_asm_expression.specs.Names.{Table}
-use Rattle.cpm_asm_expression.specs.declared.values.Valued.{Valued}
+use Rattle.cpm_asm_expression.specs.declared.values.CheckedValue.{CheckedValue}
 use Rattle.cpm_decode.specs.declared.operation.Op.TheVariants as op
 use Rattle.cpm_asm.specs.Statements.{Deed, Wrong, Nothing, End, Origin, Equate, If, EndIf, Nest, Unnest, Space, Bytes, Words, Plain, Byte, Word, Restart}
 use Rattle.cpm_asm.specs.Encoding.{encoded, with_byte, with_word}
@@ -13,7 +13,7 @@ use Rattle.cpm_asm.specs.declared.error.AsmErrorKind.{AsmErrorKind}
 use Rattle.cpm_asm.specs.declared.error.AsmErrorKind.TheVariants as kinds
 
 -- a restart has a number from 0 to 7
-abbrev pub restart_doubt : Valued → Doubt
+abbrev pub restart_doubt : CheckedValue → Doubt
 restart_doubt v = record { is_unknown = v.is_unknown; is_outside = v.is_outside || nat_lt 7 v.number }
 
 -- the bytes of a statement at an address, where next is the address behind it

@@ -2,7 +2,7 @@
 -- CP/M 2.2 Operating System Manual, "CP/M Assembler", "Assembler Directives". The order of faults is own.
 use Rattle.std.specs.Prelude.{ℕ, List, length, ◌+◌, ◌-◌, ◌%◌, Bool, true, false, not, ◌==◌, nat_lt, if◌then◌else◌, ◌||◌, is_some, unwrap_or}
 use Rattle.cpm_asm_expression.specs.Names.{Table}
-use Rattle.cpm_asm_expression.specs.declared.values.Valued.{Valued}
+use Rattle.cpm_asm_expression.specs.declared.values.CheckedValue.{CheckedValue}
 use Rattle.cpm_asm.specs.Statements.{Deed, Wrong, Nothing, End, Origin, Equate, If, EndIf, Nest, Unnest, Space, Bytes, Words, Plain, Byte, Word, Restart}
 use Rattle.cpm_asm.specs.Encoding.{encoded}
 use Rattle.cpm_asm.specs.Data.{is_expression, list_size, value}
@@ -19,20 +19,20 @@ sized a size = record {
   holds = false;
 }
 
-abbrev pub origin : ℕ → Valued → Measure
+abbrev pub origin : ℕ → CheckedValue → Measure
 origin a target = record { label = a % 65536; next = target.number; is_unknown = target.is_unknown; is_outside = target.is_outside; is_below = nat_lt target.number a; holds = false }
 
-abbrev pub equated : ℕ → Valued → Measure
+abbrev pub equated : ℕ → CheckedValue → Measure
 equated a own = record { label = own.number; next = a; is_unknown = own.is_unknown; is_outside = own.is_outside; is_below = false; holds = false }
 
-abbrev pub tested : ℕ → Valued → Measure
+abbrev pub tested : ℕ → CheckedValue → Measure
 tested a condition = record { label = a % 65536; next = a; is_unknown = condition.is_unknown; is_outside = condition.is_outside; is_below = false; holds = not (condition.number == 0) }
 
 -- a space whose size isn't known takes nothing
-abbrev pub known_size : Valued → ℕ
+abbrev pub known_size : CheckedValue → ℕ
 known_size size = if size.is_unknown then 0 else size.number
 
-abbrev pub spaced : ℕ → Valued → Measure
+abbrev pub spaced : ℕ → CheckedValue → Measure
 spaced a size = record {
   label = a % 65536;
   next = (sized a (known_size size)).next;

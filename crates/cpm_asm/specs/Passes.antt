@@ -10,24 +10,24 @@ use Rattle.cpm_asm.specs.Data.{Emitted}
 use Rattle.cpm_asm.specs.Emitting.{emitted, second_fault}
 use Rattle.cpm_asm.specs.Places.{blamed, depth, first_fault, is_skipping, moved, start}
 use Rattle.cpm_asm.specs.declared.measure.Measure.{Measure}
-use Rattle.cpm_asm.specs.declared.place.Place.{Place}
-use Rattle.cpm_asm.specs.declared.pass.Stop.{Stop}
-use Rattle.cpm_asm.specs.declared.pass.Stop.TheVariants as stops
+use Rattle.cpm_asm.specs.declared.place.Position.{Position}
+use Rattle.cpm_asm.specs.declared.pass.PassStop.{PassStop}
+use Rattle.cpm_asm.specs.declared.pass.PassStop.TheVariants as stops
 use Rattle.cpm_asm.specs.declared.error.AsmError.{AsmError}
 use Rattle.cpm_asm.specs.declared.error.AsmErrorKind.{AsmErrorKind}
 use Rattle.cpm_asm.specs.declared.error.AsmErrorKind.TheVariants as kinds
 
 -- ---- a statement at a place
 
-abbrev pub said : Place → Numbered → Said
+abbrev pub said : Position → Numbered → Said
 said p x = statement_at (is_skipping p) x.text
 
 -- what a statement takes
-abbrev pub taken : Table → Place → Numbered → Measure
+abbrev pub taken : Table → Position → Numbered → Measure
 taken names p x = measured names p.address (said p x).deed
 
 -- the place behind a statement
-abbrev pub behind : Table → Place → Numbered → Place
+abbrev pub behind : Table → Position → Numbered → Position
 behind names p x = moved p x.line (said p x).deed (taken names p x)
 
 abbrev pub table_after : Table → Option Name → ℕ → Table
@@ -35,11 +35,11 @@ table_after names None v = names
 table_after names (Some name) v = with_name names name v
 
 -- the names with that of a statement
-abbrev pub named : Table → Place → Numbered → Table
+abbrev pub named : Table → Position → Numbered → Table
 named names p x = table_after names (said p x).label (taken names p x).label
 
 -- the bytes of a statement
-abbrev pub given : Table → Place → Numbered → Emitted
+abbrev pub given : Table → Position → Numbered → Emitted
 given names p x = emitted names p.address (taken names p x).next (said p x).deed
 
 -- END ends the source
@@ -54,15 +54,15 @@ last_or false last more = more
 -- ---- the first pass
 
 -- an IF that is left open is a fault of its line
-abbrev pub at_end : {X : Type 0} → Place → X → Result X AsmError
+abbrev pub at_end : {X : Type 0} → Position → X → Result X AsmError
 at_end p x = if depth p == 0 then Ok x else Err (record { line = p.outermost; kind = kinds.Syntax })
 
-abbrev pub unless_first : {X : Type 0} → Place → Numbered → List Numbered → Option AsmErrorKind → Result X AsmError → Result X AsmError
+abbrev pub unless_first : {X : Type 0} → Position → Numbered → List Numbered → Option AsmErrorKind → Result X AsmError → Result X AsmError
 unless_first p x xs None r = r
 unless_first p x xs (Some kind) r = Err (blamed p x.line kind (x ∷ xs))
 
 -- the names of the statements
-abbrev pub first_pass : Table → Place → List Numbered → Result Table AsmError
+abbrev pub first_pass : Table → Position → List Numbered → Result Table AsmError
 first_pass names p [] = at_end p names
 first_pass names p (x ∷ xs) = unless_first p x xs (first_fault names p (said p x) (taken names p x))
     (last_or (is_last (said p x).deed) (at_end p (named names p x)) (first_pass (named names p x) (behind names p x) xs))
@@ -75,14 +75,14 @@ laid image a [] = image
 laid image a (b ∷ bs) = image ++ replicate (a - 256 - length image) 0 ++ b ∷ bs
 
 -- with the bytes of a statement
-abbrev pub with_bytes : Table → List ℕ → Place → Numbered → List ℕ
+abbrev pub with_bytes : Table → List ℕ → Position → Numbered → List ℕ
 with_bytes names image p x = laid image p.address (given names p x).bytes
 
 abbrev pub unless_second : {X : Type 0} → ℕ → Option AsmErrorKind → Result X AsmError → Result X AsmError
 unless_second line None r = r
 unless_second line (Some kind) r = Err (record { line = line; kind = kind })
 
-abbrev pub second_pass : Table → List ℕ → Place → List Numbered → Result (List ℕ) AsmError
+abbrev pub second_pass : Table → List ℕ → Position → List Numbered → Result (List ℕ) AsmError
 second_pass names image p [] = Ok image
 second_pass names image p (x ∷ xs) = unless_second x.line (second_fault (given names p x).doubt)
     (last_or (is_last (said p x).deed) (Ok (with_bytes names image p x)) (second_pass names (with_bytes names image p x) (behind names p x) xs))
@@ -98,11 +98,11 @@ unfoldable pub both_passes : List ℕ → Result (List ℕ) AsmError
 both_passes source = second_behind (pieces source) (first_pass empty_table start (pieces source))
 
 -- What a function returned, seen by view, is what a pass gives, unless memory ran out.
-abbrev pub Fails : {Y : Type 0} → Stop → Result Y AsmError → Type 0
+abbrev pub Fails : {Y : Type 0} → PassStop → Result Y AsmError → Type 0
 Fails (stops.OutOfMemory line) pass = Unit {0}
 Fails (stops.Refused refusal) pass = pass ≡ Err refusal
 
-abbrev pub Gives : {X Y : Type 0} → (X → Y) → Result X Stop → Result Y AsmError → Type 0
+abbrev pub Gives : {X Y : Type 0} → (X → Y) → Result X PassStop → Result Y AsmError → Type 0
 Gives view (Ok x) pass = pass ≡ Ok (view x)
 Gives view (Err stop) pass = Fails stop pass
 

@@ -8,42 +8,42 @@ use Rattle.cpm_asm_expression.specs.declared.words.Operation.{Operation}
 use Rattle.cpm_asm_expression.specs.declared.words.Operation.TheVariants as o
 use Rattle.cpm_asm.specs.Heads.{Fronted, head_of}
 use Rattle.cpm_asm.specs.declared.nesting.Depth.{Depth}
-use Rattle.cpm_asm.specs.declared.nesting.Turning.{Turning}
-use Rattle.cpm_asm.specs.declared.nesting.Turning.TheVariants as turning
+use Rattle.cpm_asm.specs.declared.nesting.NestingChange.{NestingChange}
+use Rattle.cpm_asm.specs.declared.nesting.NestingChange.TheVariants as turning
 use Rattle.cpm_asm.specs.Pieces.{Numbered}
 use Rattle.cpm_asm.specs.Statements.{Deed, Equate, If, EndIf, Nest, Unnest, Said}
 use Rattle.cpm_asm.specs.Measures.{is_wrong}
 use Rattle.cpm_asm.specs.declared.measure.Measure.{Measure}
-use Rattle.cpm_asm.specs.declared.place.Place.{Place}
+use Rattle.cpm_asm.specs.declared.place.Position.{Position}
 use Rattle.cpm_asm.specs.declared.error.AsmError.{AsmError}
 use Rattle.cpm_asm.specs.declared.error.AsmErrorKind.{AsmErrorKind}
 use Rattle.cpm_asm.specs.declared.error.AsmErrorKind.TheVariants as kinds
 
 -- a pass begins at 0100h
-abbrev pub start : Place
+abbrev pub start : Position
 start = record { address = 256; held = 0; skipped = 0; outermost = 0 }
 
-abbrev pub depth : Place → ℕ
+abbrev pub depth : Position → ℕ
 depth p = p.held + p.skipped
 
-abbrev pub IsPlace : Place → Type 0
+abbrev pub IsPlace : Position → Type 0
 IsPlace p = (p.address ≤ 65536) × (depth p ≤ 8)
 
-abbrev pub at_address : Place → ℕ → Place
+abbrev pub at_address : Position → ℕ → Position
 at_address p a = record { address = a; held = p.held; skipped = p.skipped; outermost = p.outermost }
 
-abbrev pub first_open : Place → ℕ → ℕ
+abbrev pub first_open : Position → ℕ → ℕ
 first_open p line = if depth p == 0 then line else p.outermost
 
 -- behind an IF, that holds or doesn't; a ninth one isn't opened
-abbrev pub in_if : Place → ℕ → Bool → Place
+abbrev pub in_if : Position → ℕ → Bool → Position
 in_if p line holds =
     if nat_le 8 (depth p) then p
     else if holds then record { address = p.address; held = p.held + 1; skipped = p.skipped; outermost = first_open p line }
     else record { address = p.address; held = p.held; skipped = p.skipped + 1; outermost = first_open p line }
 
 -- the place behind a statement
-abbrev pub moved : Place → ℕ → Deed → Measure → Place
+abbrev pub moved : Position → ℕ → Deed → Measure → Position
 moved p line (If e) k = in_if (at_address p k.next) line k.holds
 moved p line Nest k = in_if (at_address p k.next) line false
 moved p line EndIf k = record { address = k.next; held = p.held - 1; skipped = p.skipped; outermost = p.outermost }
@@ -51,11 +51,11 @@ moved p line Unnest k = record { address = k.next; held = p.held; skipped = p.sk
 moved p line _ k = at_address p k.next
 
 -- under an IF that doesn't hold
-abbrev pub is_skipping : Place → Bool
+abbrev pub is_skipping : Position → Bool
 is_skipping p = nat_lt 0 p.skipped
 
 -- a ninth IF, or an ENDIF with no IF
-abbrev pub is_misplaced : Place → Deed → Bool
+abbrev pub is_misplaced : Position → Deed → Bool
 is_misplaced p (If e) = nat_le 8 (depth p)
 is_misplaced p Nest = nat_le 8 (depth p)
 is_misplaced p EndIf = p.held == 0
@@ -78,7 +78,7 @@ abbrev pub placed_over : ℕ → Said → Bool
 placed_over a s = nat_le 65536 a && is_some s.label && not (is_equate s.deed)
 
 -- of several faults the one of the lowest number
-unfoldable pub first_fault : Table → Place → Said → Measure → Option AsmErrorKind
+unfoldable pub first_fault : Table → Position → Said → Measure → Option AsmErrorKind
 first_fault names p s m =
     if is_wrong s.deed || is_misplaced p s.deed || is_nameless s then Some kinds.Syntax
     else if is_defined names s.label then Some kinds.DefinedTwice
@@ -96,7 +96,7 @@ pub data Turn : Type 0 where
   Ends : Turn
   Stays : Turn
 
-abbrev pub seen_turn : Turning → Turn
+abbrev pub seen_turn : NestingChange → Turn
 seen_turn turning.Opens = Opens
 seen_turn turning.Closes = Closes
 seen_turn turning.Ends = Ends
@@ -139,7 +139,7 @@ closes d [] = false
 closes d (x ∷ xs) = sought d (turn_of x.text) (λ e. closes e xs)
 
 -- A fault of a statement, or that of the first IF that is open where it is left open.
-unfoldable pub blamed : Place → ℕ → AsmErrorKind → List Numbered → AsmError
+unfoldable pub blamed : Position → ℕ → AsmErrorKind → List Numbered → AsmError
 blamed p line kind rest =
     if (depth p == 0) || closes (record { held = p.held; skipped = p.skipped }) rest
     then record { line = line; kind = kind }

@@ -6,8 +6,8 @@ use Rattle.cpm_asm.specs.Pieces.{Numbered, pieces}
 use Rattle.cpm_asm.specs.Statements.{Deed, Wrong, Nothing, End, If, EndIf, Nest, Unnest, Said}
 use Rattle.cpm_asm.specs.Places.{start}
 use Rattle.cpm_asm.specs.Passes.{behind, first_pass, given, is_last, laid, last_or, said}
-use Rattle.cpm_asm.specs.declared.place.Place.{Place}
-use Rattle.cpm_asm.specs.declared.placed.Placed.{Placed}
+use Rattle.cpm_asm.specs.declared.place.Position.{Position}
+use Rattle.cpm_asm.specs.declared.placed.Placement.{Placement}
 use Rattle.cpm_asm.specs.declared.placed.Assembly.{Assembly}
 use Rattle.cpm_asm.specs.declared.error.AsmError.{AsmError}
 use Rattle.cpm_asm.specs.declared.error.AsmErrorKind.TheVariants as kinds
@@ -28,45 +28,45 @@ abbrev pub has_place : Said → Bool
 has_place s = is_some s.label || takes_place s.deed
 
 -- a place, where the statement has one
-abbrev pub place_of : Placed → Said → List Placed
+abbrev pub place_of : Placement → Said → List Placement
 place_of p s = if has_place s then p ∷ [] else []
 
 -- of bytes at an address
-abbrev pub placed : ℕ → ℕ → List ℕ → Placed
+abbrev pub placed : ℕ → ℕ → List ℕ → Placement
 placed line a bytes = record { line = line; address = a; length = length bytes }
 
 -- of a statement, at the address that was reached
-abbrev pub own_place : Table → Place → Numbered → List Placed
+abbrev pub own_place : Table → Position → Numbered → List Placement
 own_place names p x = place_of (placed x.line p.address (given names p x).bytes) (said p x)
 
 -- of the statements up to END, one after another, under one table
-abbrev pub places_from : Table → Place → List Numbered → List Placed
+abbrev pub places_from : Table → Position → List Numbered → List Placement
 places_from names p [] = []
 places_from names p (x ∷ xs) = own_place names p x ++ last_or (is_last (said p x).deed) [] (places_from names (behind names p x) xs)
 
-abbrev pub places_behind : List Numbered → Result Table AsmError → List Placed
+abbrev pub places_behind : List Numbered → Result Table AsmError → List Placement
 places_behind xs (Ok names) = places_from names start xs
 places_behind xs (Err refusal) = []
 
 -- of a source, under the table of its names
-unfoldable pub places : List ℕ → List Placed
+unfoldable pub places : List ℕ → List Placement
 places source = places_behind (pieces source) (first_pass empty_table start (pieces source))
 
 -- the bytes of an image at a place; the image begins at 0100h
-abbrev pub bytes_at : List ℕ → Placed → List ℕ
+abbrev pub bytes_at : List ℕ → Placement → List ℕ
 bytes_at image p = take p.length (drop (p.address - 256) image)
 
 -- as many bytes stand there
-abbrev pub IsFilled : List ℕ → Placed → Type 0
+abbrev pub IsFilled : List ℕ → Placement → Type 0
 IsFilled image p = length (bytes_at image p) ≡ p.length
 
 -- the bytes at places, laid one after another behind others, gaps 0
-abbrev pub relaid : List ℕ → List ℕ → List Placed → List ℕ
+abbrev pub relaid : List ℕ → List ℕ → List Placement → List ℕ
 relaid image front [] = front
 relaid image front (p ∷ ps) = relaid image (laid front p.address (bytes_at image p)) ps
 
 -- The places are those of the source. Each has its bytes in the image, which is these bytes one after another, gaps 0.
-pub record ArePlaces (source image : List ℕ) (found : List Placed) : Type 0 where
+pub record ArePlaces (source image : List ℕ) (found : List Placement) : Type 0 where
   pub own : found ≡ places source
   pub filled : All (IsFilled image) found
   pub whole : relaid image [] found ≡ image

@@ -12,7 +12,7 @@ use crate::lines::first_part;
 use crate::statement::Work;
 use crate::values::{text_in, value};
 use cpm_decode::Op;
-use cpm_asm_expression::{Names, Valued};
+use cpm_asm_expression::{Names, CheckedValue};
 use std::alloc::{AllocError, Global};
 
 /// What may be wrong with bytes.
@@ -32,7 +32,7 @@ fn either(one: Doubt, other: Doubt) -> Doubt
 }
 
 /// A byte is 0 to 255, or FF80h to FFFFh.
-fn byte_doubt(found: Valued) -> Doubt
+fn byte_doubt(found: CheckedValue) -> Doubt
     ensures { result ≡ byte_doubt found }
 {
     let is_byte = found.number < 0x100 || found.number >= 0xFF80;
@@ -43,7 +43,7 @@ fn byte_doubt(found: Valued) -> Doubt
 }
 
 /// A restart has a number from 0 to 7.
-fn restart_doubt(found: Valued) -> Doubt
+fn restart_doubt(found: CheckedValue) -> Doubt
     ensures { result ≡ restart_doubt found }
 {
     Doubt {

@@ -3,37 +3,37 @@ ghost use Rattle.std.specs.Prelude.{◌≡◌, ◌<◌, ◌≤◌, ◌∷◌, []
 ghost use Rattle.cpm_asm.specs.Encoding.{arithmetic_code, condition_code, encoded, pair_code, place_code, rotation_code, stack_pair_code, with_byte, with_word};
 
 use arrayvec::ArrayVec;
-use cpm_decode::{Arithmetic, Condition, Op, Pair, Place, Rotation, StackPair};
+use cpm_decode::{Arithmetic, Condition, Op, WordOperand, ByteOperand, Rotation, StackPair};
 use cpm_asm_expression::{ByteForm, WordForm};
 
 /// The bytes of an instruction.
 pub type Encoding = ArrayVec<u8, 3>;
 
-fn place_code(place: Place) -> u8
+fn place_code(place: ByteOperand) -> u8
     ensures code { result ≡ place_code place }
     ensures low { result < 8 }
 {
     match place {
-        Place::B => 0,
-        Place::C => 1,
-        Place::D => 2,
-        Place::E => 3,
-        Place::H => 4,
-        Place::L => 5,
-        Place::AtHl => 6,
-        Place::A => 7,
+        ByteOperand::B => 0,
+        ByteOperand::C => 1,
+        ByteOperand::D => 2,
+        ByteOperand::E => 3,
+        ByteOperand::H => 4,
+        ByteOperand::L => 5,
+        ByteOperand::AtHl => 6,
+        ByteOperand::A => 7,
     }
 }
 
-fn pair_code(pair: Pair) -> u8
+fn pair_code(pair: WordOperand) -> u8
     ensures code { result ≡ pair_code pair }
     ensures low { result < 4 }
 {
     match pair {
-        Pair::Bc => 0,
-        Pair::De => 1,
-        Pair::Hl => 2,
-        Pair::Sp => 3,
+        WordOperand::Bc => 0,
+        WordOperand::De => 1,
+        WordOperand::Hl => 2,
+        WordOperand::Sp => 3,
     }
 }
 

@@ -22,4 +22,4 @@ pub use encode::{Encoding, encoded};
 pub use error::{AsmError, AsmErrorKind};
 pub use lines::{first_line, source_text};
 pub use pass::{assemble, assemble_placed};
-pub use placed::{Assembly, Placed};
+pub use placed::{Assembly, Placement};

@@ -9,7 +9,7 @@ use crate::encode::encoded;
 use crate::lines::first_part;
 use crate::statement::Work;
 use crate::values::{is_expression, text_in, value};
-use cpm_asm_expression::{Names, Valued};
+use cpm_asm_expression::{Names, CheckedValue};
 use std::alloc::{AllocError, Global};
 
 /// What a statement at an address takes.
@@ -86,7 +86,7 @@ fn sized(address: usize, size: usize) -> Measure
     }
 }
 
-fn origin(address: usize, target: Valued) -> Measure
+fn origin(address: usize, target: CheckedValue) -> Measure
     ensures measure { result ≡ origin address target }
     ensures within { result.next ≤ 65536 }
 {
@@ -101,7 +101,7 @@ fn origin(address: usize, target: Valued) -> Measure
     }
 }
 
-fn equated(address: usize, own: Valued) -> Measure
+fn equated(address: usize, own: CheckedValue) -> Measure
     ensures { result ≡ equated address own }
 {
     Measure {
@@ -114,7 +114,7 @@ fn equated(address: usize, own: Valued) -> Measure
     }
 }
 
-fn tested(address: usize, condition: Valued) -> Measure
+fn tested(address: usize, condition: CheckedValue) -> Measure
     ensures { result ≡ tested address condition }
 {
     Measure {
@@ -128,7 +128,7 @@ fn tested(address: usize, condition: Valued) -> Measure
 }
 
 /// A space whose size isn't known takes nothing.
-fn spaced(address: usize, size: Valued) -> Measure
+fn spaced(address: usize, size: CheckedValue) -> Measure
     requires { address ≤ 65536 }
     ensures measure { result ≡ spaced address size }
     ensures within { result.next ≤ 65536 }

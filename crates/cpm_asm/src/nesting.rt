@@ -6,12 +6,12 @@ ghost use Rattle.cpm_asm.specs.Places.{IsPlace, blamed, closes, one_less, seen_t
 use crate::error::{AsmError, AsmErrorKind};
 use crate::head::head_of;
 use crate::pieces::{Pieces, next_piece};
-use crate::place::Place;
+use crate::place::Position;
 use cpm_asm_expression::Operation;
 
 /// What a statement does to the IFs that are open.
 #[derive(Clone, Copy)]
-pub enum Turning {
+pub enum NestingChange {
     Opens,
     Closes,
     Ends,
@@ -26,17 +26,17 @@ pub struct Depth {
 }
 
 #[tactic(auto, unfolding(crate::specs::Places::turn_of))]
-fn turn_of(text: &[u8]) -> Turning
+fn turn_of(text: &[u8]) -> NestingChange
     ensures { seen_turn result ≡ turn_of text.now }
 {
     match head_of(text) {
         Some(head) => match head.operation {
-            Some(Operation::If) => Turning::Opens,
-            Some(Operation::EndIf) => Turning::Closes,
-            Some(Operation::End) => Turning::Ends,
-            _ => Turning::Stays,
+            Some(Operation::If) => NestingChange::Opens,
+            Some(Operation::EndIf) => NestingChange::Closes,
+            Some(Operation::End) => NestingChange::Ends,
+            _ => NestingChange::Stays,
         },
-        None => Turning::Stays,
+        None => NestingChange::Stays,
     }
 }
 
@@ -66,17 +66,17 @@ fn closes(from: Depth, start: &Pieces) -> bool
     let mut pieces = *start;
     while let Some((piece, behind)) = next_piece(&pieces) {
         match turn_of(piece.text) {
-            Turning::Stays => {}
-            Turning::Opens => depth = Depth {
+            NestingChange::Stays => {}
+            NestingChange::Opens => depth = Depth {
                 held: depth.held,
                 skipped: depth.skipped + 1,
             },
-            Turning::Ends => {
+            NestingChange::Ends => {
                 if depth.skipped == 0 {
                     return false;
                 }
             }
-            Turning::Closes => {
+            NestingChange::Closes => {
                 depth = one_less(depth);
                 if depth.held == 0 && depth.skipped == 0 {
                     return true;
@@ -90,7 +90,7 @@ fn closes(from: Depth, start: &Pieces) -> bool
 
 /// A fault of the first of the statements that are left, or that of the first IF that is open where it is left open.
 #[tactic(auto, unfolding(crate::specs::Places::blamed))]
-pub(crate) fn blamed(place: Place, line: u64, kind: AsmErrorKind, pieces: &Pieces) -> AsmError
+pub(crate) fn blamed(place: Position, line: u64, kind: AsmErrorKind, pieces: &Pieces) -> AsmError
     requires place { IsPlace place }
     requires lines { pieces.now.line + length pieces.now.rest.now < 2 ^ 64 }
     requires small { bytes_left pieces.now < 2 ^ 99 }

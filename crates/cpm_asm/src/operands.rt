@@ -4,7 +4,7 @@ ghost use Rattle.cpm_asm.specs.Operands.{direct_pair_in, one_operand, pair_in, p
 
 use crate::lines::first_part;
 use crate::word::{First, is_blank_text, word_of};
-use cpm_decode::{Pair, Place, StackPair};
+use cpm_decode::{WordOperand, ByteOperand, StackPair};
 use cpm_asm_expression::{Keyword, Register, keyword_of};
 
 /// The operand of a list with only one.
@@ -49,31 +49,31 @@ fn register_in(operand: &[u8]) -> Option<Register>
 }
 
 /// The place of eight bits that a register is.
-fn place_named(register: Register) -> Option<Place>
+fn place_named(register: Register) -> Option<ByteOperand>
     ensures { result ≡ place_named register }
 {
     match register {
-        Register::B => Some(Place::B),
-        Register::C => Some(Place::C),
-        Register::D => Some(Place::D),
-        Register::E => Some(Place::E),
-        Register::H => Some(Place::H),
-        Register::L => Some(Place::L),
-        Register::M => Some(Place::AtHl),
-        Register::A => Some(Place::A),
+        Register::B => Some(ByteOperand::B),
+        Register::C => Some(ByteOperand::C),
+        Register::D => Some(ByteOperand::D),
+        Register::E => Some(ByteOperand::E),
+        Register::H => Some(ByteOperand::H),
+        Register::L => Some(ByteOperand::L),
+        Register::M => Some(ByteOperand::AtHl),
+        Register::A => Some(ByteOperand::A),
         Register::StackPointer | Register::StatusWord => None,
     }
 }
 
 /// The pair whose first register, or whose name, this is.
-fn pair_named(register: Register) -> Option<Pair>
+fn pair_named(register: Register) -> Option<WordOperand>
     ensures { result ≡ pair_named register }
 {
     match register {
-        Register::B => Some(Pair::Bc),
-        Register::D => Some(Pair::De),
-        Register::H => Some(Pair::Hl),
-        Register::StackPointer => Some(Pair::Sp),
+        Register::B => Some(WordOperand::Bc),
+        Register::D => Some(WordOperand::De),
+        Register::H => Some(WordOperand::Hl),
+        Register::StackPointer => Some(WordOperand::Sp),
         _ => None,
     }
 }
@@ -92,26 +92,26 @@ fn stack_pair_named(register: Register) -> Option<StackPair>
 }
 
 /// The place that an operand is.
-pub(crate) fn place_in(operand: &[u8]) -> Option<Place>
+pub(crate) fn place_in(operand: &[u8]) -> Option<ByteOperand>
     ensures { result ≡ place_in operand.now }
 {
     place_named(register_in(operand)?)
 }
 
 /// The pair that an operand is.
-pub(crate) fn pair_in(operand: &[u8]) -> Option<Pair>
+pub(crate) fn pair_in(operand: &[u8]) -> Option<WordOperand>
     ensures { result ≡ pair_in operand.now }
 {
     pair_named(register_in(operand)?)
 }
 
 /// The pair of STAX and LDAX that an operand is.
-pub(crate) fn direct_pair_in(operand: &[u8]) -> Option<Pair>
+pub(crate) fn direct_pair_in(operand: &[u8]) -> Option<WordOperand>
     ensures { result ≡ direct_pair_in operand.now }
 {
     match register_in(operand) {
-        Some(Register::B) => Some(Pair::Bc),
-        Some(Register::D) => Some(Pair::De),
+        Some(Register::B) => Some(WordOperand::Bc),
+        Some(Register::D) => Some(WordOperand::De),
         _ => None,
     }
 }

@@ -15,8 +15,8 @@ use crate::error::{AsmError, AsmErrorKind};
 use crate::measure::{Measure, measured};
 use crate::nesting::blamed;
 use crate::pieces::{next_piece, pieces_of};
-use crate::place::{Place, first_fault, moved, start};
-use crate::placed::{Assembly, Placed, add_place};
+use crate::place::{Position, first_fault, moved, start};
+use crate::placed::{Assembly, Placement, add_place};
 use crate::statement::{Statement, Work, statement_at};
 use cpm_asm_expression::{Name, Names};
 use std::alloc::{AllocError, Global};
@@ -24,7 +24,7 @@ use std::collections::BTreeMap;
 
 /// Why a pass stops.
 #[derive(Clone, Copy)]
-pub enum Stop {
+pub enum PassStop {
     Refused(AsmError),
     /// At a line.
     OutOfMemory(u64),
@@ -51,7 +51,7 @@ fn is_last(work: &Work) -> bool
 fn examined(
     alloc: Global,
     names: &Names,
-    place: Place,
+    place: Position,
     statement: &Statement,
 ) -> Result<(Measure, Option<AsmErrorKind>), AllocError>
     requires { IsPlace place }
@@ -65,14 +65,14 @@ fn examined(
 }
 
 /// The names, where no IF is left open.
-fn at_end(place: Place, names: Names) -> Result<Names, Stop>
+fn at_end(place: Position, names: Names) -> Result<Names, PassStop>
     requires { IsPlace place }
     ensures { Gives in_table result (at_end place (in_table names)) }
 {
     if place.held + place.skipped == 0 {
         Ok(names)
     } else {
-        Err(Stop::Refused(AsmError {
+        Err(PassStop::Refused(AsmError {
             line: place.outermost,
             kind: AsmErrorKind::Syntax,
         }))
@@ -80,7 +80,7 @@ fn at_end(place: Place, names: Names) -> Result<Names, Stop>
 }
 
 /// The values of all names.
-fn first_pass(alloc: Global, source: &[u8]) -> Result<Names, Stop>
+fn first_pass(alloc: Global, source: &[u8]) -> Result<Names, PassStop>
     ensures { Gives in_table result (first_pass empty_table start (pieces source.now)) }
 {
     let mut names = BTreeMap::new(alloc);
@@ -89,13 +89,13 @@ fn first_pass(alloc: Global, source: &[u8]) -> Result<Names, Stop>
     while let Some((piece, behind)) = next_piece(&pieces) {
         let statement = statement_at(place.skipped > 0, piece.text);
         let Ok((measure, fault)) = examined(alloc, &names, place, &statement) else {
-            return Err(Stop::OutOfMemory(piece.line));
+            return Err(PassStop::OutOfMemory(piece.line));
         };
         if let Some(kind) = fault {
-            return Err(Stop::Refused(blamed(place, piece.line, kind, &pieces)));
+            return Err(PassStop::Refused(blamed(place, piece.line, kind, &pieces)));
         }
         let Ok(()) = define(&mut names, statement.label, measure.label) else {
-            return Err(Stop::OutOfMemory(piece.line));
+            return Err(PassStop::OutOfMemory(piece.line));
         };
         if is_last(&statement.work) {
             return at_end(place, names);
@@ -144,7 +144,7 @@ fn lay_statement(
     assembly: &mut Assembly,
     alloc: Global,
     names: &Names,
-    place: Place,
+    place: Position,
     line: u64,
     statement: &Statement,
 ) -> Result<(Measure, Doubt), AllocError>
@@ -164,7 +164,7 @@ fn lay_statement(
         measure.next,
         &statement.work,
     )?;
-    let placed = Placed {
+    let placed = Placement {
         line,
         address: place.address,
         length,
@@ -174,7 +174,7 @@ fn lay_statement(
 }
 
 /// The image and the places.
-fn second_pass(alloc: Global, names: &Names, source: &[u8]) -> Result<Assembly, Stop>
+fn second_pass(alloc: Global, names: &Names, source: &[u8]) -> Result<Assembly, PassStop>
     ensures image { Gives image_of result (second_pass (in_table names.now) [] start (pieces source.now)) }
     ensures places { IfOk result (λ a. a.places.items ≡ places_from (in_table names.now) start (pieces source.now)) }
 {
@@ -194,10 +194,10 @@ fn second_pass(alloc: Global, names: &Names, source: &[u8]) -> Result<Assembly, 
             piece.line,
             &statement,
         ) else {
-            return Err(Stop::OutOfMemory(piece.line));
+            return Err(PassStop::OutOfMemory(piece.line));
         };
         if let Some(kind) = second_fault(doubt) {
-            return Err(Stop::Refused(AsmError {
+            return Err(PassStop::Refused(AsmError {
                 line: piece.line,
                 kind,
             }));
@@ -213,7 +213,7 @@ fn second_pass(alloc: Global, names: &Names, source: &[u8]) -> Result<Assembly, 
 
 /// The image and the places, or why there are none.
 #[tactic(auto, unfolding(crate::specs::Passes::both_passes, crate::specs::Placing::places))]
-fn both_passes(alloc: Global, source: &[u8]) -> Result<Assembly, Stop>
+fn both_passes(alloc: Global, source: &[u8]) -> Result<Assembly, PassStop>
     ensures image { Gives image_of result (both_passes source.now) }
     ensures places { IfOk result (λ a. a.places.items ≡ places source.now) }
 {
@@ -234,8 +234,8 @@ pub fn assemble_placed(alloc: Global, source: &[u8]) -> Result<Assembly, AsmErro
 {
     match both_passes(alloc, source) {
         Ok(assembly) => Ok(assembly),
-        Err(Stop::Refused(refusal)) => Err(refusal),
-        Err(Stop::OutOfMemory(line)) => Err(AsmError {
+        Err(PassStop::Refused(refusal)) => Err(refusal),
+        Err(PassStop::OutOfMemory(line)) => Err(AsmError {
             line,
             kind: AsmErrorKind::OutOfMemory,
         }),

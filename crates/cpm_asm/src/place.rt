@@ -15,7 +15,7 @@ const DEEPEST: u8 = 8;
 
 /// The address of the next statement, and the IFs that are open.
 #[derive(Clone, Copy)]
-pub struct Place {
+pub struct Position {
     pub address: usize,
     /// IFs that hold.
     pub held: u8,
@@ -26,11 +26,11 @@ pub struct Place {
 }
 
 /// Where a pass begins.
-pub(crate) fn start() -> Place
+pub(crate) fn start() -> Position
     ensures place { result ≡ start }
     ensures within { IsPlace result }
 {
-    Place {
+    Position {
         address: 0x100,
         held: 0,
         skipped: 0,
@@ -39,7 +39,7 @@ pub(crate) fn start() -> Place
 }
 
 /// A place behind an IF.
-fn in_if(place: Place, line: u64, holds: bool) -> Place
+fn in_if(place: Position, line: u64, holds: bool) -> Position
     requires { IsPlace place }
     ensures place { result ≡ in_if place line holds }
     ensures within { IsPlace result }
@@ -49,13 +49,13 @@ fn in_if(place: Place, line: u64, holds: bool) -> Place
     if depth >= DEEPEST {
         place
     } else if holds {
-        Place {
+        Position {
             held: place.held + 1,
             outermost,
             ..place
         }
     } else {
-        Place {
+        Position {
             skipped: place.skipped + 1,
             outermost,
             ..place
@@ -64,24 +64,24 @@ fn in_if(place: Place, line: u64, holds: bool) -> Place
 }
 
 /// The place behind a statement.
-pub(crate) fn moved(place: Place, line: u64, work: &Work, measure: Measure) -> Place
+pub(crate) fn moved(place: Position, line: u64, work: &Work, measure: Measure) -> Position
     requires place { IsPlace place }
     requires measure { measure.next ≤ 65536 }
     ensures place { result ≡ moved place line (seen_work work.now) measure }
     ensures within { IsPlace result }
 {
-    let behind = Place {
+    let behind = Position {
         address: measure.next,
         ..place
     };
     match *work {
         Work::If(_) => in_if(behind, line, measure.holds),
         Work::Nest => in_if(behind, line, false),
-        Work::EndIf => Place {
+        Work::EndIf => Position {
             held: place.held.saturating_sub(1),
             ..behind
         },
-        Work::Unnest => Place {
+        Work::Unnest => Position {
             skipped: place.skipped.saturating_sub(1),
             ..behind
         },
@@ -90,7 +90,7 @@ pub(crate) fn moved(place: Place, line: u64, work: &Work, measure: Measure) -> P
 }
 
 /// A ninth IF, or an ENDIF with no IF.
-fn is_misplaced(place: Place, work: &Work) -> bool
+fn is_misplaced(place: Position, work: &Work) -> bool
     requires { IsPlace place }
     ensures { result ≡ is_misplaced place (seen_work work.now) }
 {
@@ -130,7 +130,7 @@ fn placed_over(address: usize, statement: &Statement) -> bool
 pub(crate) fn first_fault(
     alloc: Global,
     names: &Names,
-    place: Place,
+    place: Position,
     statement: &Statement,
     measure: Measure,
 ) -> Result<Option<AsmErrorKind>, AllocError>

@@ -9,7 +9,7 @@ use std::alloc::AllocError;
 /// Where the bytes of a statement stand: the number of its line from 1 on, the address of its first byte, and how many there
 /// are. A label alone, ORG and EQU have none, and stand at the address that is reached before them.
 #[derive(Clone, Copy, Debug, PartialEq, Eq, Drop)]
-pub struct Placed {
+pub struct Placement {
     pub line: u64,
     pub address: usize,
     pub length: usize,
@@ -21,7 +21,7 @@ pub struct Assembly {
     /// The bytes from 0100h to the last one.
     pub image: Vec<u8>,
     /// In the order of the statements.
-    pub places: Vec<Placed>,
+    pub places: Vec<Placement>,
 }
 
 /// ORG, EQU, DS, DB, DW and instructions have places.
@@ -49,8 +49,8 @@ fn has_place(statement: &Statement) -> bool
 
 /// Adds the place of a statement that has one.
 pub(crate) fn add_place(
-    places: &mut Vec<Placed>,
-    placed: Placed,
+    places: &mut Vec<Placement>,
+    placed: Placement,
     statement: &Statement,
 ) -> Result<(), AllocError>
     ensures { OnOk result (places.new.items ≡ places.old.items ++ place_of placed (seen_statement statement.now)) }

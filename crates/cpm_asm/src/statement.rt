@@ -8,7 +8,7 @@ use crate::operands::{
     direct_pair_in, one_operand, pair_in, place_in, stack_pair_in, two_operands,
 };
 use crate::word::is_blank_text;
-use cpm_decode::{Op, Place};
+use cpm_decode::{Op, ByteOperand};
 use cpm_asm_expression::{ByteForm, Name, Operation, WordForm};
 
 /// What a statement does. Texts are expressions, or lists of operands.
@@ -78,11 +78,11 @@ fn with_register(operation: Operation, operand: &[u8]) -> Option<Op>
 }
 
 /// MOV; from M to M there is none.
-fn move_work(target: Option<Place>, source: Option<Place>) -> Work<'static>
+fn move_work(target: Option<ByteOperand>, source: Option<ByteOperand>) -> Work<'static>
     ensures { seen_work result ≡ move_deed target source }
 {
     match (target, source) {
-        (Some(Place::AtHl), Some(Place::AtHl)) => Work::Wrong,
+        (Some(ByteOperand::AtHl), Some(ByteOperand::AtHl)) => Work::Wrong,
         (Some(target), Some(source)) => Work::Plain(Op::Move(target, source)),
         _ => Work::Wrong,
     }

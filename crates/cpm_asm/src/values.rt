@@ -5,7 +5,7 @@ ghost use Rattle.cpm_asm.specs.Data.{is_expression, text_in, value};
 
 use crate::word::is_blank_text;
 use arrayvec::ArrayVec;
-use cpm_asm_expression::{Names, Valued, after_blanks, quoted_text, value_of};
+use cpm_asm_expression::{Names, CheckedValue, after_blanks, quoted_text, value_of};
 use std::alloc::{AllocError, Global};
 use std::collections::BTreeMap;
 
@@ -16,10 +16,10 @@ pub(crate) fn value(
     names: &Names,
     here: usize,
     text: &[u8],
-) -> Result<Valued, AllocError>
+) -> Result<CheckedValue, AllocError>
     ensures { IfOk result (λ found. found ≡ value (in_table names.now) here text.now) }
 {
-    let nothing = Valued {
+    let nothing = CheckedValue {
         number: 0,
         is_unknown: false,
         is_outside: false,

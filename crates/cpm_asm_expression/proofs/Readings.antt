@@ -6,11 +6,11 @@ use Rattle.cpm_asm_expression.specs.Letters.{after_blanks}
 use Rattle.cpm_asm_expression.specs.Tokens.{first_token, joined, tokens_of, tokens_or_end}
 use Rattle.cpm_asm_expression.specs.Reading.{State, Wants, after, after_all, answer, reading, value_at}
 use Rattle.cpm_asm_expression.specs.declared.tokens.Token.{Token}
-use Rattle.cpm_asm_expression.specs.declared.values.Valued.{Valued}
+use Rattle.cpm_asm_expression.specs.declared.values.CheckedValue.{CheckedValue}
 use Rattle.cpm_asm_expression.proofs.Lexing.{tokens_of-first}
 
 -- the value behind a state, where the rest has tokens
-abbrev pub read_on : Table → ℕ → State → Option (List Token) → Option Valued
+abbrev pub read_on : Table → ℕ → State → Option (List Token) → Option CheckedValue
 read_on m a s None = None
 read_on m a s (Some ts) = answer (after_all m a s ts)
 

@@ -11,7 +11,7 @@ use Rattle.cpm_asm_expression.specs.declared.names.Name.{Name}
 use Rattle.cpm_asm_expression.specs.declared.tokens.Atom.{Atom}
 use Rattle.cpm_asm_expression.specs.declared.tokens.Atom.TheVariants as atoms
 use Rattle.cpm_asm_expression.specs.declared.tokens.Token.{Token}
-use Rattle.cpm_asm_expression.specs.declared.values.Valued.{Valued}
+use Rattle.cpm_asm_expression.specs.declared.values.CheckedValue.{CheckedValue}
 use Rattle.cpm_asm_expression.proofs.Sound.{only_spelled}
 use Rattle.cpm_asm_expression.proofs.TreesRead.{spelled_read}
 
@@ -37,27 +37,27 @@ tree_stable m t e a (chained o x y) h =
     let known = neither (value m a x).is_unknown (value m a y).is_unknown h in
     ap₂ (combined o) (tree_stable m t e a x known.0) (tree_stable m t e a y known.1)
 
-reading_stays : (m t : Table) (e : Extends m t) (a : ℕ) (ts : List Token) (v : Valued) → reading m a ts ≡ Some v → v.is_unknown ≡ false → reading t a ts ≡ Some v
+reading_stays : (m t : Table) (e : Extends m t) (a : ℕ) (ts : List Token) (v : CheckedValue) → reading m a ts ≡ Some v → v.is_unknown ≡ false → reading t a ts ≡ Some v
 reading_stays m t e a ts v h known =
     let s = only_spelled m a ts v h in
-    let same = tree_stable m t e a s.tree (ap (λ (x : Valued). x.is_unknown) s.is ∙ known) in
+    let same = tree_stable m t e a s.tree (ap (λ (x : CheckedValue). x.is_unknown) s.is ∙ known) in
     spelled_read t a ts v (record { tree = s.tree; is = same ∙ s.is; written = s.written })
 
-from_tokens : (m t : Table) (e : Extends m t) (a : ℕ) (o : Option (List Token)) (v : Valued)
+from_tokens : (m t : Table) (e : Extends m t) (a : ℕ) (o : Option (List Token)) (v : CheckedValue)
     → option_and_then (reading m a) o ≡ Some v → v.is_unknown ≡ false → option_and_then (reading t a) o ≡ Some v
 from_tokens m t e a None v h known = h
 from_tokens m t e a (Some ts) v h known = reading_stays m t e a ts v h known
 
-pub value_stays : (m t : Table) (a : ℕ) (text : List ℕ) (v : Valued) → Extends m t → value_at m a text ≡ Some v → v.is_unknown ≡ false → value_at t a text ≡ Some v
+pub value_stays : (m t : Table) (a : ℕ) (text : List ℕ) (v : CheckedValue) → Extends m t → value_at m a text ≡ Some v → v.is_unknown ≡ false → value_at t a text ≡ Some v
 unfolding value_at
 value_stays m t a text v e h known = from_tokens m t e a (tokens_of text) v h known
 
-read_elsewhere : (m t : Table) (a b : ℕ) (ts : List Token) (v : Valued) → reading m a ts ≡ Some v → is_some (reading t b ts) ≡ true
+read_elsewhere : (m t : Table) (a b : ℕ) (ts : List Token) (v : CheckedValue) → reading m a ts ≡ Some v → is_some (reading t b ts) ≡ true
 read_elsewhere m t a b ts v h =
     let s = only_spelled m a ts v h in
     ap is_some (spelled_read t b ts (value t b s.tree) (record { tree = s.tree; is = refl; written = s.written }))
 
-both_some : (x y : Option Valued) → ((v : Valued) → x ≡ Some v → is_some y ≡ true) → ((v : Valued) → y ≡ Some v → is_some x ≡ true) → is_some x ≡ is_some y
+both_some : (x y : Option CheckedValue) → ((v : CheckedValue) → x ≡ Some v → is_some y ≡ true) → ((v : CheckedValue) → y ≡ Some v → is_some x ≡ true) → is_some x ≡ is_some y
 both_some None None f g = refl
 both_some None (Some w) f g = g w refl
 both_some (Some v) y f g = sym (f v refl)

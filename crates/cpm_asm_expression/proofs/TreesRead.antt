@@ -6,7 +6,7 @@ use Rattle.cpm_asm_expression.proofs.Levels.{not_two, not_four, right_above}
 use Rattle.cpm_asm_expression.specs.Names.{Table}
 use Rattle.cpm_asm_expression.specs.Values.{atom_value, combined, changed}
 use Rattle.cpm_asm_expression.specs.Grammar.{Tree, atom, bracketed, weaker, prefixed, chained, level, prefix_level, value, spelled, prefix_token, Spells}
-use Rattle.cpm_asm_expression.specs.declared.values.Valued.{Valued}
+use Rattle.cpm_asm_expression.specs.declared.values.CheckedValue.{CheckedValue}
 use Rattle.cpm_asm_expression.specs.Reading.{Settled, State, Wants, Has, Wrong, wanted, settled, after, after_all, with_left, closed, answer, ended, reading}
 use Rattle.cpm_asm_expression.specs.declared.tokens.Operator.{Operator}
 use Rattle.cpm_asm_expression.specs.declared.tokens.Prefix.{Prefix}
@@ -17,8 +17,8 @@ use Rattle.cpm_asm_expression.specs.declared.reader.Waiting.{Waiting}
 use Rattle.cpm_asm_expression.specs.declared.reader.Waiting.TheVariants as waiting
 
 -- the state that has v, up to what a later operator of a level settles
-pub record Arrives (m : Table) (a : ℕ) (from : State) (text rest : List Token) (l : ℕ) (v : Valued) (ws : List Waiting) : Type 0 where
-  pub have : Valued
+pub record Arrives (m : Table) (a : ℕ) (from : State) (text rest : List Token) (l : ℕ) (v : CheckedValue) (ws : List Waiting) : Type 0 where
+  pub have : CheckedValue
   pub left : List Waiting
   pub reads : after_all m a from text ≡ after_all m a (Has have left) rest
   pub same : (k : ℕ) → k ≤ l → settled k have left ≡ settled k v ws
@@ -35,7 +35,7 @@ apart prefixes.Not o h = omega (arith, not_two o, h)
 apart prefixes.Plus o h = omega (arith, not_four o, h)
 apart prefixes.Minus o h = omega (arith, not_four o, h)
 
-stays : (o : Operator) (v : Valued) (ws : List Waiting) → wanted ws ≤ level o → settled (level o) v ws ≡ record { value = v; waiting = ws }
+stays : (o : Operator) (v : CheckedValue) (ws : List Waiting) → wanted ws ≤ level o → settled (level o) v ws ≡ record { value = v; waiting = ws }
 stays o v [] h = refl
 stays o v (waiting.Bracket ∷ ws) h = refl
 stays o v (waiting.Prefix p ∷ ws) h = ap (λ b. cond b (settled (level o) (changed p v) ws) (record { value = v; waiting = waiting.Prefix p ∷ ws })) (gt_test (level o) (prefix_level p) (apart p o h))
@@ -83,5 +83,5 @@ reads_all m a e =
     let whole = reads_tree m a e [] [] (omega arith) in
     ap answer whole.reads ∙ ap (λ (s : Settled). ended s.value s.waiting) (whole.same 0 (omega arith))
 
-pub spelled_read : (m : Table) (a : ℕ) (ts : List Token) (v : Valued) → Spells m a ts v → reading m a ts ≡ Some v
+pub spelled_read : (m : Table) (a : ℕ) (ts : List Token) (v : CheckedValue) → Spells m a ts v → reading m a ts ≡ Some v
 spelled_read m a ts v s = ap (reading m a) s.written ∙ reads_all m a s.tree ∙ ap (λ n. Some n) s.is

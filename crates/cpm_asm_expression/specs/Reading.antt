@@ -11,7 +11,7 @@ use Rattle.cpm_asm_expression.specs.declared.tokens.Prefix.{Prefix}
 use Rattle.cpm_asm_expression.specs.declared.tokens.Prefix.TheVariants as prefixes
 use Rattle.cpm_asm_expression.specs.declared.tokens.Token.{Token}
 use Rattle.cpm_asm_expression.specs.declared.tokens.Token.TheVariants as tokens
-use Rattle.cpm_asm_expression.specs.declared.values.Valued.{Valued}
+use Rattle.cpm_asm_expression.specs.declared.values.CheckedValue.{CheckedValue}
 use Rattle.cpm_asm_expression.specs.declared.reader.Stage.{Stage}
 use Rattle.cpm_asm_expression.specs.declared.reader.Stage.TheVariants as stages
 use Rattle.cpm_asm_expression.specs.declared.reader.Waiting.{Waiting}
@@ -26,11 +26,11 @@ wanted (waiting.Left v o ∷ ws) = right_level o
 
 -- a value, and what still waits
 pub record Settled : Type 0 where
-  pub value : Valued
+  pub value : CheckedValue
   pub waiting : List Waiting
 
 -- the value with all that binds as strongly as a level, or more strongly
-abbrev pub settled : ℕ → Valued → List Waiting → Settled
+abbrev pub settled : ℕ → CheckedValue → List Waiting → Settled
 settled l v [] = record { value = v; waiting = [] }
 settled l v (waiting.Bracket ∷ ws) = record { value = v; waiting = waiting.Bracket ∷ ws }
 settled l v (waiting.Prefix p ∷ ws) = cond (nat_le l (prefix_level p)) (settled l (changed p v) ws) (record { value = v; waiting = waiting.Prefix p ∷ ws })
@@ -44,7 +44,7 @@ sign_of _ = None
 -- where reading stands: an operand is wanted, or there is one, or the text is no expression
 pub data State : Type 0 where
   Wants : List Waiting → State
-  Has : Valued → List Waiting → State
+  Has : CheckedValue → List Waiting → State
   Wrong : State
 
 abbrev pub with_prefix : List Waiting → Prefix → State
@@ -57,12 +57,12 @@ with_sign ws (Some p) = with_prefix ws p
 abbrev pub with_left : Operator → Settled → State
 with_left o s = Wants (waiting.Left s.value o ∷ s.waiting)
 
-abbrev pub closed : Valued → List Waiting → State
+abbrev pub closed : CheckedValue → List Waiting → State
 closed v (waiting.Bracket ∷ ws) = Has v ws
 closed v _ = Wrong
 
 -- a token behind an operand
-abbrev pub after_operand : Valued → List Waiting → Token → State
+abbrev pub after_operand : CheckedValue → List Waiting → Token → State
 after_operand v ws (tokens.Operator o) = with_left o (settled (level o) v ws)
 after_operand v ws tokens.Close = closed (settled 0 v ws).value (settled 0 v ws).waiting
 after_operand v ws _ = Wrong
@@ -80,19 +80,19 @@ abbrev pub after_all : Table → ℕ → State → List Token → State
 after_all names here s [] = s
 after_all names here s (t ∷ ts) = after_all names here (after names here s t) ts
 
-abbrev pub ended : Valued → List Waiting → Option Valued
+abbrev pub ended : CheckedValue → List Waiting → Option CheckedValue
 ended v [] = Some v
 ended v (w ∷ ws) = None
 
-abbrev pub answer : State → Option Valued
+abbrev pub answer : State → Option CheckedValue
 answer (Has v ws) = ended (settled 0 v ws).value (settled 0 v ws).waiting
 answer _ = None
 
-abbrev pub reading : Table → ℕ → List Token → Option Valued
+abbrev pub reading : Table → ℕ → List Token → Option CheckedValue
 reading names here ts = answer (after_all names here (Wants []) ts)
 
 -- the value of the expression that a text is, in a statement at an address; None where it is none
-unfoldable pub value_at : Table → ℕ → List ℕ → Option Valued
+unfoldable pub value_at : Table → ℕ → List ℕ → Option CheckedValue
 value_at names here text = option_and_then (reading names here) (tokens_of text)
 
 abbrev pub binds : ℕ → Waiting → Bool
@@ -101,7 +101,7 @@ binds l (waiting.Prefix p) = nat_le l (prefix_level p)
 binds l (waiting.Left u o) = nat_le l (level o)
 
 -- the value behind what waited
-abbrev pub behind : Waiting → Valued → Valued
+abbrev pub behind : Waiting → CheckedValue → CheckedValue
 behind waiting.Bracket v = v
 behind (waiting.Prefix p) v = changed p v
 behind (waiting.Left u o) v = combined o u v

@@ -9,18 +9,18 @@ use Rattle.cpm_asm_expression.specs.declared.tokens.Operator.{Operator}
 use Rattle.cpm_asm_expression.specs.declared.tokens.Operator.TheVariants as operators
 use Rattle.cpm_asm_expression.specs.declared.tokens.Prefix.{Prefix}
 use Rattle.cpm_asm_expression.specs.declared.tokens.Prefix.TheVariants as prefixes
-use Rattle.cpm_asm_expression.specs.declared.values.Valued.{Valued}
+use Rattle.cpm_asm_expression.specs.declared.values.CheckedValue.{CheckedValue}
 
 -- a number that nothing is wrong with
-abbrev pub exactly : ℕ → Valued
+abbrev pub exactly : ℕ → CheckedValue
 exactly n = record { number = n; is_unknown = false; is_outside = false }
 
-abbrev pub named_value : Option ℕ → Valued
+abbrev pub named_value : Option ℕ → CheckedValue
 named_value None = record { number = 0; is_unknown = true; is_outside = false }
 named_value (Some n) = exactly n
 
 -- `$` is the address of the statement, and has no value past the last address
-abbrev pub atom_value : Table → ℕ → Atom → Valued
+abbrev pub atom_value : Table → ℕ → Atom → CheckedValue
 atom_value names here (atoms.Number n) = exactly n
 atom_value names here (atoms.Named name) = named_value (names name)
 atom_value names here atoms.Here = if nat_lt here 65536 then exactly here else record { number = 0; is_unknown = false; is_outside = true }
@@ -43,7 +43,7 @@ divides operators.Modulo = true
 divides _ = false
 
 -- a part that is unknown leaves the whole unknown, and one that is outside leaves it outside
-abbrev pub combined : Operator → Valued → Valued → Valued
+abbrev pub combined : Operator → CheckedValue → CheckedValue → CheckedValue
 combined o x y = record {
   number = calculated o x.number y.number;
   is_unknown = x.is_unknown || y.is_unknown;
@@ -55,5 +55,5 @@ flipped prefixes.Not a = 65535 - a
 flipped prefixes.Plus a = a
 flipped prefixes.Minus a = (65536 - a) % 65536
 
-abbrev pub changed : Prefix → Valued → Valued
+abbrev pub changed : Prefix → CheckedValue → CheckedValue
 changed p x = record { number = flipped p x.number; is_unknown = x.is_unknown; is_outside = x.is_outside }

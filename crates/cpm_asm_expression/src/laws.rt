@@ -4,17 +4,17 @@ ghost use Rattle.cpm_asm_expression.specs.Names.{Extends, Table};
 ghost use Rattle.cpm_asm_expression.specs.Grammar.{Spells};
 ghost use Rattle.cpm_asm_expression.specs.Reading.{reading, value_at};
 ghost use Rattle.cpm_asm_expression.specs.declared.tokens.Token.{Token};
-ghost use Rattle.cpm_asm_expression.specs.declared.values.Valued.{Valued};
+ghost use Rattle.cpm_asm_expression.specs.declared.values.CheckedValue.{CheckedValue};
 
 /// Tokens are read as a value where they are an expression of that value, and nowhere else.
 pub fn exact_reading()
-    ensures read { (names : Table) (here : ℕ) (ts : List Token) (v : Valued) → Spells names here ts v → reading names here ts ≡ Some v }
-    ensures only { (names : Table) (here : ℕ) (ts : List Token) (v : Valued) → reading names here ts ≡ Some v → Spells names here ts v }
+    ensures read { (names : Table) (here : ℕ) (ts : List Token) (v : CheckedValue) → Spells names here ts v → reading names here ts ≡ Some v }
+    ensures only { (names : Table) (here : ℕ) (ts : List Token) (v : CheckedValue) → reading names here ts ≡ Some v → Spells names here ts v }
 {}
 
 /// A value that is known is the same under each table that has more names.
 pub fn known_values_stay()
-    ensures { (names more : Table) (here : ℕ) (text : List ℕ) (v : Valued) → Extends names more → value_at names here text ≡ Some v → v.is_unknown ≡ false → value_at more here text ≡ Some v }
+    ensures { (names more : Table) (here : ℕ) (text : List ℕ) (v : CheckedValue) → Extends names more → value_at names here text ≡ Some v → v.is_unknown ≡ false → value_at more here text ≡ Some v }
 {}
 
 /// Whether a text is an expression depends on no name and no address.

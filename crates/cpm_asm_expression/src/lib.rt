@@ -17,5 +17,5 @@ pub use names::{Name, Names, name_of};
 pub use quotes::{LONGEST_TEXT, quoted_text};
 pub use reader::value_of;
 pub use tokens::{Atom, Operator, Prefix, Token};
-pub use values::Valued;
+pub use values::CheckedValue;
 pub use words::{ByteForm, Keyword, Operation, Register, WordForm, keyword_of};

@@ -10,7 +10,7 @@ use crate::letters::after_blanks;
 use crate::lexer::first_token;
 use crate::names::Names;
 use crate::tokens::{Operator, Prefix, Token};
-use crate::values::{Valued, atom_value, changed, combined};
+use crate::values::{CheckedValue, atom_value, changed, combined};
 use std::alloc::{AllocError, Global};
 
 /// What waits for its right operand.
@@ -18,14 +18,14 @@ use std::alloc::{AllocError, Global};
 pub enum Waiting {
     Bracket,
     Prefix(Prefix),
-    Left(Valued, Operator),
+    Left(CheckedValue, Operator),
 }
 
 /// Where reading stands: an operand is wanted, there is one, or the text is no expression.
 #[derive(Clone, Copy)]
 pub enum Stage {
     Wants,
-    Has(Valued),
+    Has(CheckedValue),
     Wrong,
 }
 
@@ -81,7 +81,7 @@ fn binds(level_of_next: u8, waiting: Waiting) -> bool
 }
 
 /// The value behind what waited.
-fn behind(waiting: Waiting, value: Valued) -> Valued
+fn behind(waiting: Waiting, value: CheckedValue) -> CheckedValue
     ensures { result ≡ behind waiting value }
 {
     match waiting {
@@ -92,7 +92,7 @@ fn behind(waiting: Waiting, value: Valued) -> Valued
 }
 
 /// The value with all that binds as strongly as a level; the last one waits for it first.
-fn settle(waiting: &mut Vec<Waiting>, own: Valued, next: u8) -> Valued
+fn settle(waiting: &mut Vec<Waiting>, own: CheckedValue, next: u8) -> CheckedValue
     ensures { settled next own (reverse waiting.old.items) ≡ record { value = result; waiting = reverse waiting.new.items } }
 {
     let mut value = own;
@@ -159,7 +159,7 @@ fn operand(
 }
 
 /// The last bracket is closed.
-fn close(waiting: &mut Vec<Waiting>, value: Valued) -> Stage
+fn close(waiting: &mut Vec<Waiting>, value: CheckedValue) -> Stage
     ensures { state result (reverse waiting.new.items) ≡ closed value (reverse waiting.old.items) }
 {
     match waiting.pop() {
@@ -169,7 +169,7 @@ fn close(waiting: &mut Vec<Waiting>, value: Valued) -> Stage
 }
 
 /// A token behind an operand.
-fn operator(waiting: &mut Vec<Waiting>, value: Valued, token: Token) -> Result<Stage, AllocError>
+fn operator(waiting: &mut Vec<Waiting>, value: CheckedValue, token: Token) -> Result<Stage, AllocError>
     ensures { IfOk result (λ next. state next (reverse waiting.new.items) ≡ after_operand value (reverse waiting.old.items) token) }
 {
     match token {
@@ -202,7 +202,7 @@ fn step(
     }
 }
 
-fn answer(waiting: &mut Vec<Waiting>, stage: Stage) -> Option<Valued>
+fn answer(waiting: &mut Vec<Waiting>, stage: Stage) -> Option<CheckedValue>
     ensures { result ≡ answer (state stage (reverse waiting.old.items)) }
 {
     match stage {
@@ -224,7 +224,7 @@ pub fn value_of(
     names: &Names,
     here: usize,
     text: &[u8],
-) -> Result<Option<Valued>, AllocError>
+) -> Result<Option<CheckedValue>, AllocError>
     ensures { IfOk result (λ found. found ≡ value_at (in_table names.now) here text.now) }
 {
     let mut waiting: Vec<Waiting> = Vec::new(alloc);

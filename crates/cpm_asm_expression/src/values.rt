@@ -8,7 +8,7 @@ use crate::tokens::{Atom, Operator, Prefix};
 
 /// A value, and what is wrong with it.
 #[derive(Clone, Copy, Debug, PartialEq, Eq)]
-pub struct Valued {
+pub struct CheckedValue {
     /// The value, modulo 65,536.
     pub number: u16,
     /// A name in it has no value.
@@ -18,22 +18,22 @@ pub struct Valued {
 }
 
 /// What a number, a name or `$` stands for, at an address.
-pub(crate) fn atom_value(names: &Names, here: usize, atom: Atom) -> Valued
+pub(crate) fn atom_value(names: &Names, here: usize, atom: Atom) -> CheckedValue
     ensures { result ≡ atom_value (in_table names.now) here atom }
 {
     match atom {
-        Atom::Number(number) => Valued {
+        Atom::Number(number) => CheckedValue {
             number,
             is_unknown: false,
             is_outside: false,
         },
         Atom::Named(name) => match names.get(&name) {
-            Some(number) => Valued {
+            Some(number) => CheckedValue {
                 number: *number,
                 is_unknown: false,
                 is_outside: false,
             },
-            None => Valued {
+            None => CheckedValue {
                 number: 0,
                 is_unknown: true,
                 is_outside: false,
@@ -41,13 +41,13 @@ pub(crate) fn atom_value(names: &Names, here: usize, atom: Atom) -> Valued
         },
         Atom::Here => {
             if here < 65536 {
-                Valued {
+                CheckedValue {
                     number: here as u16,
                     is_unknown: false,
                     is_outside: false,
                 }
             } else {
-                Valued {
+                CheckedValue {
                     number: 0,
                     is_unknown: false,
                     is_outside: true,
@@ -95,11 +95,11 @@ fn divides(operator: Operator) -> bool
 }
 
 /// The value of an operation on two values.
-pub(crate) fn combined(operator: Operator, left: Valued, right: Valued) -> Valued
+pub(crate) fn combined(operator: Operator, left: CheckedValue, right: CheckedValue) -> CheckedValue
     ensures { result ≡ combined operator left right }
 {
     let by_zero = divides(operator) && right.number == 0 && !right.is_unknown;
-    Valued {
+    CheckedValue {
         number: calculated(operator, left.number, right.number),
         is_unknown: left.is_unknown || right.is_unknown,
         is_outside: left.is_outside || right.is_outside || by_zero,
@@ -117,10 +117,10 @@ fn flipped(prefix: Prefix, number: u16) -> u16
 }
 
 /// The value of an operation on one value.
-pub(crate) fn changed(prefix: Prefix, value: Valued) -> Valued
+pub(crate) fn changed(prefix: Prefix, value: CheckedValue) -> CheckedValue
     ensures { result ≡ changed prefix value }
 {
-    Valued {
+    CheckedValue {
         number: flipped(prefix, value.number),
         ..value
     }

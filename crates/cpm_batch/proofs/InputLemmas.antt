@@ -6,7 +6,7 @@ use Rattle.std.specs.Prelude.{⊤, string_bytes}
 use Rattle.std.specs.declared.alloc.Global.{Global}
 use Rattle.cpm_config.specs.declared.config.Config.{Config}
 use Rattle.cpm_config.specs.declared.config.Origin.TheVariants as origin
-use Rattle.cpm_config.specs.declared.config.Session.{Session}
+use Rattle.cpm_config.specs.declared.config.SessionConfig.{SessionConfig}
 use Rattle.cpm_geom.specs.Disk.{Disk}
 use Rattle.cpm_script.specs.Fork.{keys_before}
 use Rattle.cpm_store.specs.Files.{Files, Text}
@@ -74,19 +74,19 @@ name_read files names i name ds all d within is pushed done h =
 -- ---- sessions, each behind those before it
 
 -- what is refused behind sessions that were read is refused of all
-fault_behind : (files : Option Files) (before is : List SessionInput) (rest : List Session) (e : ReadError) → AllInputs files before is → AreFirstFault files (before ++ is) rest e
+fault_behind : (files : Option Files) (before is : List SessionInput) (rest : List SessionConfig) (e : ReadError) → AllInputs files before is → AreFirstFault files (before ++ is) rest e
     → AreFirstFault files before (map (λ i. i.session) is ++ rest) e
 fault_behind files before [] rest e h g = subst (λ (b : List SessionInput). AreFirstFault files b rest e) (append-nil before) g
 fault_behind files before (i ∷ is) rest e h g =
     inr (i, refl, h.0, fault_behind files (before ++ i ∷ []) is rest e h.1 (subst (λ (b : List SessionInput). AreFirstFault files b rest e) (sym (append_assoc before (i ∷ []) is)) g))
 
 -- the session in turn is refused
-pub session_refused : (files : Option Files) (sessions : List Session) (i : ℕ) (s : Session) (is : List SessionInput) (e : ReadError) → i < length sessions → s ≡ get_or sessions i s
+pub session_refused : (files : Option Files) (sessions : List SessionConfig) (i : ℕ) (s : SessionConfig) (is : List SessionInput) (e : ReadError) → i < length sessions → s ≡ get_or sessions i s
     → map (λ x. x.session) is ≡ take i sessions → AllInputs files [] is → IsNeedRefusal files (needs_of is s) e → IsSessionRefusal files [] sessions e
 session_refused files sessions i s is e within at same done h =
     let parts : sessions ≡ take i sessions ++ s ∷ drop (suc i) sessions = split_at sessions i s within ∙ ap (λ x. take i sessions ++ x ∷ drop (suc i) sessions) (sym at) in
     let all : map (λ x. x.session) is ++ s ∷ drop (suc i) sessions ≡ sessions = ap (λ ss. ss ++ s ∷ drop (suc i) sessions) same ∙ sym parts in
-    subst (λ (ss : List Session). IsSessionRefusal files [] ss e) all
+    subst (λ (ss : List SessionConfig). IsSessionRefusal files [] ss e) all
     (⊎_elim (λ m. inl m) (λ f. inr (fault_behind files [] is (s ∷ drop (suc i) sessions) e done (inl f))) h)
 
 inputs_push : (files : Option Files) (before is : List SessionInput) (x : SessionInput) → AllInputs files before is → HasInput files (before ++ is) x → AllInputs files before (is ++ x ∷ [])
@@ -99,7 +99,7 @@ pub inputs_more : (files : Option Files) (is all : List Input) (x : Input) → a
 inputs_more files is all x pushed h g =
     subst (λ (ys : List SessionInput). AllInputs files [] ys) (sym (ap (map given) pushed ∙ map-append given is (x ∷ []))) (inputs_push files [] (map given is) (given x) h g)
 
-pub sessions_more : (is all : List Input) (x : Input) (sessions : List Session) (i : ℕ) (s : Session) → i < length sessions → s ≡ get_or sessions i s
+pub sessions_more : (is all : List Input) (x : Input) (sessions : List SessionConfig) (i : ℕ) (s : SessionConfig) → i < length sessions → s ≡ get_or sessions i s
     → all ≡ is ++ x ∷ [] → map (λ y. y.session) (map given is) ≡ take i sessions → x.session.now ≡ s → map (λ y. y.session) (map given all) ≡ take (i + 1) sessions
 sessions_more is all x sessions i s within at pushed same one =
     ap (λ (ys : List Input). map (λ y. y.session) (map given ys)) pushed ∙ ap (map (λ y. y.session)) (map-append given is (x ∷ [])) ∙ map-append (λ y. y.session) (map given is) (given x ∷ [])
@@ -120,7 +120,7 @@ pub inputs_as : (files now : Option Files) (is : List SessionInput) → now ≡ 
 inputs_as files now is same h = subst (λ (f : Option Files). AllInputs f [] is) same h
 
 -- the needs of a forked session
-pub forked_needs : (before : List SessionInput) (session : Session) (parent : String Global) (at : ℕ) (name : Text) → session.origin ≡ origin.Forked parent at → name ≡ string_bytes parent
+pub forked_needs : (before : List SessionInput) (session : SessionConfig) (parent : String Global) (at : ℕ) (name : Text) → session.origin ≡ origin.Forked parent at → name ≡ string_bytes parent
     → forked_script_needs at (keys_before at (keys_in before name)) session.keys ≡ needs_of before session
 forked_needs before session parent at name is named =
     ap (λ (n : Text). forked_script_needs at (keys_before at (keys_in before n)) session.keys) named ∙ ap (needs_from before session.keys) (sym is)
@@ -130,8 +130,8 @@ forked_needs before session parent at name is named =
 pub system_refused : (files : Option Files) (config : Config) (e : ReadError) → IsNeedRefusal files (ImageIn (string_bytes config.system) ∷ []) e → IsReadRefusal files config e
 system_refused files config e h = ⊎_elim (λ m. inl m) (λ f. inr (⊎_elim (λ x. inl x) (λ m. absurd m.1) f)) h
 
-pub sessions_refused : (files now : Option Files) (config : Config) (sessions : List Session) (d : Disk) (e : ReadError) → IsImageIn files (string_bytes config.system) d → now ≡ files
+pub sessions_refused : (files now : Option Files) (config : Config) (sessions : List SessionConfig) (d : Disk) (e : ReadError) → IsImageIn files (string_bytes config.system) d → now ≡ files
     → sessions ≡ config.sessions.items → IsSessionRefusal now [] sessions e → IsReadRefusal files config e
 sessions_refused files now config sessions d e system same is h =
-    let told = subst (λ (f : Option Files). IsSessionRefusal f [] config.sessions.items e) same (subst (λ (ss : List Session). IsSessionRefusal now [] ss e) is h) in
+    let told = subst (λ (f : Option Files). IsSessionRefusal f [] config.sessions.items e) same (subst (λ (ss : List SessionConfig). IsSessionRefusal now [] ss e) is h) in
     ⊎_elim (λ m. inl m) (λ f. inr (inr ((d, system), f))) told

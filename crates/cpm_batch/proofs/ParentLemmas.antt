@@ -13,7 +13,7 @@ use Rattle.cpm_config.specs.Rules.{fork_fault, forks_fault, if_opened, is_named,
 use Rattle.cpm_config.proofs.FaultLemmas.{faultless_step}
 use Rattle.cpm_config.specs.declared.config.Origin.{Origin}
 use Rattle.cpm_config.specs.declared.config.Origin.TheVariants as origin
-use Rattle.cpm_config.specs.declared.config.Session.{Session}
+use Rattle.cpm_config.specs.declared.config.SessionConfig.{SessionConfig}
 use Rattle.cpm_script.specs.Fork.{keys_before}
 use Rattle.cpm_script.specs.declared.script.Key.{Key}
 use Rattle.cpm_store.specs.Files.{Files, Text}
@@ -136,14 +136,14 @@ seen_sessions [] = refl
 seen_sessions (i ∷ is) = ap (λ ss. seen i ∷ ss) (seen_sessions is)
 
 -- from the sessions that were read
-pub fork_stands : (sessions : List Session) (i : ℕ) (s : Session) (is : List SessionInput) → i < length sessions → s ≡ get_or sessions i s
+pub fork_stands : (sessions : List SessionConfig) (i : ℕ) (s : SessionConfig) (is : List SessionInput) → i < length sessions → s ≡ get_or sessions i s
     → forks_fault (i + 1) (map session_view (take i sessions)) (map session_view (drop i sessions)) ≡ None → map (λ x. x.session) is ≡ take i sessions
     → fork_fault (map (λ x. session_view x.session) is) (session_view s) ≡ None
 fork_stands sessions i s is within at none same =
     ap (λ before. fork_fault before (session_view s)) (seen_sessions is ∙ ap (map session_view) same)
     ∙ (faultless_step session_view fork_fault (i + 1) sessions i s within at none).0
 
-pub forks_stand : (sessions : List Session) (i : ℕ) (s : Session) → i < length sessions → s ≡ get_or sessions i s
+pub forks_stand : (sessions : List SessionConfig) (i : ℕ) (s : SessionConfig) → i < length sessions → s ≡ get_or sessions i s
     → forks_fault (i + 1) (map session_view (take i sessions)) (map session_view (drop i sessions)) ≡ None
     → forks_fault (i + 1 + 1) (map session_view (take (i + 1) sessions)) (map session_view (drop (i + 1) sessions)) ≡ None
 forks_stand sessions i s within at none = (faultless_step session_view fork_fault (i + 1) sessions i s within at none).1

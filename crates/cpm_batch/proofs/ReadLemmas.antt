@@ -13,7 +13,7 @@ use Rattle.cpm_script.specs.declared.script.Key.{Key}
 use Rattle.std.specs.Prelude.{Err, IfOk, Ok, Option, Result, Some, None, Vec}
 use Rattle.cpm_config.specs.declared.config.Origin.{Origin}
 use Rattle.cpm_config.specs.declared.config.Origin.TheVariants as origin
-use Rattle.cpm_config.specs.declared.config.Session.{Session}
+use Rattle.cpm_config.specs.declared.config.SessionConfig.{SessionConfig}
 use Rattle.cpm_flags.specs.declared.regs.Cpu.{Cpu}
 use Rattle.cpm_batch.specs.declared.error.ReadError.{ReadError}
 use Rattle.cpm_batch.specs.Inputs.{IsImage, SessionInput, given}
@@ -55,20 +55,20 @@ pub no_forked_script : {S : Type 0} (does : S → Access → S → Type 0) (scri
 no_forked_script does script at before keys s is same = subst (λ (o : Option (String Global)). RanBy does (AreForkedKeysRead o at before keys) s s) (sym is) ([], (same, refl), refl)
 
 -- the reads of a session that begins so
-pub opened_read : {S : Type 0} (does : S → Access → S → Type 0) (r : Result Input ReadError) (before : List SessionInput) (session : Session) (cpu : Cpu) (quota : ℕ) (drives : Vec (String Global) Global)
+pub opened_read : {S : Type 0} (does : S → Access → S → Type 0) (r : Result Input ReadError) (before : List SessionInput) (session : SessionConfig) (cpu : Cpu) (quota : ℕ) (drives : Vec (String Global) Global)
     (names : List (String Global)) (s t : S) → session.origin ≡ origin.Opened cpu quota drives → names ≡ drives.items → IfOk r (λ i. i.session.now ≡ session)
     → IfOk r (λ i. RanBy does (IsOpenedRead cpu quota names (given i)) s t) → IfOk r (λ i. RanBy does (IsInputRead before (given i)) s t)
 opened_read does (Err e) before session cpu quota drives names s t is named same log = tt
 opened_read does (Ok i) before session cpu quota drives names s t is named same log =
-    subst (λ (o : Origin). RanBy does (IsInputReadOf before o (given i)) s t) (sym (ap (λ (x : Session). x.origin) same ∙ is))
+    subst (λ (o : Origin). RanBy does (IsInputReadOf before o (given i)) s t) (sym (ap (λ (x : SessionConfig). x.origin) same ∙ is))
     (subst (λ (ns : List (String Global)). RanBy does (IsOpenedRead cpu quota ns (given i)) s t) named log)
 
-pub forked_read : {S : Type 0} (does : S → Access → S → Type 0) (r : Result Input ReadError) (before : List SessionInput) (session : Session) (parent : String Global) (at : ℕ) (name : Text) (s t : S)
+pub forked_read : {S : Type 0} (does : S → Access → S → Type 0) (r : Result Input ReadError) (before : List SessionInput) (session : SessionConfig) (parent : String Global) (at : ℕ) (name : Text) (s t : S)
     → session.origin ≡ origin.Forked parent at → name ≡ string_bytes parent → IfOk r (λ i. i.session.now ≡ session) → IfOk r (λ i. RanBy does (IsForkedRead before name at (given i)) s t)
     → IfOk r (λ i. RanBy does (IsInputRead before (given i)) s t)
 forked_read does (Err e) before session parent at name s t is named same log = tt
 forked_read does (Ok i) before session parent at name s t is named same log =
-    subst (λ (o : Origin). RanBy does (IsInputReadOf before o (given i)) s t) (sym (ap (λ (x : Session). x.origin) same ∙ is))
+    subst (λ (o : Origin). RanBy does (IsInputReadOf before o (given i)) s t) (sym (ap (λ (x : SessionConfig). x.origin) same ∙ is))
     (subst (λ (n : Text). RanBy does (IsForkedRead before n at (given i)) s t) named log)
 
 -- the reads of a list, and one more

@@ -7,7 +7,7 @@ use Rattle.std.specs.declared.alloc.Global.{Global}
 use Rattle.cpm_config.specs.declared.config.Config.{Config}
 use Rattle.cpm_config.specs.declared.config.Origin.{Origin}
 use Rattle.cpm_config.specs.declared.config.Origin.TheVariants as origin
-use Rattle.cpm_config.specs.declared.config.Session.{Session}
+use Rattle.cpm_config.specs.declared.config.SessionConfig.{SessionConfig}
 use Rattle.cpm_geom.specs.Disk.{Disk}
 use Rattle.cpm_script.specs.Fork.{keys_before}
 use Rattle.cpm_script.specs.declared.script.Key.{Key}
@@ -85,7 +85,7 @@ inputs_unwritten before (i ∷ is) log h =
     subst AreNoWrites (sym h.order)
     (no_writes_more h.first h.rest (input_unwritten before i.session.origin i h.first h.begins) (inputs_unwritten (before ++ i ∷ []) is h.rest h.goes_on))
 
-inputs_behind : (before is : List SessionInput) (rest : List Session) (e : ReadError) (xs ys : List Access) → AreInputsRead before is xs → StopsAtSession (before ++ is) rest e ys
+inputs_behind : (before is : List SessionInput) (rest : List SessionConfig) (e : ReadError) (xs ys : List Access) → AreInputsRead before is xs → StopsAtSession (before ++ is) rest e ys
     → StopsAtSession before (map (λ i. i.session) is ++ rest) e (xs ++ ys)
 inputs_behind before [] rest e xs ys h g =
     subst (λ (zs : List Access). StopsAtSession before rest e (zs ++ ys)) (sym h) (subst (λ (b : List SessionInput). StopsAtSession b rest e ys) (append-nil before) g)
@@ -145,12 +145,12 @@ module _ {S : Type 0} (does : S → Access → S → Type 0) where
       (behind_images (take i names) ds (image_needs (name ∷ drop (suc i) names)) e s m t done
       (stopped_front (ImageIn (string_bytes name) ∷ []) (image_needs (drop (suc i) names)) e m t h))
 
-  pub session_stopped : (sessions : List Session) (i : ℕ) (x : Session) (is : List SessionInput) (e : ReadError) (s m t : S) → i < length sessions → x ≡ get_or sessions i x
+  pub session_stopped : (sessions : List SessionConfig) (i : ℕ) (x : SessionConfig) (is : List SessionInput) (e : ReadError) (s m t : S) → i < length sessions → x ≡ get_or sessions i x
       → map (λ y. y.session) is ≡ take i sessions → RanBy does (AreInputsRead [] is) s m → RanBy does (StopsAmongNeeds (needs_of is x) e) m t → RanBy does (StopsAmongSessions [] sessions e) s t
   session_stopped sessions i x is e s m t within at same done h =
       let parts : sessions ≡ take i sessions ++ x ∷ drop (suc i) sessions = split_at sessions i x within ∙ ap (λ y. take i sessions ++ y ∷ drop (suc i) sessions) (sym at) in
       let all : map (λ y. y.session) is ++ x ∷ drop (suc i) sessions ≡ sessions = ap (λ ss. ss ++ x ∷ drop (suc i) sessions) same ∙ sym parts in
-      subst (λ (ss : List Session). RanBy does (StopsAmongSessions [] ss e) s t) all (
+      subst (λ (ss : List SessionConfig). RanBy does (StopsAmongSessions [] ss e) s t) all (
         done.0 ++ h.0,
         ⊎_elim (λ no. inl (no.0, no_writes_more done.0 h.0 (inputs_unwritten [] is done.0 done.1) no.1))
             (λ f. inr (inputs_behind [] is (x ∷ drop (suc i) sessions) e done.0 h.0 done.1 (inl f))) h.1,
@@ -158,7 +158,7 @@ module _ {S : Type 0} (does : S → Access → S → Type 0) where
       )
 
   -- memory was refused
-  pub sessions_memory : (sessions : List Session) (s t : S) → RanBy does AreNoWrites s t → RanBy does (StopsAmongSessions [] sessions OutOfMemory) s t
+  pub sessions_memory : (sessions : List SessionConfig) (s t : S) → RanBy does AreNoWrites s t → RanBy does (StopsAmongSessions [] sessions OutOfMemory) s t
   sessions_memory sessions s t h = (h.0, inl (refl, h.1), h.2)
 
   -- ---- a configuration
@@ -166,10 +166,10 @@ module _ {S : Type 0} (does : S → Access → S → Type 0) where
   pub system_stopped : (config : Config) (e : ReadError) (s t : S) → RanBy does (StopsAmongNeeds (ImageIn (string_bytes config.system) ∷ []) e) s t → RanBy does (StopsReading config e) s t
   system_stopped config e s t h = (h.0, ⊎_elim (λ m. inl m) (λ f. inr (⊎_elim (λ x. inl x) (λ m. absurd m.goes_on) f)) h.1, h.2)
 
-  pub sessions_stopped : (config : Config) (sessions : List Session) (d : Disk) (e : ReadError) (s m t : S) → sessions ≡ config.sessions.items
+  pub sessions_stopped : (config : Config) (sessions : List SessionConfig) (d : Disk) (e : ReadError) (s m t : S) → sessions ≡ config.sessions.items
       → RanBy does (IsImageRead (string_bytes config.system) d) s m → RanBy does (StopsAmongSessions [] sessions e) m t → RanBy does (StopsReading config e) s t
   sessions_stopped config sessions d e s m t is system h =
-      let g = subst (λ (ss : List Session). RanBy does (StopsAmongSessions [] ss e) m t) is h in (
+      let g = subst (λ (ss : List SessionConfig). RanBy does (StopsAmongSessions [] ss e) m t) is h in (
         system.0 ++ g.0,
         ⊎_elim (λ no. inl (no.0, no_writes_more system.0 g.0 (need_unwritten (ImageIn (string_bytes config.system)) system.0 (d, system.1)) no.1))
             (λ f. inr (inr (record { first = system.0; rest = g.0; order = refl; begins = (d, system.1); goes_on = f }))) g.1,

@@ -7,7 +7,7 @@ use Rattle.cpm_config.specs.Rules.{place_of, session_view}
 use Rattle.cpm_config.specs.declared.config.Config.{Config}
 use Rattle.cpm_config.specs.declared.config.Origin.{Origin}
 use Rattle.cpm_config.specs.declared.config.Origin.TheVariants as origin
-use Rattle.cpm_config.specs.declared.config.Session.{Session}
+use Rattle.cpm_config.specs.declared.config.SessionConfig.{SessionConfig}
 use Rattle.cpm_flags.specs.declared.regs.Cpu.{Cpu}
 use Rattle.cpm_geom.specs.Disk.{Disk, IsDisk}
 use Rattle.cpm_geom.specs.Geometry.{format_of_length}
@@ -79,7 +79,7 @@ start_view (start.Opened cpu quota drives) = Opens cpu quota drives.items
 start_view (start.Forked parent at) = Forks parent at
 
 pub record SessionInput : Type 0 where
-  pub session : Session
+  pub session : SessionConfig
   pub start : StartInput
   -- all keys that it has: those before its fork, where it is forked, and those of its script
   pub keys : List Key
@@ -190,7 +190,7 @@ needs_from before keys (origin.Opened cpu quota drives) = image_needs drives.ite
 needs_from before keys (origin.Forked parent at) = forked_script_needs at (keys_before at (keys_in before (string_bytes parent))) keys
 
 -- of a session, behind what was read for those before it
-abbrev pub needs_of : (before : List SessionInput) → Session → List Need
+abbrev pub needs_of : (before : List SessionInput) → SessionConfig → List Need
 needs_of before s = needs_from before s.keys s.origin
 
 -- ---- the first fault
@@ -227,7 +227,7 @@ IsFirstFault files [] e = ⊥
 IsFirstFault files (need ∷ needs) e = IsFault files need e ⊎ (IsMet files need × IsFirstFault files needs e)
 
 -- the first need that isn't met of sessions, behind what was read for those before them, is refused so
-abbrev pub AreFirstFault : Option Files → (before : List SessionInput) → List Session → ReadError → Type 0
+abbrev pub AreFirstFault : Option Files → (before : List SessionInput) → List SessionConfig → ReadError → Type 0
 AreFirstFault files before [] e = ⊥
 AreFirstFault files before (s ∷ ss) e =
     IsFirstFault files (needs_of before s) e ⊎ ((i : SessionInput) × (i.session ≡ s) × HasInput files before i × AreFirstFault files (before ++ i ∷ []) ss e)
@@ -242,7 +242,7 @@ IsInputFault files config e =
 abbrev pub IsNeedRefusal : Option Files → List Need → ReadError → Type 0
 IsNeedRefusal files needs e = (e ≡ OutOfMemory) ⊎ IsFirstFault files needs e
 
-abbrev pub IsSessionRefusal : Option Files → (before : List SessionInput) → List Session → ReadError → Type 0
+abbrev pub IsSessionRefusal : Option Files → (before : List SessionInput) → List SessionConfig → ReadError → Type 0
 IsSessionRefusal files before sessions e = (e ≡ OutOfMemory) ⊎ AreFirstFault files before sessions e
 
 abbrev pub IsReadRefusal : Option Files → Config → ReadError → Type 0

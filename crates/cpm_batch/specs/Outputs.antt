@@ -2,7 +2,7 @@
 use Rattle.std.specs.Prelude.{ℕ, List, [], ◌∷◌, ◌++◌, Option, Some, None, Vec, String, string_bytes, option_map, slice_get, slice_index_or}
 use Rattle.std.specs.List.{concat}
 use Rattle.std.specs.declared.alloc.Global.{Global}
-use Rattle.cpm_config.specs.declared.config.Session.{Session}
+use Rattle.cpm_config.specs.declared.config.SessionConfig.{SessionConfig}
 use Rattle.cpm_geom.specs.Disk.{Disk}
 use Rattle.cpm_store.specs.Files.{Text}
 use Rattle.cpm_store.specs.Writes.{Named}
@@ -10,7 +10,7 @@ use Rattle.cpm_batch.specs.declared.output.SessionFiles.{SessionFiles}
 
 -- a session, and what it left
 pub record SessionOutput : Type 0 where
-  pub session : Session
+  pub session : SessionConfig
   -- the bytes of its console, and of its list device
   pub console : List ℕ
   pub list : List ℕ

@@ -5,7 +5,7 @@ use Rattle.cpm_command_line.specs.Shown.{shown_of}
 use Rattle.cpm_config.specs.declared.config.Config.{Config}
 use Rattle.cpm_config.specs.declared.config.Origin.{Origin}
 use Rattle.cpm_config.specs.declared.config.Origin.TheVariants as origin
-use Rattle.cpm_config.specs.declared.config.Session.{Session}
+use Rattle.cpm_config.specs.declared.config.SessionConfig.{SessionConfig}
 use Rattle.cpm_flags.specs.declared.regs.Cpu.{Cpu}
 use Rattle.cpm_geom.specs.Disk.{Disk}
 use Rattle.cpm_geom.specs.Geometry.{format_of_length}
@@ -128,7 +128,7 @@ StopsAtFault [] e log = ⊥
 StopsAtFault (need ∷ needs) e log = IsFaultRead need e log ⊎ Then (IsNeedRead need) (StopsAtFault needs e) log
 
 -- the reads of sessions in order, each behind what was read for those before it, up to the first need that isn't met, and none behind it
-abbrev pub StopsAtSession : (before : List SessionInput) → List Session → ReadError → List Access → Type 0
+abbrev pub StopsAtSession : (before : List SessionInput) → List SessionConfig → ReadError → List Access → Type 0
 StopsAtSession before [] e log = ⊥
 StopsAtSession before (s ∷ ss) e log =
     StopsAtFault (needs_of before s) e log
@@ -144,7 +144,7 @@ StopsAtInput config e log =
 abbrev pub StopsAmongNeeds : List Need → ReadError → List Access → Type 0
 StopsAmongNeeds needs e log = ((e ≡ OutOfMemory) × AreNoWrites log) ⊎ StopsAtFault needs e log
 
-abbrev pub StopsAmongSessions : (before : List SessionInput) → List Session → ReadError → List Access → Type 0
+abbrev pub StopsAmongSessions : (before : List SessionInput) → List SessionConfig → ReadError → List Access → Type 0
 StopsAmongSessions before sessions e log = ((e ≡ OutOfMemory) × AreNoWrites log) ⊎ StopsAtSession before sessions e log
 
 abbrev pub StopsReading : Config → ReadError → List Access → Type 0

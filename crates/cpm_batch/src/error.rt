@@ -3,7 +3,7 @@ ghost use Rattle.std.specs.Prelude.{◌≡◌};
 ghost use Rattle.cpm_batch.specs.Inputs.{status_of_reading};
 ghost use Rattle.cpm_batch.specs.declared.error.ReadError.TheVariants.{OutOfMemory};
 
-use cpm_command_line::Word;
+use cpm_command_line::ShownWord;
 use cpm_script::LineFault;
 use std::alloc::{AllocError, AllocFailed};
 use thiserror::Error;
@@ -13,17 +13,17 @@ use thiserror::Error;
 pub enum ReadError {
     /// A file can't be read, or has more than 16,777,216 bytes.
     #[error("HO4 can't read '{0}'")]
-    File(Word),
+    File(ShownWord),
     /// A file is no image, by its length.
     #[error("HO6 '{name}' has {length} bytes, and the image of a drive has 256256 or 2105344")]
     Image {
-        name: Word,
+        name: ShownWord,
         length: usize,
     },
     /// A line of a key script is wrong.
     #[error("HO3 '{name}', line {line}: {fault}")]
     Script {
-        name: Word,
+        name: ShownWord,
         line: u64,
         fault: LineFault,
     },

@@ -10,7 +10,7 @@ ghost use Rattle.cpm_batch.specs.Reads.{AreForkedKeysRead, IsForkedRead, IsForke
 use crate::error::ReadError;
 use crate::input::{Input, Start, read_bytes};
 use cpm_command_line::shown;
-use cpm_config::Session;
+use cpm_config::SessionConfig;
 use cpm_script::{Key, ScriptError, keys_before, read_forked_keys};
 use cpm_store::Store;
 use std::alloc::Global;
@@ -87,7 +87,7 @@ fn read_forked_keys_of<S: Store>(
 pub(crate) fn read_forked<'a, S: Store>(
     alloc: Global,
     store: &mut S,
-    session: &'a Session,
+    session: &'a SessionConfig,
     before: &[Input],
     name: &str,
     at: u64,

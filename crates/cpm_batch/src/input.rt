@@ -9,7 +9,7 @@ ghost use Rattle.cpm_batch.specs.Reads.{AreImagesRead, AreInputsRead, AreKeysRea
 use crate::error::ReadError;
 use crate::forked::read_forked;
 use cpm_command_line::shown;
-use cpm_config::{Config, Origin, Session};
+use cpm_config::{Config, Origin, SessionConfig};
 use cpm_flags::Cpu;
 use cpm_geom::Image;
 use cpm_script::{Key, ScriptError, read_keys};
@@ -36,7 +36,7 @@ pub enum Start {
 /// What was read for a session.
 #[derive(Drop)]
 pub struct Input<'a> {
-    pub session: &'a Session,
+    pub session: &'a SessionConfig,
     pub start: Start,
     /// Its keys: those of its script; of a forked session those of its parent that come before the
     /// fork, and then those of its script.
@@ -175,7 +175,7 @@ fn read_keys_of<S: Store>(
 fn read_opened<'a, S: Store>(
     alloc: Global,
     store: &mut S,
-    session: &'a Session,
+    session: &'a SessionConfig,
     cpu: Cpu,
     quota: u16,
     names: &[String],
@@ -206,7 +206,7 @@ fn read_opened<'a, S: Store>(
 fn read_session<'a, S: Store>(
     alloc: Global,
     store: &mut S,
-    session: &'a Session,
+    session: &'a SessionConfig,
     before: &[Input],
 ) -> Result<Input<'a>, ReadError>
     requires before { AllInputs (S.files store.old) [] (map given before.now) }
@@ -237,7 +237,7 @@ fn read_session<'a, S: Store>(
 fn read_sessions<'a, S: Store>(
     alloc: Global,
     store: &mut S,
-    sessions: &'a [Session],
+    sessions: &'a [SessionConfig],
 ) -> Result<Vec<Input<'a>>, ReadError>
     requires forks { forks_fault 1 [] (map session_view sessions.now) ≡ None }
     ensures inputs { IfOk result (λ v. AllInputs (S.files store.old) [] (map given v.items)) }

@@ -3,7 +3,7 @@ ghost use Rattle.std.specs.Prelude.{◌≡◌, ◌<◌, ◌++◌, ℕ, None, IfO
 ghost use Rattle.cpm_batch.specs.Outputs.{files_of, files_of_all, images_of, left_by, named_bytes, named_image};
 ghost use Rattle.cpm_store.specs.Writes.{named};
 
-use cpm_config::Session;
+use cpm_config::SessionConfig;
 use cpm_geom::Image;
 use cpm_store::Output;
 use std::alloc::{AllocError, Global};
@@ -11,7 +11,7 @@ use std::alloc::{AllocError, Global};
 /// A session, and what it left.
 #[derive(Drop)]
 pub struct SessionFiles<'a> {
-    pub session: &'a Session,
+    pub session: &'a SessionConfig,
     /// The bytes of its console.
     pub console: Vec<u8>,
     /// The bytes of its list device.

@@ -7,8 +7,8 @@ use Rattle.cpm_console.specs.Draft.{Draft}
 use Rattle.cpm_console.specs.Editing.{Edited, edited, key_into_line, edit, keystroke, echo_at, columns, with_character}
 use Rattle.cpm_console.specs.declared.line.Keystroke.{Keystroke}
 use Rattle.cpm_console.specs.declared.line.Keystroke.TheVariants.{Interrupt, NewLine, Erase, Repeat, End, ListEcho, Retype, Restart, EraseAll, Character}
-use Rattle.cpm_console.specs.declared.line.Progress.{Progress}
-use Rattle.cpm_console.specs.declared.line.Progress.TheVariants.{GoesOn, Ended}
+use Rattle.cpm_console.specs.declared.line.LineState.{LineState}
+use Rattle.cpm_console.specs.declared.line.LineState.TheVariants.{GoesOn, Ended}
 use Rattle.cpm_bdos.specs.Behind.{behind}
 
 module _ (p q : List ℕ) where
@@ -37,7 +37,7 @@ module _ (p q : List ℕ) where
   edited-if true x y x' y' ex ey = ex
   edited-if false x y x' y' ex ey = ey
 
-  edited-said : (t : Terminal) (xs : List ℕ) (l : Draft) (progress : Progress) → edited (said (behind p q t) xs) l progress ≡ edited_behind (edited (said t xs) l progress)
+  edited-said : (t : Terminal) (xs : List ℕ) (l : Draft) (progress : LineState) → edited (said (behind p q t) xs) l progress ≡ edited_behind (edited (said t xs) l progress)
   edited-said t xs l progress = ap (λ (u : Terminal). edited u l progress) (said-behind t xs)
 
   edit-behind : (k : Keystroke) (t : Terminal) (l : Draft) (key : ℕ) → edit k (behind p q t) l key ≡ edited_behind (edit k t l key)

@@ -9,20 +9,20 @@ use Rattle.cpm_drives.specs.declared.function.FileFunction.{FileFunction}
 use Rattle.cpm_drives.specs.Functions.{BytesCall, file_function_bytes}
 use Rattle.cpm_bdos.specs.Registers.{de_of}
 use Rattle.cpm_bdos.specs.Disks.{by_answer, fcb_size, record_size, record_stored, changed_bytes, fcb_stored, call_stored}
-use Rattle.cpm_bdos.specs.declared.cpm.Cpm.{Cpm}
+use Rattle.cpm_bdos.specs.declared.session.Session.{Session}
 use Rattle.cpm_bdos.proofs.Pages.{pages-le}
 
-pub memory-by_answer : (a : Result ℕ Fault) (drive : ℕ) (s : Cpm) (m : Contents) → (by_answer a drive s m).memory ≡ m
+pub memory-by_answer : (a : Result ℕ Fault) (drive : ℕ) (s : Session) (m : Contents) → (by_answer a drive s m).memory ≡ m
 memory-by_answer (Ok code) drive s m = refl
 memory-by_answer (Err which) drive s m = refl
 
 -- the call of a function in a session
-abbrev pub call_of : FileFunction → Disk → Cpm → Contents → BytesCall
+abbrev pub call_of : FileFunction → Disk → Session → Contents → BytesCall
 call_of f system s m =
     file_function_bytes f s.disks system (run_at m (de_of s.regs) fcb_size) (run_at m s.buffer record_size)
 
 -- and the memory after it
-abbrev pub memory_of : FileFunction → Disk → Cpm → Contents → Contents
+abbrev pub memory_of : FileFunction → Disk → Session → Contents → Contents
 memory_of f system s m = call_stored m s.buffer (de_of s.regs) (run_at m (de_of s.regs) fcb_size) (call_of f system s m)
 
 pub limit-record_stored : (m : Contents) (at : ℕ) (bytes : List ℕ) → (record_stored m at bytes).limit ≡ m.limit

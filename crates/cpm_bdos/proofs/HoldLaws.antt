@@ -6,8 +6,8 @@ use Rattle.cpm_geom.specs.Disk.{Disk}
 use Rattle.cpm_console.specs.Terminal.{Terminal, said, key_read, expanded}
 use Rattle.cpm_console.specs.Draft.{Draft}
 use Rattle.cpm_console.specs.Editing.{begun, key_into_line}
-use Rattle.cpm_console.specs.declared.line.Progress.{Progress}
-use Rattle.cpm_console.specs.declared.line.Progress.TheVariants as line
+use Rattle.cpm_console.specs.declared.line.LineState.{LineState}
+use Rattle.cpm_console.specs.declared.line.LineState.TheVariants as line
 use Rattle.cpm_console.proofs.Said.{length-screen_said}
 use Rattle.cpm_memory.specs.Contents.{Contents, byte_at, next, run_at}
 use Rattle.cpm_volume.specs.declared.answer.Fault.{Fault as Failure}
@@ -28,12 +28,12 @@ use Rattle.cpm_bdos.specs.Step.{called, in_mode}
 use Rattle.cpm_bdos.specs.Laws.{without_keys, did_with_keys, is_hold, held_by, held_in, HoldsOutput}
 use Rattle.cpm_bdos.specs.declared.function.Function.{Function}
 use Rattle.cpm_bdos.specs.declared.function.Function.TheVariants as f
-use Rattle.cpm_bdos.specs.declared.cpm.Cpm.{Cpm}
-use Rattle.cpm_bdos.specs.declared.cpm.Held.{Held}
-use Rattle.cpm_bdos.specs.declared.cpm.Held.TheVariants as held
-use Rattle.cpm_bdos.specs.declared.cpm.Mode.{Mode}
-use Rattle.cpm_bdos.specs.declared.cpm.Mode.TheVariants.{Program, Text, Line, Hold, Fault, Command}
-use Rattle.cpm_bdos.specs.declared.cpm.Went.TheVariants.{GoesOn}
+use Rattle.cpm_bdos.specs.declared.session.Session.{Session}
+use Rattle.cpm_bdos.specs.declared.session.HeldOutput.{HeldOutput}
+use Rattle.cpm_bdos.specs.declared.session.HeldOutput.TheVariants as held
+use Rattle.cpm_bdos.specs.declared.session.Mode.{Mode}
+use Rattle.cpm_bdos.specs.declared.session.Mode.TheVariants.{Program, Text, Line, Hold, Fault, Command}
+use Rattle.cpm_bdos.specs.declared.session.Went.TheVariants.{GoesOn}
 
 -- ---- bytes shown
 
@@ -57,7 +57,7 @@ wrote_grows t byte same =
 -- ---- steps that are never held
 
 abbrev Free : Did → Type 0
-Free d = is_hold d.cpm.mode ≡ false
+Free d = is_hold d.session.mode ≡ false
 
 free_if : (b : Bool) (x y : Did) → Free x → Free y → Free (if b then x else y)
 free_if true x y hx hy = hx
@@ -67,63 +67,63 @@ free_unless : (b : Bool) (x y : Did) → b ≡ false → Free y → Free (if b t
 free_unless true x y h hy = absurd cc
 free_unless false x y h hy = hy
 
-free_read_key : (k : Option ℕ) (s : Cpm) (m : Contents) → is_hold s.mode ≡ false → Free (read_key k s m)
+free_read_key : (k : Option ℕ) (s : Session) (m : Contents) → is_hold s.mode ≡ false → Free (read_key k s m)
 free_read_key None s m h = h
 free_read_key (Some key) s m h = refl
 
 -- a line's reader that is never held
 abbrev pub ReaderIsFree : LineReader → Type 0
-ReaderIsFree goes_on = (p : Progress) (s : Cpm) (m : Contents) → is_hold s.mode ≡ false → Free (goes_on p s m)
+ReaderIsFree goes_on = (p : LineState) (s : Session) (m : Contents) → is_hold s.mode ≡ false → Free (goes_on p s m)
 
 free_after_key : ReaderIsFree after_key
 free_after_key line.GoesOn s m h = refl
 free_after_key line.Ended s m h = refl
 free_after_key line.Interrupted s m h = refl
 
-free_take_key : (goes_on : LineReader) → ReaderIsFree goes_on → (k : Option ℕ) (draft : Draft) (s : Cpm) (m : Contents) → is_hold s.mode ≡ false → Free (take_key goes_on k draft s m)
+free_take_key : (goes_on : LineReader) → ReaderIsFree goes_on → (k : Option ℕ) (draft : Draft) (s : Session) (m : Contents) → is_hold s.mode ≡ false → Free (take_key goes_on k draft s m)
 free_take_key goes_on free None draft s m h = h
 free_take_key goes_on free (Some key) draft s m h =
     let e = key_into_line (key_read s.console) draft key in free e.progress (with_edited s e) m h
 
-pub free_line_step : (goes_on : LineReader) → ReaderIsFree goes_on → (draft : Draft) (s : Cpm) (m : Contents) → is_hold s.mode ≡ false → Free (line_step goes_on draft s m)
+pub free_line_step : (goes_on : LineReader) → ReaderIsFree goes_on → (draft : Draft) (s : Session) (m : Contents) → is_hold s.mode ≡ false → Free (line_step goes_on draft s m)
 free_line_step goes_on free draft s m h =
     free_if (is_open draft) _ _ (free_take_key goes_on free (first_key s) draft s m h) (free line.Ended (record s { console = said s.console (13 ∷ []); line = draft }) m h)
 
-free_by_answer : (a : Result ℕ Failure) (drive : ℕ) (s : Cpm) (m : Contents) → Free (by_answer a drive s m)
+free_by_answer : (a : Result ℕ Failure) (drive : ℕ) (s : Session) (m : Contents) → Free (by_answer a drive s m)
 free_by_answer (Ok code) drive s m = refl
 free_by_answer (Err which) drive s m = refl
 
-free_file_function : (function : FileFunction) (system : Disk) (s : Cpm) (m : Contents) → Free (file_function function system s m)
+free_file_function : (function : FileFunction) (system : Disk) (s : Session) (m : Contents) → Free (file_function function system s m)
 unfolding file_function
 free_file_function function system s m =
     let c = file_function_bytes function s.disks system (run_at m (de_of s.regs) fcb_size) (run_at m s.buffer record_size) in
     free_by_answer c.answer _ _ _
 
-free_select_disk : (system : Disk) (s : Cpm) (m : Contents) → Free (select_disk system s m)
+free_select_disk : (system : Disk) (s : Session) (m : Contents) → Free (select_disk system s m)
 unfolding select_disk
 free_select_disk system s m = free_by_answer (select s.disks system s.regs.e).answer _ _ _
 
-free_give_allocation : (system : Disk) (s : Cpm) (m : Contents) → Free (give_allocation system s m)
+free_give_allocation : (system : Disk) (s : Session) (m : Contents) → Free (give_allocation system s m)
 unfolding give_allocation
 free_give_allocation system s m = refl
 
-free_user_code : (s : Cpm) (m : Contents) → Free (user_code s m)
+free_user_code : (s : Session) (m : Contents) → Free (user_code s m)
 unfolding user_code
 free_user_code s m = free_if (s.regs.e == 255) _ _ refl refl
 
-free_direct_console : (s : Cpm) (m : Contents) → Free (direct_console s.regs.e s m)
+free_direct_console : (s : Session) (m : Contents) → Free (direct_console s.regs.e s m)
 free_direct_console s m =
     free_if (s.regs.e == 255) _ _ refl (free_if (s.regs.e == 254) _ _ refl refl)
 
-free_write_byte : (s : Cpm) (m : Contents) → is_stop (first_key s) ≡ false → Free (write_byte s m)
+free_write_byte : (s : Session) (m : Contents) → is_stop (first_key s) ≡ false → Free (write_byte s m)
 free_write_byte s m h = free_unless (is_stop (first_key s)) _ _ h refl
 
-free_write_text : (held : Held) (s : Cpm) (m : Contents) (address : ℕ) → is_stop (first_key s) ≡ false → Free (write_text held s m address)
+free_write_text : (held : HeldOutput) (s : Session) (m : Contents) (address : ℕ) → is_stop (first_key s) ≡ false → Free (write_text held s m address)
 free_write_text held s m address h =
     free_if (byte_at m address == 36) _ _ refl (free_unless (is_stop (first_key s)) _ _ h refl)
 
 -- a function is not held where no ^S is read next, or where it does not look for it
-module _ (system : Disk) (s : Cpm) (m : Contents) (now : is_hold s.mode ≡ false) where
+module _ (system : Disk) (s : Session) (m : Contents) (now : is_hold s.mode ≡ false) where
   free_called : (function : Function) → (is_stop (first_key s) ≡ false) ⊎ (held_by function ≡ None) → Free (called function system s m)
   free_called f.WarmBoot h = refl
   free_called f.ReadKey h = free_read_key (first_key s) s m now
@@ -175,38 +175,38 @@ held_if true x y h = refl
 held_if false x y h = absurd cc
 
 -- a text's step: `$` shows nothing, and another byte does
-text_shows : (dollar stop : Bool) (held ends ends_free on on_free : Did) (screen : List ℕ) → stop ≡ true → ends_free.cpm.console.screen ≡ screen → (if dollar then ends_free else on_free).cpm.console.screen ≢ screen → (if dollar then ends else if stop then held else on) ≡ held
+text_shows : (dollar stop : Bool) (held ends ends_free on on_free : Did) (screen : List ℕ) → stop ≡ true → ends_free.session.console.screen ≡ screen → (if dollar then ends_free else on_free).session.console.screen ≢ screen → (if dollar then ends else if stop then held else on) ≡ held
 text_shows true stop held ends ends_free on on_free screen h same shows = absurd (shows same)
 text_shows false stop held ends ends_free on on_free screen h same shows = held_if stop held on h
 
-text_silent : (dollar : Bool) (keys : List ℕ) (ends ends_free on on_free : Did) (screen : List ℕ) → ends ≡ did_with_keys keys ends_free → (on_free.cpm.console.screen ≡ screen → ⊥) → (if dollar then ends_free else on_free).cpm.console.screen ≡ screen → (if dollar then ends else on) ≡ did_with_keys keys (if dollar then ends_free else on_free)
+text_silent : (dollar : Bool) (keys : List ℕ) (ends ends_free on on_free : Did) (screen : List ℕ) → ends ≡ did_with_keys keys ends_free → (on_free.session.console.screen ≡ screen → ⊥) → (if dollar then ends_free else on_free).session.console.screen ≡ screen → (if dollar then ends else on) ≡ did_with_keys keys (if dollar then ends_free else on_free)
 text_silent true keys ends ends_free on on_free screen same grows is = same
 text_silent false keys ends ends_free on on_free screen same grows is = absurd (grows is)
 
-module _ (s : Cpm) (m : Contents) (stop : is_stop (first_key s) ≡ true) where
+module _ (s : Session) (m : Contents) (stop : is_stop (first_key s) ≡ true) where
   byte_held : write_byte s m ≡ held_at held.Call s m
   byte_held = held_if (is_stop (first_key s)) _ _ stop
 
-  byte_shows : (write_byte (without_keys s) m).cpm.console.screen ≡ s.console.screen → ⊥
+  byte_shows : (write_byte (without_keys s) m).session.console.screen ≡ s.console.screen → ⊥
   byte_shows same = wrote_grows (without_keys s).console s.regs.e same
 
-  text_held : (what : Held) (address : ℕ) → (write_text what (without_keys s) m address).cpm.console.screen ≢ s.console.screen → write_text what s m address ≡ held_at what s m
+  text_held : (what : HeldOutput) (address : ℕ) → (write_text what (without_keys s) m address).session.console.screen ≢ s.console.screen → write_text what s m address ≡ held_at what s m
   text_held what address shows =
       text_shows (byte_at m address == 36) (is_stop (first_key s)) (held_at what s m) (answered s m 0) (answered (without_keys s) m 0) (did (record (wrote s (byte_at m address)) { mode = Text (next address) }) m GoesOn) (did (record (wrote (without_keys s) (byte_at m address)) { mode = Text (next address) }) m GoesOn) s.console.screen stop refl shows
 
-  text_ends : (what : Held) (address : ℕ) → (write_text what (without_keys s) m address).cpm.console.screen ≡ s.console.screen → write_text what s m address ≡ did_with_keys s.console.keys (write_text what (without_keys s) m address)
+  text_ends : (what : HeldOutput) (address : ℕ) → (write_text what (without_keys s) m address).session.console.screen ≡ s.console.screen → write_text what s m address ≡ did_with_keys s.console.keys (write_text what (without_keys s) m address)
   text_ends what address same =
       text_silent (byte_at m address == 36) s.console.keys (answered s m 0) (answered (without_keys s) m 0) (if is_stop (first_key s) then held_at what s m else did (record (wrote s (byte_at m address)) { mode = Text (next address) }) m GoesOn) (did (record (wrote (without_keys s) (byte_at m address)) { mode = Text (next address) }) m GoesOn) s.console.screen refl (wrote_grows (without_keys s).console (byte_at m address)) same
 
 -- what is held is the call
-call_held : (what : Held) → Some held.Call ≡ Some what → what ≡ held.Call
+call_held : (what : HeldOutput) → Some held.Call ≡ Some what → what ≡ held.Call
 call_held what is = cc
 
-text_at : (what : Held) (address : ℕ) → Some (held.Text address) ≡ Some what → what ≡ held.Text address
+text_at : (what : HeldOutput) (address : ℕ) → Some (held.Text address) ≡ Some what → what ≡ held.Text address
 text_at what address is = cc
 
-module _ (system : Disk) (s : Cpm) (m : Contents) (what : Held) (stop : is_stop (first_key s) ≡ true) where
-  function_held : (function : Function) → held_by function ≡ Some what → (called function system (without_keys s) m).cpm.console.screen ≢ s.console.screen → called function system s m ≡ held_at what s m
+module _ (system : Disk) (s : Session) (m : Contents) (what : HeldOutput) (stop : is_stop (first_key s) ≡ true) where
+  function_held : (function : Function) → held_by function ≡ Some what → (called function system (without_keys s) m).session.console.screen ≢ s.console.screen → called function system s m ≡ held_at what s m
   function_held f.WriteByte is shows = rw (call_held what is) (byte_held s m stop)
   function_held f.WriteText is shows =
       rw (call_held what is) (text_held s m stop held.Call (de_of s.regs) shows)
@@ -235,7 +235,7 @@ module _ (system : Disk) (s : Cpm) (m : Contents) (what : Held) (stop : is_stop 
   function_held f.ResetDrives is shows = absurd cc
   function_held f.Other is shows = absurd cc
 
-  function_silent : (function : Function) → held_by function ≡ Some what → (called function system (without_keys s) m).cpm.console.screen ≡ s.console.screen → called function system s m ≡ did_with_keys s.console.keys (called function system (without_keys s) m)
+  function_silent : (function : Function) → held_by function ≡ Some what → (called function system (without_keys s) m).session.console.screen ≡ s.console.screen → called function system s m ≡ did_with_keys s.console.keys (called function system (without_keys s) m)
   function_silent f.WriteByte is same = absurd (byte_shows s m stop same)
   function_silent f.WriteText is same = text_ends s m stop held.Call (de_of s.regs) same
   function_silent f.WarmBoot is same = absurd cc
@@ -263,7 +263,7 @@ module _ (system : Disk) (s : Cpm) (m : Contents) (what : Held) (stop : is_stop 
   function_silent f.ResetDrives is same = absurd cc
   function_silent f.Other is same = absurd cc
 
-  mode_held : (mode : Mode) → held_in mode s.regs.c ≡ Some what → (in_mode mode system (without_keys s) m).cpm.console.screen ≢ s.console.screen → in_mode mode system s m ≡ held_at what s m
+  mode_held : (mode : Mode) → held_in mode s.regs.c ≡ Some what → (in_mode mode system (without_keys s) m).session.console.screen ≢ s.console.screen → in_mode mode system s m ≡ held_at what s m
   mode_held Program is shows = function_held (function_of s.regs.c) is shows
   mode_held (Text address) is shows =
       rw (text_at what address is) (text_held s m stop (held.Text address) address shows)
@@ -272,7 +272,7 @@ module _ (system : Disk) (s : Cpm) (m : Contents) (what : Held) (stop : is_stop 
   mode_held Fault is shows = absurd cc
   mode_held (Command part) is shows = absurd cc
 
-  mode_silent : (mode : Mode) → held_in mode s.regs.c ≡ Some what → (in_mode mode system (without_keys s) m).cpm.console.screen ≡ s.console.screen → in_mode mode system s m ≡ did_with_keys s.console.keys (in_mode mode system (without_keys s) m)
+  mode_silent : (mode : Mode) → held_in mode s.regs.c ≡ Some what → (in_mode mode system (without_keys s) m).session.console.screen ≡ s.console.screen → in_mode mode system s m ≡ did_with_keys s.console.keys (in_mode mode system (without_keys s) m)
   mode_silent Program is same = function_silent (function_of s.regs.c) is same
   mode_silent (Text address) is same = text_ends s m stop (held.Text address) address same
   mode_silent Line is same = absurd cc
@@ -280,7 +280,7 @@ module _ (system : Disk) (s : Cpm) (m : Contents) (what : Held) (stop : is_stop 
   mode_silent Fault is same = absurd cc
   mode_silent (Command part) is same = absurd cc
 
-pub HoldsOutput-now : (system : Disk) (s : Cpm) (m : Contents) → HoldsOutput system s m
+pub HoldsOutput-now : (system : Disk) (s : Session) (m : Contents) → HoldsOutput system s m
 HoldsOutput-now system s m = record {
   shows = λ what is stop shows. mode_held system s m what stop s.mode is shows;
   silent = λ what is stop same. mode_silent system s m what stop s.mode is same;

@@ -5,8 +5,8 @@ use Rattle.cpm_geom.specs.Disk.{Disk}
 use Rattle.cpm_console.specs.Terminal.{said, key_read}
 use Rattle.cpm_console.specs.Draft.{Draft}
 use Rattle.cpm_console.specs.Editing.{begun, key_into_line}
-use Rattle.cpm_console.specs.declared.line.Progress.{Progress}
-use Rattle.cpm_console.specs.declared.line.Progress.TheVariants as line
+use Rattle.cpm_console.specs.declared.line.LineState.{LineState}
+use Rattle.cpm_console.specs.declared.line.LineState.TheVariants as line
 use Rattle.cpm_memory.specs.Contents.{Contents, byte_at, next, run_at, after_run}
 use Rattle.cpm_memory.proofs.Runs.{limit-run}
 use Rattle.cpm_bdos.specs.Registers.{de_of}
@@ -33,11 +33,11 @@ use Rattle.cpm_bdos.specs.declared.function.Function.{Function}
 use Rattle.cpm_bdos.specs.declared.function.Function.TheVariants.{WarmBoot, ReadKey, WriteByte, ReaderInput, PunchOutput, ListOutput, DirectConsole, GetIoByte, SetIoByte, WriteText, ReadLine, ConsoleStatus, Version, ResetDisks, SelectDisk, File, LoginVector, CurrentDisk, SetBuffer, AllocationVector, ProtectDisk, ReadOnlyVector, DiskParameters, UserCode, ResetDrives, Other}
 use Rattle.cpm_bdos.specs.declared.function.BiosCall.{BiosCall}
 use Rattle.cpm_bdos.specs.declared.function.BiosCall.TheVariants as entry
-use Rattle.cpm_bdos.specs.declared.cpm.Cpm.{Cpm}
-use Rattle.cpm_bdos.specs.declared.cpm.Held.{Held}
-use Rattle.cpm_bdos.specs.declared.cpm.Held.TheVariants as held
-use Rattle.cpm_bdos.specs.declared.cpm.Mode.{Mode}
-use Rattle.cpm_bdos.specs.declared.cpm.Mode.TheVariants.{Program, Text, Line, Hold, Fault, Command}
+use Rattle.cpm_bdos.specs.declared.session.Session.{Session}
+use Rattle.cpm_bdos.specs.declared.session.HeldOutput.{HeldOutput}
+use Rattle.cpm_bdos.specs.declared.session.HeldOutput.TheVariants as held
+use Rattle.cpm_bdos.specs.declared.session.Mode.{Mode}
+use Rattle.cpm_bdos.specs.declared.session.Mode.TheVariants.{Program, Text, Line, Hold, Fault, Command}
 
 abbrev KeepsLimit : Contents → Did → Type 0
 KeepsLimit m d = d.memory.limit ≡ m.limit
@@ -46,56 +46,56 @@ limit_if : (b : Bool) (m : Contents) (x y : Did) → KeepsLimit m x → KeepsLim
 limit_if true m x y hx hy = hx
 limit_if false m x y hx hy = hy
 
-pub limit-rebooted : (s : Cpm) (m : Contents) → KeepsLimit m (rebooted s m)
+pub limit-rebooted : (s : Session) (m : Contents) → KeepsLimit m (rebooted s m)
 limit-rebooted s m =
     limit-run (after_run m 0 (195 ∷ 3 ∷ 250 ∷ [])) 5 (195 ∷ 6 ∷ 236 ∷ []) ∙ limit-run m 0 (195 ∷ 3 ∷ 250 ∷ [])
 
-pub limit-line_ended : (s : Cpm) (m : Contents) → KeepsLimit m (line_ended s m)
+pub limit-line_ended : (s : Session) (m : Contents) → KeepsLimit m (line_ended s m)
 limit-line_ended s m =
     let at = next (de_of s.regs) in
     limit-run (after_run m at (length s.line.characters ∷ [])) (next at) s.line.characters ∙ limit-run m at (length s.line.characters ∷ [])
 
-limit_write_byte : (s : Cpm) (m : Contents) → KeepsLimit m (write_byte s m)
+limit_write_byte : (s : Session) (m : Contents) → KeepsLimit m (write_byte s m)
 limit_write_byte s m = limit_if (is_stop (first_key s)) m _ _ refl refl
 
-limit_write_text : (h : Held) (s : Cpm) (m : Contents) (address : ℕ) → KeepsLimit m (write_text h s m address)
+limit_write_text : (h : HeldOutput) (s : Session) (m : Contents) (address : ℕ) → KeepsLimit m (write_text h s m address)
 limit_write_text h s m address =
     limit_if (byte_at m address == 36) m _ _ refl (limit_if (is_stop (first_key s)) m _ _ refl refl)
 
-limit_read_key : (k : Option ℕ) (s : Cpm) (m : Contents) → KeepsLimit m (read_key k s m)
+limit_read_key : (k : Option ℕ) (s : Session) (m : Contents) → KeepsLimit m (read_key k s m)
 limit_read_key None s m = refl
 limit_read_key (Some k) s m = refl
 
-limit_direct_console : (e : ℕ) (s : Cpm) (m : Contents) → KeepsLimit m (direct_console e s m)
+limit_direct_console : (e : ℕ) (s : Session) (m : Contents) → KeepsLimit m (direct_console e s m)
 limit_direct_console e s m = limit_if (e == 255) m _ _ refl (limit_if (e == 254) m _ _ refl refl)
 
 -- a line's reader that keeps the limit, however the line goes on
 abbrev pub ReaderKeepsLimit : LineReader → Type 0
-ReaderKeepsLimit goes_on = (p : Progress) (s : Cpm) (m : Contents) → KeepsLimit m (goes_on p s m)
+ReaderKeepsLimit goes_on = (p : LineState) (s : Session) (m : Contents) → KeepsLimit m (goes_on p s m)
 
 limit_after_key : ReaderKeepsLimit after_key
 limit_after_key line.GoesOn s m = refl
 limit_after_key line.Ended s m = limit-line_ended s m
 limit_after_key line.Interrupted s m = limit-rebooted s m
 
-limit_take_key : (goes_on : LineReader) → ReaderKeepsLimit goes_on → (k : Option ℕ) (l : Draft) (s : Cpm) (m : Contents) → KeepsLimit m (take_key goes_on k l s m)
+limit_take_key : (goes_on : LineReader) → ReaderKeepsLimit goes_on → (k : Option ℕ) (l : Draft) (s : Session) (m : Contents) → KeepsLimit m (take_key goes_on k l s m)
 limit_take_key goes_on keeps None l s m = refl
 limit_take_key goes_on keeps (Some k) l s m =
     let e = key_into_line (key_read s.console) l k in keeps e.progress (with_edited s e) m
 
-pub limit_line_step : (goes_on : LineReader) → ReaderKeepsLimit goes_on → (l : Draft) (s : Cpm) (m : Contents) → KeepsLimit m (line_step goes_on l s m)
+pub limit_line_step : (goes_on : LineReader) → ReaderKeepsLimit goes_on → (l : Draft) (s : Session) (m : Contents) → KeepsLimit m (line_step goes_on l s m)
 limit_line_step goes_on keeps l s m =
     limit_if (is_open l) m _ _ (limit_take_key goes_on keeps (first_key s) l s m) (keeps line.Ended (record s { console = said s.console (13 ∷ []); line = l }) m)
 
-limit_release : (h : Held) (k : Option ℕ) (s : Cpm) (m : Contents) → KeepsLimit m (release h k s m)
+limit_release : (h : HeldOutput) (k : Option ℕ) (s : Session) (m : Contents) → KeepsLimit m (release h k s m)
 limit_release h None s m = refl
 limit_release h (Some k) s m = limit_if (k == 3) m _ _ (limit-rebooted (took_key s) m) refl
 
-limit_after_fault : (k : Option ℕ) (s : Cpm) (m : Contents) → KeepsLimit m (after_fault k s m)
+limit_after_fault : (k : Option ℕ) (s : Session) (m : Contents) → KeepsLimit m (after_fault k s m)
 limit_after_fault None s m = refl
 limit_after_fault (Some k) s m = limit-rebooted (took_key s) m
 
-limit_file_function : (f : FileFunction) (system : Disk) (s : Cpm) (m : Contents) → KeepsLimit m (file_function f system s m)
+limit_file_function : (f : FileFunction) (system : Disk) (s : Session) (m : Contents) → KeepsLimit m (file_function f system s m)
 unfolding file_function
 limit_file_function f system s m =
     let c = call_of f system s m in
@@ -103,21 +103,21 @@ limit_file_function f system s m =
     let old = run_at m at fcb_size in
     ap (λ (n : Contents). n.limit) (memory-by_answer c.answer (drive_named s.disks (slice_index old 0)) (with_disks s c.disks) (call_stored m s.buffer at old c)) ∙ limit-call_stored m s.buffer at old c
 
-limit_select_disk : (system : Disk) (s : Cpm) (m : Contents) → KeepsLimit m (select_disk system s m)
+limit_select_disk : (system : Disk) (s : Session) (m : Contents) → KeepsLimit m (select_disk system s m)
 unfolding select_disk
 limit_select_disk system s m =
     let c = select s.disks system s.regs.e in
     ap (λ (n : Contents). n.limit) (memory-by_answer c.answer s.regs.e (with_disks s c.disks) m)
 
-limit_give_allocation : (system : Disk) (s : Cpm) (m : Contents) → KeepsLimit m (give_allocation system s m)
+limit_give_allocation : (system : Disk) (s : Session) (m : Contents) → KeepsLimit m (give_allocation system s m)
 unfolding give_allocation
 limit_give_allocation system s m = limit-run m (vector_of s.disks.current) (allocation_of (drive_at (used s.disks system s.disks.current) system s.disks.current))
 
-limit_user_code : (s : Cpm) (m : Contents) → KeepsLimit m (user_code s m)
+limit_user_code : (s : Session) (m : Contents) → KeepsLimit m (user_code s m)
 unfolding user_code
 limit_user_code s m = limit_if (s.regs.e == 255) m _ _ refl refl
 
-limit_called : (f : Function) (system : Disk) (s : Cpm) (m : Contents) → KeepsLimit m (called f system s m)
+limit_called : (f : Function) (system : Disk) (s : Session) (m : Contents) → KeepsLimit m (called f system s m)
 limit_called WarmBoot system s m = limit-rebooted s m
 limit_called ReadKey system s m = limit_read_key (first_key s) s m
 limit_called WriteByte system s m = limit_write_byte s m
@@ -145,7 +145,7 @@ limit_called UserCode system s m = limit_user_code s m
 limit_called ResetDrives system s m = refl
 limit_called Other system s m = refl
 
-limit_in_mode : (mode : Mode) (system : Disk) (s : Cpm) (m : Contents) → KeepsLimit m (in_mode mode system s m)
+limit_in_mode : (mode : Mode) (system : Disk) (s : Session) (m : Contents) → KeepsLimit m (in_mode mode system s m)
 limit_in_mode Program system s m = limit_called (function_of s.regs.c) system s m
 limit_in_mode (Text address) system s m = limit_write_text (held.Text address) s m address
 limit_in_mode Line system s m = limit_line_step after_key limit_after_key s.line s m
@@ -154,39 +154,39 @@ limit_in_mode Fault system s m = limit_after_fault (first_key s) s m
 limit_in_mode (Command part) system s m = refl
 
 -- a step of the BDOS
-pub limit-bdos : (system : Disk) (s : Cpm) (m : Contents) → (bdos system s m).memory.limit ≡ m.limit
+pub limit-bdos : (system : Disk) (s : Session) (m : Contents) → (bdos system s m).memory.limit ≡ m.limit
 limit-bdos system s m = limit_in_mode s.mode system s m
 
-limit_console_input : (k : Option ℕ) (s : Cpm) (m : Contents) → KeepsLimit m (console_input k s m)
+limit_console_input : (k : Option ℕ) (s : Session) (m : Contents) → KeepsLimit m (console_input k s m)
 limit_console_input None s m = refl
 limit_console_input (Some k) s m = refl
 
-limit_select_drive : (system : Disk) (s : Cpm) (m : Contents) → KeepsLimit m (select_drive system s m)
+limit_select_drive : (system : Disk) (s : Session) (m : Contents) → KeepsLimit m (select_drive system s m)
 unfolding select_drive
 limit_select_drive system s m = limit_if (is_there s.disks s.regs.c) m _ _ refl refl
 
-limit_sector_got : (got : Option (List ℕ)) (s : Cpm) (m : Contents) → KeepsLimit m (sector_got got s m)
+limit_sector_got : (got : Option (List ℕ)) (s : Session) (m : Contents) → KeepsLimit m (sector_got got s m)
 limit_sector_got None s m = refl
 limit_sector_got (Some bytes) s m = limit-record_stored m s.place.buffer bytes
 
-limit_read_sector : (system : Disk) (s : Cpm) (m : Contents) → KeepsLimit m (read_sector system s m)
+limit_read_sector : (system : Disk) (s : Session) (m : Contents) → KeepsLimit m (read_sector system s m)
 unfolding read_sector
 limit_read_sector system s m = limit_sector_got (sector_read s.disks system s.place.drive s.place.track s.place.sector) s m
 
-limit_sector_put : (put : Option Disks) (s : Cpm) (m : Contents) → KeepsLimit m (sector_put put s m)
+limit_sector_put : (put : Option Disks) (s : Session) (m : Contents) → KeepsLimit m (sector_put put s m)
 limit_sector_put None s m = refl
 limit_sector_put (Some disks) s m = refl
 
-limit_write_sector : (s : Cpm) (m : Contents) → KeepsLimit m (write_sector s m)
+limit_write_sector : (s : Session) (m : Contents) → KeepsLimit m (write_sector s m)
 unfolding write_sector
 limit_write_sector s m =
     limit_sector_put (sector_written s.disks s.place.drive s.place.track s.place.sector (run_at m s.place.buffer record_size)) s m
 
-limit_translate : (s : Cpm) (m : Contents) → KeepsLimit m (translate s m)
+limit_translate : (s : Session) (m : Contents) → KeepsLimit m (translate s m)
 unfolding translate
 limit_translate s m = refl
 
-limit_bios : (call : BiosCall) (system : Disk) (s : Cpm) (m : Contents) → KeepsLimit m (bios_called call system s m)
+limit_bios : (call : BiosCall) (system : Disk) (s : Session) (m : Contents) → KeepsLimit m (bios_called call system s m)
 limit_bios entry.Boot system s m = limit-rebooted s (after_run m 3 (0 ∷ 0 ∷ [])) ∙ limit-run m 3 (0 ∷ 0 ∷ [])
 limit_bios entry.WarmBoot system s m = limit-rebooted s m
 limit_bios entry.ConsoleStatus system s m = refl
@@ -207,5 +207,5 @@ limit_bios entry.Translate system s m = limit_translate s m
 limit_bios entry.Other system s m = refl
 
 -- a step of the BIOS
-pub limit-bios : (number : ℕ) (system : Disk) (s : Cpm) (m : Contents) → (bios number system s m).memory.limit ≡ m.limit
+pub limit-bios : (number : ℕ) (system : Disk) (s : Session) (m : Contents) → (bios number system s m).memory.limit ≡ m.limit
 limit-bios number system s m = limit_bios (bios_call_of number) system s m

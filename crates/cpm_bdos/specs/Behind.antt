@@ -2,13 +2,13 @@
 use Rattle.std.specs.Prelude.{ℕ, List, ◌++◌}
 use Rattle.cpm_console.specs.Terminal.{Terminal}
 use Rattle.cpm_bdos.specs.Did.{Did, did}
-use Rattle.cpm_bdos.specs.declared.cpm.Cpm.{Cpm}
+use Rattle.cpm_bdos.specs.declared.session.Session.{Session}
 
 abbrev pub behind : List ℕ → List ℕ → Terminal → Terminal
 behind p q t = record t { screen = p ++ t.screen; printer = q ++ t.printer }
 
-abbrev pub cpm_behind : List ℕ → List ℕ → Cpm → Cpm
-cpm_behind p q s = record s { console = behind p q s.console }
+abbrev pub session_behind : List ℕ → List ℕ → Session → Session
+session_behind p q s = record s { console = behind p q s.console }
 
 abbrev pub did_behind : List ℕ → List ℕ → Did → Did
-did_behind p q d = did (cpm_behind p q d.cpm) d.memory d.went
+did_behind p q d = did (session_behind p q d.session) d.memory d.went

@@ -9,56 +9,56 @@ use Rattle.cpm_drives.specs.Sectors.{sector_read, sector_written}
 use Rattle.cpm_bdos.specs.Registers.{de_of, bc_of, with_a, with_hl}
 use Rattle.cpm_bdos.specs.Did.{Did, returned}
 use Rattle.cpm_bdos.specs.Disks.{with_disks, record_size, record_stored, format_in, header_of}
-use Rattle.cpm_bdos.specs.declared.cpm.SectorPlace.{SectorPlace}
-use Rattle.cpm_bdos.specs.declared.cpm.Cpm.{Cpm}
+use Rattle.cpm_bdos.specs.declared.session.SectorPlace.{SectorPlace}
+use Rattle.cpm_bdos.specs.declared.session.Session.{Session}
 
-abbrev pub at_place : Cpm → SectorPlace → Cpm
+abbrev pub at_place : Session → SectorPlace → Session
 at_place s place = record s { place = place }
 
 -- a call that leaves a byte in A, or a word in HL, and returns
-abbrev pub returned_a : Cpm → Contents → ℕ → Did
+abbrev pub returned_a : Session → Contents → ℕ → Did
 returned_a s m value = returned (record s { regs = with_a s.regs value }) m
 
-abbrev pub returned_hl : Cpm → Contents → ℕ → Did
+abbrev pub returned_hl : Session → Contents → ℕ → Did
 returned_hl s m value = returned (record s { regs = with_hl s.regs value }) m
 
 -- HOME
-abbrev pub home : Cpm → Contents → Did
+abbrev pub home : Session → Contents → Did
 home s m = returned (at_place s (record s.place { track = 0 })) m
 
 -- SELDSK: the address of the drive's parameter header, 0 where there is no such drive
-unfoldable pub select_drive : Disk → Cpm → Contents → Did
+unfoldable pub select_drive : Disk → Session → Contents → Did
 select_drive system s m =
     if is_there s.disks s.regs.c then returned_hl (at_place s (record s.place { drive = s.regs.c })) m (header_of (format_in s.disks system s.regs.c) s.regs.c) else returned_hl s m 0
 
 -- SETTRK, SETSEC, SETDMA
-abbrev pub set_track : Cpm → Contents → Did
+abbrev pub set_track : Session → Contents → Did
 set_track s m = returned (at_place s (record s.place { track = bc_of s.regs })) m
 
-abbrev pub set_sector : Cpm → Contents → Did
+abbrev pub set_sector : Session → Contents → Did
 set_sector s m = returned (at_place s (record s.place { sector = bc_of s.regs })) m
 
-abbrev pub set_sector_buffer : Cpm → Contents → Did
+abbrev pub set_sector_buffer : Session → Contents → Did
 set_sector_buffer s m = returned (at_place s (record s.place { buffer = bc_of s.regs })) m
 
 -- READ: A is 0, or 1 where there is no such sector
-abbrev pub sector_got : Option (List ℕ) → Cpm → Contents → Did
+abbrev pub sector_got : Option (List ℕ) → Session → Contents → Did
 sector_got None s m = returned_a s m 1
 sector_got (Some bytes) s m = returned_a s (record_stored m s.place.buffer bytes) 0
 
-unfoldable pub read_sector : Disk → Cpm → Contents → Did
+unfoldable pub read_sector : Disk → Session → Contents → Did
 read_sector system s m = sector_got (sector_read s.disks system s.place.drive s.place.track s.place.sector) s m
 
 -- WRITE: the same; own: the system drive is never written
-abbrev pub sector_put : Option Disks → Cpm → Contents → Did
+abbrev pub sector_put : Option Disks → Session → Contents → Did
 sector_put None s m = returned_a s m 1
 sector_put (Some disks) s m = returned_a (with_disks s disks) m 0
 
-unfoldable pub write_sector : Cpm → Contents → Did
+unfoldable pub write_sector : Session → Contents → Did
 write_sector s m =
     sector_put (sector_written s.disks s.place.drive s.place.track s.place.sector (run_at m s.place.buffer record_size)) s m
 
 -- SECTRAN: the sector in BC by the table at DE, or BC itself where there is none
-unfoldable pub translate : Cpm → Contents → Did
+unfoldable pub translate : Session → Contents → Did
 translate s m =
     returned_hl s m (if de_of s.regs == 0 then bc_of s.regs else byte_at m ((de_of s.regs + bc_of s.regs) % 65536))

@@ -4,10 +4,10 @@ use Rattle.cpm_console.specs.Terminal.{IsWithin}
 use Rattle.cpm_memory.specs.Contents.{Contents, touched_of}
 use Rattle.cpm_bdos.specs.Registers.{de_of}
 use Rattle.cpm_bdos.specs.Did.{Did}
-use Rattle.cpm_bdos.specs.declared.cpm.Cpm.{Cpm}
+use Rattle.cpm_bdos.specs.declared.session.Session.{Session}
 
 -- a column is a byte, and so is the number of a line's characters; an address is a word
-pub record IsFit (s : Cpm) : Type 0 where
+pub record IsFit (s : Session) : Type 0 where
   pub column : s.console.column ≤ 255
   pub start : s.line.start ≤ 255
   pub characters : length s.line.characters ≤ 255
@@ -16,7 +16,7 @@ pub record IsFit (s : Cpm) : Type 0 where
   pub sector_buffer : s.place.buffer ≤ 65535
 
 -- a step newly writes at most 8 pages and puts at most 4,096 bytes on each device, and how many pages may be written stays
-pub record IsBounded (s : Cpm) (m : Contents) (d : Did) : Type 0 where
+pub record IsBounded (s : Session) (m : Contents) (d : Did) : Type 0 where
   pub pages : touched_of d.memory ≤ touched_of m + 8
   pub limit : d.memory.limit ≡ m.limit
-  pub output : IsWithin 4096 s.console d.cpm.console
+  pub output : IsWithin 4096 s.console d.session.console

@@ -4,12 +4,12 @@ use Rattle.cpm_console.specs.Terminal.{key_read}
 use Rattle.cpm_memory.specs.Contents.{Contents}
 use Rattle.cpm_bdos.specs.Did.{Did, did, rebooted}
 use Rattle.cpm_bdos.specs.Keys.{took_key}
-use Rattle.cpm_bdos.specs.declared.cpm.Cpm.{Cpm}
-use Rattle.cpm_bdos.specs.declared.cpm.Held.{Held}
-use Rattle.cpm_bdos.specs.declared.cpm.Held.TheVariants as held
-use Rattle.cpm_bdos.specs.declared.cpm.Mode.{Mode}
-use Rattle.cpm_bdos.specs.declared.cpm.Mode.TheVariants.{Program, Text, Hold, Command}
-use Rattle.cpm_bdos.specs.declared.cpm.Went.TheVariants.{Waits, GoesOn}
+use Rattle.cpm_bdos.specs.declared.session.Session.{Session}
+use Rattle.cpm_bdos.specs.declared.session.HeldOutput.{HeldOutput}
+use Rattle.cpm_bdos.specs.declared.session.HeldOutput.TheVariants as held
+use Rattle.cpm_bdos.specs.declared.session.Mode.{Mode}
+use Rattle.cpm_bdos.specs.declared.session.Mode.TheVariants.{Program, Text, Hold, Command}
+use Rattle.cpm_bdos.specs.declared.session.Went.TheVariants.{Waits, GoesOn}
 
 -- ^S is the key that is read next
 abbrev pub is_stop : Option ℕ → Bool
@@ -17,20 +17,20 @@ is_stop None = false
 is_stop (Some key) = key == 0x13
 
 -- own: the step that finds ^S takes it, and outputs nothing
-abbrev pub stopped : Cpm → Held → Cpm
+abbrev pub stopped : Session → HeldOutput → Session
 stopped s held = record s { console = key_read s.console; mode = Hold held }
 
-abbrev pub held_at : Held → Cpm → Contents → Did
+abbrev pub held_at : HeldOutput → Session → Contents → Did
 held_at held s m = did (stopped s held) m GoesOn
 
 -- own: what was held begins anew, its look for ^S included: the call from its registers, the text from its address, or the part of the command processor
-abbrev pub resumed : Held → Mode
+abbrev pub resumed : HeldOutput → Mode
 resumed held.Call = Program
 resumed (held.Text next) = Text next
 resumed (held.Command part) = Command part
 
 -- own: the next key ends the hold, ^C with a warm boot
-abbrev pub release : Held → Option ℕ → Cpm → Contents → Did
+abbrev pub release : HeldOutput → Option ℕ → Session → Contents → Did
 release held None s m = did s m Waits
 release held (Some key) s m =
     if key == 0x03 then rebooted (took_key s) m else did (record (took_key s) { mode = resumed held }) m GoesOn

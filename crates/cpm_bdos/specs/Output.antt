@@ -5,29 +5,29 @@ use Rattle.cpm_memory.specs.Contents.{Contents, byte_at, next}
 use Rattle.cpm_bdos.specs.Did.{Did, did, answered}
 use Rattle.cpm_bdos.specs.Keys.{first_key}
 use Rattle.cpm_bdos.specs.Hold.{is_stop, held_at}
-use Rattle.cpm_bdos.specs.declared.cpm.Cpm.{Cpm}
-use Rattle.cpm_bdos.specs.declared.cpm.Held.{Held}
-use Rattle.cpm_bdos.specs.declared.cpm.Held.TheVariants as held
-use Rattle.cpm_bdos.specs.declared.cpm.Mode.TheVariants.{Text}
-use Rattle.cpm_bdos.specs.declared.cpm.Went.TheVariants.{GoesOn}
+use Rattle.cpm_bdos.specs.declared.session.Session.{Session}
+use Rattle.cpm_bdos.specs.declared.session.HeldOutput.{HeldOutput}
+use Rattle.cpm_bdos.specs.declared.session.HeldOutput.TheVariants as held
+use Rattle.cpm_bdos.specs.declared.session.Mode.TheVariants.{Text}
+use Rattle.cpm_bdos.specs.declared.session.Went.TheVariants.{GoesOn}
 
 -- a byte said, a tab as spaces
-abbrev pub wrote : Cpm → ℕ → Cpm
+abbrev pub wrote : Session → ℕ → Session
 wrote s byte = record s { console = said s.console (expanded s.console.column byte) }
 
 -- a byte shown on the console alone, and one sent to the list device alone, each as it is
-abbrev pub showed : Cpm → ℕ → Cpm
+abbrev pub showed : Session → ℕ → Session
 showed s byte = record s { console = shown s.console (byte ∷ []) }
 
-abbrev pub list_byte : Cpm → ℕ → Cpm
+abbrev pub list_byte : Session → ℕ → Session
 list_byte s byte = record s { console = printed s.console (byte ∷ []) }
 
 -- function 2: the byte in E is said, unless ^S holds it; own: it doesn't look for ^P
-abbrev pub write_byte : Cpm → Contents → Did
+abbrev pub write_byte : Session → Contents → Did
 write_byte s m = if is_stop (first_key s) then held_at held.Call s m else answered (wrote s s.regs.e) m 0
 
 -- function 9: the text from an address on is said up to `$`, a character a step unless ^S holds it, and one step for the `$`, which looks for no key
-abbrev pub write_text : Held → Cpm → Contents → ℕ → Did
+abbrev pub write_text : HeldOutput → Session → Contents → ℕ → Did
 write_text held s m address =
     if byte_at m address == 0x24 then answered s m 0
     else if is_stop (first_key s) then held_at held s m

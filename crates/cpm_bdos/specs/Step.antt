@@ -25,11 +25,11 @@ use Rattle.cpm_bdos.specs.declared.function.Function.{Function}
 use Rattle.cpm_bdos.specs.declared.function.Function.TheVariants.{WarmBoot, ReadKey, WriteByte, ReaderInput, PunchOutput, ListOutput, DirectConsole, GetIoByte, SetIoByte, WriteText, ReadLine, ConsoleStatus, Version, ResetDisks, SelectDisk, File, LoginVector, CurrentDisk, SetBuffer, AllocationVector, ProtectDisk, ReadOnlyVector, DiskParameters, UserCode, ResetDrives, Other}
 use Rattle.cpm_bdos.specs.declared.function.BiosCall.{BiosCall}
 use Rattle.cpm_bdos.specs.declared.function.BiosCall.TheVariants as entry
-use Rattle.cpm_bdos.specs.declared.cpm.Cpm.{Cpm}
-use Rattle.cpm_bdos.specs.declared.cpm.Held.TheVariants as held
-use Rattle.cpm_bdos.specs.declared.cpm.Mode.{Mode}
-use Rattle.cpm_bdos.specs.declared.cpm.Mode.TheVariants.{Program, Text, Line, Hold, Fault, Command}
-use Rattle.cpm_bdos.specs.declared.cpm.Went.TheVariants.{Waits, GoesOn}
+use Rattle.cpm_bdos.specs.declared.session.Session.{Session}
+use Rattle.cpm_bdos.specs.declared.session.HeldOutput.TheVariants as held
+use Rattle.cpm_bdos.specs.declared.session.Mode.{Mode}
+use Rattle.cpm_bdos.specs.declared.session.Mode.TheVariants.{Program, Text, Line, Hold, Fault, Command}
+use Rattle.cpm_bdos.specs.declared.session.Went.TheVariants.{Waits, GoesOn}
 
 -- a blank file control block
 abbrev pub no_file : Fcb
@@ -42,7 +42,7 @@ no_file =
     }
 
 -- own: a session at its opening, with its drives; the BIOS stands at track 0, sector 1 of drive A
-abbrev pub opened : Terminal → List Disk → Cpm
+abbrev pub opened : Terminal → List Disk → Session
 opened console images =
     record {
       regs = at_opening;
@@ -56,7 +56,7 @@ opened console images =
     }
 
 -- CP/M 2.2 Operating System Manual, section 5.2, Operating System Call Conventions: the first step of a call, by its function. Own: the reader gives 1Ah, what is punched is dropped, and a number without a function gives 0.
-abbrev pub called : Function → Disk → Cpm → Contents → Did
+abbrev pub called : Function → Disk → Session → Contents → Did
 called WarmBoot system s m = rebooted s m
 called ReadKey system s m = read_key (first_key s) s m
 called WriteByte system s m = write_byte s m
@@ -85,7 +85,7 @@ called ResetDrives system s m = answered (with_disks s (drives_reset s.disks (de
 called Other system s m = answered s m 0
 
 -- one step of the BDOS, by the mode; the parts of the command processor are not its own
-abbrev pub in_mode : Mode → Disk → Cpm → Contents → Did
+abbrev pub in_mode : Mode → Disk → Session → Contents → Did
 in_mode Program system s m = called (function_of s.regs.c) system s m
 in_mode (Text address) system s m = write_text (held.Text address) s m address
 in_mode Line system s m = edit_line s.line s m
@@ -93,20 +93,20 @@ in_mode (Hold held) system s m = release held (first_key s) s m
 in_mode Fault system s m = after_fault (first_key s) s m
 in_mode (Command part) system s m = did s m GoesOn
 
-abbrev pub bdos : Disk → Cpm → Contents → Did
+abbrev pub bdos : Disk → Session → Contents → Did
 bdos system s m = in_mode s.mode system s m
 
 -- BOOT: the I/O byte at 0003h and the user and drive at 0004h become 0, then as WBOOT (own)
-abbrev pub booted : Cpm → Contents → Did
+abbrev pub booted : Session → Contents → Did
 booted s m = rebooted s (after_run m io_byte_address (0 ∷ 0 ∷ []))
 
 -- CONIN: a key is read into A
-abbrev pub console_input : Option ℕ → Cpm → Contents → Did
+abbrev pub console_input : Option ℕ → Session → Contents → Did
 console_input None s m = did s m Waits
 console_input (Some key) s m = returned_a (took_key s) m key
 
 -- CP/M 2.2 Operating System Manual, section 6.6, The BIOS Entry Points: a call of the BIOS. Own: the list device is always ready, the reader gives 1Ah, what is punched is dropped, and a number without a call returns with nothing changed.
-abbrev pub bios_called : BiosCall → Disk → Cpm → Contents → Did
+abbrev pub bios_called : BiosCall → Disk → Session → Contents → Did
 bios_called entry.Boot system s m = booted s m
 bios_called entry.WarmBoot system s m = rebooted s m
 bios_called entry.ConsoleStatus system s m = returned_a s m (console_status (first_key s))
@@ -126,5 +126,5 @@ bios_called entry.ListStatus system s m = returned_a s m 0xFF
 bios_called entry.Translate system s m = translate s m
 bios_called entry.Other system s m = returned s m
 
-abbrev pub bios : ℕ → Disk → Cpm → Contents → Did
+abbrev pub bios : ℕ → Disk → Session → Contents → Did
 bios number system s m = bios_called (bios_call_of number) system s m

@@ -11,27 +11,27 @@ use Rattle.cpm_bdos.specs.ReadLine.{is_open}
 use Rattle.cpm_bdos.specs.Step.{bdos, bios}
 use Rattle.cpm_bdos.specs.declared.function.Function.{Function}
 use Rattle.cpm_bdos.specs.declared.function.Function.TheVariants.{ReadKey, ReadLine}
-use Rattle.cpm_bdos.specs.declared.cpm.Cpm.{Cpm}
-use Rattle.cpm_bdos.specs.declared.cpm.CommandPart.{CommandPart}
-use Rattle.cpm_bdos.specs.declared.cpm.CommandPart.TheVariants as part
-use Rattle.cpm_bdos.specs.declared.cpm.Mode.{Mode}
-use Rattle.cpm_bdos.specs.declared.cpm.Mode.TheVariants.{Program, Text, Line, Hold, Fault, Command}
-use Rattle.cpm_bdos.specs.declared.cpm.Went.TheVariants.{Waits}
+use Rattle.cpm_bdos.specs.declared.session.Session.{Session}
+use Rattle.cpm_bdos.specs.declared.session.CommandPart.{CommandPart}
+use Rattle.cpm_bdos.specs.declared.session.CommandPart.TheVariants as part
+use Rattle.cpm_bdos.specs.declared.session.Mode.{Mode}
+use Rattle.cpm_bdos.specs.declared.session.Mode.TheVariants.{Program, Text, Line, Hold, Fault, Command}
+use Rattle.cpm_bdos.specs.declared.session.Went.TheVariants.{Waits}
 
 -- the first step of a function needs a key: function 1 does, and function 10 for a line that may have characters
-abbrev pub function_needs_key : Function → Cpm → Contents → Bool
+abbrev pub function_needs_key : Function → Session → Contents → Bool
 function_needs_key ReadKey s m = true
 function_needs_key ReadLine s m = not (byte_at m (de_of s.regs) == 0)
 function_needs_key _ s m = false
 
 -- the parts of the command processor that read a line
-abbrev pub part_needs_key : CommandPart → Cpm → Bool
+abbrev pub part_needs_key : CommandPart → Session → Bool
 part_needs_key part.Line s = is_open s.line
 part_needs_key part.Answer s = is_open s.line
 part_needs_key _ s = false
 
 -- the next step needs a key: in a program where PC is at the BDOS (EC06h) with such a function, or at CONIN (FB03h), in a line that may have a character more, in a hold and after a fault
-abbrev pub needs_key : Mode → Cpm → Contents → Bool
+abbrev pub needs_key : Mode → Session → Contents → Bool
 needs_key Program s m =
     if s.regs.pc == bdos_address then function_needs_key (function_of s.regs.c) s m else s.regs.pc == console_input_address
 needs_key (Text address) s m = false
@@ -41,11 +41,11 @@ needs_key Fault s m = true
 needs_key (Command part) s m = part_needs_key part s
 
 -- a step now would be a wait
-abbrev pub is_waiting : Cpm → Contents → Bool
+abbrev pub is_waiting : Session → Contents → Bool
 is_waiting s m = needs_key s.mode s m && not (is_some (first_key s))
 
 -- the step of a call that the mode asks for, or PC in a program: at EC06h the BDOS, from FB00h to FB10h the BIOS; the parts of the command processor are not among them
-abbrev pub call_in : Mode → Disk → Cpm → Contents → Option Did
+abbrev pub call_in : Mode → Disk → Session → Contents → Option Did
 call_in Program system s m =
     if s.regs.pc == bdos_address then Some (bdos system s m)
     else if nat_le first_bios_address s.regs.pc && nat_le s.regs.pc last_bios_address then Some (bios (s.regs.pc - first_bios_address) system s m)
@@ -53,7 +53,7 @@ call_in Program system s m =
 call_in (Command part) system s m = None
 call_in _ system s m = Some (bdos system s m)
 
-abbrev pub call_now : Disk → Cpm → Contents → Option Did
+abbrev pub call_now : Disk → Session → Contents → Option Did
 call_now system s m = call_in s.mode system s m
 
 -- the mode is a part of the command processor
@@ -62,6 +62,6 @@ is_command (Command part) = true
 is_command _ = false
 
 -- where a step of a call now would be a wait, it changes nothing; where not, it is none
-pub record IsWaiting (waits : Bool) (s : Cpm) (m : Contents) : Type 0 where
+pub record IsWaiting (waits : Bool) (s : Session) (m : Contents) : Type 0 where
   pub changes_nothing : waits ≡ true → is_command s.mode ≡ false → (system : Disk) → call_now system s m ≡ Some (did s m Waits)
   pub elsewhere : waits ≡ false → (system : Disk) (d : Did) → call_now system s m ≡ Some d → d.went ≡ Waits → ⊥

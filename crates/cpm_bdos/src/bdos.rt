@@ -8,9 +8,9 @@ ghost use Rattle.cpm_bdos.specs.Function.{function_of};
 ghost use Rattle.cpm_bdos.specs.Did.{did, answered};
 ghost use Rattle.cpm_bdos.specs.Step.{called, bdos};
 ghost use Rattle.cpm_bdos.specs.Bounds.{IsBounded};
-ghost use Rattle.cpm_bdos.specs.Behind.{cpm_behind, did_behind};
+ghost use Rattle.cpm_bdos.specs.Behind.{session_behind, did_behind};
 
-use crate::cpm::{Cpm, Held, Mode, Went};
+use crate::session::{Session, HeldOutput, Mode, Went};
 use crate::function::Function;
 use crate::registers::pair_de;
 use cpm_geom::Image;
@@ -20,7 +20,7 @@ use cpm_memory::{Memory, change_run};
 /// What the reader gives: the end of a text.
 pub(crate) const READER_BYTE: u8 = 0x1A;
 
-impl Cpm {
+impl Session {
     /// One step of the call in progress, or the first step of the one that the registers ask for. A call that ends
     /// returns to the program, or boots the session anew. The system drive is lent. Both devices must have room for
     /// 4,096 bytes.
@@ -33,7 +33,7 @@ impl Cpm {
         ensures bounds { IsBounded self.old (M.contents memory.old) (did self.new (M.contents memory.new) result) }
 
         // Output that waits already changes nothing in a step, which shows its own behind it.
-        ensures behind { (p q : List ℕ) → bdos system.now (cpm_behind p q self.old) (M.contents memory.old) ≡ did_behind p q (did self.new (M.contents memory.new) result) }
+        ensures behind { (p q : List ℕ) → bdos system.now (session_behind p q self.old) (M.contents memory.old) ≡ did_behind p q (did self.new (M.contents memory.new) result) }
     {
         self.numbers_fit();
         self.call_step(memory, system)
@@ -49,7 +49,7 @@ impl Cpm {
     {
         match self.mode {
             Mode::Program => self.call(memory, system),
-            Mode::Text { next } => self.write_text(memory, next, Held::Text { next }),
+            Mode::Text { next } => self.write_text(memory, next, HeldOutput::Text { next }),
             Mode::Line => self.edit_line(memory),
             Mode::Hold(held) => self.release(memory, held),
             Mode::Fault => self.after_fault(memory),
@@ -76,7 +76,7 @@ impl Cpm {
             Function::SetIoByte => self.set_io_byte(memory),
             Function::WriteText => {
                 let next = pair_de(&self.regs);
-                self.write_text(memory, next, Held::Call)
+                self.write_text(memory, next, HeldOutput::Call)
             }
             Function::ReadLine => self.read_line(memory),
             Function::ConsoleStatus => self.answer(memory, u16::from(self.console_status())),

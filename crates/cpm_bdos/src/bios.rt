@@ -8,10 +8,10 @@ ghost use Rattle.cpm_bdos.specs.Output.{showed, list_byte};
 ghost use Rattle.cpm_bdos.specs.BiosDisks.{returned_a};
 ghost use Rattle.cpm_bdos.specs.Step.{booted, console_input, bios};
 ghost use Rattle.cpm_bdos.specs.Bounds.{IsBounded};
-ghost use Rattle.cpm_bdos.specs.Behind.{cpm_behind, did_behind};
+ghost use Rattle.cpm_bdos.specs.Behind.{session_behind, did_behind};
 
 use crate::bdos::READER_BYTE;
-use crate::cpm::{Cpm, Went};
+use crate::session::{Session, Went};
 use crate::function::BiosCall;
 use cpm_geom::Image;
 use cpm_memory::{Memory, change_run};
@@ -19,7 +19,7 @@ use cpm_memory::{Memory, change_run};
 /// What says that the list device is ready.
 const READY: u8 = 0xFF;
 
-impl Cpm {
+impl Session {
     /// The call of the BIOS with this number. It returns to the program, boots the session anew, or waits for a key.
     /// Both devices must have room for 4,096 bytes.
     pub fn bios_step<M: Memory>(&mut self, memory: &mut M, system: &Image, number: u8) -> Went
@@ -31,7 +31,7 @@ impl Cpm {
         ensures bounds { IsBounded self.old (M.contents memory.old) (did self.new (M.contents memory.new) result) }
 
         // Output that waits already changes nothing in a step, which shows its own behind it.
-        ensures behind { (p q : List ℕ) → bios number system.now (cpm_behind p q self.old) (M.contents memory.old) ≡ did_behind p q (did self.new (M.contents memory.new) result) }
+        ensures behind { (p q : List ℕ) → bios number system.now (session_behind p q self.old) (M.contents memory.old) ≡ did_behind p q (did self.new (M.contents memory.new) result) }
     {
         self.numbers_fit();
         self.bios_call(memory, system, number)

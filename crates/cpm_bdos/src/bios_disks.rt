@@ -5,7 +5,7 @@ ghost use Rattle.cpm_memory.specs.Room.{HasRoom};
 ghost use Rattle.cpm_bdos.specs.Did.{did};
 ghost use Rattle.cpm_bdos.specs.BiosDisks.{returned_hl, home, select_drive, set_track, set_sector, set_sector_buffer, read_sector, write_sector, translate};
 
-use crate::cpm::{Cpm, Went};
+use crate::session::{Session, Went};
 use crate::disks::header_of;
 use crate::registers::{pair_bc, pair_de, put_hl};
 use crate::transfer::{get_record, store_record};
@@ -17,7 +17,7 @@ const DONE: u8 = 0;
 
 const NO_SECTOR: u8 = 1;
 
-impl Cpm {
+impl Session {
     /// Returns with a word in HL.
     fn return_word<M: Memory>(&mut self, memory: &M, value: u16) -> Went
         ensures { did self.new (M.contents memory.now) result ≡ returned_hl self.old (M.contents memory.now) value }

@@ -4,12 +4,12 @@ ghost use Rattle.std.specs.Prelude.{◌≡◌};
 ghost use Rattle.cpm_memory.specs.Room.{HasRoomFor};
 ghost use Rattle.cpm_bdos.specs.Did.{did, returned, answered, rebooted};
 
-use crate::cpm::{Cpm, Mode, Went};
+use crate::session::{Session, Mode, Went};
 use crate::registers::{put_result, return_to};
 use cpm_memory::layout::{BDOS_JUMP, COMMAND_PROCESSOR, DEFAULT_BUFFER, STACK, WARM_BOOT_JUMP};
 use cpm_memory::{Memory, change_run, get_word};
 
-impl Cpm {
+impl Session {
     /// Returns from a call as RET does.
     pub(crate) fn return_from_call<M: Memory>(&mut self, memory: &M) -> Went
         ensures { did self.new (M.contents memory.now) result ≡ returned self.old (M.contents memory.now) }

@@ -9,7 +9,7 @@ ghost use Rattle.cpm_bdos.specs.Did.{did, answered};
 ghost use Rattle.cpm_bdos.specs.Registers.{de_of};
 ghost use Rattle.cpm_bdos.specs.Disks.{with_disks, by_answer, file_function, table_of, vector_of, format_in, header_of, reset_disks, select_disk, give_allocation, user_code};
 
-use crate::cpm::{Cpm, Went};
+use crate::session::{Session, Went};
 use crate::registers::pair_de;
 use crate::transfer::{get_fcb, get_record, store_fcb, store_record};
 use cpm_drives::FileFunction;
@@ -27,7 +27,7 @@ const SYSTEM: u8 = 15;
 /// The parameter of function 32 that asks for the user.
 const ASK_USER: u8 = 0xFF;
 
-impl Cpm {
+impl Session {
     /// Returns with a call's code, or goes into its fault on a drive.
     fn answer_or_fault<M: Memory>(
         &mut self,

@@ -7,7 +7,7 @@ ghost use Rattle.cpm_bdos.specs.Did.{did};
 ghost use Rattle.cpm_bdos.specs.Keys.{first_key};
 ghost use Rattle.cpm_bdos.specs.Faults.{fault_name, in_fault, after_fault};
 
-use crate::cpm::{Cpm, Mode, Went};
+use crate::session::{Session, Mode, Went};
 use cpm_console::Console;
 use cpm_volume::Fault;
 use cpm_memory::Memory;
@@ -24,13 +24,13 @@ fn name_of(fault: Fault) -> &'static [u8]
     }
 }
 
-impl Cpm {
+impl Session {
     /// Shows the message of a fault on a drive, 0 for A, on the console alone. The session then waits for a key, which
     /// boots it anew. The console must have room for 4,096 bytes.
     #[tactic(auto, using(crate::proofs::Showing::showing))]
     pub fn fault(&mut self, fault: Fault, drive: u8) -> Went
         requires { length self.old.console.screen ≤ 4096 }
-        ensures cpm { self.new ≡ in_fault self.old fault drive }
+        ensures session { self.new ≡ in_fault self.old fault drive }
         ensures went { result ≡ Went.GoesOn }
         ensures output { IsWithin 4096 self.old.console self.new.console }
     {

@@ -5,7 +5,7 @@ ghost use Rattle.cpm_bdos.specs.Did.{did};
 ghost use Rattle.cpm_bdos.specs.Keys.{first_key, console_status};
 ghost use Rattle.cpm_bdos.specs.Input.{is_echoed, read_key, direct_console};
 
-use crate::cpm::{Cpm, Went};
+use crate::session::{Session, Went};
 use cpm_memory::Memory;
 
 /// The parameter of function 6 that asks for a key.
@@ -14,7 +14,7 @@ const TAKE_KEY: u8 = 0xFF;
 /// The parameter of function 6 that asks whether a key is pending.
 const ASK_STATUS: u8 = 0xFE;
 
-impl Cpm {
+impl Session {
     /// FFh where a key is pending, else 00h.
     pub(crate) fn console_status(&self) -> u8
         ensures { result ≡ console_status (first_key self.now) }

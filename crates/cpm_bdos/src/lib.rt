@@ -5,7 +5,7 @@ mod bdos;
 mod bios;
 mod bios_disks;
 mod boot;
-mod cpm;
+mod session;
 mod disks;
 mod fault;
 mod function;
@@ -17,7 +17,7 @@ mod registers;
 mod transfer;
 mod wait;
 
-pub use cpm::{CommandPart, Cpm, Held, Mode, SectorPlace, Went};
+pub use session::{CommandPart, Session, HeldOutput, Mode, SectorPlace, Went};
 pub use function::{BiosCall, Function};
 pub use transfer::get_record;
 pub use wait::waits;

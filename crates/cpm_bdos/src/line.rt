@@ -5,14 +5,14 @@ ghost use Rattle.cpm_memory.specs.Contents.{Contents};
 ghost use Rattle.cpm_memory.specs.Room.{HasRoom};
 ghost use Rattle.cpm_bdos.specs.Did.{did};
 ghost use Rattle.cpm_bdos.specs.ReadLine.{LineReader, is_open, line_ended, line_step, edit_line, read_line};
-ghost use Rattle.cpm_bdos.specs.declared.cpm.Went.TheVariants.{Waits};
+ghost use Rattle.cpm_bdos.specs.declared.session.Went.TheVariants.{Waits};
 
-use crate::cpm::{Cpm, Mode, Went};
+use crate::session::{Session, Mode, Went};
 use crate::registers::pair_de;
-use cpm_console::{Line, Progress};
+use cpm_console::{Line, LineState};
 use cpm_memory::{Memory, change_run};
 
-impl Cpm {
+impl Session {
     /// The first step of a line.
     pub(crate) fn read_line<M: Memory>(&mut self, memory: &mut M) -> Went
         requires screen { length self.old.console.screen ≤ 4096 }
@@ -39,19 +39,19 @@ impl Cpm {
         ensures leads { M.Leads memory.old memory.new }
     {
         match self.step_line() {
-            Some(Progress::GoesOn) => {
+            Some(LineState::GoesOn) => {
                 self.mode = Mode::Line;
                 Went::GoesOn
             }
-            Some(Progress::Ended) => self.end_line(memory),
-            Some(Progress::Interrupted) => self.reboot(memory),
+            Some(LineState::Ended) => self.end_line(memory),
+            Some(LineState::Interrupted) => self.reboot(memory),
             None => Went::Waits,
         }
     }
 
     /// A step of the line that is being read, by function 10 or by the command processor: how the line goes on, or
     /// nothing where it needs a key and none is pending, and then nothing has changed.
-    pub fn step_line(&mut self) -> Option<Progress>
+    pub fn step_line(&mut self) -> Option<LineState>
         requires screen { length self.old.console.screen ≤ 4096 }
         requires printer { length self.old.console.printer ≤ 4096 }
         ensures step { (goes_on : LineReader) (m : Contents) → MatchOption result
@@ -61,7 +61,7 @@ impl Cpm {
     {
         if !is_open(&self.line) {
             self.console.say(b'\r');
-            return Some(Progress::Ended);
+            return Some(LineState::Ended);
         }
         let key = self.console.next_key()?;
         Some(self.line.key_into_line(&mut self.console, key))

@@ -7,7 +7,7 @@ ghost use Rattle.cpm_bdos.specs.Keys.{first_key};
 ghost use Rattle.cpm_bdos.specs.Hold.{is_stop, stopped, release};
 ghost use Rattle.cpm_bdos.specs.Output.{list_byte, write_byte, write_text};
 
-use crate::cpm::{Cpm, Held, Mode, Went};
+use crate::session::{Session, HeldOutput, Mode, Went};
 use cpm_memory::Memory;
 
 /// The key that holds output.
@@ -16,7 +16,7 @@ const STOP: u8 = 0x13;
 /// The key that ends a hold, or a line that is empty, by a warm boot.
 const BREAK: u8 = 0x03;
 
-impl Cpm {
+impl Session {
     /// Shows the byte in E.
     pub(crate) fn write_byte<M: Memory>(&mut self, memory: &M) -> Went
         requires screen { length self.old.console.screen ≤ 4096 }
@@ -24,14 +24,14 @@ impl Cpm {
         ensures { did self.new (M.contents memory.now) result ≡ write_byte self.old (M.contents memory.now) }
     {
         if self.is_stopped() {
-            return self.hold(Held::Call);
+            return self.hold(HeldOutput::Call);
         }
         self.console.write(self.regs.e);
         self.answer(memory, 0)
     }
 
     /// Shows a character of a text, or ends at `$`.
-    pub(crate) fn write_text<M: Memory>(&mut self, memory: &M, next: u16, held: Held) -> Went
+    pub(crate) fn write_text<M: Memory>(&mut self, memory: &M, next: u16, held: HeldOutput) -> Went
         requires screen { length self.old.console.screen ≤ 4096 }
         requires printer { length self.old.console.printer ≤ 4096 }
         ensures { did self.new (M.contents memory.now) result ≡ write_text held self.old (M.contents memory.now) next }
@@ -67,8 +67,8 @@ impl Cpm {
     }
 
     /// Takes ^S, and holds the output until another key.
-    pub fn hold(&mut self, held: Held) -> Went
-        ensures cpm { self.new ≡ stopped self.old held }
+    pub fn hold(&mut self, held: HeldOutput) -> Went
+        ensures session { self.new ≡ stopped self.old held }
         ensures went { result ≡ Went.GoesOn }
     {
         self.console.next_key();
@@ -77,7 +77,7 @@ impl Cpm {
     }
 
     /// Ends a hold by a key.
-    pub(crate) fn release<M: Memory>(&mut self, memory: &mut M, held: Held) -> Went
+    pub(crate) fn release<M: Memory>(&mut self, memory: &mut M, held: HeldOutput) -> Went
         requires { HasRoom (M.contents memory.old) }
         ensures step { did self.new (M.contents memory.new) result ≡ release held (first_key self.old) self.old (M.contents memory.old) }
         ensures leads { M.Leads memory.old memory.new }
@@ -89,9 +89,9 @@ impl Cpm {
             return self.reboot(memory);
         }
         self.mode = match held {
-            Held::Call => Mode::Program,
-            Held::Text { next } => Mode::Text { next },
-            Held::Command(part) => Mode::Command(part),
+            HeldOutput::Call => Mode::Program,
+            HeldOutput::Text { next } => Mode::Text { next },
+            HeldOutput::Command(part) => Mode::Command(part),
         };
         Went::GoesOn
     }

@@ -2,7 +2,7 @@
 use Rattle.std.proofs.Common.{◌≡◌, ℕ, Bool, true, false, ◌&&◌, not, refl, List, Result, Ok, Err, ◌⊎◌, inl, inr}
 use Rattle.std.specs.Prelude.{if◌then◌else◌, ◌==◌, nat_lt}
 use Rattle.cpm_geom.specs.Disk.{Disk}
-use Rattle.cpm_console.specs.declared.line.Progress.TheVariants as line
+use Rattle.cpm_console.specs.declared.line.LineState.TheVariants as line
 use Rattle.cpm_memory.specs.Contents.{Contents, byte_at, run_at}
 use Rattle.cpm_volume.specs.declared.fcb.Fcb.{Fcb}
 use Rattle.cpm_volume.specs.declared.answer.Fault.{Fault as Failure}
@@ -10,11 +10,11 @@ use Rattle.cpm_drives.specs.Disks.{is_there}
 use Rattle.cpm_drives.specs.Files.{open_file, close_file, make_file, erase_files, rename_files, read_next, write_next, next_ahead}
 use Rattle.cpm_bdos.specs.Did.{Did}
 use Rattle.cpm_bdos.specs.Laws.{is_hold}
-use Rattle.cpm_bdos.specs.declared.cpm.Cpm.{Cpm}
-use Rattle.cpm_bdos.specs.declared.cpm.CommandPart.{CommandPart}
-use Rattle.cpm_bdos.specs.declared.cpm.CommandPart.TheVariants as part
-use Rattle.cpm_bdos.specs.declared.cpm.Mode.{Mode}
-use Rattle.cpm_bdos.specs.declared.cpm.Mode.TheVariants.{Program, Text, Line, Hold, Fault, Command}
+use Rattle.cpm_bdos.specs.declared.session.Session.{Session}
+use Rattle.cpm_bdos.specs.declared.session.CommandPart.{CommandPart}
+use Rattle.cpm_bdos.specs.declared.session.CommandPart.TheVariants as part
+use Rattle.cpm_bdos.specs.declared.session.Mode.{Mode}
+use Rattle.cpm_bdos.specs.declared.session.Mode.TheVariants.{Program, Text, Line, Hold, Fault, Command}
 use Rattle.cpm_bdos.proofs.HoldLaws.{ReaderIsFree, free_line_step}
 use Rattle.cpm_ccp.specs.declared.command.Command.{Command as Typed}
 use Rattle.cpm_ccp.specs.declared.command.Command.TheVariants as typed
@@ -29,13 +29,13 @@ use Rattle.cpm_ccp.specs.Step.{looks_first, begun_by, in_part, in_mode}
 use Rattle.cpm_ccp.specs.Laws.{looks_for_stop, looks_in, command_now}
 
 -- a session, and a step, that is not held
-abbrev Free : Cpm → Type 0
+abbrev Free : Session → Type 0
 Free s = is_hold s.mode ≡ false
 
 abbrev StepFree : Did → Type 0
-StepFree d = is_hold d.cpm.mode ≡ false
+StepFree d = is_hold d.session.mode ≡ false
 
-free_if : (b : Bool) (x y : Cpm) → Free x → Free y → Free (if b then x else y)
+free_if : (b : Bool) (x y : Session) → Free x → Free y → Free (if b then x else y)
 free_if true x y hx hy = hx
 free_if false x y hx hy = hy
 
@@ -44,7 +44,7 @@ step_if true x y hx hy = hx
 step_if false x y hx hy = hy
 
 -- ^S is not read next, or is not looked for
-free_unless : (stop looks : Bool) (x y : Cpm) → (stop ≡ false) ⊎ (looks ≡ false) → Free y → Free (if stop && looks then x else y)
+free_unless : (stop looks : Bool) (x y : Session) → (stop ≡ false) ⊎ (looks ≡ false) → Free y → Free (if stop && looks then x else y)
 free_unless true looks x y (inl h) hy = absurd cc
 free_unless true true x y (inr h) hy = absurd cc
 free_unless true false x y (inr h) hy = hy
@@ -58,7 +58,7 @@ step_unless false looks x y h hy = hy
 
 -- ---- lines and drives
 
-free_prompted : (system : Disk) (byte : ℕ) (s : Cpm) → Free (prompted system byte s)
+free_prompted : (system : Disk) (byte : ℕ) (s : Session) → Free (prompted system byte s)
 unfolding prompted
 free_prompted system byte s = refl
 
@@ -67,117 +67,117 @@ step_after_key next line.GoesOn s m now = now
 step_after_key next line.Ended s m now = refl
 step_after_key next line.Interrupted s m now = refl
 
-step_drive_selected : (drive : ℕ) (s : Cpm) (m : Contents) → StepFree (drive_selected drive s m)
+step_drive_selected : (drive : ℕ) (s : Session) (m : Contents) → StepFree (drive_selected drive s m)
 step_drive_selected drive s m = step_if (is_there s.disks drive) _ _ refl refl
 
 -- ---- commands
 
-free_listed : (system : Disk) (from column : ℕ) (is_first : Bool) (s : Cpm) → Free (list_next system from column is_first s)
+free_listed : (system : Disk) (from column : ℕ) (is_first : Bool) (s : Session) → Free (list_next system from column is_first s)
 unfolding list_next
 free_listed system from column is_first s =
     free_if (not (is_there s.disks (drive_of s))) _ _ refl (free_if (has_next system from s) _ _ refl (free_if is_first _ _ refl refl))
 
-free_by_code : (a : Result ℕ Failure) (drive : ℕ) (s : Cpm) → Free (by_code a drive s)
+free_by_code : (a : Result ℕ Failure) (drive : ℕ) (s : Session) → Free (by_code a drive s)
 free_by_code (Err which) drive s = refl
 free_by_code (Ok code) drive s = free_if (code == 255) _ _ refl refl
 
-free_erased : (system : Disk) (file : Fcb) (s : Cpm) → Free (erased system file s)
+free_erased : (system : Disk) (file : Fcb) (s : Session) → Free (erased system file s)
 unfolding erased
 free_erased system file s = free_by_code (erase_files s.disks system file own_record).answer _ _
 
-free_erased_all : (system : Disk) (s : Cpm) → Free (erased_all system s)
+free_erased_all : (system : Disk) (s : Session) → Free (erased_all system s)
 unfolding erased_all
 free_erased_all system s =
     free_if (is_yes s.line.characters) _ _ (free_erased system s.file s) refl
 
-free_renamed : (system : Disk) (old new : Fcb) (s : Cpm) → Free (renamed system old new s)
+free_renamed : (system : Disk) (old new : Fcb) (s : Session) → Free (renamed system old new s)
 unfolding renamed
 free_renamed system old new s =
     free_if (has_new_name system s.disks new) _ _ refl (free_by_code (rename_files new.extent.name s.disks system old own_record).answer _ _)
 
-free_after_make : (a : Result ℕ Failure) (pages : ℕ) (s : Cpm) → Free (after_save_make a pages s)
+free_after_make : (a : Result ℕ Failure) (pages : ℕ) (s : Session) → Free (after_save_make a pages s)
 free_after_make (Err which) pages s = refl
 free_after_make (Ok code) pages s = free_if (code == 255) _ _ refl refl
 
-free_made : (system : Disk) (pages : ℕ) (s : Cpm) → Free (made system pages s)
+free_made : (system : Disk) (pages : ℕ) (s : Session) → Free (made system pages s)
 unfolding made
 free_made system pages s = free_after_make (make_file s.disks system s.file own_record).answer pages _
 
-free_after_erase : (a : Result ℕ Failure) (system : Disk) (pages : ℕ) (s : Cpm) → Free (after_erase a system pages s)
+free_after_erase : (a : Result ℕ Failure) (system : Disk) (pages : ℕ) (s : Session) → Free (after_erase a system pages s)
 free_after_erase (Err which) system pages s = refl
 free_after_erase (Ok code) system pages s = free_made system pages s
 
-free_save_begun : (system : Disk) (pages : ℕ) (file : Fcb) (s : Cpm) → Free (save_begun system pages file s)
+free_save_begun : (system : Disk) (pages : ℕ) (file : Fcb) (s : Session) → Free (save_begun system pages file s)
 unfolding save_begun
 free_save_begun system pages file s =
     free_after_erase (erase_files s.disks system file own_record).answer system pages _
 
-free_after_write : (a : Result ℕ Failure) (next left : ℕ) (s : Cpm) → Free (after_save_write a next left s)
+free_after_write : (a : Result ℕ Failure) (next left : ℕ) (s : Session) → Free (after_save_write a next left s)
 free_after_write (Err which) next left s = refl
 free_after_write (Ok code) next left s = free_if (code == 0) _ _ refl refl
 
-free_saved : (system : Disk) (next left : ℕ) (bytes : List ℕ) (s : Cpm) → Free (saved system next left bytes s)
+free_saved : (system : Disk) (next left : ℕ) (bytes : List ℕ) (s : Session) → Free (saved system next left bytes s)
 unfolding saved
 free_saved system next left bytes s =
     free_after_write (write_next s.disks system s.file bytes).answer next left _
 
-free_after_close : (a : Result ℕ Failure) (s : Cpm) → Free (after_save_close a s)
+free_after_close : (a : Result ℕ Failure) (s : Session) → Free (after_save_close a s)
 free_after_close (Err which) s = refl
 free_after_close (Ok code) s = refl
 
-free_closed : (system : Disk) (s : Cpm) → Free (closed system s)
+free_closed : (system : Disk) (s : Session) → Free (closed system s)
 unfolding closed
 free_closed system s = free_after_close (close_file s.disks system s.file own_record).answer _
 
-free_after_open : (a : Result ℕ Failure) (s : Cpm) → Free (after_type_open a s)
+free_after_open : (a : Result ℕ Failure) (s : Session) → Free (after_type_open a s)
 free_after_open (Err which) s = refl
 free_after_open (Ok code) s = free_if (code == 255) _ _ refl refl
 
-free_show_begun : (system : Disk) (file : Fcb) (s : Cpm) → Free (show_begun system file s)
+free_show_begun : (system : Disk) (file : Fcb) (s : Session) → Free (show_begun system file s)
 unfolding show_begun
 free_show_begun system file s = free_after_open (open_file s.disks system file own_record).answer _
 
-free_after_read : (a : Result ℕ Failure) (bytes : List ℕ) (s : Cpm) → Free (after_type_read a bytes s)
+free_after_read : (a : Result ℕ Failure) (bytes : List ℕ) (s : Session) → Free (after_type_read a bytes s)
 free_after_read (Err which) bytes s = refl
 free_after_read (Ok code) bytes s = free_if (code == 0) _ _ (free_if (ends_in bytes) _ _ refl refl) refl
 
-free_next_shown : (system : Disk) (s : Cpm) → Free (next_shown system s)
+free_next_shown : (system : Disk) (s : Session) → Free (next_shown system s)
 unfolding next_shown
 free_next_shown system s =
     let c = read_next s.disks system s.file own_record in
     free_after_read c.answer (record_of c) (with_call s c)
 
-free_opened : (a : Result ℕ Failure) (s : Cpm) → Free (loading.after_load_open a s)
+free_opened : (a : Result ℕ Failure) (s : Session) → Free (loading.after_load_open a s)
 free_opened (Err which) s = refl
 free_opened (Ok code) s = free_if (code == 255) _ _ refl refl
 
-free_load_begun : (system : Disk) (file : Fcb) (s : Cpm) → Free (load_begun system file s)
+free_load_begun : (system : Disk) (file : Fcb) (s : Session) → Free (load_begun system file s)
 unfolding load_begun
 free_load_begun system file s = free_opened (open_file s.disks system file own_record).answer _
 
-step_read : (a : Result ℕ Failure) (next : ℕ) (bytes : List ℕ) (s : Cpm) (m : Contents) → StepFree (loading.after_load_read a next bytes s m)
+step_read : (a : Result ℕ Failure) (next : ℕ) (bytes : List ℕ) (s : Session) (m : Contents) → StepFree (loading.after_load_read a next bytes s m)
 step_read (Err which) next bytes s m = refl
 step_read (Ok code) next bytes s m = step_if (code == 0) _ _ (step_if (nat_lt 58240 next) _ _ refl refl) refl
 
-step_load_record : (system : Disk) (next : ℕ) (s : Cpm) (m : Contents) → StepFree (load_record system next s m)
+step_load_record : (system : Disk) (next : ℕ) (s : Session) (m : Contents) → StepFree (load_record system next s m)
 unfolding load_record
 step_load_record system next s m =
     let c = read_next s.disks system s.file own_record in
     step_read c.answer next (record_of c) (with_call s c) m
 
-free_listed_on : (system : Disk) (from column : ℕ) (s : Cpm) → is_stopped s ≡ false → Free (listed_on system from column s)
+free_listed_on : (system : Disk) (from column : ℕ) (s : Session) → is_stopped s ≡ false → Free (listed_on system from column s)
 unfolding listed_on
 free_listed_on system from column s h =
     free_unless (is_stopped s) (shows_file system from s) _ _ (inl h) (free_listed system from column false s)
 
-free_shown_on : (system : Disk) (s : Cpm) → is_stopped s ≡ false → Free (shown_on system s)
+free_shown_on : (system : Disk) (s : Session) → is_stopped s ≡ false → Free (shown_on system s)
 unfolding shown_on
 free_shown_on system s h =
     free_unless (is_stopped s) (shows_record (next_ahead s.disks system s.file)) _ _ (inl h) (free_next_shown system s)
 
 -- ---- steps
 
-step_begun_by : (command : Typed) (system : Disk) (s : Cpm) (m : Contents) → StepFree (begun_by command system s m)
+step_begun_by : (command : Typed) (system : Disk) (s : Session) (m : Contents) → StepFree (begun_by command system s m)
 step_begun_by typed.Nothing system s m = refl
 step_begun_by (typed.SelectDrive drive) system s m = step_drive_selected drive s m
 step_begun_by (typed.Directory file) system s m = free_listed system 0 0 true (on_file s file)
@@ -194,7 +194,7 @@ step_begun_by typed.UserForm system s m = refl
 step_begun_by (typed.Program file) system s m = free_load_begun system file s
 step_begun_by typed.Unknown system s m = refl
 
-module _ (system : Disk) (s : Cpm) (m : Contents) (now : Free s) where
+module _ (system : Disk) (s : Session) (m : Contents) (now : Free s) where
   step_in_part : (p : CommandPart) → (is_stopped s ≡ false) ⊎ (looks_for_stop p (command_now s) ≡ false) → StepFree (in_part p system s m)
   step_in_part part.Line h = free_line_step (after_key part.Begin) (step_after_key part.Begin) s.line s m now
   step_in_part part.Begin h =

@@ -12,11 +12,11 @@ use Rattle.cpm_drives.specs.Files.{read_next, next_ahead}
 use Rattle.cpm_bdos.specs.Did.{Did}
 use Rattle.cpm_bdos.specs.Faults.{in_fault}
 use Rattle.cpm_bdos.specs.Laws.{with_keys, without_keys, did_with_keys}
-use Rattle.cpm_bdos.specs.declared.cpm.Cpm.{Cpm}
-use Rattle.cpm_bdos.specs.declared.cpm.CommandPart.{CommandPart}
-use Rattle.cpm_bdos.specs.declared.cpm.CommandPart.TheVariants as part
-use Rattle.cpm_bdos.specs.declared.cpm.Mode.{Mode}
-use Rattle.cpm_bdos.specs.declared.cpm.Mode.TheVariants.{Program, Command}
+use Rattle.cpm_bdos.specs.declared.session.Session.{Session}
+use Rattle.cpm_bdos.specs.declared.session.CommandPart.{CommandPart}
+use Rattle.cpm_bdos.specs.declared.session.CommandPart.TheVariants as part
+use Rattle.cpm_bdos.specs.declared.session.Mode.{Mode}
+use Rattle.cpm_bdos.specs.declared.session.Mode.TheVariants.{Program, Command}
 use Rattle.cpm_ccp.specs.declared.command.Command.{Command as Typed}
 use Rattle.cpm_ccp.specs.declared.command.Command.TheVariants as typed
 use Rattle.cpm_ccp.specs.declared.message.Message.TheVariants as message
@@ -31,19 +31,19 @@ use Rattle.cpm_ccp.proofs.FreeLaws.{step_in_mode}
 -- ---- a part of DIR or TYPE does the same whatever keys are pending
 
 module _ (keys : List ℕ) where
-  keys_if : (b : Bool) (x y x' y' : Cpm) → x' ≡ with_keys keys x → y' ≡ with_keys keys y → (if b then x' else y') ≡ with_keys keys (if b then x else y)
+  keys_if : (b : Bool) (x y x' y' : Session) → x' ≡ with_keys keys x → y' ≡ with_keys keys y → (if b then x' else y') ≡ with_keys keys (if b then x else y)
   keys_if true x y x' y' ex ey = ex
   keys_if false x y x' y' ex ey = ey
 
-  keys_fault : (s : Cpm) (which : Failure) (drive : ℕ) → in_fault (with_keys keys s) which drive ≡ with_keys keys (in_fault s which drive)
+  keys_fault : (s : Session) (which : Failure) (drive : ℕ) → in_fault (with_keys keys s) which drive ≡ with_keys keys (in_fault s which drive)
   unfolding shown
   keys_fault s which drive = refl
 
-  keys_file_shown : (index column : ℕ) (name : List ℕ) (s : Cpm) → file_shown index column name (with_keys keys s) ≡ with_keys keys (file_shown index column name s)
+  keys_file_shown : (index column : ℕ) (name : List ℕ) (s : Session) → file_shown index column name (with_keys keys s) ≡ with_keys keys (file_shown index column name s)
   unfolding said
   keys_file_shown index column name s = refl
 
-  keys_listed : (system : Disk) (from column : ℕ) (s : Cpm) → list_next system from column false (with_keys keys s) ≡ with_keys keys (list_next system from column false s)
+  keys_listed : (system : Disk) (from column : ℕ) (s : Session) → list_next system from column false (with_keys keys s) ≡ with_keys keys (list_next system from column false s)
   unfolding list_next has_next next_listed
   keys_listed system from column s =
       keys_if (not (is_there s.disks (drive_of s))) _ _ _ _ (keys_fault s failure.Select (drive_of s)) (keys_if (has_next system from s) _ _ _ _ (keys_file_shown (next_listed system from s) column (entry_at (entries_listed system s) (next_listed system from s)).extent.name (drive_used system s)) refl)
@@ -58,17 +58,17 @@ module _ (keys : List ℕ) where
   keys_wrote_all t (c ∷ cs) =
       ap (λ (u : Terminal). wrote_all u cs) (keys_said t (expanded t.column c)) ∙ keys_wrote_all (said t (expanded t.column c)) cs
 
-  keys_record_shown : (bytes : List ℕ) (s : Cpm) → record_shown bytes (with_keys keys s) ≡ with_keys keys (record_shown bytes s)
+  keys_record_shown : (bytes : List ℕ) (s : Session) → record_shown bytes (with_keys keys s) ≡ with_keys keys (record_shown bytes s)
   keys_record_shown bytes s =
       let wrote = keys_wrote_all s.console (text_of bytes) in
       keys_if (ends_in bytes) _ _ _ _ (ap (λ (t : Terminal). record s { console = t; mode = Program }) wrote) (ap (λ (t : Terminal). record s { console = t; mode = Command part.Show }) wrote)
 
-  keys_after_read : (a : Result ℕ Failure) (bytes : List ℕ) (s : Cpm) → after_type_read a bytes (with_keys keys s) ≡ with_keys keys (after_type_read a bytes s)
+  keys_after_read : (a : Result ℕ Failure) (bytes : List ℕ) (s : Session) → after_type_read a bytes (with_keys keys s) ≡ with_keys keys (after_type_read a bytes s)
   keys_after_read (Err which) bytes s = keys_fault s which (drive_of s)
   keys_after_read (Ok code) bytes s =
       keys_if (code == 0) _ _ _ _ (keys_record_shown bytes s) refl
 
-  keys_next_shown : (system : Disk) (s : Cpm) → next_shown system (with_keys keys s) ≡ with_keys keys (next_shown system s)
+  keys_next_shown : (system : Disk) (s : Session) → next_shown system (with_keys keys s) ≡ with_keys keys (next_shown system s)
   unfolding next_shown
   keys_next_shown system s =
       let c = read_next s.disks system s.file own_record in
@@ -76,38 +76,38 @@ module _ (keys : List ℕ) where
 
 -- ---- a step that looks
 
-held_so : (stop looks : Bool) (x y : Cpm) → stop ≡ true → looks ≡ true → (if stop && looks then x else y) ≡ x
+held_so : (stop looks : Bool) (x y : Session) → stop ≡ true → looks ≡ true → (if stop && looks then x else y) ≡ x
 held_so true true x y h k = refl
 held_so true false x y h k = absurd cc
 held_so false looks x y h k = absurd cc
 
-goes_so : (stop looks : Bool) (x y : Cpm) → looks ≡ false → (if stop && looks then x else y) ≡ y
+goes_so : (stop looks : Bool) (x y : Session) → looks ≡ false → (if stop && looks then x else y) ≡ y
 goes_so true true x y k = absurd cc
 goes_so true false x y k = refl
 goes_so false looks x y k = refl
 
 -- what is looked at ahead decides
-decided : (looks : Bool) (s free : Cpm) → (looks ≡ true → Grows s free) → (looks ≡ false → Stays s free) → (free.console.screen ≢ s.console.screen → looks ≡ true) × (free.console.screen ≡ s.console.screen → looks ≡ false)
+decided : (looks : Bool) (s free : Session) → (looks ≡ true → Grows s free) → (looks ≡ false → Stays s free) → (free.console.screen ≢ s.console.screen → looks ≡ true) × (free.console.screen ≡ s.console.screen → looks ≡ false)
 decided true s free grows stays = (λ h. refl, λ h. absurd (grows refl h))
 decided false s free grows stays = (λ h. absurd (h (stays refl)), λ h. refl)
 
-free_listed : (system : Disk) (from column : ℕ) (s : Cpm) → listed_on system from column (without_keys s) ≡ list_next system from column false (without_keys s)
+free_listed : (system : Disk) (from column : ℕ) (s : Session) → listed_on system from column (without_keys s) ≡ list_next system from column false (without_keys s)
 unfolding listed_on
 free_listed system from column s = refl
 
-free_shown : (system : Disk) (s : Cpm) → shown_on system (without_keys s) ≡ next_shown system (without_keys s)
+free_shown : (system : Disk) (s : Session) → shown_on system (without_keys s) ≡ next_shown system (without_keys s)
 unfolding shown_on
 free_shown system s = refl
 
-same_ahead : (system : Disk) (from : ℕ) (s : Cpm) → shows_file system from (without_keys s) ≡ shows_file system from s
+same_ahead : (system : Disk) (from : ℕ) (s : Session) → shows_file system from (without_keys s) ≡ shows_file system from s
 unfolding shows_file has_next next_listed
 same_ahead system from s = refl
 
-same_record : (system : Disk) (s : Cpm) → next_ahead (without_keys s).disks system (without_keys s).file ≡ next_ahead s.disks system s.file
+same_record : (system : Disk) (s : Session) → next_ahead (without_keys s).disks system (without_keys s).file ≡ next_ahead s.disks system s.file
 same_record system s = refl
 
 -- the first step shows something, whatever comes of it
-first_grows : (command : Typed) (system : Disk) (s : Cpm) (m : Contents) → looks_first command ≡ true → Grows s (begun_by command system s m).cpm
+first_grows : (command : Typed) (system : Disk) (s : Session) (m : Contents) → looks_first command ≡ true → Grows s (begun_by command system s m).session
 first_grows typed.Nothing system s m h = absurd cc
 first_grows (typed.SelectDrive drive) system s m h = absurd cc
 first_grows (typed.Directory file) system s m h = listed_first system 0 0 (on_file s file)
@@ -129,7 +129,7 @@ first_held true true x y h k = refl
 first_held true false x y h k = absurd cc
 first_held false looks x y h k = absurd cc
 
-module _ (system : Disk) (s : Cpm) (m : Contents) (stop : is_stopped s ≡ true) where
+module _ (system : Disk) (s : Session) (m : Contents) (stop : is_stopped s ≡ true) where
   -- ---- each file of DIR
   module _ (from column : ℕ) where
     file_ahead : ((listed_on system from column (without_keys s)).console.screen ≢ s.console.screen → shows_file system from s ≡ true) × ((listed_on system from column (without_keys s)).console.screen ≡ s.console.screen → shows_file system from s ≡ false)
@@ -171,41 +171,41 @@ module _ (system : Disk) (s : Cpm) (m : Contents) (stop : is_stopped s ≡ true)
 
   -- ---- parts
 
-  part_held : (p : CommandPart) → looks_for_stop p (command_now s) ≡ true → IsReadyFor p system s → (in_part p system (without_keys s) m).cpm.console.screen ≢ s.console.screen → in_part p system s m ≡ stepped (held_at_part s p) m
+  part_held : (p : CommandPart) → looks_for_stop p (command_now s) ≡ true → IsReadyFor p system s → (in_part p system (without_keys s) m).session.console.screen ≢ s.console.screen → in_part p system s m ≡ stepped (held_at_part s p) m
   part_held part.Line looks in_use h = absurd cc
   part_held part.Begin looks in_use h =
       first_held (is_stopped s) (looks_first (command_now s)) _ _ stop looks
   part_held (part.Directory next column) looks in_use h =
-      ap (λ (t : Cpm). stepped t m) (file_held next column ((file_ahead next column).0 h))
+      ap (λ (t : Session). stepped t m) (file_held next column ((file_ahead next column).0 h))
   part_held part.Answer looks in_use h = absurd cc
   part_held part.EraseAll looks in_use h = absurd cc
   part_held (part.Save next left) looks in_use h = absurd cc
   part_held part.Close looks in_use h = absurd cc
   part_held part.Show looks in_use h =
-      ap (λ (t : Cpm). stepped t m) (record_held in_use ((record_ahead in_use).0 h))
+      ap (λ (t : Session). stepped t m) (record_held in_use ((record_ahead in_use).0 h))
   part_held (part.Load next) looks in_use h = absurd cc
 
-  part_silent : (p : CommandPart) → looks_for_stop p (command_now s) ≡ true → IsReadyFor p system s → (in_part p system (without_keys s) m).cpm.console.screen ≡ s.console.screen → in_part p system s m ≡ did_with_keys s.console.keys (in_part p system (without_keys s) m)
+  part_silent : (p : CommandPart) → looks_for_stop p (command_now s) ≡ true → IsReadyFor p system s → (in_part p system (without_keys s) m).session.console.screen ≡ s.console.screen → in_part p system s m ≡ did_with_keys s.console.keys (in_part p system (without_keys s) m)
   part_silent part.Line looks in_use h = absurd cc
   part_silent part.Begin looks in_use h =
       absurd (first_grows (command_now s) system (without_keys s) m looks h)
   part_silent (part.Directory next column) looks in_use h =
-      ap (λ (t : Cpm). stepped t m) (file_goes next column ((file_ahead next column).1 h))
+      ap (λ (t : Session). stepped t m) (file_goes next column ((file_ahead next column).1 h))
   part_silent part.Answer looks in_use h = absurd cc
   part_silent part.EraseAll looks in_use h = absurd cc
   part_silent (part.Save next left) looks in_use h = absurd cc
   part_silent part.Close looks in_use h = absurd cc
   part_silent part.Show looks in_use h =
-      ap (λ (t : Cpm). stepped t m) (record_goes in_use ((record_ahead in_use).1 h))
+      ap (λ (t : Session). stepped t m) (record_goes in_use ((record_ahead in_use).1 h))
   part_silent (part.Load next) looks in_use h = absurd cc
 
-  mode_held : (mode : Mode) (p : CommandPart) → mode ≡ Command p → looks_for_stop p (command_now s) ≡ true → IsReadyFor p system s → (in_mode mode system (without_keys s) m).cpm.console.screen ≢ s.console.screen → in_mode mode system s m ≡ stepped (held_at_part s p) m
+  mode_held : (mode : Mode) (p : CommandPart) → mode ≡ Command p → looks_for_stop p (command_now s) ≡ true → IsReadyFor p system s → (in_mode mode system (without_keys s) m).session.console.screen ≢ s.console.screen → in_mode mode system s m ≡ stepped (held_at_part s p) m
   mode_held mode p is looks in_use h = rw is (part_held p looks in_use (rw is at h))
 
-  mode_silent : (mode : Mode) (p : CommandPart) → mode ≡ Command p → looks_for_stop p (command_now s) ≡ true → IsReadyFor p system s → (in_mode mode system (without_keys s) m).cpm.console.screen ≡ s.console.screen → in_mode mode system s m ≡ did_with_keys s.console.keys (in_mode mode system (without_keys s) m)
+  mode_silent : (mode : Mode) (p : CommandPart) → mode ≡ Command p → looks_for_stop p (command_now s) ≡ true → IsReadyFor p system s → (in_mode mode system (without_keys s) m).session.console.screen ≡ s.console.screen → in_mode mode system s m ≡ did_with_keys s.console.keys (in_mode mode system (without_keys s) m)
   mode_silent mode p is looks in_use h = rw is (part_silent p looks in_use (rw is at h))
 
-pub IsHeldRight-now : (system : Disk) (s : Cpm) (m : Contents) → IsHeldRight system s m
+pub IsHeldRight-now : (system : Disk) (s : Session) (m : Contents) → IsHeldRight system s m
 IsHeldRight-now system s m = record {
   looking = λ p is looks stop in_use. record {
     shows = mode_held system s m stop s.mode p is looks in_use;

@@ -18,10 +18,10 @@ use Rattle.cpm_drives.specs.Selecting.{ready}
 use Rattle.cpm_drives.specs.Calls.{OnDrive, FileCall, on_named_drive, drive_named}
 use Rattle.cpm_drives.specs.Files.{open_file_on, read_next_on, open_file, read_next, next_ahead}
 use Rattle.cpm_bdos.specs.Did.{Did}
-use Rattle.cpm_bdos.specs.declared.cpm.Cpm.{Cpm}
-use Rattle.cpm_bdos.specs.declared.cpm.CommandPart.TheVariants as part
-use Rattle.cpm_bdos.specs.declared.cpm.Mode.{Mode}
-use Rattle.cpm_bdos.specs.declared.cpm.Mode.TheVariants.{Command}
+use Rattle.cpm_bdos.specs.declared.session.Session.{Session}
+use Rattle.cpm_bdos.specs.declared.session.CommandPart.TheVariants as part
+use Rattle.cpm_bdos.specs.declared.session.Mode.{Mode}
+use Rattle.cpm_bdos.specs.declared.session.Mode.TheVariants.{Command}
 use Rattle.cpm_ccp.specs.Parts.{is_stopped, own_record, record_of, drive_of, with_call}
 use Rattle.cpm_ccp.specs.Showing.{show_begun, ends_in, after_type_read, next_shown, shows_record, shown_on}
 use Rattle.cpm_ccp.specs.Showing as showing
@@ -90,19 +90,19 @@ open_keeps : (user : ℕ) (fcb : Fcb) (buffer : List ℕ) → Keeps (open_file_o
 unfolding open_file_on
 open_keeps user fcb buffer = record { protected = λ drive. refl; file = λ drive. opened_file fcb _ _ }
 
-marked_opened : (a : Result ℕ Failure) (s : Cpm) → IsMarked s → IsMarked (showing.after_type_open a s)
+marked_opened : (a : Result ℕ Failure) (s : Session) → IsMarked s → IsMarked (showing.after_type_open a s)
 marked_opened (Err which) s h = h
-marked_opened (Ok code) s h = cpm_if (code == 255) _ _ h h
+marked_opened (Ok code) s h = session_if (code == 255) _ _ h h
   where
-    cpm_if : (b : Bool) (x y : Cpm) → IsMarked x → IsMarked y → IsMarked (if b then x else y)
-    cpm_if true x y hx hy = hx
-    cpm_if false x y hx hy = hy
+    session_if : (b : Bool) (x y : Session) → IsMarked x → IsMarked y → IsMarked (if b then x else y)
+    session_if true x y hx hy = hx
+    session_if false x y hx hy = hy
 
-begun_if : (b : Bool) (c d : FileCall) (s : Cpm) → d.answer ≡ Err failure.Select → Marked c.disks c.fcb.drive → (showing.after_type_open (if b then c else d).answer (with_call s (if b then c else d))).mode ≡ Command part.Show → IsMarked (showing.after_type_open (if b then c else d).answer (with_call s (if b then c else d)))
+begun_if : (b : Bool) (c d : FileCall) (s : Session) → d.answer ≡ Err failure.Select → Marked c.disks c.fcb.drive → (showing.after_type_open (if b then c else d).answer (with_call s (if b then c else d))).mode ≡ Command part.Show → IsMarked (showing.after_type_open (if b then c else d).answer (with_call s (if b then c else d)))
 begun_if true c d s e h shows = marked_opened c.answer (with_call s c) h
 begun_if false c d s e h shows = absurd (let x = rw e at shows in cc)
 
-pub marked_begun : (system : Disk) (file : Fcb) (s : Cpm) → (show_begun system file s).mode ≡ Command part.Show → IsMarked (show_begun system file s)
+pub marked_begun : (system : Disk) (file : Fcb) (s : Session) → (show_begun system file s).mode ≡ Command part.Show → IsMarked (show_begun system file s)
 unfolding show_begun open_file on_named_drive
 marked_begun system file s shows =
     begun_if (is_there s.disks (drive_named s.disks file.drive)) _ _ s refl (marked_there (open_file_on s.disks.user file own_record) s.disks system file.drive (open_keeps s.disks.user file own_record)) shows
@@ -113,54 +113,54 @@ read_keeps : (user : ℕ) (fcb : Fcb) (buffer : List ℕ) → Keeps (read_next_o
 unfolding read_next_on after_call drive_after
 read_keeps user fcb buffer = record { protected = λ drive. refl; file = λ drive. refl }
 
-marked_read : (a : Result ℕ Failure) (bytes : List ℕ) (s : Cpm) → IsMarked s → IsMarked (after_type_read a bytes s)
+marked_read : (a : Result ℕ Failure) (bytes : List ℕ) (s : Session) → IsMarked s → IsMarked (after_type_read a bytes s)
 marked_read (Err which) bytes s h = h
 marked_read (Ok code) bytes s h =
-    cpm_if (code == 0) _ _ (cpm_if (ends_in bytes) _ _ h h) h
+    session_if (code == 0) _ _ (session_if (ends_in bytes) _ _ h h) h
   where
-    cpm_if : (b : Bool) (x y : Cpm) → IsMarked x → IsMarked y → IsMarked (if b then x else y)
-    cpm_if true x y hx hy = hx
-    cpm_if false x y hx hy = hy
+    session_if : (b : Bool) (x y : Session) → IsMarked x → IsMarked y → IsMarked (if b then x else y)
+    session_if true x y hx hy = hx
+    session_if false x y hx hy = hy
 
 called_if : (b : Bool) (c d : FileCall) → Marked c.disks c.fcb.drive → Marked d.disks d.fcb.drive → Marked (if b then c else d).disks (if b then c else d).fcb.drive
 called_if true c d hc hd = hc
 called_if false c d hc hd = hd
 
-marked_call : (system : Disk) (s : Cpm) → IsMarked s → Marked (read_next s.disks system s.file own_record).disks (read_next s.disks system s.file own_record).fcb.drive
+marked_call : (system : Disk) (s : Session) → IsMarked s → Marked (read_next s.disks system s.file own_record).disks (read_next s.disks system s.file own_record).fcb.drive
 unfolding read_next on_named_drive
 marked_call system s h =
     called_if (is_there s.disks (drive_of s)) _ _ (marked_there (read_next_on s.disks.user s.file own_record) s.disks system s.file.drive (read_keeps s.disks.user s.file own_record)) h
 
-marked_next : (system : Disk) (s : Cpm) → IsMarked s → IsMarked (next_shown system s)
+marked_next : (system : Disk) (s : Session) → IsMarked s → IsMarked (next_shown system s)
 unfolding next_shown
 marked_next system s h =
     let c = read_next s.disks system s.file own_record in
     marked_read c.answer (record_of c) (with_call s c) (marked_call system s h)
 
-pub marked_shown : (system : Disk) (s : Cpm) → IsMarked s → IsMarked (shown_on system s)
+pub marked_shown : (system : Disk) (s : Session) → IsMarked s → IsMarked (shown_on system s)
 unfolding shown_on
 marked_shown system s h =
     shown_if (is_stopped s && shows_record (next_ahead s.disks system s.file)) _ _ h (marked_next system s h)
   where
-    shown_if : (b : Bool) (x y : Cpm) → IsMarked x → IsMarked y → IsMarked (if b then x else y)
+    shown_if : (b : Bool) (x y : Session) → IsMarked x → IsMarked y → IsMarked (if b then x else y)
     shown_if true x y hx hy = hx
     shown_if false x y hx hy = hy
 
 -- ---- steps
 
-begun_marked : (stop : Bool) (held : Did) (command : Typed) (file : Fcb) (system : Disk) (s : Cpm) (m : Contents) → stop ≡ false → command ≡ typed.TypeFile file → (if stop && looks_first command then held else begun_by command system s m).cpm.mode ≡ Command part.Show → IsMarked (if stop && looks_first command then held else begun_by command system s m).cpm
+begun_marked : (stop : Bool) (held : Did) (command : Typed) (file : Fcb) (system : Disk) (s : Session) (m : Contents) → stop ≡ false → command ≡ typed.TypeFile file → (if stop && looks_first command then held else begun_by command system s m).session.mode ≡ Command part.Show → IsMarked (if stop && looks_first command then held else begun_by command system s m).session
 begun_marked true held command file system s m stop is shows = absurd cc
 begun_marked false held command file system s m stop is shows =
     rw is (marked_begun system file s (rw is at shows))
 
-mode_begun : (mode : Mode) (file : Fcb) (system : Disk) (s : Cpm) (m : Contents) → mode ≡ Command part.Begin → command_now s ≡ typed.TypeFile file → is_stopped s ≡ false → (in_mode mode system s m).cpm.mode ≡ Command part.Show → IsMarked (in_mode mode system s m).cpm
+mode_begun : (mode : Mode) (file : Fcb) (system : Disk) (s : Session) (m : Contents) → mode ≡ Command part.Begin → command_now s ≡ typed.TypeFile file → is_stopped s ≡ false → (in_mode mode system s m).session.mode ≡ Command part.Show → IsMarked (in_mode mode system s m).session
 mode_begun mode file system s m is command stop shows =
     rw is (begun_marked (is_stopped s) _ (command_now s) file system s m stop command (rw is at shows))
 
-mode_shown : (mode : Mode) (system : Disk) (s : Cpm) (m : Contents) → mode ≡ Command part.Show → IsMarked s → IsMarked (in_mode mode system s m).cpm
+mode_shown : (mode : Mode) (system : Disk) (s : Session) (m : Contents) → mode ≡ Command part.Show → IsMarked s → IsMarked (in_mode mode system s m).session
 mode_shown mode system s m is h = rw is (marked_shown system s h)
 
-pub KeepsMarks-now : (system : Disk) (s : Cpm) (m : Contents) → KeepsMarks system s m
+pub KeepsMarks-now : (system : Disk) (s : Session) (m : Contents) → KeepsMarks system s m
 KeepsMarks-now system s m = record {
   opened = λ file is command stop shows. mode_begun s.mode file system s m is command stop shows;
   shown = λ is h. mode_shown s.mode system s m is h;

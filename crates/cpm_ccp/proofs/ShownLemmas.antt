@@ -25,7 +25,7 @@ use Rattle.cpm_drives.specs.Selecting.{ready}
 use Rattle.cpm_drives.specs.Calls.{FileCall, code_of_answer, on_named_drive}
 use Rattle.cpm_drives.specs.Files.{open_file, read_next_on, read_next, marked_drive, next_ahead}
 use Rattle.cpm_bdos.specs.Faults.{fault_name, in_fault, fault_text}
-use Rattle.cpm_bdos.specs.declared.cpm.Cpm.{Cpm}
+use Rattle.cpm_bdos.specs.declared.session.Session.{Session}
 use Rattle.cpm_bdos.proofs.Showing.{length-screen_shown}
 use Rattle.cpm_bdos.proofs.HoldLaws.{said_grows}
 use Rattle.cpm_ccp.specs.declared.message.Message.{Message}
@@ -38,32 +38,32 @@ use Rattle.cpm_ccp.specs.Laws.{IsInUse}
 use Rattle.cpm_ccp.proofs.AheadLemmas.{same_read, Told, told_read, Wrote, wrote_read, BeginsAs, begins_after}
 
 -- a step shows something, or nothing
-abbrev pub Grows : Cpm → Cpm → Type 0
+abbrev pub Grows : Session → Session → Type 0
 Grows s t = t.console.screen ≡ s.console.screen → ⊥
 
-abbrev pub Stays : Cpm → Cpm → Type 0
+abbrev pub Stays : Session → Session → Type 0
 Stays s t = t.console.screen ≡ s.console.screen
 
-grows_if : (b : Bool) (s x y : Cpm) → Grows s x → Grows s y → Grows s (if b then x else y)
+grows_if : (b : Bool) (s x y : Session) → Grows s x → Grows s y → Grows s (if b then x else y)
 grows_if true s x y hx hy = hx
 grows_if false s x y hx hy = hy
 
 -- ---- texts
 
-grows_says : (s : Cpm) (text : List ℕ) → 0 < length text → Grows s (says s text)
+grows_says : (s : Session) (text : List ℕ) → 0 < length text → Grows s (says s text)
 grows_says s text some same = said_grows s.console text some same
 
 cons_some : (x : ℕ) (xs : List ℕ) → 0 < length (x ∷ xs)
 cons_some x xs = omega arith
 
-pub grows_told : (s : Cpm) (words : Message) → Grows s (told s words)
+pub grows_told : (s : Session) (words : Message) → Grows s (told s words)
 grows_told s words same =
     grows_says s (13 ∷ 10 ∷ message_text words) (cons_some 13 (10 ∷ message_text words)) same
 
 shown_grows : (t : Terminal) (text : List ℕ) → 0 < length text → (shown t text).screen ≡ t.screen → ⊥
 shown_grows t text some same = omega (arith, length-screen_shown t text, ap length same, some)
 
-pub grows_fault : (s : Cpm) (which : Failure) (drive : ℕ) → Grows s (in_fault s which drive)
+pub grows_fault : (s : Session) (which : Failure) (drive : ℕ) → Grows s (in_fault s which drive)
 grows_fault s which drive same =
     shown_grows s.console (fault_text which drive) (cons_some 13 (10 ∷ (codes "Bdos Err On " ++ ((65 + drive % 16) ∷ (codes ": " ++ fault_name which))))) same
 
@@ -81,44 +81,44 @@ unfolding file_text
 file_some column drive name =
     omega (arith, before_some column drive, length-append (before_file column drive) (map low_seven (take 8 name) ++ (32 ∷ map low_seven (slice_range name 8 11))))
 
-grows_file_shown : (index column : ℕ) (name : List ℕ) (s : Cpm) → Grows s (file_shown index column name s)
+grows_file_shown : (index column : ℕ) (name : List ℕ) (s : Session) → Grows s (file_shown index column name s)
 grows_file_shown index column name s same =
     grows_says s (file_text column (drive_of s) name) (file_some column (drive_of s) name) same
 
-pub listed_first : (system : Disk) (from column : ℕ) (s : Cpm) → Grows s (list_next system from column true s)
+pub listed_first : (system : Disk) (from column : ℕ) (s : Session) → Grows s (list_next system from column true s)
 unfolding list_next
 listed_first system from column s =
     grows_if (not (is_there s.disks (drive_of s))) s _ _ (grows_fault s failure.Select (drive_of s))
     (grows_if (has_next system from s) s _ _ (grows_file_shown (next_listed system from s) column (entry_at (entries_listed system s) (next_listed system from s)).extent.name (drive_used system s)) (grows_told (drive_used system s) message.NoFile))
 
-either_grows : (gone more : Bool) (s x y z : Cpm) → (gone || more) ≡ true → Grows s x → Grows s y → Grows s (if gone then x else if more then y else z)
+either_grows : (gone more : Bool) (s x y z : Session) → (gone || more) ≡ true → Grows s x → Grows s y → Grows s (if gone then x else if more then y else z)
 either_grows true more s x y z h hx hy = hx
 either_grows false true s x y z h hx hy = hy
 either_grows false false s x y z h hx hy = absurd cc
 
-neither_grows : (gone more : Bool) (s x y z : Cpm) → (gone || more) ≡ false → Stays s z → Stays s (if gone then x else if more then y else z)
+neither_grows : (gone more : Bool) (s x y z : Session) → (gone || more) ≡ false → Stays s z → Stays s (if gone then x else if more then y else z)
 neither_grows true more s x y z h hz = absurd cc
 neither_grows false true s x y z h hz = absurd cc
 neither_grows false false s x y z h hz = hz
 
-pub listed_grows : (system : Disk) (from column : ℕ) (s : Cpm) → shows_file system from s ≡ true → Grows s (list_next system from column false s)
+pub listed_grows : (system : Disk) (from column : ℕ) (s : Session) → shows_file system from s ≡ true → Grows s (list_next system from column false s)
 unfolding list_next shows_file
 listed_grows system from column s h =
     either_grows (not (is_there s.disks (drive_of s))) (has_next system from s) s _ _ _ h (grows_fault s failure.Select (drive_of s)) (grows_file_shown (next_listed system from s) column (entry_at (entries_listed system s) (next_listed system from s)).extent.name (drive_used system s))
 
-pub listed_stays : (system : Disk) (from column : ℕ) (s : Cpm) → shows_file system from s ≡ false → Stays s (list_next system from column false s)
+pub listed_stays : (system : Disk) (from column : ℕ) (s : Session) → shows_file system from s ≡ false → Stays s (list_next system from column false s)
 unfolding list_next shows_file
 listed_stays system from column s h =
     neither_grows (not (is_there s.disks (drive_of s))) (has_next system from s) s _ _ _ h refl
 
 -- ---- TYPE: the first step
 
-grows_after_open : (a : Result ℕ Failure) (s : Cpm) → Grows s (after_type_open a s)
+grows_after_open : (a : Result ℕ Failure) (s : Session) → Grows s (after_type_open a s)
 grows_after_open (Err which) s = grows_fault s which (drive_of s)
 grows_after_open (Ok code) s =
     grows_if (code == 255) s _ _ (grows_told s message.NoFile) (grows_says s (13 ∷ 10 ∷ []) (cons_some 13 (10 ∷ [])))
 
-pub begun_grows : (system : Disk) (file : Fcb) (s : Cpm) → Grows s (show_begun system file s)
+pub begun_grows : (system : Disk) (file : Fcb) (s : Session) → Grows s (show_begun system file s)
 unfolding show_begun
 begun_grows system file s =
     let c = open_file s.disks system file own_record in grows_after_open c.answer (with_call s c)
@@ -157,20 +157,20 @@ before_cons p b bs h = rw h (take_more (prefix_len (λ x. not (p x)) bs) b bs)
 before_nil : (p : ℕ → Bool) (b : ℕ) (bs : List ℕ) → p b ≡ true → before_first p (b ∷ bs) ≡ []
 before_nil p b bs h = rw h refl
 
-console_if : (b : Bool) (x y : Cpm) (t : Terminal) → x.console ≡ t → y.console ≡ t → (if b then x else y).console ≡ t
+console_if : (b : Bool) (x y : Session) (t : Terminal) → x.console ≡ t → y.console ≡ t → (if b then x else y).console ≡ t
 console_if true x y t hx hy = hx
 console_if false x y t hx hy = hy
 
-record_console : (bytes : List ℕ) (s : Cpm) → (record_shown bytes s).console ≡ wrote_all s.console (text_of bytes)
+record_console : (bytes : List ℕ) (s : Session) → (record_shown bytes s).console ≡ wrote_all s.console (text_of bytes)
 record_console bytes s =
     console_if (ends_in bytes) _ _ (wrote_all s.console (text_of bytes)) refl refl
 
-record_grows : (b : ℕ) (bs : List ℕ) (s : Cpm) → is_end b ≡ false → Grows s (record_shown (b ∷ bs) s)
+record_grows : (b : ℕ) (bs : List ℕ) (s : Session) → is_end b ≡ false → Grows s (record_shown (b ∷ bs) s)
 record_grows b bs s h same =
     let now : (record_shown (b ∷ bs) s).console ≡ wrote_all s.console (b ∷ text_of bs) = record_console (b ∷ bs) s ∙ ap (wrote_all s.console) (before_cons is_end b bs h) in
     wrote_grows s.console b (text_of bs) (sym (ap (λ (t : Terminal). t.screen) now) ∙ same)
 
-record_stays : (b : ℕ) (bs : List ℕ) (s : Cpm) → is_end b ≡ true → Stays s (record_shown (b ∷ bs) s)
+record_stays : (b : ℕ) (bs : List ℕ) (s : Session) → is_end b ≡ true → Stays s (record_shown (b ∷ bs) s)
 record_stays b bs s h =
     let now : (record_shown (b ∷ bs) s).console ≡ s.console = record_console (b ∷ bs) s ∙ (ap (wrote_all s.console) (before_nil is_end b bs h) ∙ wrote_nothing s.console) in
     ap (λ (t : Terminal). t.screen) now
@@ -201,21 +201,21 @@ not_false : (b : Bool) → false ≡ not b → b ≡ true
 not_false true h = refl
 not_false false h = absurd cc
 
-grows_given : (bytes : List ℕ) (s : Cpm) → length bytes ≡ 128 → is_end (get_or bytes 0 0) ≡ false → Grows s (record_shown bytes s)
+grows_given : (bytes : List ℕ) (s : Session) → length bytes ≡ 128 → is_end (get_or bytes 0 0) ≡ false → Grows s (record_shown bytes s)
 grows_given [] s size h = absurd (omega (arith, size))
 grows_given (b ∷ bs) s size h = record_grows b bs s h
 
-stays_given : (bytes : List ℕ) (s : Cpm) → length bytes ≡ 128 → is_end (get_or bytes 0 0) ≡ true → Stays s (record_shown bytes s)
+stays_given : (bytes : List ℕ) (s : Session) → length bytes ≡ 128 → is_end (get_or bytes 0 0) ≡ true → Stays s (record_shown bytes s)
 stays_given [] s size h = absurd (omega (arith, size))
 stays_given (b ∷ bs) s size h = record_stays b bs s h
 
-agrees_grows : (looks : Bool) (a : Result ℕ Failure) (bytes : List ℕ) (s : Cpm) → Agrees looks a bytes → looks ≡ true → Grows s (after_type_read a bytes s)
+agrees_grows : (looks : Bool) (a : Result ℕ Failure) (bytes : List ℕ) (s : Session) → Agrees looks a bytes → looks ≡ true → Grows s (after_type_read a bytes s)
 agrees_grows looks a bytes s (inl f) h = rw f.is (grows_fault s f.which (drive_of s))
 agrees_grows looks a bytes s (inr (inl e)) h = absurd (let x = sym h ∙ e.shows in cc)
 agrees_grows looks a bytes s (inr (inr g)) h =
     rw g.is (grows_given bytes s g.size (not_true _ (sym h ∙ g.shows)))
 
-agrees_stays : (looks : Bool) (a : Result ℕ Failure) (bytes : List ℕ) (s : Cpm) → Agrees looks a bytes → looks ≡ false → Stays s (after_type_read a bytes s)
+agrees_stays : (looks : Bool) (a : Result ℕ Failure) (bytes : List ℕ) (s : Session) → Agrees looks a bytes → looks ≡ false → Stays s (after_type_read a bytes s)
 agrees_stays looks a bytes s (inl f) h = absurd (let x = sym h ∙ f.shows in cc)
 agrees_stays looks a bytes s (inr (inl e)) h = rw e.is refl
 agrees_stays looks a bytes s (inr (inr g)) h =
@@ -295,25 +295,25 @@ agrees_if : (b : Bool) (x : Result (List ℕ) Answer) (c d : FileCall) → Agree
 agrees_if true x c d h e = h
 agrees_if false x c d h e = inl (record { which = failure.Select; is = e; shows = refl })
 
-agrees_there : (system : Disk) (s : Cpm) → IsInUse system s → Agrees (shows_record (ahead (marked_drive s.disks system (drive_of s)) s.disks.user s.file)) (read_next_on s.disks.user s.file own_record (ready (drive_at s.disks system (drive_of s)))).answer (take 128 (read_next_on s.disks.user s.file own_record (ready (drive_at s.disks system (drive_of s)))).buffer)
+agrees_there : (system : Disk) (s : Session) → IsInUse system s → Agrees (shows_record (ahead (marked_drive s.disks system (drive_of s)) s.disks.user s.file)) (read_next_on s.disks.user s.file own_record (ready (drive_at s.disks system (drive_of s)))).answer (take 128 (read_next_on s.disks.user s.file own_record (ready (drive_at s.disks system (drive_of s)))).buffer)
 unfolding marked_drive drive_at
 agrees_there system s in_use =
     let own = own_drive s.disks (drive_of s) in
     let drive = drive_or (system_drive s.disks system) own in
     agrees_on s.disks.user s.file own_record (drive_or (lent_drive system s.disks.system) own) (ready drive) (marked_image s.disks system own ∙ sym (ready_image drive)) (marked_protected s.disks system own in_use.protected ∙ sym (ready_protected drive)) (rw (ready_image drive) in_use.whole)
 
-agrees_now : (system : Disk) (s : Cpm) → IsInUse system s → Agrees (shows_record (next_ahead s.disks system s.file)) (read_next s.disks system s.file own_record).answer (record_of (read_next s.disks system s.file own_record))
+agrees_now : (system : Disk) (s : Session) → IsInUse system s → Agrees (shows_record (next_ahead s.disks system s.file)) (read_next s.disks system s.file own_record).answer (record_of (read_next s.disks system s.file own_record))
 unfolding next_ahead read_next on_named_drive
 agrees_now system s in_use =
     agrees_if (is_there s.disks (drive_of s)) _ _ _ (agrees_there system s in_use) refl
 
-pub record_grows_ahead : (system : Disk) (s : Cpm) → IsInUse system s → shows_record (next_ahead s.disks system s.file) ≡ true → Grows s (next_shown system s)
+pub record_grows_ahead : (system : Disk) (s : Session) → IsInUse system s → shows_record (next_ahead s.disks system s.file) ≡ true → Grows s (next_shown system s)
 unfolding next_shown
 record_grows_ahead system s in_use h =
     let c = read_next s.disks system s.file own_record in
     agrees_grows (shows_record (next_ahead s.disks system s.file)) c.answer (record_of c) (with_call s c) (agrees_now system s in_use) h
 
-pub record_stays_ahead : (system : Disk) (s : Cpm) → IsInUse system s → shows_record (next_ahead s.disks system s.file) ≡ false → Stays s (next_shown system s)
+pub record_stays_ahead : (system : Disk) (s : Session) → IsInUse system s → shows_record (next_ahead s.disks system s.file) ≡ false → Stays s (next_shown system s)
 unfolding next_shown
 record_stays_ahead system s in_use h =
     let c = read_next s.disks system s.file own_record in

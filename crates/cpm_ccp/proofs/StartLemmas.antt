@@ -4,13 +4,13 @@ use Rattle.std.proofs.lemmas.List.{length-append, length-map}
 use Rattle.cpm_memory.specs.Contents.{Contents, touched_of, after_run}
 use Rattle.cpm_memory.proofs.Runs.{touched_of-run, limit-run}
 use Rattle.cpm_directory.specs.CommandLine.{fcb_named, rest_of}
-use Rattle.cpm_bdos.specs.declared.cpm.Cpm.{Cpm}
+use Rattle.cpm_bdos.specs.declared.session.Session.{Session}
 use Rattle.cpm_bdos.proofs.Pages.{pages-le}
 use Rattle.cpm_ccp.specs.Capitals.{capital}
 use Rattle.cpm_ccp.specs.Parts.{line_of}
 use Rattle.cpm_ccp.specs.Loading.{name_bytes, default_files, memory_started}
 
-pub length-line_of : (s : Cpm) → length (line_of s) ≡ length s.line.characters
+pub length-line_of : (s : Session) → length (line_of s) ≡ length s.line.characters
 length-line_of s = length-map s.line.characters capital
 
 length-name_bytes : (text : List ℕ) → length (name_bytes (fcb_named text)) ≡ 16

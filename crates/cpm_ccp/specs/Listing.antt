@@ -12,8 +12,8 @@ use Rattle.cpm_directory.specs.Directory.{entries_of}
 use Rattle.cpm_drives.specs.Disks.{is_there, drive_at}
 use Rattle.cpm_drives.specs.Selecting.{used}
 use Rattle.cpm_bdos.specs.Faults.{in_fault}
-use Rattle.cpm_bdos.specs.declared.cpm.Cpm.{Cpm}
-use Rattle.cpm_bdos.specs.declared.cpm.CommandPart.TheVariants as part
+use Rattle.cpm_bdos.specs.declared.session.Session.{Session}
+use Rattle.cpm_bdos.specs.declared.session.CommandPart.TheVariants as part
 use Rattle.cpm_ccp.specs.declared.message.Message.TheVariants.{NoFile}
 use Rattle.cpm_ccp.specs.Parts.{at_part, finished, says, told, is_stopped, held_at_part, drive_of, with_disks}
 
@@ -45,31 +45,31 @@ file_text column drive name =
     before_file column drive ++ (map low_seven (take 8 name) ++ (0x20 ∷ map low_seven (slice_range name 8 11)))
 
 -- the entries of the drive that is listed, and the next one
-abbrev pub entries_listed : Disk → Cpm → List Entry
+abbrev pub entries_listed : Disk → Session → List Entry
 entries_listed system s = entries_of (drive_at s.disks system (drive_of s)).image
 
-unfoldable pub next_listed : Disk → ℕ → Cpm → ℕ
+unfoldable pub next_listed : Disk → ℕ → Session → ℕ
 next_listed system from s =
     listed_from (dpb_of (drive_at s.disks system (drive_of s)).image.format) s.disks.user s.file.extent.name (entries_listed system s) from
 
-unfoldable pub has_next : Disk → ℕ → Cpm → Bool
+unfoldable pub has_next : Disk → ℕ → Session → Bool
 has_next system from s = nat_lt (next_listed system from s) (length (entries_listed system s))
 
 -- a file is shown, and the next entry is looked at then
-abbrev pub file_shown : ℕ → ℕ → List ℕ → Cpm → Cpm
+abbrev pub file_shown : ℕ → ℕ → List ℕ → Session → Session
 file_shown index column name s =
     at_part (says s (file_text column (drive_of s) name)) (part.Directory (index + 1) ((column + 1) % 4))
 
 -- after the last file the listing ends; where there was none it says so
-abbrev pub listing_ended : Bool → Cpm → Cpm
+abbrev pub listing_ended : Bool → Session → Session
 listing_ended is_first s = if is_first then told s NoFile else finished s
 
 -- the drive is used by a listing
-abbrev pub drive_used : Disk → Cpm → Cpm
+abbrev pub drive_used : Disk → Session → Session
 drive_used system s = with_disks s (used s.disks system (drive_of s))
 
 -- one file from an entry on, or the end; own: a drive that is not there is a fault
-unfoldable pub list_next : Disk → ℕ → ℕ → Bool → Cpm → Cpm
+unfoldable pub list_next : Disk → ℕ → ℕ → Bool → Session → Session
 list_next system from column is_first s =
     if not (is_there s.disks (drive_of s)) then in_fault s Select (drive_of s)
     else if has_next system from s
@@ -77,9 +77,9 @@ list_next system from column is_first s =
     else listing_ended is_first (drive_used system s)
 
 -- own: a step that shows anything looks for ^S first, the end after files shows nothing
-unfoldable pub shows_file : Disk → ℕ → Cpm → Bool
+unfoldable pub shows_file : Disk → ℕ → Session → Bool
 shows_file system from s = not (is_there s.disks (drive_of s)) || has_next system from s
 
-unfoldable pub listed_on : Disk → ℕ → ℕ → Cpm → Cpm
+unfoldable pub listed_on : Disk → ℕ → ℕ → Session → Session
 listed_on system from column s =
     if is_stopped s && shows_file system from s then held_at_part s (part.Directory from column) else list_next system from column false s

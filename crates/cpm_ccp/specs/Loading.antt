@@ -9,25 +9,25 @@ use Rattle.cpm_memory.specs.Layout.{command_processor_address, default_buffer_ad
 use Rattle.cpm_drives.specs.Files.{open_file, read_next}
 use Rattle.cpm_bdos.specs.Did.{Did, did}
 use Rattle.cpm_bdos.specs.Faults.{faulted}
-use Rattle.cpm_bdos.specs.declared.cpm.Cpm.{Cpm}
-use Rattle.cpm_bdos.specs.declared.cpm.CommandPart.TheVariants as part
-use Rattle.cpm_bdos.specs.declared.cpm.Mode.{Mode}
-use Rattle.cpm_bdos.specs.declared.cpm.Mode.TheVariants.{Program, Command}
-use Rattle.cpm_bdos.specs.declared.cpm.Went.TheVariants.{Returned, GoesOn}
+use Rattle.cpm_bdos.specs.declared.session.Session.{Session}
+use Rattle.cpm_bdos.specs.declared.session.CommandPart.TheVariants as part
+use Rattle.cpm_bdos.specs.declared.session.Mode.{Mode}
+use Rattle.cpm_bdos.specs.declared.session.Mode.TheVariants.{Program, Command}
+use Rattle.cpm_bdos.specs.declared.session.Went.TheVariants.{Returned, GoesOn}
 use Rattle.cpm_ccp.specs.declared.message.Message.TheVariants.{BadLoad}
 use Rattle.cpm_ccp.specs.Words.{first_word, tail_of}
 use Rattle.cpm_ccp.specs.Parts.{at_part, finished, says_below, told, line_of, own_record, record_of, drive_of, failed, with_call}
 
 -- own: a first word that no command has is shown as it is, with ?
-abbrev pub unknown : Cpm → Cpm
+abbrev pub unknown : Session → Session
 unknown s = finished (says_below s (first_word (line_of s) ++ (0x3F ∷ [])))
 
-abbrev pub after_load_open : Result ℕ Fault → Cpm → Cpm
+abbrev pub after_load_open : Result ℕ Fault → Session → Session
 after_load_open (Err which) s = failed which s
 after_load_open (Ok code) s = if code == 0xFF then unknown s else at_part s (part.Load program_address)
 
 -- the program's file is opened: function 15
-unfoldable pub load_begun : Disk → Fcb → Cpm → Cpm
+unfoldable pub load_begun : Disk → Fcb → Session → Session
 load_begun system file s =
     let c = open_file s.disks system file own_record in after_load_open c.answer (with_call s c)
 
@@ -45,29 +45,29 @@ memory_started tail m =
     after_run (after_run (after_run (after_run m default_fcbs_address (default_files tail)) default_buffer_address (length tail ∷ [])) (default_buffer_address + 1) (tail ++ (0 ∷ []))) stack_address (word_bytes command_processor_address)
 
 -- the program begins at 0100h, with SP at EBFEh; other registers are kept
-abbrev pub started : Cpm → Contents → Did
+abbrev pub started : Session → Contents → Did
 started s m =
     did (record s { regs = record s.regs { sp = stack_address; pc = program_address }; buffer = default_buffer_address; mode = Program }) (memory_started (tail_of (line_of s)) m) Returned
 
 -- own: a record is read before it is judged; one that would reach E400h ends the command
-abbrev pub loaded : ℕ → List ℕ → Cpm → Contents → Did
+abbrev pub loaded : ℕ → List ℕ → Session → Contents → Did
 loaded next bytes s m =
     if nat_lt 0xE380 next then did (told s BadLoad) m Returned
     else did (at_part s (part.Load (next + 128))) (after_run m next bytes) GoesOn
 
-abbrev pub after_load_read : Result ℕ Fault → ℕ → List ℕ → Cpm → Contents → Did
+abbrev pub after_load_read : Result ℕ Fault → ℕ → List ℕ → Session → Contents → Did
 after_load_read (Err which) next bytes s m = faulted s m which (drive_of s)
 after_load_read (Ok code) next bytes s m = if code == 0 then loaded next bytes s m else started s m
 
 -- function 20
-unfoldable pub load_record : Disk → ℕ → Cpm → Contents → Did
+unfoldable pub load_record : Disk → ℕ → Session → Contents → Did
 load_record system next s m =
     let c = read_next s.disks system s.file own_record in after_load_read c.answer next (record_of c) (with_call s c) m
 
 -- a step of the loader, where a program is loaded
-abbrev pub load_in : Mode → Disk → Cpm → Contents → Did
+abbrev pub load_in : Mode → Disk → Session → Contents → Did
 load_in (Command (part.Load next)) system s m = load_record system next s m
 load_in _ system s m = did s m GoesOn
 
-abbrev pub load : Disk → Cpm → Contents → Did
+abbrev pub load : Disk → Session → Contents → Did
 load system s m = load_in s.mode system s m

@@ -3,8 +3,8 @@
 use Rattle.std.specs.Prelude.{ℕ, ◌+◌, ◌*◌, ◌/◌, ◌%◌, List, [], ◌∷◌, if◌then◌else◌}
 use Rattle.cpm_geom.specs.Disk.{Disk}
 use Rattle.cpm_volume.specs.declared.answer.Fault.TheVariants.{Select}
-use Rattle.cpm_console.specs.declared.line.Progress.{Progress}
-use Rattle.cpm_console.specs.declared.line.Progress.TheVariants as line
+use Rattle.cpm_console.specs.declared.line.LineState.{LineState}
+use Rattle.cpm_console.specs.declared.line.LineState.TheVariants as line
 use Rattle.cpm_memory.specs.Contents.{Contents, byte_at, after_change}
 use Rattle.cpm_memory.specs.Layout.{default_buffer_address, user_and_drive_address}
 use Rattle.cpm_drives.specs.declared.disks.Disks.{Disks}
@@ -13,10 +13,10 @@ use Rattle.cpm_drives.specs.Selecting.{used}
 use Rattle.cpm_bdos.specs.Did.{Did, did, rebooted}
 use Rattle.cpm_bdos.specs.Faults.{faulted}
 use Rattle.cpm_bdos.specs.ReadLine.{line_step}
-use Rattle.cpm_bdos.specs.declared.cpm.Cpm.{Cpm}
-use Rattle.cpm_bdos.specs.declared.cpm.CommandPart.{CommandPart}
-use Rattle.cpm_bdos.specs.declared.cpm.CommandPart.TheVariants as part
-use Rattle.cpm_bdos.specs.declared.cpm.Went.TheVariants.{Returned, GoesOn}
+use Rattle.cpm_bdos.specs.declared.session.Session.{Session}
+use Rattle.cpm_bdos.specs.declared.session.CommandPart.{CommandPart}
+use Rattle.cpm_bdos.specs.declared.session.CommandPart.TheVariants as part
+use Rattle.cpm_bdos.specs.declared.session.Went.TheVariants.{Returned, GoesOn}
 use Rattle.cpm_ccp.specs.Parts.{at_part, finished, says_below, reads_line}
 
 -- ---- the prompt
@@ -34,19 +34,19 @@ chosen disks system byte =
 abbrev pub prompt_text : ℕ → List ℕ
 prompt_text drive = (0x41 + drive) ∷ 0x3E ∷ []
 
-unfoldable pub prompted : Disk → ℕ → Cpm → Cpm
+unfoldable pub prompted : Disk → ℕ → Session → Session
 prompted system byte s =
     reads_line (says_below (record s { disks = chosen s.disks system byte; buffer = default_buffer_address }) (prompt_text (drive_asked s.disks byte))) part.Line
 
 -- ---- a line, and the part that comes after it
 
-abbrev pub after_key : CommandPart → Progress → Cpm → Contents → Did
+abbrev pub after_key : CommandPart → LineState → Session → Contents → Did
 after_key next line.GoesOn s m = did s m GoesOn
 after_key next line.Ended s m = did (at_part s next) m GoesOn
 after_key next line.Interrupted s m = rebooted s m
 
 -- a step of the line, as by function 10 of the BDOS
-abbrev pub edit_line : CommandPart → Cpm → Contents → Did
+abbrev pub edit_line : CommandPart → Session → Contents → Did
 edit_line next s m = line_step (after_key next) s.line s m
 
 -- ---- a drive's letter, and USER
@@ -59,11 +59,11 @@ abbrev pub with_user : ℕ → ℕ → ℕ
 with_user user byte = 16 * user + byte % 16
 
 -- section 1, d: a drive that is not there is a fault
-abbrev pub drive_selected : ℕ → Cpm → Contents → Did
+abbrev pub drive_selected : ℕ → Session → Contents → Did
 drive_selected drive s m =
     if is_there s.disks drive then did (finished s) (after_change m user_and_drive_address (with_drive drive (byte_at m user_and_drive_address))) Returned else faulted s m Select drive
 
 -- section 1, USER
-abbrev pub user_selected : ℕ → Cpm → Contents → Did
+abbrev pub user_selected : ℕ → Session → Contents → Did
 user_selected user s m =
     did (finished s) (after_change m user_and_drive_address (with_user user (byte_at m user_and_drive_address))) Returned

@@ -8,18 +8,18 @@ use Rattle.cpm_volume.specs.declared.answer.Answer.{Answer}
 use Rattle.cpm_volume.specs.declared.answer.Answer.TheVariants.{Fault}
 use Rattle.cpm_console.specs.Terminal.{Terminal, said, expanded}
 use Rattle.cpm_drives.specs.Files.{open_file, read_next, next_ahead}
-use Rattle.cpm_bdos.specs.declared.cpm.Cpm.{Cpm}
-use Rattle.cpm_bdos.specs.declared.cpm.CommandPart.TheVariants as part
+use Rattle.cpm_bdos.specs.declared.session.Session.{Session}
+use Rattle.cpm_bdos.specs.declared.session.CommandPart.TheVariants as part
 use Rattle.cpm_ccp.specs.declared.message.Message.TheVariants.{NoFile}
 use Rattle.cpm_ccp.specs.Parts.{at_part, finished, says_below, told, is_stopped, held_at_part, own_record, record_of, failed, with_call}
 
 -- the file is open, and is shown from a fresh line on
-abbrev pub after_type_open : Result ℕ Failure → Cpm → Cpm
+abbrev pub after_type_open : Result ℕ Failure → Session → Session
 after_type_open (Err which) s = failed which s
 after_type_open (Ok code) s = if code == 0xFF then told s NoFile else at_part (says_below s []) part.Show
 
 -- function 15
-unfoldable pub show_begun : Disk → Fcb → Cpm → Cpm
+unfoldable pub show_begun : Disk → Fcb → Session → Session
 show_begun system file s =
     let c = open_file s.disks system file own_record in after_type_open c.answer (with_call s c)
 
@@ -39,18 +39,18 @@ unfoldable pub wrote_all : Terminal → List ℕ → Terminal
 wrote_all t [] = t
 wrote_all t (c ∷ cs) = wrote_all (said t (expanded t.column c)) cs
 
-abbrev pub record_shown : List ℕ → Cpm → Cpm
+abbrev pub record_shown : List ℕ → Session → Session
 record_shown bytes s =
     let t = record s { console = wrote_all s.console (text_of bytes) } in
     if ends_in bytes then finished t else at_part t part.Show
 
 -- where there is no further record the text ends
-abbrev pub after_type_read : Result ℕ Failure → List ℕ → Cpm → Cpm
+abbrev pub after_type_read : Result ℕ Failure → List ℕ → Session → Session
 after_type_read (Err which) bytes s = failed which s
 after_type_read (Ok code) bytes s = if code == 0 then record_shown bytes s else finished s
 
 -- function 20
-unfoldable pub next_shown : Disk → Cpm → Cpm
+unfoldable pub next_shown : Disk → Session → Session
 next_shown system s =
     let c = read_next s.disks system s.file own_record in after_type_read c.answer (record_of c) (with_call s c)
 
@@ -60,6 +60,6 @@ shows_record (Ok bytes) = not (is_end (slice_index bytes 0))
 shows_record (Err (Fault which)) = true
 shows_record (Err _) = false
 
-unfoldable pub shown_on : Disk → Cpm → Cpm
+unfoldable pub shown_on : Disk → Session → Session
 shown_on system s =
     if is_stopped s && shows_record (next_ahead s.disks system s.file) then held_at_part s part.Show else next_shown system s

@@ -5,7 +5,7 @@ ghost use Rattle.cpm_ccp.specs.FileCommands.{by_code, erased, asked, is_yes, era
 
 use crate::message::Message;
 use crate::parts::{NONE, fail, finish, go_to, read_line, say_below, tell};
-use cpm_bdos::{CommandPart, Cpm};
+use cpm_bdos::{CommandPart, Session};
 use cpm_directory::{Pattern, find};
 use cpm_drives::Disks;
 use cpm_volume::{Fault, Fcb};
@@ -13,41 +13,41 @@ use cpm_geom::Image;
 use cpm_memory::layout::PROGRAM;
 
 /// Ends ERA or REN by the code of its function, or in its fault on a drive.
-fn end_by(cpm: &mut Cpm, answer: Result<u8, Fault>, drive: u8)
-    requires screen { length cpm.old.console.screen ≤ 4096 }
-    requires printer { length cpm.old.console.printer ≤ 4096 }
-    ensures { cpm.new ≡ by_code answer drive cpm.old }
+fn end_by(session: &mut Session, answer: Result<u8, Fault>, drive: u8)
+    requires screen { length session.old.console.screen ≤ 4096 }
+    requires printer { length session.old.console.printer ≤ 4096 }
+    ensures { session.new ≡ by_code answer drive session.old }
 {
     match answer {
-        Ok(NONE) => tell(cpm, Message::NoFile),
-        Ok(_) => finish(cpm),
+        Ok(NONE) => tell(session, Message::NoFile),
+        Ok(_) => finish(session),
         Err(fault) => {
-            cpm.fault(fault, drive);
+            session.fault(fault, drive);
         }
     }
 }
 
 /// ERA: erases all files of a name.
 #[tactic(auto, unfolding(crate::specs::FileCommands::erased))]
-pub(crate) fn erase(cpm: &mut Cpm, system: &Image, file: &Fcb)
-    requires screen { length cpm.old.console.screen ≤ 4096 }
-    requires printer { length cpm.old.console.printer ≤ 4096 }
-    ensures { cpm.new ≡ erased system.now file.now cpm.old }
+pub(crate) fn erase(session: &mut Session, system: &Image, file: &Fcb)
+    requires screen { length session.old.console.screen ≤ 4096 }
+    requires printer { length session.old.console.printer ≤ 4096 }
+    ensures { session.new ≡ erased system.now file.now session.old }
 {
-    let drive = cpm.disks.drive_named(file.drive);
-    let answer = cpm.disks.erase_files(system, file);
-    end_by(cpm, answer, drive);
+    let drive = session.disks.drive_named(file.drive);
+    let answer = session.disks.erase_files(system, file);
+    end_by(session, answer, drive);
 }
 
 /// Asks whether all files are to be erased.
-pub(crate) fn ask(cpm: &mut Cpm, file: &Fcb)
-    requires screen { length cpm.old.console.screen ≤ 4096 }
-    requires printer { length cpm.old.console.printer ≤ 4096 }
-    ensures { cpm.new ≡ asked file.now cpm.old }
+pub(crate) fn ask(session: &mut Session, file: &Fcb)
+    requires screen { length session.old.console.screen ≤ 4096 }
+    requires printer { length session.old.console.printer ≤ 4096 }
+    ensures { session.new ≡ asked file.now session.old }
 {
-    cpm.file = *file;
-    say_below(cpm, Message::EraseAll.text());
-    read_line(cpm, CommandPart::Answer);
+    session.file = *file;
+    say_below(session, Message::EraseAll.text());
+    read_line(session, CommandPart::Answer);
 }
 
 /// Whether an answer is yes.
@@ -59,16 +59,16 @@ fn is_yes(answer: &[u8]) -> bool
 
 /// Erases all files, if the answer is yes.
 #[tactic(auto, unfolding(crate::specs::FileCommands::erased_all))]
-pub(crate) fn erase_all(cpm: &mut Cpm, system: &Image)
-    requires screen { length cpm.old.console.screen ≤ 4096 }
-    requires printer { length cpm.old.console.printer ≤ 4096 }
-    ensures { cpm.new ≡ erased_all system.now cpm.old }
+pub(crate) fn erase_all(session: &mut Session, system: &Image)
+    requires screen { length session.old.console.screen ≤ 4096 }
+    requires printer { length session.old.console.printer ≤ 4096 }
+    ensures { session.new ≡ erased_all system.now session.old }
 {
-    if is_yes(cpm.line.characters()) {
-        let file = cpm.file;
-        erase(cpm, system, &file);
+    if is_yes(session.line.characters()) {
+        let file = session.file;
+        erase(session, system, &file);
     } else {
-        finish(cpm);
+        finish(session);
     }
 }
 
@@ -95,20 +95,20 @@ fn has_new_name(disks: &Disks, system: &Image, new: &Fcb) -> bool
 
 /// REN: gives a file a new name, which no other has.
 #[tactic(auto, unfolding(crate::specs::FileCommands::renamed))]
-pub(crate) fn rename(cpm: &mut Cpm, system: &Image, old: &Fcb, new: &Fcb)
-    requires screen { length cpm.old.console.screen ≤ 4096 }
-    requires printer { length cpm.old.console.printer ≤ 4096 }
-    ensures { cpm.new ≡ renamed system.now old.now new.now cpm.old }
+pub(crate) fn rename(session: &mut Session, system: &Image, old: &Fcb, new: &Fcb)
+    requires screen { length session.old.console.screen ≤ 4096 }
+    requires printer { length session.old.console.printer ≤ 4096 }
+    ensures { session.new ≡ renamed system.now old.now new.now session.old }
 {
-    if has_new_name(&cpm.disks, system, new) {
-        let drive = cpm.disks.drive_named(new.drive);
-        cpm.disks.use_drive(system, drive);
-        tell(cpm, Message::FileExists);
+    if has_new_name(&session.disks, system, new) {
+        let drive = session.disks.drive_named(new.drive);
+        session.disks.use_drive(system, drive);
+        tell(session, Message::FileExists);
         return;
     }
-    let drive = cpm.disks.drive_named(old.drive);
-    let answer = cpm.disks.rename_files(system, old, &new.extent.name);
-    end_by(cpm, answer, drive);
+    let drive = session.disks.drive_named(old.drive);
+    let answer = session.disks.rename_files(system, old, &new.extent.name);
+    end_by(session, answer, drive);
 }
 
 /// What comes next while so many records are left.
@@ -124,54 +124,54 @@ fn saving(next: u16, left: u16) -> CommandPart
 
 /// SAVE: erases the files of the name, and makes one.
 #[tactic(auto, unfolding(crate::specs::FileCommands::save_begun))]
-pub(crate) fn begin_save(cpm: &mut Cpm, system: &Image, pages: u8, file: &Fcb)
-    requires screen { length cpm.old.console.screen ≤ 4096 }
-    requires printer { length cpm.old.console.printer ≤ 4096 }
-    ensures { cpm.new ≡ save_begun system.now pages file.now cpm.old }
+pub(crate) fn begin_save(session: &mut Session, system: &Image, pages: u8, file: &Fcb)
+    requires screen { length session.old.console.screen ≤ 4096 }
+    requires printer { length session.old.console.printer ≤ 4096 }
+    ensures { session.new ≡ save_begun system.now pages file.now session.old }
 {
-    cpm.file = *file;
-    match cpm.disks.erase_files(system, file) {
-        Ok(_) => make(cpm, system, pages),
-        Err(fault) => fail(cpm, fault),
+    session.file = *file;
+    match session.disks.erase_files(system, file) {
+        Ok(_) => make(session, system, pages),
+        Err(fault) => fail(session, fault),
     }
 }
 
 /// Makes the file of SAVE.
 #[tactic(auto, unfolding(crate::specs::FileCommands::made))]
-fn make(cpm: &mut Cpm, system: &Image, pages: u8)
-    requires screen { length cpm.old.console.screen ≤ 4096 }
-    requires printer { length cpm.old.console.printer ≤ 4096 }
-    ensures { cpm.new ≡ made system.now pages cpm.old }
+fn make(session: &mut Session, system: &Image, pages: u8)
+    requires screen { length session.old.console.screen ≤ 4096 }
+    requires printer { length session.old.console.printer ≤ 4096 }
+    ensures { session.new ≡ made system.now pages session.old }
 {
-    match cpm.disks.make_file(system, &mut cpm.file) {
-        Ok(NONE) => tell(cpm, Message::NoSpace),
-        Ok(_) => go_to(cpm, saving(PROGRAM, 2 * u16::from(pages))),
-        Err(fault) => fail(cpm, fault),
+    match session.disks.make_file(system, &mut session.file) {
+        Ok(NONE) => tell(session, Message::NoSpace),
+        Ok(_) => go_to(session, saving(PROGRAM, 2 * u16::from(pages))),
+        Err(fault) => fail(session, fault),
     }
 }
 
 /// Saves a record of memory, so many being left.
 #[tactic(auto, unfolding(crate::specs::FileCommands::saved))]
-pub(crate) fn save(cpm: &mut Cpm, system: &Image, next: u16, left: u16, record: &[u8; 128])
-    requires screen { length cpm.old.console.screen ≤ 4096 }
-    requires printer { length cpm.old.console.printer ≤ 4096 }
-    ensures { cpm.new ≡ saved system.now next left record.now cpm.old }
+pub(crate) fn save(session: &mut Session, system: &Image, next: u16, left: u16, record: &[u8; 128])
+    requires screen { length session.old.console.screen ≤ 4096 }
+    requires printer { length session.old.console.printer ≤ 4096 }
+    ensures { session.new ≡ saved system.now next left record.now session.old }
 {
-    match cpm.disks.write_next(system, &mut cpm.file, record) {
-        Ok(0) => go_to(cpm, saving(next.wrapping_add(128), left.saturating_sub(1))),
-        Ok(_) => tell(cpm, Message::NoSpace),
-        Err(fault) => fail(cpm, fault),
+    match session.disks.write_next(system, &mut session.file, record) {
+        Ok(0) => go_to(session, saving(next.wrapping_add(128), left.saturating_sub(1))),
+        Ok(_) => tell(session, Message::NoSpace),
+        Err(fault) => fail(session, fault),
     }
 }
 
 /// Closes the saved file.
 #[tactic(auto, unfolding(crate::specs::FileCommands::closed))]
-pub(crate) fn close(cpm: &mut Cpm, system: &Image)
-    requires { length cpm.old.console.screen ≤ 4096 }
-    ensures { cpm.new ≡ closed system.now cpm.old }
+pub(crate) fn close(session: &mut Session, system: &Image)
+    requires { length session.old.console.screen ≤ 4096 }
+    ensures { session.new ≡ closed system.now session.old }
 {
-    match cpm.disks.close_file(system, &mut cpm.file) {
-        Ok(_) => finish(cpm),
-        Err(fault) => fail(cpm, fault),
+    match session.disks.close_file(system, &mut session.file) {
+        Ok(_) => finish(session),
+        Err(fault) => fail(session, fault),
     }
 }

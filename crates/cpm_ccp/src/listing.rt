@@ -8,7 +8,7 @@ ghost use Rattle.cpm_ccp.specs.Listing.{is_listed, listed_from, before_file, low
 
 use crate::message::Message;
 use crate::parts::{finish, go_to, tell};
-use cpm_bdos::{CommandPart, Cpm, Held};
+use cpm_bdos::{CommandPart, Session, HeldOutput};
 use cpm_console::Console;
 use cpm_directory::{Entry, LentImage, is_named};
 use cpm_volume::Fault;
@@ -44,14 +44,14 @@ fn listed_from(image: &LentImage<'_>, user: u8, pattern: &[u8; 11], from: u16) -
 
 /// The index of the next entry that is listed on the drive of the session's file.
 #[tactic(auto, unfolding(crate::specs::Listing::next_listed))]
-fn next_listed(cpm: &Cpm, system: &Image, from: u16) -> Option<u16>
+fn next_listed(session: &Session, system: &Image, from: u16) -> Option<u16>
     ensures { MatchOption result
-        (next_listed system.now from cpm.now ≡ length (entries_listed system.now cpm.now))
-        (λ index. (index ≡ next_listed system.now from cpm.now) × (index < length (entries_listed system.now cpm.now))) }
+        (next_listed system.now from session.now ≡ length (entries_listed system.now session.now))
+        (λ index. (index ≡ next_listed system.now from session.now) × (index < length (entries_listed system.now session.now))) }
 {
-    let drive = cpm.disks.drive_named(cpm.file.drive);
-    let image = cpm.disks.lent_at(system, drive);
-    listed_from(&image, cpm.disks.user, &cpm.file.extent.name, from)
+    let drive = session.disks.drive_named(session.file.drive);
+    let image = session.disks.lent_at(system, drive);
+    listed_from(&image, session.disks.user, &session.file.extent.name, from)
 }
 
 /// Shows characters with their high bits off.
@@ -93,80 +93,80 @@ fn say_file(console: &mut Console, column: u8, drive: u8, name: &[u8; 11])
 }
 
 /// Shows the file of an entry; the next entry is looked at then.
-fn show_file(cpm: &mut Cpm, index: u16, column: u8, name: &[u8; 11])
+fn show_file(session: &mut Session, index: u16, column: u8, name: &[u8; 11])
     requires index { index < 65535 }
-    requires screen { length cpm.old.console.screen ≤ 4096 }
-    requires printer { length cpm.old.console.printer ≤ 4096 }
-    ensures { cpm.new ≡ file_shown index column name.now cpm.old }
+    requires screen { length session.old.console.screen ≤ 4096 }
+    requires printer { length session.old.console.printer ≤ 4096 }
+    ensures { session.new ≡ file_shown index column name.now session.old }
 {
-    let drive = cpm.disks.drive_named(cpm.file.drive);
-    say_file(&mut cpm.console, column, drive, name);
+    let drive = session.disks.drive_named(session.file.drive);
+    say_file(&mut session.console, column, drive, name);
     let part = CommandPart::Directory {
         next: index + 1,
         column: (column % COLUMNS + 1) % COLUMNS,
     };
-    go_to(cpm, part);
+    go_to(session, part);
 }
 
 /// Ends a listing, of which it may be the first part.
-fn end_listing(cpm: &mut Cpm, is_first: bool)
-    requires screen { length cpm.old.console.screen ≤ 4096 }
-    requires printer { length cpm.old.console.printer ≤ 4096 }
-    ensures { cpm.new ≡ listing_ended is_first cpm.old }
+fn end_listing(session: &mut Session, is_first: bool)
+    requires screen { length session.old.console.screen ≤ 4096 }
+    requires printer { length session.old.console.printer ≤ 4096 }
+    ensures { session.new ≡ listing_ended is_first session.old }
 {
     if is_first {
-        tell(cpm, Message::NoFile);
+        tell(session, Message::NoFile);
     } else {
-        finish(cpm);
+        finish(session);
     }
 }
 
 /// Lists one file from an entry on, or ends the listing.
 #[tactic(auto, unfolding(crate::specs::Listing::list_next, crate::specs::Listing::has_next))]
-pub(crate) fn list(cpm: &mut Cpm, system: &Image, from: u16, column: u8, is_first: bool)
-    requires screen { length cpm.old.console.screen ≤ 4096 }
-    requires printer { length cpm.old.console.printer ≤ 4096 }
-    ensures { cpm.new ≡ list_next system.now from column is_first cpm.old }
+pub(crate) fn list(session: &mut Session, system: &Image, from: u16, column: u8, is_first: bool)
+    requires screen { length session.old.console.screen ≤ 4096 }
+    requires printer { length session.old.console.printer ≤ 4096 }
+    ensures { session.new ≡ list_next system.now from column is_first session.old }
 {
-    let drive = cpm.disks.drive_named(cpm.file.drive);
-    if !cpm.disks.is_there(drive) {
-        cpm.fault(Fault::Select, drive);
+    let drive = session.disks.drive_named(session.file.drive);
+    if !session.disks.is_there(drive) {
+        session.fault(Fault::Select, drive);
         return;
     }
-    match next_listed(cpm, system, from) {
+    match next_listed(session, system, from) {
         Some(index) => {
-            let image = cpm.disks.lent_at(system, drive);
+            let image = session.disks.lent_at(system, drive);
             let name = image.entry(index).extent.name;
-            cpm.disks.use_drive(system, drive);
-            show_file(cpm, index, column, &name);
+            session.disks.use_drive(system, drive);
+            show_file(session, index, column, &name);
         }
         None => {
-            cpm.disks.use_drive(system, drive);
-            end_listing(cpm, is_first);
+            session.disks.use_drive(system, drive);
+            end_listing(session, is_first);
         }
     }
 }
 
 /// Whether a part of a listing shows anything.
 #[tactic(auto, unfolding(crate::specs::Listing::shows_file, crate::specs::Listing::has_next))]
-fn shows_file(cpm: &Cpm, system: &Image, from: u16) -> bool
-    ensures { result ≡ shows_file system.now from cpm.now }
+fn shows_file(session: &Session, system: &Image, from: u16) -> bool
+    ensures { result ≡ shows_file system.now from session.now }
 {
-    let drive = cpm.disks.drive_named(cpm.file.drive);
-    !cpm.disks.is_there(drive) || next_listed(cpm, system, from).is_some()
+    let drive = session.disks.drive_named(session.file.drive);
+    !session.disks.is_there(drive) || next_listed(session, system, from).is_some()
 }
 
 /// Goes on with a listing, unless ^S holds what it would show.
 #[tactic(auto, unfolding(crate::specs::Listing::listed_on))]
-pub(crate) fn list_on(cpm: &mut Cpm, system: &Image, from: u16, column: u8)
-    requires screen { length cpm.old.console.screen ≤ 4096 }
-    requires printer { length cpm.old.console.printer ≤ 4096 }
-    ensures { cpm.new ≡ listed_on system.now from column cpm.old }
+pub(crate) fn list_on(session: &mut Session, system: &Image, from: u16, column: u8)
+    requires screen { length session.old.console.screen ≤ 4096 }
+    requires printer { length session.old.console.printer ≤ 4096 }
+    ensures { session.new ≡ listed_on system.now from column session.old }
 {
-    if cpm.is_stopped() && shows_file(cpm, system, from) {
+    if session.is_stopped() && shows_file(session, system, from) {
         let part = CommandPart::Directory { next: from, column };
-        cpm.hold(Held::Command(part));
+        session.hold(HeldOutput::Command(part));
         return;
     }
-    list(cpm, system, from, column, false);
+    list(session, system, from, column, false);
 }

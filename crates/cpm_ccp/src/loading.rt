@@ -5,13 +5,13 @@ ghost use Rattle.cpm_memory.specs.Contents.{after_run};
 ghost use Rattle.cpm_memory.specs.Room.{HasRoom, HasRoomFor};
 ghost use Rattle.cpm_bdos.specs.Did.{did};
 ghost use Rattle.cpm_bdos.specs.Bounds.{IsBounded};
-ghost use Rattle.cpm_bdos.specs.Behind.{cpm_behind, did_behind};
+ghost use Rattle.cpm_bdos.specs.Behind.{session_behind, did_behind};
 ghost use Rattle.cpm_ccp.specs.Loading.{unknown, load_begun, name_bytes, default_files, memory_started, started, loaded, load_record, load};
 
 use crate::message::Message;
 use crate::parts::{NO_RECORD, NONE, fail, finish, go_to, line_of, say_below, tell};
 use crate::words::{default_fcbs, first_word, tail};
-use cpm_bdos::{CommandPart, Cpm, Mode, Went};
+use cpm_bdos::{CommandPart, Session, Mode, Went};
 use cpm_volume::Fcb;
 use cpm_geom::Image;
 use cpm_memory::layout::{DEFAULT_BUFFER, DEFAULT_FCBS, PROGRAM, STACK};
@@ -22,29 +22,29 @@ const LAST_RECORD: u16 = 0xE380;
 
 /// Ends a command whose first word is none.
 #[tactic(auto, using(crate::proofs::Texts::texts))]
-pub(crate) fn refuse_word(cpm: &mut Cpm)
-    requires screen { length cpm.old.console.screen ≤ 4096 }
-    requires printer { length cpm.old.console.printer ≤ 4096 }
-    ensures { cpm.new ≡ unknown cpm.old }
+pub(crate) fn refuse_word(session: &mut Session)
+    requires screen { length session.old.console.screen ≤ 4096 }
+    requires printer { length session.old.console.printer ≤ 4096 }
+    ensures { session.new ≡ unknown session.old }
 {
-    let line = line_of(cpm);
-    say_below(cpm, first_word(line.as_slice()));
-    cpm.console.say(b'?');
-    finish(cpm);
+    let line = line_of(session);
+    say_below(session, first_word(line.as_slice()));
+    session.console.say(b'?');
+    finish(session);
 }
 
 /// Opens the file of a program.
 #[tactic(auto, unfolding(crate::specs::Loading::load_begun))]
-pub(crate) fn begin_load(cpm: &mut Cpm, system: &Image, file: &Fcb)
-    requires screen { length cpm.old.console.screen ≤ 4096 }
-    requires printer { length cpm.old.console.printer ≤ 4096 }
-    ensures { cpm.new ≡ load_begun system.now file.now cpm.old }
+pub(crate) fn begin_load(session: &mut Session, system: &Image, file: &Fcb)
+    requires screen { length session.old.console.screen ≤ 4096 }
+    requires printer { length session.old.console.printer ≤ 4096 }
+    ensures { session.new ≡ load_begun system.now file.now session.old }
 {
-    cpm.file = *file;
-    match cpm.disks.open_file(system, &mut cpm.file) {
-        Ok(NONE) => refuse_word(cpm),
-        Ok(_) => go_to(cpm, CommandPart::Load { next: PROGRAM }),
-        Err(fault) => fail(cpm, fault),
+    session.file = *file;
+    match session.disks.open_file(system, &mut session.file) {
+        Ok(NONE) => refuse_word(session),
+        Ok(_) => go_to(session, CommandPart::Load { next: PROGRAM }),
+        Err(fault) => fail(session, fault),
     }
 }
 
@@ -98,57 +98,57 @@ pub(crate) fn put_tail<M: Memory>(memory: &mut M, tail: &[u8])
 }
 
 /// Starts the program that was loaded.
-fn start<M: Memory>(cpm: &mut Cpm, memory: &mut M) -> Went
+fn start<M: Memory>(session: &mut Session, memory: &mut M) -> Went
     requires room { HasRoom (M.contents memory.old) }
-    ensures step { did cpm.new (M.contents memory.new) result ≡ started cpm.old (M.contents memory.old) }
+    ensures step { did session.new (M.contents memory.new) result ≡ started session.old (M.contents memory.old) }
     ensures leads { M.Leads memory.old memory.new }
 {
-    let line = line_of(cpm);
+    let line = line_of(session);
     put_tail(memory, tail(line.as_slice()));
-    cpm.regs.sp = STACK;
-    cpm.regs.pc = PROGRAM;
-    cpm.buffer = DEFAULT_BUFFER;
-    finish(cpm);
+    session.regs.sp = STACK;
+    session.regs.pc = PROGRAM;
+    session.buffer = DEFAULT_BUFFER;
+    finish(session);
     Went::Returned
 }
 
 /// Stores a record of a program, unless it is too long.
-fn load_at<M: Memory>(cpm: &mut Cpm, memory: &mut M, next: u16, record: &[u8; 128]) -> Went
-    requires screen { length cpm.old.console.screen ≤ 4096 }
-    requires printer { length cpm.old.console.printer ≤ 4096 }
+fn load_at<M: Memory>(session: &mut Session, memory: &mut M, next: u16, record: &[u8; 128]) -> Went
+    requires screen { length session.old.console.screen ≤ 4096 }
+    requires printer { length session.old.console.printer ≤ 4096 }
     requires room { HasRoom (M.contents memory.old) }
-    ensures step { did cpm.new (M.contents memory.new) result ≡ loaded next «record».now cpm.old (M.contents memory.old) }
+    ensures step { did session.new (M.contents memory.new) result ≡ loaded next «record».now session.old (M.contents memory.old) }
     ensures leads { M.Leads memory.old memory.new }
 {
     if next > LAST_RECORD {
-        tell(cpm, Message::BadLoad);
+        tell(session, Message::BadLoad);
         return Went::Returned;
     }
     change_run(memory, next, record);
-    go_to(cpm, CommandPart::Load { next: next + 128 });
+    go_to(session, CommandPart::Load { next: next + 128 });
     Went::GoesOn
 }
 
 /// Loads the next record of a program, or starts it.
 #[tactic(auto, unfolding(crate::specs::Loading::load_record))]
 pub(crate) fn load_record<M: Memory>(
-    cpm: &mut Cpm,
+    session: &mut Session,
     memory: &mut M,
     system: &Image,
     next: u16,
 ) -> Went
-    requires screen { length cpm.old.console.screen ≤ 4096 }
-    requires printer { length cpm.old.console.printer ≤ 4096 }
+    requires screen { length session.old.console.screen ≤ 4096 }
+    requires printer { length session.old.console.printer ≤ 4096 }
     requires room { HasRoom (M.contents memory.old) }
-    ensures step { did cpm.new (M.contents memory.new) result ≡ load_record system.now next cpm.old (M.contents memory.old) }
+    ensures step { did session.new (M.contents memory.new) result ≡ load_record system.now next session.old (M.contents memory.old) }
     ensures leads { M.Leads memory.old memory.new }
 {
     let mut record = NO_RECORD;
-    match cpm.disks.read_next(system, &mut cpm.file, &mut record) {
-        Ok(0) => load_at(cpm, memory, next, &record),
-        Ok(_) => start(cpm, memory),
+    match session.disks.read_next(system, &mut session.file, &mut record) {
+        Ok(0) => load_at(session, memory, next, &record),
+        Ok(_) => start(session, memory),
         Err(fault) => {
-            fail(cpm, fault);
+            fail(session, fault);
             Went::GoesOn
         }
     }
@@ -157,31 +157,31 @@ pub(crate) fn load_record<M: Memory>(
 /// One step of the loader, the system drive being lent: a record of the program comes into memory, up to the end of the
 /// file, where the program starts. Where no program is loaded nothing changes. Both devices must have room for 4,096
 /// bytes.
-pub fn load_step<M: Memory>(cpm: &mut Cpm, memory: &mut M, system: &Image) -> Went
-    requires screen { length cpm.old.console.screen ≤ 4096 }
-    requires printer { length cpm.old.console.printer ≤ 4096 }
+pub fn load_step<M: Memory>(session: &mut Session, memory: &mut M, system: &Image) -> Went
+    requires screen { length session.old.console.screen ≤ 4096 }
+    requires printer { length session.old.console.printer ≤ 4096 }
     requires room { HasRoom (M.contents memory.old) }
-    ensures step { did cpm.new (M.contents memory.new) result ≡ load system.now cpm.old (M.contents memory.old) }
+    ensures step { did session.new (M.contents memory.new) result ≡ load system.now session.old (M.contents memory.old) }
     ensures leads { M.Leads memory.old memory.new }
-    ensures bounds { IsBounded cpm.old (M.contents memory.old) (did cpm.new (M.contents memory.new) result) }
+    ensures bounds { IsBounded session.old (M.contents memory.old) (did session.new (M.contents memory.new) result) }
 
     // Output that waits already changes nothing in a step, which shows its own behind it.
-    ensures behind { (p q : List ℕ) → load system.now (cpm_behind p q cpm.old) (M.contents memory.old) ≡ did_behind p q (did cpm.new (M.contents memory.new) result) }
+    ensures behind { (p q : List ℕ) → load system.now (session_behind p q session.old) (M.contents memory.old) ≡ did_behind p q (did session.new (M.contents memory.new) result) }
 {
-    cpm.numbers_fit();
-    do_load(cpm, memory, system)
+    session.numbers_fit();
+    do_load(session, memory, system)
 }
 
 /// One step of the loader, by the mode.
-fn do_load<M: Memory>(cpm: &mut Cpm, memory: &mut M, system: &Image) -> Went
-    requires screen { length cpm.old.console.screen ≤ 4096 }
-    requires printer { length cpm.old.console.printer ≤ 4096 }
+fn do_load<M: Memory>(session: &mut Session, memory: &mut M, system: &Image) -> Went
+    requires screen { length session.old.console.screen ≤ 4096 }
+    requires printer { length session.old.console.printer ≤ 4096 }
     requires room { HasRoom (M.contents memory.old) }
-    ensures step { did cpm.new (M.contents memory.new) result ≡ load system.now cpm.old (M.contents memory.old) }
+    ensures step { did session.new (M.contents memory.new) result ≡ load system.now session.old (M.contents memory.old) }
     ensures leads { M.Leads memory.old memory.new }
 {
-    match cpm.mode {
-        Mode::Command(CommandPart::Load { next }) => load_record(cpm, memory, system, next),
+    match session.mode {
+        Mode::Command(CommandPart::Load { next }) => load_record(session, memory, system, next),
         _ => Went::GoesOn,
     }
 }

@@ -7,7 +7,7 @@ ghost use Rattle.cpm_ccp.specs.Parts.{at_part, finished, went_of, says_below, to
 use crate::capitals::capital;
 use crate::message::Message;
 use arrayvec::ArrayVec;
-use cpm_bdos::{CommandPart, Cpm, Mode, Went};
+use cpm_bdos::{CommandPart, Session, Mode, Went};
 use cpm_console::Line;
 use cpm_volume::Fault;
 
@@ -21,17 +21,17 @@ pub(crate) const NO_RECORD: [u8; 128] = [0; 128];
 pub(crate) const NONE: u8 = 0xFF;
 
 /// A part comes next.
-pub(crate) fn go_to(cpm: &mut Cpm, part: CommandPart)
-    ensures { cpm.new ≡ at_part cpm.old part }
+pub(crate) fn go_to(session: &mut Session, part: CommandPart)
+    ensures { session.new ≡ at_part session.old part }
 {
-    cpm.mode = Mode::Command(part);
+    session.mode = Mode::Command(part);
 }
 
 /// The command is done, and the prompt comes next.
-pub(crate) fn finish(cpm: &mut Cpm)
-    ensures { cpm.new ≡ finished cpm.old }
+pub(crate) fn finish(session: &mut Session)
+    ensures { session.new ≡ finished session.old }
 {
-    cpm.mode = Mode::Program;
+    session.mode = Mode::Program;
 }
 
 /// How a part ended that left this mode: the command is done, or goes on.
@@ -46,49 +46,49 @@ pub(crate) fn went_of(mode: Mode) -> Went
 
 /// Shows a text on a fresh line.
 #[tactic(auto, using(crate::proofs::Texts::texts))]
-pub(crate) fn say_below(cpm: &mut Cpm, text: &[u8])
-    requires screen { length cpm.old.console.screen ≤ 4096 }
-    requires printer { length cpm.old.console.printer ≤ 4096 }
+pub(crate) fn say_below(session: &mut Session, text: &[u8])
+    requires screen { length session.old.console.screen ≤ 4096 }
+    requires printer { length session.old.console.printer ≤ 4096 }
     requires short { length text.now ≤ 1024 }
-    ensures { cpm.new ≡ says_below cpm.old text.now }
+    ensures { session.new ≡ says_below session.old text.now }
 {
-    cpm.console.say_all(b"\r\n");
-    cpm.console.say_all(text);
+    session.console.say_all(b"\r\n");
+    session.console.say_all(text);
 }
 
 /// Ends the command with a message.
-pub(crate) fn tell(cpm: &mut Cpm, message: Message)
-    requires screen { length cpm.old.console.screen ≤ 4096 }
-    requires printer { length cpm.old.console.printer ≤ 4096 }
-    ensures { cpm.new ≡ told cpm.old message }
+pub(crate) fn tell(session: &mut Session, message: Message)
+    requires screen { length session.old.console.screen ≤ 4096 }
+    requires printer { length session.old.console.printer ≤ 4096 }
+    ensures { session.new ≡ told session.old message }
 {
-    say_below(cpm, message.text());
-    finish(cpm);
+    say_below(session, message.text());
+    finish(session);
 }
 
 /// Ends the command in a fault of the drive of its file.
-pub(crate) fn fail(cpm: &mut Cpm, fault: Fault)
-    requires { length cpm.old.console.screen ≤ 4096 }
-    ensures { cpm.new ≡ failed fault cpm.old }
+pub(crate) fn fail(session: &mut Session, fault: Fault)
+    requires { length session.old.console.screen ≤ 4096 }
+    ensures { session.new ≡ failed fault session.old }
 {
-    let drive = cpm.disks.drive_named(cpm.file.drive);
-    cpm.fault(fault, drive);
+    let drive = session.disks.drive_named(session.file.drive);
+    session.fault(fault, drive);
 }
 
 /// Reads a line from the cursor on, by a part for each key.
-pub(crate) fn read_line(cpm: &mut Cpm, part: CommandPart)
-    ensures { cpm.new ≡ reads_line cpm.old part }
+pub(crate) fn read_line(session: &mut Session, part: CommandPart)
+    ensures { session.new ≡ reads_line session.old part }
 {
-    cpm.line = Line::new(cpm.console.column(), LINE);
-    go_to(cpm, part);
+    session.line = Line::new(session.console.column(), LINE);
+    go_to(session, part);
 }
 
 /// The line that was typed, its small letters made capital.
-pub(crate) fn line_of(cpm: &Cpm) -> ArrayVec<u8, 255>
-    ensures value { result.items ≡ line_of cpm.now }
+pub(crate) fn line_of(session: &Session) -> ArrayVec<u8, 255>
+    ensures value { result.items ≡ line_of session.now }
     ensures short { length result.items ≤ 255 }
 {
-    in_capitals(cpm.line.characters())
+    in_capitals(session.line.characters())
 }
 
 /// A text, its small letters made capital.

@@ -7,8 +7,8 @@ ghost use Rattle.cpm_bdos.specs.Did.{did};
 ghost use Rattle.cpm_ccp.specs.Prompt.{drive_asked, prompted, edit_line, with_drive, with_user, drive_selected, user_selected};
 
 use crate::parts::{finish, go_to, read_line, say_below};
-use cpm_bdos::{CommandPart, Cpm, Went};
-use cpm_console::Progress;
+use cpm_bdos::{CommandPart, Session, Went};
+use cpm_console::LineState;
 use cpm_drives::Disks;
 use cpm_volume::Fault;
 use cpm_geom::Image;
@@ -26,66 +26,66 @@ fn drive_asked(disks: &Disks, byte: u8) -> u8
 
 /// Shows the prompt of the drive and the user in a byte, and begins a line.
 #[tactic(auto, unfolding(crate::specs::Prompt::prompted))]
-pub(crate) fn prompt(cpm: &mut Cpm, system: &Image, byte: u8)
-    requires screen { length cpm.old.console.screen ≤ 4096 }
-    requires printer { length cpm.old.console.printer ≤ 4096 }
-    ensures { cpm.new ≡ prompted system.now byte cpm.old }
+pub(crate) fn prompt(session: &mut Session, system: &Image, byte: u8)
+    requires screen { length session.old.console.screen ≤ 4096 }
+    requires printer { length session.old.console.printer ≤ 4096 }
+    ensures { session.new ≡ prompted system.now byte session.old }
 {
-    let drive = drive_asked(&cpm.disks, byte);
-    cpm.disks.use_drive(system, drive);
-    cpm.disks.current = drive;
-    cpm.disks.user = byte / 16;
-    cpm.buffer = DEFAULT_BUFFER;
-    say_below(cpm, &[b'A' + drive, b'>']);
-    read_line(cpm, CommandPart::Line);
+    let drive = drive_asked(&session.disks, byte);
+    session.disks.use_drive(system, drive);
+    session.disks.current = drive;
+    session.disks.user = byte / 16;
+    session.buffer = DEFAULT_BUFFER;
+    say_below(session, &[b'A' + drive, b'>']);
+    read_line(session, CommandPart::Line);
 }
 
 /// A step of the line, after which a part comes.
-pub(crate) fn edit_line<M: Memory>(cpm: &mut Cpm, memory: &mut M, next: CommandPart) -> Went
-    requires screen { length cpm.old.console.screen ≤ 4096 }
-    requires printer { length cpm.old.console.printer ≤ 4096 }
+pub(crate) fn edit_line<M: Memory>(session: &mut Session, memory: &mut M, next: CommandPart) -> Went
+    requires screen { length session.old.console.screen ≤ 4096 }
+    requires printer { length session.old.console.printer ≤ 4096 }
     requires room { HasRoom (M.contents memory.old) }
-    ensures step { did cpm.new (M.contents memory.new) result ≡ edit_line next cpm.old (M.contents memory.old) }
+    ensures step { did session.new (M.contents memory.new) result ≡ edit_line next session.old (M.contents memory.old) }
     ensures leads { M.Leads memory.old memory.new }
 {
-    match cpm.step_line() {
-        Some(Progress::GoesOn) => Went::GoesOn,
-        Some(Progress::Ended) => {
-            go_to(cpm, next);
+    match session.step_line() {
+        Some(LineState::GoesOn) => Went::GoesOn,
+        Some(LineState::Ended) => {
+            go_to(session, next);
             Went::GoesOn
         }
-        Some(Progress::Interrupted) => cpm.reboot(memory),
+        Some(LineState::Interrupted) => session.reboot(memory),
         None => Went::Waits,
     }
 }
 
 /// Makes another drive the one that the prompt takes.
-pub(crate) fn select_drive<M: Memory>(cpm: &mut Cpm, memory: &mut M, drive: u8) -> Went
-    requires screen { length cpm.old.console.screen ≤ 4096 }
+pub(crate) fn select_drive<M: Memory>(session: &mut Session, memory: &mut M, drive: u8) -> Went
+    requires screen { length session.old.console.screen ≤ 4096 }
     requires room { HasRoom (M.contents memory.old) }
     requires drive { drive < 16 }
-    ensures step { did cpm.new (M.contents memory.new) result ≡ drive_selected drive cpm.old (M.contents memory.old) }
+    ensures step { did session.new (M.contents memory.new) result ≡ drive_selected drive session.old (M.contents memory.old) }
     ensures leads { M.Leads memory.old memory.new }
 {
-    if !cpm.disks.is_there(drive) {
-        return cpm.fault(Fault::Select, drive);
+    if !session.disks.is_there(drive) {
+        return session.fault(Fault::Select, drive);
     }
     let byte = with_drive(memory.get(USER_AND_DRIVE), drive);
     change_byte(memory, USER_AND_DRIVE, byte);
-    finish(cpm);
+    finish(session);
     Went::Returned
 }
 
 /// Makes another user the one that the prompt takes.
-pub(crate) fn select_user<M: Memory>(cpm: &mut Cpm, memory: &mut M, user: u8) -> Went
+pub(crate) fn select_user<M: Memory>(session: &mut Session, memory: &mut M, user: u8) -> Went
     requires room { HasRoom (M.contents memory.old) }
     requires user { user < 16 }
-    ensures step { did cpm.new (M.contents memory.new) result ≡ user_selected user cpm.old (M.contents memory.old) }
+    ensures step { did session.new (M.contents memory.new) result ≡ user_selected user session.old (M.contents memory.old) }
     ensures leads { M.Leads memory.old memory.new }
 {
     let byte = with_user(memory.get(USER_AND_DRIVE), user);
     change_byte(memory, USER_AND_DRIVE, byte);
-    finish(cpm);
+    finish(session);
     Went::Returned
 }
 

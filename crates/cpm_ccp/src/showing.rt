@@ -7,7 +7,7 @@ ghost use Rattle.cpm_drives.specs.Files.{next_ahead};
 
 use crate::message::Message;
 use crate::parts::{NO_RECORD, NONE, fail, finish, go_to, say_below, tell};
-use cpm_bdos::{CommandPart, Cpm, Held};
+use cpm_bdos::{CommandPart, Session, HeldOutput};
 use cpm_console::Console;
 use cpm_volume::{Answer, Fcb};
 use cpm_geom::Image;
@@ -17,19 +17,19 @@ const END_OF_TEXT: u8 = 0x1A;
 
 /// TYPE: opens the file, which is shown from a fresh line on.
 #[tactic(auto, unfolding(crate::specs::Showing::show_begun))]
-pub(crate) fn begin_show(cpm: &mut Cpm, system: &Image, file: &Fcb)
-    requires screen { length cpm.old.console.screen ≤ 4096 }
-    requires printer { length cpm.old.console.printer ≤ 4096 }
-    ensures { cpm.new ≡ show_begun system.now file.now cpm.old }
+pub(crate) fn begin_show(session: &mut Session, system: &Image, file: &Fcb)
+    requires screen { length session.old.console.screen ≤ 4096 }
+    requires printer { length session.old.console.printer ≤ 4096 }
+    ensures { session.new ≡ show_begun system.now file.now session.old }
 {
-    cpm.file = *file;
-    match cpm.disks.open_file(system, &mut cpm.file) {
-        Ok(NONE) => tell(cpm, Message::NoFile),
+    session.file = *file;
+    match session.disks.open_file(system, &mut session.file) {
+        Ok(NONE) => tell(session, Message::NoFile),
         Ok(_) => {
-            say_below(cpm, b"");
-            go_to(cpm, CommandPart::Show);
+            say_below(session, b"");
+            go_to(session, CommandPart::Show);
         }
-        Err(fault) => fail(cpm, fault),
+        Err(fault) => fail(session, fault),
     }
 }
 
@@ -74,39 +74,39 @@ fn write_all(console: &mut Console, text: &[u8])
 }
 
 /// Shows a record, with which the command may be done.
-fn show_record(cpm: &mut Cpm, record: &[u8; 128])
-    requires screen { length cpm.old.console.screen ≤ 4096 }
-    requires printer { length cpm.old.console.printer ≤ 4096 }
-    ensures { cpm.new ≡ record_shown «record».now cpm.old }
+fn show_record(session: &mut Session, record: &[u8; 128])
+    requires screen { length session.old.console.screen ≤ 4096 }
+    requires printer { length session.old.console.printer ≤ 4096 }
+    ensures { session.new ≡ record_shown «record».now session.old }
 {
-    write_all(&mut cpm.console, text_of(record));
+    write_all(&mut session.console, text_of(record));
     if ends_in(record) {
-        finish(cpm);
+        finish(session);
     } else {
-        go_to(cpm, CommandPart::Show);
+        go_to(session, CommandPart::Show);
     }
 }
 
 /// Shows the next record, or ends the command.
 #[tactic(auto, unfolding(crate::specs::Showing::next_shown))]
-fn show_next(cpm: &mut Cpm, system: &Image)
-    requires screen { length cpm.old.console.screen ≤ 4096 }
-    requires printer { length cpm.old.console.printer ≤ 4096 }
-    ensures { cpm.new ≡ next_shown system.now cpm.old }
+fn show_next(session: &mut Session, system: &Image)
+    requires screen { length session.old.console.screen ≤ 4096 }
+    requires printer { length session.old.console.printer ≤ 4096 }
+    ensures { session.new ≡ next_shown system.now session.old }
 {
     let mut record = NO_RECORD;
-    match cpm.disks.read_next(system, &mut cpm.file, &mut record) {
-        Ok(0) => show_record(cpm, &record),
-        Ok(_) => finish(cpm),
-        Err(fault) => fail(cpm, fault),
+    match session.disks.read_next(system, &mut session.file, &mut record) {
+        Ok(0) => show_record(session, &record),
+        Ok(_) => finish(session),
+        Err(fault) => fail(session, fault),
     }
 }
 
 /// Whether the next step shows anything.
-fn shows_record(cpm: &Cpm, system: &Image) -> bool
-    ensures { result ≡ shows_record (next_ahead cpm.now.disks system.now cpm.now.file) }
+fn shows_record(session: &Session, system: &Image) -> bool
+    ensures { result ≡ shows_record (next_ahead session.now.disks system.now session.now.file) }
 {
-    match cpm.disks.peek_next(system, &cpm.file) {
+    match session.disks.peek_next(system, &session.file) {
         Ok(record) => record.first() != Some(&END_OF_TEXT),
         Err(Answer::Fault(_)) => true,
         Err(_) => false,
@@ -115,14 +115,14 @@ fn shows_record(cpm: &Cpm, system: &Image) -> bool
 
 /// Goes on with a file, unless ^S holds what it would show.
 #[tactic(auto, unfolding(crate::specs::Showing::shown_on))]
-pub(crate) fn show_on(cpm: &mut Cpm, system: &Image)
-    requires screen { length cpm.old.console.screen ≤ 4096 }
-    requires printer { length cpm.old.console.printer ≤ 4096 }
-    ensures { cpm.new ≡ shown_on system.now cpm.old }
+pub(crate) fn show_on(session: &mut Session, system: &Image)
+    requires screen { length session.old.console.screen ≤ 4096 }
+    requires printer { length session.old.console.printer ≤ 4096 }
+    ensures { session.new ≡ shown_on system.now session.old }
 {
-    if cpm.is_stopped() && shows_record(cpm, system) {
-        cpm.hold(Held::Command(CommandPart::Show));
+    if session.is_stopped() && shows_record(session, system) {
+        session.hold(HeldOutput::Command(CommandPart::Show));
         return;
     }
-    show_next(cpm, system);
+    show_next(session, system);
 }

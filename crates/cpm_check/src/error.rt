@@ -3,7 +3,7 @@ ghost use Rattle.std.specs.Prelude.{◌≡◌};
 ghost use Rattle.cpm_check.specs.Check.{status_of};
 
 use cpm_batch::ReadError;
-use cpm_command_line::Word;
+use cpm_command_line::ShownWord;
 use cpm_disk_commands::Damage;
 use std::{fmt, io};
 use thiserror::Error;
@@ -16,7 +16,7 @@ pub enum CheckError {
     FileRefused(ReadError),
     /// The directory of the image in a file doesn't agree with itself.
     #[error("HO6 '{name}': {damage}")]
-    ImageDamaged { name: Word, damage: Damage },
+    ImageDamaged { name: ShownWord, damage: Damage },
     /// Standard output can't be written.
     #[error("HO5 can't write to standard output: {0}")]
     OutputUnwritable(io::Error),

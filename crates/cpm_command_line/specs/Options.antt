@@ -1,14 +1,14 @@
 -- Options that don't go together. Clap's rules take them; what is wrong with them comes behind what clap finds.
 use Rattle.std.specs.Prelude.{◌&&◌, ◌||◌, if◌then◌else◌, nat_lt, not, Option, Some, None, is_some, length}
-use Rattle.cpm_command_line.specs.declared.fault.Fault.{Fault}
-use Rattle.cpm_command_line.specs.declared.fault.Fault.TheVariants.{OutWithoutDisk, ProgressAtKeyboard, RecordAlone, RecordUntyped, TooManyDisks, TwoScripts}
+use Rattle.cpm_command_line.specs.declared.fault.UsageFault.{UsageFault}
+use Rattle.cpm_command_line.specs.declared.fault.UsageFault.TheVariants.{OutWithoutDisk, ProgressAtKeyboard, RecordAlone, RecordUntyped, TooManyDisks, TwoScripts}
 use Rattle.cpm_command_line.specs.declared.task.ComTask.{ComTask}
 use Rattle.cpm_command_line.specs.declared.task.RunTask.{RunTask}
 use Rattle.cpm_command_line.specs.declared.task.Task.{Task}
 use Rattle.cpm_command_line.specs.declared.task.Task.TheVariants.{Com, Run}
 
 -- own: what is wrong first with the options of `com`. Four drives, A to D, can have an image
-abbrev pub fault_of_com : ComTask → Option Fault
+abbrev pub fault_of_com : ComTask → Option UsageFault
 fault_of_com task =
     if is_some task.«record» && not (task.is_live || is_some task.keys) then Some RecordAlone
     else (if is_some task.keys && task.is_live then Some TwoScripts
@@ -18,14 +18,14 @@ fault_of_com task =
     else None))))
 
 -- own: what is wrong first with the options of `run`
-abbrev pub fault_of_run : RunTask → Option Fault
+abbrev pub fault_of_run : RunTask → Option UsageFault
 fault_of_run task =
     if is_some task.«record» && not (is_some task.keyboard) then Some RecordUntyped
     else (if task.has_progress && is_some task.keyboard then Some ProgressAtKeyboard
     else None)
 
 -- own: what is wrong first with the options of a task
-abbrev pub task_fault : Task → Option Fault
+abbrev pub task_fault : Task → Option UsageFault
 task_fault (Com task) = fault_of_com task
 task_fault (Run task) = fault_of_run task
 task_fault _ = None

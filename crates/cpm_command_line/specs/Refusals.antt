@@ -5,14 +5,14 @@ use Rattle.clap.specs.declared.error.kind.ErrorKind.{ErrorKind}
 use Rattle.clap.specs.declared.error.kind.ErrorKind.TheVariants as kind
 use Rattle.cpm_command_line.specs.Line.{IsTaskOf, app_of_line, names_disk, words_of_line}
 use Rattle.cpm_command_line.specs.Options.{task_fault}
-use Rattle.cpm_command_line.specs.declared.fault.Fault.{Fault}
-use Rattle.cpm_command_line.specs.declared.fault.Fault.TheVariants as fault
+use Rattle.cpm_command_line.specs.declared.fault.UsageFault.{UsageFault}
+use Rattle.cpm_command_line.specs.declared.fault.UsageFault.TheVariants as fault
 use Rattle.cpm_command_line.specs.declared.fault.UsageError.{UsageError}
 use Rattle.cpm_command_line.specs.declared.fault.UsageError.TheVariants.{Usage, OutOfMemory}
 use Rattle.cpm_command_line.specs.declared.task.Task.{Task}
 
 -- the kinds of clap's error that a fault stands for: none where clap takes the words
-abbrev pub kinds_of : Fault → Kinds
+abbrev pub kinds_of : UsageFault → Kinds
 kinds_of fault.NoCommand =
     kind.MissingSubcommand ∷ kind.DisplayHelpOnMissingArgumentOrSubcommand ∷ []
 kinds_of fault.NoDiskCommand =
@@ -35,7 +35,7 @@ kinds_of (fault.Other word) =
     ∷ kind.DisplayHelp ∷ kind.DisplayVersion ∷ kind.Io ∷ kind.Format ∷ []
 
 -- own: the fault is one of a line that names `disk`, or of one that doesn't
-abbrev pub IsOfLine : Bool → Fault → Type 0
+abbrev pub IsOfLine : Bool → UsageFault → Type 0
 IsOfLine is_disk fault.NoCommand = is_disk ≡ false
 IsOfLine is_disk fault.NoDiskCommand = is_disk ≡ true
 IsOfLine is_disk (fault.NotANumber word) = is_disk ≡ false

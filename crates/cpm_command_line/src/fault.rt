@@ -12,11 +12,11 @@ use thiserror::Error;
 
 /// What a word looks like in a message: `?` stands for each control character, and a word that is
 /// too long ends in dots.
-pub type Word = ArrayString<200>;
+pub type ShownWord = ArrayString<200>;
 
 /// What was wrong, with the word that was at fault where there is one.
 #[derive(Clone, Copy, Debug, PartialEq, Eq, Drop, Error)]
-pub enum Fault {
+pub enum UsageFault {
     /// There is no word after the program's name.
     #[error("no command was given; try 'cpmhost com FILE' or 'cpmhost --help'")]
     NoCommand,
@@ -25,25 +25,25 @@ pub enum Fault {
     NoDiskCommand,
     /// The word stands where a command does, and names none.
     #[error("unknown command '{0}'; try 'cpmhost --help'")]
-    UnknownCommand(Word),
+    UnknownCommand(ShownWord),
     /// The command has no such option, or takes no more words.
     #[error("unexpected argument '{0}'; try 'cpmhost --help'")]
-    UnexpectedArgument(Word),
+    UnexpectedArgument(ShownWord),
     /// A word that has to be there is not.
     #[error("the argument {0} is missing; try 'cpmhost --help'")]
-    MissingArgument(Word),
+    MissingArgument(ShownWord),
     /// An option stands without its value.
     #[error("a value is wanted for '{0}'; try 'cpmhost --help'")]
-    MissingValue(Word),
+    MissingValue(ShownWord),
     /// The value of `--steps` is no number of 64 bits.
     #[error("invalid value '{0}' for '--steps': a number from 0 to 18446744073709551615 is wanted; try 'cpmhost --help'")]
-    NotANumber(Word),
+    NotANumber(ShownWord),
     /// The value of `--user` is no number of a user.
     #[error("invalid value '{0}' for '--user': a number from 0 to 15 is wanted; try 'cpmhost --help'")]
-    NotAUser(Word),
+    NotAUser(ShownWord),
     /// An option was given twice.
     #[error("the argument '{0}' was given twice; try 'cpmhost --help'")]
-    GivenTwice(Word),
+    GivenTwice(ShownWord),
     /// The keys of a program are to be recorded, and come from nowhere.
     #[error("'--record' takes the keys of '--keyboard' or '--keys'; give one of these with it; try 'cpmhost --help'")]
     RecordAlone,
@@ -64,7 +64,7 @@ pub enum Fault {
     ProgressAtKeyboard,
     /// Anything else, in the words of the reader of command lines.
     #[error("{0}; try 'cpmhost --help'")]
-    Other(Word),
+    Other(ShownWord),
 }
 
 /// Why a command line names no task.
@@ -72,17 +72,17 @@ pub enum Fault {
 pub enum UsageError {
     /// The words name no task.
     #[error("{0}")]
-    Usage(Fault),
+    Usage(UsageFault),
     /// Memory was refused.
     #[error("out of memory")]
     OutOfMemory,
 }
 
 /// A text as it is shown in a message of one line.
-pub fn shown(text: &str) -> Word
+pub fn shown(text: &str) -> ShownWord
     ensures { result.bytes ≡ shown_of (chars text.now) }
 {
-    let mut word = Word::new();
+    let mut word = ShownWord::new();
     for c in text.chars() {
         if !add_shown(&mut word, c) {
             break;
@@ -92,10 +92,10 @@ pub fn shown(text: &str) -> Word
 }
 
 /// A line of a file as it is shown in a message of one line, without the blanks at its ends.
-pub fn shown_line(line: &[u8]) -> Word
+pub fn shown_line(line: &[u8]) -> ShownWord
     ensures { result.bytes ≡ shown_of (characters_of line.now) }
 {
-    let mut word = Word::new();
+    let mut word = ShownWord::new();
     let trimmed = line.trim_ascii();
     for byte in trimmed {
         let c = if *byte == b'\t' {
@@ -111,7 +111,7 @@ pub fn shown_line(line: &[u8]) -> Word
 }
 
 /// Adds a character where there is room for more, else dots: it says which.
-fn add_shown(word: &mut Word, c: char) -> bool
+fn add_shown(word: &mut ShownWord, c: char) -> bool
     ensures room { result ≡ has_room word.old.bytes }
     ensures shown { IsTrue result → word.new.bytes ≡ word.old.bytes ++ encode_utf8 (shown_character c) }
     ensures short { IsTrue result → length word.new.bytes ≤ 196 }
@@ -128,7 +128,7 @@ fn add_shown(word: &mut Word, c: char) -> bool
 }
 
 /// What stands in the text from its first quote on, up to the last `end`.
-fn quoted(text: &str, end: &str) -> Word {
+fn quoted(text: &str, end: &str) -> ShownWord {
     match text.split_once('\'') {
         Some((_, rest)) => match rest.rsplit_once(end) {
             Some((word, _)) => shown(word),
@@ -139,7 +139,7 @@ fn quoted(text: &str, end: &str) -> Word {
 }
 
 /// The first name below the line that says that some are missing.
-fn missing_name(text: &str) -> Word {
+fn missing_name(text: &str) -> ShownWord {
     match text.split_once(":\n") {
         Some((_, names)) => shown(names.lines().next().unwrap_or("").trim()),
         None => shown(text),
@@ -156,24 +156,24 @@ fn message_of(text: &str) -> &str {
 }
 
 /// What is wrong where no command was given, in a line of `disk` or another.
-fn missing_command(is_disk: bool) -> Fault
-    ensures { result ≡ (if is_disk then Fault.NoDiskCommand else Fault.NoCommand) }
+fn missing_command(is_disk: bool) -> UsageFault
+    ensures { result ≡ (if is_disk then UsageFault.NoDiskCommand else UsageFault.NoCommand) }
 {
     if is_disk {
-        Fault::NoDiskCommand
+        UsageFault::NoDiskCommand
     } else {
-        Fault::NoCommand
+        UsageFault::NoCommand
     }
 }
 
 /// What is wrong where a number is none, in a line of `disk` or another.
-fn wrong_number(word: Word, is_disk: bool) -> Fault
-    ensures { result ≡ (if is_disk then Fault.NotAUser word else Fault.NotANumber word) }
+fn wrong_number(word: ShownWord, is_disk: bool) -> UsageFault
+    ensures { result ≡ (if is_disk then UsageFault.NotAUser word else UsageFault.NotANumber word) }
 {
     if is_disk {
-        Fault::NotAUser(word)
+        UsageFault::NotAUser(word)
     } else {
-        Fault::NotANumber(word)
+        UsageFault::NotANumber(word)
     }
 }
 
@@ -187,12 +187,12 @@ fn refusal_of(kind: ErrorKind, message: &str, is_disk: bool) -> UsageError
         ErrorKind::MissingSubcommand | ErrorKind::DisplayHelpOnMissingArgumentOrSubcommand => {
             missing_command(is_disk)
         }
-        ErrorKind::InvalidSubcommand => Fault::UnknownCommand(quoted(message, "'")),
-        ErrorKind::UnknownArgument => Fault::UnexpectedArgument(quoted(message, "' found")),
-        ErrorKind::MissingRequiredArgument => Fault::MissingArgument(missing_name(message)),
-        ErrorKind::InvalidValue => Fault::MissingValue(quoted(message, "' but")),
+        ErrorKind::InvalidSubcommand => UsageFault::UnknownCommand(quoted(message, "'")),
+        ErrorKind::UnknownArgument => UsageFault::UnexpectedArgument(quoted(message, "' found")),
+        ErrorKind::MissingRequiredArgument => UsageFault::MissingArgument(missing_name(message)),
+        ErrorKind::InvalidValue => UsageFault::MissingValue(quoted(message, "' but")),
         ErrorKind::ValueValidation => wrong_number(quoted(message, "' for '"), is_disk),
-        ErrorKind::ArgumentConflict => Fault::GivenTwice(quoted(message, "' cannot")),
+        ErrorKind::ArgumentConflict => UsageFault::GivenTwice(quoted(message, "' cannot")),
         ErrorKind::NoEquals
         | ErrorKind::TooManyValues
         | ErrorKind::TooFewValues
@@ -200,7 +200,7 @@ fn refusal_of(kind: ErrorKind, message: &str, is_disk: bool) -> UsageError
         | ErrorKind::DisplayHelp
         | ErrorKind::DisplayVersion
         | ErrorKind::Io
-        | ErrorKind::Format => Fault::Other(shown(message)),
+        | ErrorKind::Format => UsageFault::Other(shown(message)),
     };
     UsageError::Usage(fault)
 }

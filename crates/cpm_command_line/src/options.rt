@@ -2,46 +2,46 @@
 ghost use Rattle.std.specs.Prelude.{◌≡◌};
 ghost use Rattle.cpm_command_line.specs.Options.{fault_of_com, fault_of_run, task_fault};
 
-use crate::fault::Fault;
+use crate::fault::UsageFault;
 use crate::task::{ComTask, RunTask, Task};
 
 /// How many drives can have an image: A to D.
 const DRIVES: usize = 4;
 
 /// What is wrong first with the options of `com`.
-fn com_fault(task: &ComTask<'_>) -> Option<Fault>
+fn com_fault(task: &ComTask<'_>) -> Option<UsageFault>
     ensures { result ≡ fault_of_com task.now }
 {
     if task.record.is_some() && !task.is_live && task.keys.is_none() {
-        Some(Fault::RecordAlone)
+        Some(UsageFault::RecordAlone)
     } else if task.keys.is_some() && task.is_live {
-        Some(Fault::TwoScripts)
+        Some(UsageFault::TwoScripts)
     } else if task.drives.len() > DRIVES {
-        Some(Fault::TooManyDisks)
+        Some(UsageFault::TooManyDisks)
     } else if task.outs.len() > task.drives.len() {
-        Some(Fault::OutWithoutDisk)
+        Some(UsageFault::OutWithoutDisk)
     } else if task.has_progress && task.is_live {
-        Some(Fault::ProgressAtKeyboard)
+        Some(UsageFault::ProgressAtKeyboard)
     } else {
         None
     }
 }
 
 /// What is wrong first with the options of `run`.
-fn run_fault(task: &RunTask<'_>) -> Option<Fault>
+fn run_fault(task: &RunTask<'_>) -> Option<UsageFault>
     ensures { result ≡ fault_of_run task.now }
 {
     if task.record.is_some() && task.keyboard.is_none() {
-        Some(Fault::RecordUntyped)
+        Some(UsageFault::RecordUntyped)
     } else if task.has_progress && task.keyboard.is_some() {
-        Some(Fault::ProgressAtKeyboard)
+        Some(UsageFault::ProgressAtKeyboard)
     } else {
         None
     }
 }
 
 /// What is wrong first with the options of the task.
-pub(crate) fn options_fault(task: &Task<'_>) -> Option<Fault>
+pub(crate) fn options_fault(task: &Task<'_>) -> Option<UsageFault>
     ensures { result ≡ task_fault task.now }
 {
     match task {

@@ -4,13 +4,13 @@ use Rattle.std.proofs.lemmas.List.{drop_more, map_more}
 use Rattle.cpm_config.specs.Entries.{SessionEntries}
 use Rattle.cpm_config.specs.Rules.{fault_or, first_fault}
 use Rattle.cpm_config.specs.declared.field.Field.{Field}
-use Rattle.cpm_config.specs.declared.field.Place.{Place}
+use Rattle.cpm_config.specs.declared.field.ConfigKey.{ConfigKey}
 
 abbrev pub Fault : Type 0
 Fault = List SessionEntries → SessionEntries → Option Field
 
 -- no fault of a session, and none behind it
-pub neither : (n : ℕ) (first : Option Field) (next : Option Place) → fault_or n first next ≡ None → (first ≡ None) × (next ≡ None)
+pub neither : (n : ℕ) (first : Option Field) (next : Option ConfigKey) → fault_or n first next ≡ None → (first ≡ None) × (next ≡ None)
 neither n None next none = (refl, none)
 neither n (Some f) next none = absurd (cc)
 

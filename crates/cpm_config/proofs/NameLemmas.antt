@@ -8,26 +8,26 @@ use Rattle.cpm_config.specs.Entries.{Text}
 use Rattle.cpm_config.specs.Rules.{Placed, is_among, placed, repeated_after}
 use Rattle.cpm_config.specs.declared.field.Field.TheVariants.{Frames}
 use Rattle.cpm_config.specs.declared.draft.SessionDraft.{SessionDraft}
-use Rattle.cpm_config.specs.declared.names.Named.{Named}
+use Rattle.cpm_config.specs.declared.names.NameUse.{NameUse}
 
-among-placed : (ns : List Named) (t : Text) → list_any (λ n. bytes_eq n.name.now t) ns ≡ is_among (map placed ns) t
+among-placed : (ns : List NameUse) (t : Text) → list_any (λ n. bytes_eq n.name.now t) ns ≡ is_among (map placed ns) t
 among-placed [] t = refl
 among-placed (n ∷ ns) t = ap (λ b. bytes_eq n.name.now t || b) (among-placed ns t)
 
 -- what is read past the end
-abbrev pub blank : Named
+abbrev pub blank : NameUse
 blank = record { place = record { session = 0; field = Frames }; name = record { ref_ptr = (0, 0); now = [] } }
 
-abbrev pub at : List Named → ℕ → Named
+abbrev pub at : List NameUse → ℕ → NameUse
 at ns i = get_or ns i blank
 
 -- the name at a place either stands before it, or the names after it are looked at
-pub repeated-step : (ns : List Named) (i : ℕ) (found : Bool) → i < length ns
+pub repeated-step : (ns : List NameUse) (i : ℕ) (found : Bool) → i < length ns
     → found ≡ list_any (λ n. bytes_eq n.name.now (at ns i).name.now) (take i ns)
     → repeated_after (map placed (take i ns)) (map placed (drop i ns))
     ≡ (if found then Some (at ns i).place else repeated_after (map placed (take (i + 1) ns)) (map placed (drop (i + 1) ns)))
 repeated-step ns i found within is =
-    ap (λ (rest : List Named). repeated_after (map placed (take i ns)) (map placed rest)) (drop_more ns i blank within)
+    ap (λ (rest : List NameUse). repeated_after (map placed (take i ns)) (map placed rest)) (drop_more ns i blank within)
     ∙ ap₂ (λ (b : Bool) (before : List Placed). if b then Some (at ns i).place else repeated_after before (map placed (drop (i + 1) ns)))
     (sym (is ∙ among-placed (take i ns) (at ns i).name.now)) (sym (map_more placed ns i blank within))
 

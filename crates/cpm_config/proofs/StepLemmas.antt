@@ -9,7 +9,7 @@ use Rattle.toml.specs.declared.value.Value.{Value}
 use Rattle.cpm_config.specs.Entries.{SessionEntries, Text, ◌>>=◌, or_wanted, result_map, session_draft_view, session_in, sessions_of, texts_of}
 use Rattle.cpm_config.specs.declared.draft.SessionDraft.{SessionDraft}
 use Rattle.cpm_config.specs.declared.fault.KeyFault.{KeyFault}
-use Rattle.cpm_config.specs.declared.field.Place.{Place}
+use Rattle.cpm_config.specs.declared.field.ConfigKey.{ConfigKey}
 
 mapped : {A B : Type 0} (f : A → B) (xs : List A) (x : A) (rest : List B) → map f (xs ++ x ∷ []) ++ rest ≡ map f xs ++ f x ∷ rest
 mapped f [] x rest = refl
@@ -21,13 +21,13 @@ now t = t.now
 next : (vs : List Value) (i : ℕ) (v : Value) → i < length vs → v ≡ get_or vs i v → v ∷ drop (i + 1) vs ≡ drop i vs
 next vs i v within at = ap (λ (x : Value). x ∷ drop (i + 1) vs) at ∙ sym (drop_more vs i v within)
 
-texts_more : (p : Place) (done : List (Bor Text)) (t : Bor Text) (r : Option (List Text)) → result_map (λ ts. map now (done ++ t ∷ []) ++ ts) (or_wanted p r)
+texts_more : (p : ConfigKey) (done : List (Bor Text)) (t : Bor Text) (r : Option (List Text)) → result_map (λ ts. map now (done ++ t ∷ []) ++ ts) (or_wanted p r)
     ≡ result_map (λ ts. map now done ++ ts) (or_wanted p (option_map (λ ts. t.now ∷ ts) r))
 texts_more p done t None = refl
 texts_more p done t (Some ts) = ap (λ (us : List Text). Ok us) (mapped now done t ts)
 
 -- a text more, of an array that is read as texts
-pub texts_step : (p : Place) (done new : List (Bor Text)) (vs : List Value) (i : ℕ) (v : Value) (t : Bor Text) → i < length vs → v ≡ get_or vs i v
+pub texts_step : (p : ConfigKey) (done new : List (Bor Text)) (vs : List Value) (i : ℕ) (v : Value) (t : Bor Text) → i < length vs → v ≡ get_or vs i v
     → Some t.now ≡ as_str (view v) → new ≡ done ++ t ∷ []
     → result_map (λ ts. map now new ++ ts) (or_wanted p (texts_of (items_view (drop (i + 1) vs))))
     ≡ result_map (λ ts. map now done ++ ts) (or_wanted p (texts_of (items_view (drop i vs))))

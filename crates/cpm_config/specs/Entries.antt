@@ -8,11 +8,11 @@ use Rattle.toml.specs.Data.{Data, array, table, Items, no_items, item, Members, 
 use Rattle.cpm_config.specs.Fields.{field_name}
 use Rattle.cpm_config.specs.declared.field.Field.{Field}
 use Rattle.cpm_config.specs.declared.field.Field.TheVariants as field
-use Rattle.cpm_config.specs.declared.field.Place.{Place}
+use Rattle.cpm_config.specs.declared.field.ConfigKey.{ConfigKey}
 use Rattle.cpm_config.specs.declared.fault.KeyFault.{KeyFault}
 use Rattle.cpm_config.specs.declared.fault.KeyFault.TheVariants.{UnknownAtTop, UnknownInSession, Wanted, Misplaced}
-use Rattle.cpm_config.specs.declared.fault.Stop.{Stop}
-use Rattle.cpm_config.specs.declared.fault.Stop.TheVariants.{Fault, OutOfMemory}
+use Rattle.cpm_config.specs.declared.fault.DocumentStop.{DocumentStop}
+use Rattle.cpm_config.specs.declared.fault.DocumentStop.TheVariants.{Fault, OutOfMemory}
 use Rattle.cpm_config.specs.declared.draft.Draft.{Draft}
 use Rattle.cpm_config.specs.declared.draft.SessionDraft.{SessionDraft}
 use Rattle.cpm_config.specs.declared.draft.OriginDraft.{OriginDraft}
@@ -34,14 +34,14 @@ result_map f (Err e) = Err e
 -- ---- one entry
 
 -- the key at the top, where the session is 0, or of the session with this number
-abbrev pub place : ℕ → Field → Place
+abbrev pub place : ℕ → Field → ConfigKey
 place session f = record { session = session; field = f }
 
 abbrev pub top : ℕ
 top = 0
 
 -- what is there, or that something else is wanted at the place
-abbrev pub or_wanted : {A : Type 0} → Place → Option A → Result A KeyFault
+abbrev pub or_wanted : {A : Type 0} → ConfigKey → Option A → Result A KeyFault
 or_wanted p (Some x) = Ok x
 or_wanted p None = Err (Wanted p)
 
@@ -244,7 +244,7 @@ draft_view d = record {
 }
 
 -- what was read, unless memory ran out
-abbrev pub Reads : {X Y : Type 0} → (X → Y) → Result X Stop → Result Y KeyFault → Type 0
+abbrev pub Reads : {X Y : Type 0} → (X → Y) → Result X DocumentStop → Result Y KeyFault → Type 0
 Reads view (Ok x) read = read ≡ Ok (view x)
 Reads view (Err (Fault fault)) read = read ≡ Err fault
 Reads view (Err OutOfMemory) read = Unit {0}

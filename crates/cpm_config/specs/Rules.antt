@@ -11,13 +11,13 @@ use Rattle.cpm_config.specs.Entries.{ConfigEntries, OriginEntries, Opens, Forks,
 use Rattle.cpm_config.specs.declared.config.Config.{Config}
 use Rattle.cpm_config.specs.declared.config.Origin.{Origin}
 use Rattle.cpm_config.specs.declared.config.Origin.TheVariants as origin
-use Rattle.cpm_config.specs.declared.config.Session.{Session}
+use Rattle.cpm_config.specs.declared.config.SessionConfig.{SessionConfig}
 use Rattle.cpm_config.specs.declared.fault.ConfigError.{ConfigError}
 use Rattle.cpm_config.specs.declared.fault.ConfigError.TheVariants as error
 use Rattle.cpm_config.specs.declared.field.Field.{Field}
 use Rattle.cpm_config.specs.declared.field.Field.TheVariants as field
-use Rattle.cpm_config.specs.declared.field.Place.{Place}
-use Rattle.cpm_config.specs.declared.names.Named.{Named}
+use Rattle.cpm_config.specs.declared.field.ConfigKey.{ConfigKey}
+use Rattle.cpm_config.specs.declared.names.NameUse.{NameUse}
 
 -- ---- ranges
 
@@ -96,18 +96,18 @@ abbrev pub fork_fault : List SessionEntries → SessionEntries → Option Field
 fork_fault before s = origin_fault before s.steps s.origin
 
 -- a fault of the session with this number, else what follows
-abbrev pub fault_or : ℕ → Option Field → Option Place → Option Place
+abbrev pub fault_or : ℕ → Option Field → Option ConfigKey → Option ConfigKey
 fault_or n (Some f) next = Some (place n f)
 fault_or n None next = next
 
 -- the first place in the sessions, numbered on from n and behind those before them, that has a fault
-abbrev pub first_fault : (List SessionEntries → SessionEntries → Option Field) → ℕ → List SessionEntries → List SessionEntries → Option Place
+abbrev pub first_fault : (List SessionEntries → SessionEntries → Option Field) → ℕ → List SessionEntries → List SessionEntries → Option ConfigKey
 first_fault fault n before [] = None
 first_fault fault n before (s ∷ ss) =
     fault_or n (fault before s) (first_fault fault (n + 1) (before ++ s ∷ []) ss)
 
 -- the first at which a fork breaks a rule
-abbrev pub forks_fault : ℕ → List SessionEntries → List SessionEntries → Option Place
+abbrev pub forks_fault : ℕ → List SessionEntries → List SessionEntries → Option ConfigKey
 forks_fault = first_fault fork_fault
 
 -- the drives of an opened session
@@ -170,11 +170,11 @@ abbrev pub session_fault : List SessionEntries → SessionEntries → Option Fie
 session_fault before s = fault_of before s s.origin
 
 -- the first place in the sessions, numbered on from n and behind those before them, that breaks a rule
-abbrev pub sessions_fault : ℕ → List SessionEntries → List SessionEntries → Option Place
+abbrev pub sessions_fault : ℕ → List SessionEntries → List SessionEntries → Option ConfigKey
 sessions_fault = first_fault session_fault
 
 -- the first place that breaks a rule
-unfoldable pub range_fault : ConfigEntries → Option Place
+unfoldable pub range_fault : ConfigEntries → Option ConfigKey
 range_fault c =
     if not (is_between 16 16384 c.frames) then Some (place top field.Frames)
     else (if not (is_between 1 1000000000 c.quantum) then Some (place top field.Quantum)
@@ -185,20 +185,20 @@ range_fault c =
 
 -- a name, and where it stands
 abbrev pub Placed : Type 0
-Placed = Place × Text
+Placed = ConfigKey × Text
 
 abbrev pub session_names : ℕ → List SessionEntries → List Placed
 session_names n [] = []
 session_names n (s ∷ ss) = (place n field.Name, s.name) ∷ session_names (n + 1) ss
 
-abbrev pub placed_if_any : Place → Option Text → List Placed
+abbrev pub placed_if_any : ConfigKey → Option Text → List Placed
 placed_if_any p None = []
 placed_if_any p (Some t) = (p, t) ∷ []
 
-abbrev pub all_placed : Place → List Text → List Placed
+abbrev pub all_placed : ConfigKey → List Text → List Placed
 all_placed p = map (λ t. (p, t))
 
-abbrev pub all_placed_if_any : Place → Option (List Text) → List Placed
+abbrev pub all_placed_if_any : ConfigKey → Option (List Text) → List Placed
 all_placed_if_any p None = []
 all_placed_if_any p (Some ts) = all_placed p ts
 
@@ -216,24 +216,24 @@ abbrev pub is_among : List Placed → Text → Bool
 is_among ps t = list_any (λ p. bytes_eq p.1 t) ps
 
 -- the place of the first name that is among those before it, of which these stand further before
-abbrev pub repeated_after : List Placed → List Placed → Option Place
+abbrev pub repeated_after : List Placed → List Placed → Option ConfigKey
 repeated_after before [] = None
 repeated_after before (p ∷ ps) =
     if is_among before p.1 then Some p.0 else repeated_after (before ++ p ∷ []) ps
 
-abbrev pub repeated : List Placed → Option Place
+abbrev pub repeated : List Placed → Option ConfigKey
 repeated = repeated_after []
 
-abbrev pub placed : Named → Placed
+abbrev pub placed : NameUse → Placed
 placed n = (n.place, n.name.now)
 
 -- the place of the first session that has the name of an earlier one, else of the first file to
 -- be written twice
-abbrev pub some_or : Option Place → Option Place → Option Place
+abbrev pub some_or : Option ConfigKey → Option ConfigKey → Option ConfigKey
 some_or (Some p) q = Some p
 some_or None q = q
 
-abbrev pub twice_fault : ConfigEntries → Option Place
+abbrev pub twice_fault : ConfigEntries → Option ConfigKey
 twice_fault c = some_or (repeated (session_names 1 c.sessions)) (repeated (files_of_all 1 c.sessions))
 
 -- ---- the whole
@@ -250,7 +250,7 @@ abbrev pub origin_view : Origin → OriginEntries
 origin_view (origin.Opened cpu quota drives) = Opens (cpu_text cpu) (pos quota) (texts_of_strings drives)
 origin_view (origin.Forked parent at) = Forks (string_bytes parent) (pos at)
 
-abbrev pub session_view : Session → SessionEntries
+abbrev pub session_view : SessionConfig → SessionEntries
 session_view s = record {
   name = string_bytes s.name;
   origin = origin_view s.origin;

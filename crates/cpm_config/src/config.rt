@@ -9,7 +9,7 @@ ghost use Rattle.cpm_config.specs.Rules.{IsJudged, IsRead};
 
 use crate::copies::config_of;
 use crate::draft::draft_of;
-use crate::fault::{ConfigError, KeyRefusal, Stop};
+use crate::fault::{ConfigError, KeyRefusal, DocumentStop};
 use crate::names::twice_fault;
 use crate::ranges::range_fault;
 use crate::unknown::unknown_key;
@@ -38,7 +38,7 @@ pub enum Origin {
 
 /// A session of a run.
 #[derive(Debug, Drop)]
-pub struct Session {
+pub struct SessionConfig {
     /// 1 to 16 letters, digits, `-` and `_`; no other session has it.
     pub name: String,
     pub origin: Origin,
@@ -66,7 +66,7 @@ pub struct Config {
     /// The file of the system drive's image.
     pub system: String,
     /// 1 to 64 sessions, in the order of the file.
-    pub sessions: Vec<Session>,
+    pub sessions: Vec<SessionConfig>,
 }
 
 /// The line, from 1, that this place of a text is in.
@@ -102,11 +102,11 @@ fn judged(alloc: Global, bytes: &[u8], table: &Table) -> Result<Config, ConfigEr
 {
     let draft = match draft_of(alloc, table) {
         Ok(draft) => draft,
-        Err(Stop::Fault(fault)) => {
+        Err(DocumentStop::Fault(fault)) => {
             let unknown = unknown_key(bytes, table, fault);
             return Err(ConfigError::Key(KeyRefusal { fault, unknown }));
         }
-        Err(Stop::OutOfMemory) => return Err(ConfigError::OutOfMemory),
+        Err(DocumentStop::OutOfMemory) => return Err(ConfigError::OutOfMemory),
     };
     if let Some(place) = range_fault(&draft) {
         return Err(ConfigError::Range(place));

@@ -3,7 +3,7 @@ ghost use Rattle.std.specs.Prelude.{◌≡◌, ◌^◌, [], IfOk, None, map, opt
 ghost use Rattle.cpm_config.specs.Entries.{draft_view, origin_draft_view, session_draft_view, text_view, texts_view};
 ghost use Rattle.cpm_config.specs.Rules.{IsKept, config_view, cpu_text, is_between, is_cpu, origin_view, range_fault, session_view, sessions_fault, texts_of_strings};
 
-use crate::config::{Config, Origin, Session};
+use crate::config::{Config, Origin, SessionConfig};
 use crate::draft::{Draft, OriginDraft, SessionDraft};
 use cpm_flags::Cpu;
 use std::alloc::{AllocError, Global};
@@ -85,12 +85,12 @@ fn origin_of(alloc: Global, origin: &OriginDraft<'_>) -> Result<Origin, AllocErr
 }
 
 /// The session of a draft that breaks no rule.
-fn session_of(alloc: Global, draft: &SessionDraft<'_>) -> Result<Session, AllocError>
+fn session_of(alloc: Global, draft: &SessionDraft<'_>) -> Result<SessionConfig, AllocError>
     requires origin { IsKept (origin_draft_view draft.now.origin) }
     requires steps { is_between 0 (2 ^ 63) draft.now.steps ≡ true }
     ensures { IfOk result (λ s. session_view s ≡ session_draft_view draft.now) }
 {
-    Ok(Session {
+    Ok(SessionConfig {
         name: String::from_str(alloc, draft.name)?,
         origin: origin_of(alloc, &draft.origin)?,
         steps: unsigned(draft.steps),
@@ -102,7 +102,7 @@ fn session_of(alloc: Global, draft: &SessionDraft<'_>) -> Result<Session, AllocE
 }
 
 /// The sessions of drafts that break no rule.
-fn sessions_of(alloc: Global, drafts: &[SessionDraft<'_>]) -> Result<Vec<Session>, AllocError>
+fn sessions_of(alloc: Global, drafts: &[SessionDraft<'_>]) -> Result<Vec<SessionConfig>, AllocError>
     requires { sessions_fault 1 [] (map session_draft_view drafts.now) ≡ None }
     ensures { IfOk result (λ v. map session_view v.items ≡ map session_draft_view drafts.now) }
 {

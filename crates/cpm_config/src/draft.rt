@@ -4,8 +4,8 @@ ghost use Rattle.toml.specs.Data.{no_members};
 ghost use Rattle.toml.specs.View.{items_view, table_view, view};
 ghost use Rattle.cpm_config.specs.Entries.{◌>>=◌ as ◌and_then◌, Forks, Opens, OriginEntries, Reads, Text, config_in, draft_view, forked_of_table, known_at_top, known_in_session, misplaced, opened_of_table, optional_text_at, origin_draft_view, session_draft_view, session_in, session_of_table, session_with, sessions_at, sessions_of, text_at, text_view, texts_at};
 
-use crate::fault::{KeyFault, Stop};
-use crate::field::{Field, Place};
+use crate::fault::{KeyFault, DocumentStop};
+use crate::field::{Field, ConfigKey};
 use crate::values::{
     SESSION_FIELDS, TOP_FIELDS, has_only, number_at, optional_text_at, optional_texts_at, text_at,
     texts_at, value_at,
@@ -67,7 +67,7 @@ fn check_places(table: &Table, session: u64, fields: &[Field]) -> Result<(), Key
     for field in fields {
         let field = *field;
         if value_at(table, field).is_some() {
-            return Err(KeyFault::Misplaced(Place { session, field }));
+            return Err(KeyFault::Misplaced(ConfigKey { session, field }));
         }
     }
     Ok(())
@@ -172,7 +172,7 @@ fn session_with<'a>(
     name: &'a str,
     origin: OriginDraft<'a>,
     steps: i64,
-) -> Result<SessionDraft<'a>, Stop>
+) -> Result<SessionDraft<'a>, DocumentStop>
     ensures { Reads session_draft_view result (session_with session (table_view table.now) name.now (origin_draft_view origin.entry) steps) }
 {
     let files = files_of(table, session)?;
@@ -193,7 +193,7 @@ fn opened_of_table<'a>(
     alloc: Global,
     table: &'a Table,
     session: u64,
-) -> Result<SessionDraft<'a>, Stop>
+) -> Result<SessionDraft<'a>, DocumentStop>
     ensures { Reads session_draft_view result (opened_of_table session (table_view table.now)) }
 {
     let head = opened_head(table, session)?;
@@ -211,7 +211,7 @@ fn forked_of_table<'a>(
     alloc: Global,
     table: &'a Table,
     session: u64,
-) -> Result<SessionDraft<'a>, Stop>
+) -> Result<SessionDraft<'a>, DocumentStop>
     ensures { Reads session_draft_view result (forked_of_table session (table_view table.now)) }
 {
     let head = forked_head(table, session)?;
@@ -228,7 +228,7 @@ fn session_of_table<'a>(
     alloc: Global,
     table: &'a Table,
     session: u64,
-) -> Result<SessionDraft<'a>, Stop>
+) -> Result<SessionDraft<'a>, DocumentStop>
     ensures { Reads session_draft_view result (session_of_table session (table_view table.now)) }
 {
     if value_at(table, Field::Fork).is_some() {
@@ -239,12 +239,12 @@ fn session_of_table<'a>(
 }
 
 /// The entries of a value that has to be a session's table.
-fn session_in<'a>(alloc: Global, value: &'a Value, session: u64) -> Result<SessionDraft<'a>, Stop>
+fn session_in<'a>(alloc: Global, value: &'a Value, session: u64) -> Result<SessionDraft<'a>, DocumentStop>
     ensures { Reads session_draft_view result (session_in session (view value.now)) }
 {
     match value {
         Value::Table(table) => session_of_table(alloc, table, session),
-        _ => Err(Stop::Fault(KeyFault::Wanted(Place {
+        _ => Err(DocumentStop::Fault(KeyFault::Wanted(ConfigKey {
             session: 0,
             field: Field::Sessions,
         }))),
@@ -257,7 +257,7 @@ fn add_sessions<'a>(
     alloc: Global,
     values: &'a [Value],
     sessions: &mut Vec<SessionDraft<'a>>,
-) -> Result<(), Stop>
+) -> Result<(), DocumentStop>
     requires { sessions.old.items ≡ [] }
     ensures { Reads (λ _. map session_draft_view sessions.new.items) result (sessions_of 1 (items_view values.now)) }
 {
@@ -271,7 +271,7 @@ fn add_sessions<'a>(
 }
 
 /// The entries of all sessions.
-fn sessions_of<'a>(alloc: Global, values: &'a [Value]) -> Result<Vec<SessionDraft<'a>>, Stop>
+fn sessions_of<'a>(alloc: Global, values: &'a [Value]) -> Result<Vec<SessionDraft<'a>>, DocumentStop>
     ensures { Reads (λ v. map session_draft_view v.items) result (sessions_of 1 (items_view values.now)) }
 {
     let mut sessions = Vec::new(alloc);
@@ -280,13 +280,13 @@ fn sessions_of<'a>(alloc: Global, values: &'a [Value]) -> Result<Vec<SessionDraf
 }
 
 /// The entries of the sessions of a document.
-fn sessions_at<'a>(alloc: Global, table: &'a Table) -> Result<Vec<SessionDraft<'a>>, Stop>
+fn sessions_at<'a>(alloc: Global, table: &'a Table) -> Result<Vec<SessionDraft<'a>>, DocumentStop>
     ensures read { Reads (λ v. map session_draft_view v.items) result (sessions_at (table_view table.now)) }
-    ensures memory { IsErrOf result Stop.OutOfMemory → table_view table.now ≡ no_members → ⊥ }
+    ensures memory { IsErrOf result DocumentStop.OutOfMemory → table_view table.now ≡ no_members → ⊥ }
 {
     match value_at(table, Field::Sessions) {
         Some(Value::Array(array)) => sessions_of(alloc, array.as_slice()),
-        _ => Err(Stop::Fault(KeyFault::Wanted(Place {
+        _ => Err(DocumentStop::Fault(KeyFault::Wanted(ConfigKey {
             session: 0,
             field: Field::Sessions,
         }))),
@@ -307,9 +307,9 @@ fn check_top_keys(table: &Table) -> Result<(), KeyFault>
 
 /// The entries of a document.
 #[tactic(auto, unfolding(crate::specs::Entries::config_in))]
-pub(crate) fn draft_of<'a>(alloc: Global, table: &'a Table) -> Result<Draft<'a>, Stop>
+pub(crate) fn draft_of<'a>(alloc: Global, table: &'a Table) -> Result<Draft<'a>, DocumentStop>
     ensures read { Reads draft_view result (config_in (table_view table.now)) }
-    ensures memory { IsErrOf result Stop.OutOfMemory → table_view table.now ≡ no_members → ⊥ }
+    ensures memory { IsErrOf result DocumentStop.OutOfMemory → table_view table.now ≡ no_members → ⊥ }
 {
     check_top_keys(table)?;
     let frames = number_at(table, 0, Field::Frames)?;

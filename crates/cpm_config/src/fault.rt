@@ -1,10 +1,10 @@
 //! Why a configuration is refused.
-ghost use Rattle.cpm_config.specs.declared.fault.Stop.{Stop};
-ghost use Rattle.cpm_config.specs.declared.fault.Stop.TheVariants.{Fault, OutOfMemory};
+ghost use Rattle.cpm_config.specs.declared.fault.DocumentStop.{DocumentStop};
+ghost use Rattle.cpm_config.specs.declared.fault.DocumentStop.TheVariants.{Fault, OutOfMemory};
 ghost use Rattle.std.specs.Prelude.{◌≡◌};
 
-use crate::field::Place;
-use cpm_command_line::Word;
+use crate::field::ConfigKey;
+use cpm_command_line::ShownWord;
 use std::alloc::{AllocError, AllocFailed};
 use std::fmt;
 use thiserror::Error;
@@ -20,17 +20,17 @@ pub enum KeyFault {
     UnknownInSession(u64),
     /// The key is missing, or its value is of another type.
     #[error("{0} is missing or of another type: {wanted} is wanted", wanted = .0.field.wanted())]
-    Wanted(Place),
+    Wanted(ConfigKey),
     /// The key does not belong to a session that begins as this one does.
     #[error("{0} is out of place: a session has cpu, quota and drives, or fork and at")]
-    Misplaced(Place),
+    Misplaced(ConfigKey),
 }
 
 /// A key that is unknown where it stands.
 #[derive(Clone, Copy, Debug, PartialEq, Eq, Drop)]
 pub struct UnknownKey {
     /// The key as it is shown in a message.
-    pub key: Word,
+    pub key: ShownWord,
     /// The line that writes it, from 1, where one is found.
     pub line: Option<usize>,
 }
@@ -67,10 +67,10 @@ pub enum ConfigError {
     Key(KeyRefusal),
     /// A value breaks a rule.
     #[error("configuration: {0} breaks a rule: {wanted} is wanted", wanted = .0.field.wanted())]
-    Range(Place),
+    Range(ConfigKey),
     /// The name at this place stands before: two sessions have it, or two files.
     #[error("configuration: a name in {0} was given before")]
-    Twice(Place),
+    Twice(ConfigKey),
     /// Memory was refused.
     #[error("out of memory")]
     OutOfMemory,
@@ -78,31 +78,31 @@ pub enum ConfigError {
 
 /// Why the entries of a document are not there.
 #[derive(Clone, Copy)]
-pub(crate) enum Stop {
+pub(crate) enum DocumentStop {
     Fault(KeyFault),
     OutOfMemory,
 }
 
-impl From<KeyFault> for Stop {
+impl From<KeyFault> for DocumentStop {
     ghost from_gives = { λ fault e. e ≡ Fault fault };
 
-    fn from(fault: KeyFault) -> Stop {
-        Stop::Fault(fault)
+    fn from(fault: KeyFault) -> DocumentStop {
+        DocumentStop::Fault(fault)
     }
 }
 
-impl From<AllocError> for Stop {
+impl From<AllocError> for DocumentStop {
     ghost from_gives = { λ _ e. e ≡ OutOfMemory };
 
-    fn from(_error: AllocError) -> Stop {
-        Stop::OutOfMemory
+    fn from(_error: AllocError) -> DocumentStop {
+        DocumentStop::OutOfMemory
     }
 }
 
-impl<T: Drop> From<AllocFailed<T>> for Stop {
+impl<T: Drop> From<AllocFailed<T>> for DocumentStop {
     ghost from_gives = { λ _ e. e ≡ OutOfMemory };
 
-    fn from(_error: AllocFailed<T>) -> Stop {
-        Stop::OutOfMemory
+    fn from(_error: AllocFailed<T>) -> DocumentStop {
+        DocumentStop::OutOfMemory
     }
 }

@@ -73,13 +73,13 @@ impl Field {
 
 /// A key at the top of the configuration, or of one session.
 #[derive(Clone, Copy, Debug, PartialEq, Eq, Drop)]
-pub struct Place {
+pub struct ConfigKey {
     /// The session's number in the file, from 1; 0 is the top.
     pub session: u64,
     pub field: Field,
 }
 
-impl fmt::Display for Place {
+impl fmt::Display for ConfigKey {
     fn fmt<W: fmt::Write>(&self, f: &mut fmt::Formatter<W>) -> fmt::Result {
         let name = self.field.name();
         match self.session {

@@ -13,8 +13,8 @@ mod ranges;
 mod unknown;
 mod values;
 
-pub use config::{Config, Origin, Session};
+pub use config::{Config, Origin, SessionConfig};
 pub use fault::{ConfigError, KeyFault, KeyRefusal, UnknownKey};
-pub use field::{Field, Place};
+pub use field::{Field, ConfigKey};
 pub use forks::place_of;
 pub use laws::forks_stand;

@@ -6,33 +6,33 @@ ghost use Rattle.cpm_config.specs.Entries.{draft_view, place, session_draft_view
 ghost use Rattle.cpm_config.specs.Rules.{all_placed, all_placed_if_any, files_of, files_of_all, placed, placed_if_any, repeated, session_names, twice_fault};
 
 use crate::draft::{Draft, SessionDraft};
-use crate::field::{Field, Place};
+use crate::field::{Field, ConfigKey};
 use std::alloc::{AllocError, Global};
 
 /// A name, and where it stands.
 #[derive(Drop)]
-pub(crate) struct Named<'a> {
-    pub(crate) place: Place,
+pub(crate) struct NameUse<'a> {
+    pub(crate) place: ConfigKey,
     pub(crate) name: &'a str,
 }
 
 /// Adds a name.
 fn add<'a>(
-    names: &mut Vec<Named<'a>>,
+    names: &mut Vec<NameUse<'a>>,
     session: u64,
     field: Field,
     name: &'a str,
 ) -> Result<(), AllocError>
     ensures { OnOk result (map placed names.new.items ≡ map placed names.old.items ++ (place session field, name.now) ∷ []) }
 {
-    let place = Place { session, field };
-    names.push(Named { place, name })?;
+    let place = ConfigKey { session, field };
+    names.push(NameUse { place, name })?;
     Ok(())
 }
 
 /// Adds a name that may be left out.
 fn add_if_any<'a>(
-    names: &mut Vec<Named<'a>>,
+    names: &mut Vec<NameUse<'a>>,
     session: u64,
     field: Field,
     name: Option<&'a str>,
@@ -47,7 +47,7 @@ fn add_if_any<'a>(
 
 /// Adds names that stand at one place.
 fn add_all<'a>(
-    names: &mut Vec<Named<'a>>,
+    names: &mut Vec<NameUse<'a>>,
     session: u64,
     field: Field,
     more: &[&'a str],
@@ -62,7 +62,7 @@ fn add_all<'a>(
 
 /// Adds names that may be left out.
 fn add_all_if_any<'a>(
-    names: &mut Vec<Named<'a>>,
+    names: &mut Vec<NameUse<'a>>,
     session: u64,
     field: Field,
     more: &Option<Vec<&'a str>>,
@@ -77,7 +77,7 @@ fn add_all_if_any<'a>(
 
 /// Adds the files that a session writes.
 fn add_files<'a>(
-    names: &mut Vec<Named<'a>>,
+    names: &mut Vec<NameUse<'a>>,
     number: u64,
     session: &SessionDraft<'a>,
 ) -> Result<(), AllocError>
@@ -92,7 +92,7 @@ fn add_files<'a>(
 fn session_names<'a>(
     alloc: Global,
     sessions: &[SessionDraft<'a>],
-) -> Result<Vec<Named<'a>>, AllocError>
+) -> Result<Vec<NameUse<'a>>, AllocError>
     ensures { IfOk result (λ v. map placed v.items ≡ session_names 1 (map session_draft_view sessions.now)) }
 {
     let mut names = Vec::new(alloc);
@@ -108,7 +108,7 @@ fn session_names<'a>(
 fn files_of_all<'a>(
     alloc: Global,
     sessions: &[SessionDraft<'a>],
-) -> Result<Vec<Named<'a>>, AllocError>
+) -> Result<Vec<NameUse<'a>>, AllocError>
     ensures { IfOk result (λ v. map placed v.items ≡ files_of_all 1 (map session_draft_view sessions.now)) }
 {
     let mut names = Vec::new(alloc);
@@ -120,14 +120,14 @@ fn files_of_all<'a>(
     Ok(names)
 }
 
-fn is_among(names: &[Named<'_>], name: &str) -> bool
+fn is_among(names: &[NameUse<'_>], name: &str) -> bool
     ensures { result ≡ list_any (λ n. bytes_eq n.name.now name.now) names.now }
 {
     names.iter().any(|named| named.name == name)
 }
 
 /// The place of the first name that stands before.
-fn repeated(names: &[Named<'_>]) -> Option<Place>
+fn repeated(names: &[NameUse<'_>]) -> Option<ConfigKey>
     ensures { result ≡ repeated (map placed names.now) }
 {
     let mut count = 0;
@@ -142,7 +142,7 @@ fn repeated(names: &[Named<'_>]) -> Option<Place>
 
 /// The place of the first session with the name of an earlier one, else of the first file that would
 /// be written twice.
-pub(crate) fn twice_fault(alloc: Global, draft: &Draft<'_>) -> Result<Option<Place>, AllocError>
+pub(crate) fn twice_fault(alloc: Global, draft: &Draft<'_>) -> Result<Option<ConfigKey>, AllocError>
     ensures { IfOk result (λ p. p ≡ twice_fault (draft_view draft.now)) }
 {
     let sessions = draft.sessions.as_slice();

@@ -5,7 +5,7 @@ ghost use Rattle.cpm_config.specs.Entries.{Forks, draft_view, place, session_dra
 ghost use Rattle.cpm_config.specs.Rules.{at_fault, drives_if_any, forked_fault, if_opened, is_between, is_cpu, is_length_between, is_name, is_name_byte, is_out, is_steps, named_in, opened_fault, origin_fault, range_fault, session_fault, sessions_fault};
 
 use crate::draft::{Draft, OriginDraft, SessionDraft};
-use crate::field::{Field, Place};
+use crate::field::{Field, ConfigKey};
 
 fn is_between(low: u64, high: u64, number: i64) -> bool
     ensures { result ≡ is_between low high number }
@@ -173,7 +173,7 @@ fn session_fault(before: &[SessionDraft<'_>], session: &SessionDraft<'_>) -> Opt
 }
 
 /// The first place in the sessions that breaks a rule.
-fn sessions_fault(sessions: &[SessionDraft<'_>]) -> Option<Place>
+fn sessions_fault(sessions: &[SessionDraft<'_>]) -> Option<ConfigKey>
     ensures { result ≡ sessions_fault 1 [] (map session_draft_view sessions.now) }
 {
     let mut count: usize = 0;
@@ -181,7 +181,7 @@ fn sessions_fault(sessions: &[SessionDraft<'_>]) -> Option<Place>
         let before = &sessions[..count];
         count += 1;
         if let Some(field) = session_fault(before, session) {
-            return Some(Place {
+            return Some(ConfigKey {
                 session: count as u64,
                 field,
             });
@@ -191,10 +191,10 @@ fn sessions_fault(sessions: &[SessionDraft<'_>]) -> Option<Place>
 }
 
 /// A place at the top.
-fn at_top(field: Field) -> Option<Place>
+fn at_top(field: Field) -> Option<ConfigKey>
     ensures { result ≡ Some (place 0 field) }
 {
-    Some(Place { session: 0, field })
+    Some(ConfigKey { session: 0, field })
 }
 
 fn has_one_to_64(sessions: &Vec<SessionDraft<'_>>) -> bool
@@ -205,7 +205,7 @@ fn has_one_to_64(sessions: &Vec<SessionDraft<'_>>) -> bool
 
 /// The first place that breaks a rule.
 #[tactic(auto, unfolding(crate::specs::Rules::range_fault))]
-pub(crate) fn range_fault(draft: &Draft<'_>) -> Option<Place>
+pub(crate) fn range_fault(draft: &Draft<'_>) -> Option<ConfigKey>
     ensures { result ≡ range_fault (draft_view draft.now) }
 {
     if !is_between(16, 16_384, draft.frames) {

@@ -8,8 +8,8 @@ ghost use Rattle.toml.specs.View.{items_view, table_view, view};
 ghost use Rattle.cpm_config.specs.Fields.{field_name};
 ghost use Rattle.cpm_config.specs.Entries.{Reads, has_only, number_at, optional_text_at, optional_texts_at, or_wanted, result_map, text_at, texts_at, texts_of, texts_view};
 
-use crate::fault::{KeyFault, Stop};
-use crate::field::{Field, Place};
+use crate::fault::{KeyFault, DocumentStop};
+use crate::field::{Field, ConfigKey};
 use std::alloc::Global;
 use toml::{Table, Value};
 
@@ -49,7 +49,7 @@ pub(crate) fn text_at<'a>(table: &'a Table, session: u64, field: Field) -> Resul
 {
     match value_at(table, field) {
         Some(Value::String(text)) => Ok(text.as_str()),
-        _ => Err(KeyFault::Wanted(Place { session, field })),
+        _ => Err(KeyFault::Wanted(ConfigKey { session, field })),
     }
 }
 
@@ -59,7 +59,7 @@ pub(crate) fn number_at(table: &Table, session: u64, field: Field) -> Result<i64
 {
     match value_at(table, field) {
         Some(Value::Integer(number)) => Ok(*number),
-        _ => Err(KeyFault::Wanted(Place { session, field })),
+        _ => Err(KeyFault::Wanted(ConfigKey { session, field })),
     }
 }
 
@@ -73,20 +73,20 @@ pub(crate) fn optional_text_at<'a>(
 {
     match value_at(table, field) {
         Some(Value::String(text)) => Ok(Some(text.as_str())),
-        Some(_) => Err(KeyFault::Wanted(Place { session, field })),
+        Some(_) => Err(KeyFault::Wanted(ConfigKey { session, field })),
         None => Ok(None),
     }
 }
 
 /// Adds the texts of an array that holds nothing else to none yet. The owner is the caller, so that
 /// no fault here has texts to drop.
-fn add_texts<'a>(values: &'a [Value], place: Place, texts: &mut Vec<&'a str>) -> Result<(), Stop>
+fn add_texts<'a>(values: &'a [Value], place: ConfigKey, texts: &mut Vec<&'a str>) -> Result<(), DocumentStop>
     requires { texts.old.items ≡ [] }
     ensures { Reads (λ _. texts_view texts.new) result (or_wanted place (texts_of (items_view values.now))) }
 {
     for value in values {
         let Some(text) = value.as_str() else {
-            return Err(Stop::Fault(KeyFault::Wanted(place)));
+            return Err(DocumentStop::Fault(KeyFault::Wanted(place)));
         };
         texts.push(text)?;
     }
@@ -94,7 +94,7 @@ fn add_texts<'a>(values: &'a [Value], place: Place, texts: &mut Vec<&'a str>) ->
 }
 
 /// The texts of an array that holds nothing else.
-fn texts_of<'a>(alloc: Global, values: &'a [Value], place: Place) -> Result<Vec<&'a str>, Stop>
+fn texts_of<'a>(alloc: Global, values: &'a [Value], place: ConfigKey) -> Result<Vec<&'a str>, DocumentStop>
     ensures { Reads texts_view result (or_wanted place (texts_of (items_view values.now))) }
 {
     let mut texts = Vec::new(alloc);
@@ -108,13 +108,13 @@ pub(crate) fn texts_at<'a>(
     table: &'a Table,
     session: u64,
     field: Field,
-) -> Result<Vec<&'a str>, Stop>
+) -> Result<Vec<&'a str>, DocumentStop>
     ensures { Reads texts_view result (texts_at session field (table_view table.now)) }
 {
-    let place = Place { session, field };
+    let place = ConfigKey { session, field };
     match value_at(table, field) {
         Some(Value::Array(array)) => texts_of(alloc, array.as_slice(), place),
-        _ => Err(Stop::Fault(KeyFault::Wanted(place))),
+        _ => Err(DocumentStop::Fault(KeyFault::Wanted(place))),
     }
 }
 
@@ -124,7 +124,7 @@ pub(crate) fn optional_texts_at<'a>(
     table: &'a Table,
     session: u64,
     field: Field,
-) -> Result<Option<Vec<&'a str>>, Stop>
+) -> Result<Option<Vec<&'a str>>, DocumentStop>
     ensures { Reads (option_map texts_view) result (optional_texts_at session field (table_view table.now)) }
 {
     match value_at(table, field) {

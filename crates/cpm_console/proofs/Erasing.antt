@@ -5,7 +5,7 @@ use Rattle.std.proofs.Math.Seq.{take-append_seam, drop-append_seam}
 use Rattle.cpm_console.specs.Terminal.{Terminal, said}
 use Rattle.cpm_console.specs.Draft.{Draft}
 use Rattle.cpm_console.specs.Editing.{edited, emptied, echo, echo_at, columns, erasure, last_echo, typed_echo, with_character, without_last}
-use Rattle.cpm_console.specs.declared.line.Progress.TheVariants.{GoesOn}
+use Rattle.cpm_console.specs.declared.line.LineState.TheVariants.{GoesOn}
 use Rattle.cpm_console.specs.Laws.{IsErasedAsTyped}
 use Rattle.cpm_console.proofs.Said.{said-said, echo-append}
 

@@ -3,8 +3,8 @@ use Rattle.std.specs.Prelude.{ℕ, zero, suc, ◌+◌, ◌-◌, ◌%◌, Bool, L
 use Rattle.cpm_console.specs.Terminal.{Terminal, said}
 use Rattle.cpm_console.specs.declared.line.Keystroke.{Keystroke}
 use Rattle.cpm_console.specs.declared.line.Keystroke.TheVariants.{Interrupt, NewLine, Erase, Repeat, End, ListEcho, Retype, Restart, EraseAll, Character}
-use Rattle.cpm_console.specs.declared.line.Progress.{Progress}
-use Rattle.cpm_console.specs.declared.line.Progress.TheVariants.{GoesOn, Ended, Interrupted}
+use Rattle.cpm_console.specs.declared.line.LineState.{LineState}
+use Rattle.cpm_console.specs.declared.line.LineState.TheVariants.{GoesOn, Ended, Interrupted}
 use Rattle.cpm_console.specs.Draft.{Draft}
 
 -- CP/M 2.2 Operating System Manual, section 1.5, Line Editing and Output Control, and section 5.2, function 10
@@ -80,9 +80,9 @@ typed_echo l c = echo_at (columns l.start l.characters) c
 pub record Edited : Type 0 where
   pub terminal : Terminal
   pub line : Draft
-  pub progress : Progress
+  pub progress : LineState
 
-abbrev pub edited : Terminal → Draft → Progress → Edited
+abbrev pub edited : Terminal → Draft → LineState → Edited
 edited t l p = record { terminal = t; line = l; progress = p }
 
 -- CP/M 2.2 Operating System Manual, section 5.2, function 10: the line ends where it has as many characters as it may;

@@ -10,4 +10,4 @@ pub mod line;
 pub use console::{Console, KEYS, RING, STEP_OUTPUT};
 pub use device::Device;
 pub use laws::erased_as_typed;
-pub use line::{Keystroke, Line, Progress};
+pub use line::{Keystroke, Line, LineState};

@@ -11,7 +11,7 @@ use std::marker::Model;
 
 /// How a line stands after a key.
 #[derive(Clone, Copy, Debug, PartialEq, Eq)]
-pub enum Progress {
+pub enum LineState {
     /// A further key is to come.
     GoesOn,
     /// The line is complete.
@@ -135,12 +135,12 @@ impl Line {
     /// Puts a key into the line, which must not be full, and shows its echo, which is 2,304 bytes at most: there must be
     /// room for all that a step may put. CP/M 2.2 Operating System Manual, section 5.2, function 10.
     #[tactic(auto, using(crate::proofs::Growth::editing))]
-    pub fn key_into_line(&mut self, console: &mut Console, key: u8) -> Progress
+    pub fn key_into_line(&mut self, console: &mut Console, key: u8) -> LineState
         requires open { length self.old.characters < self.old.limit }
         requires screen { length console.old.screen ≤ 4096 }
         requires printer { length console.old.printer ≤ 4096 }
         ensures line { edited console.new self.new result ≡ key_into_line console.old self.old key }
-        ensures open { result ≡ Progress.GoesOn → length self.new.characters < self.new.limit }
+        ensures open { result ≡ LineState.GoesOn → length self.new.characters < self.new.limit }
         ensures output { IsWithin 2304 console.old console.new }
     {
         let _start = self.start();
@@ -157,7 +157,7 @@ impl Line {
 
     /// Does what the key means in the line.
     #[tactic(auto, using(crate::proofs::Said::saying))]
-    fn by_keystroke(&mut self, console: &mut Console, key: u8) -> Progress
+    fn by_keystroke(&mut self, console: &mut Console, key: u8) -> LineState
         requires open { length self.old.characters < self.old.limit }
         requires screen { length console.old.screen ≤ 4096 }
         requires printer { length console.old.printer ≤ 4096 }
@@ -166,41 +166,41 @@ impl Line {
         match Keystroke::of(key, self.characters.is_empty()) {
             Keystroke::Interrupt => {
                 console.say_all(b"^C");
-                Progress::Interrupted
+                LineState::Interrupted
             }
             Keystroke::NewLine => {
                 console.say_all(b"\r\n");
-                Progress::GoesOn
+                LineState::GoesOn
             }
             Keystroke::Erase => {
                 self.erase_last(console);
-                Progress::GoesOn
+                LineState::GoesOn
             }
             Keystroke::Repeat => {
                 self.repeat_last(console);
-                Progress::GoesOn
+                LineState::GoesOn
             }
             Keystroke::End => {
                 console.say(b'\r');
-                Progress::Ended
+                LineState::Ended
             }
             Keystroke::ListEcho => {
                 console.set_list_echo(!console.list_echo());
-                Progress::GoesOn
+                LineState::GoesOn
             }
             Keystroke::Retype => {
                 self.retype(console);
-                Progress::GoesOn
+                LineState::GoesOn
             }
             Keystroke::Restart => {
                 self.begin_again(console);
                 self.characters.clear();
-                Progress::GoesOn
+                LineState::GoesOn
             }
             Keystroke::EraseAll => {
                 erase(console, echo_width(self.start, self.characters()));
                 self.characters.clear();
-                Progress::GoesOn
+                LineState::GoesOn
             }
             Keystroke::Character => self.put(console, key),
         }
@@ -260,7 +260,7 @@ impl Line {
 
     /// Stores a character and shows it. The line ends where it is full then.
     #[tactic(auto, using(crate::proofs::Said::saying))]
-    fn put(&mut self, console: &mut Console, character: u8) -> Progress
+    fn put(&mut self, console: &mut Console, character: u8) -> LineState
         requires open { length self.old.characters < self.old.limit }
         requires screen { length console.old.screen ≤ 4096 }
         requires printer { length console.old.printer ≤ 4096 }
@@ -272,9 +272,9 @@ impl Line {
         self.characters.push(character);
         if self.characters.len() == limit {
             console.say(b'\r');
-            Progress::Ended
+            LineState::Ended
         } else {
-            Progress::GoesOn
+            LineState::GoesOn
         }
     }
 }

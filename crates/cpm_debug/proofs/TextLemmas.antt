@@ -8,23 +8,23 @@ use Rattle.cpm_machine.specs.Serve.{taken}
 
 -- the state with other bytes on its console
 abbrev pub with_text : List ℕ → MachineState → MachineState
-with_text xs s = record s { cpm = record s.cpm { console = record s.cpm.console { screen = xs } } }
+with_text xs s = record s { session = record s.session { console = record s.session.console { screen = xs } } }
 
 -- some of the console bytes were moved to the writer
 pub record IsMoved (start now : MachineState) (before after : Option (List ℕ)) : Type 0 where
   pub text : List ℕ
   pub written : Appends before after text
-  pub whole : text ++ now.cpm.console.screen ≡ start.cpm.console.screen
-  pub state : now ≡ with_text now.cpm.console.screen start
+  pub whole : text ++ now.session.console.screen ≡ start.session.console.screen
+  pub state : now ≡ with_text now.session.console.screen start
 
 -- one chunk more
 pub moved_more : (start now next : MachineState) (before middle grown : Option (List ℕ)) (room : ℕ) (chunk : List ℕ) → IsMoved start now before middle
-    → chunk ≡ take (min room (length now.cpm.console.screen)) now.cpm.console.screen → next ≡ taken room now → Appends middle grown chunk
+    → chunk ≡ take (min room (length now.session.console.screen)) now.session.console.screen → next ≡ taken room now → Appends middle grown chunk
     → IsMoved start next before grown
 moved_more start now next before middle grown room chunk moved is state writes =
-    let screen = now.cpm.console.screen in
+    let screen = now.session.console.screen in
     let count = min room (length screen) in
-    let left : next.cpm.console.screen ≡ drop count screen = ap (λ (s : MachineState). s.cpm.console.screen) state in
+    let left : next.session.console.screen ≡ drop count screen = ap (λ (s : MachineState). s.session.console.screen) state in
     record {
       text = moved.text ++ chunk;
       written = Appends-trans before middle grown moved.text chunk moved.written writes;

@@ -78,7 +78,7 @@ pressed _ s = record { accepted = false; state = s }
 
 abbrev pub without_text : MachineState → MachineState
 without_text s =
-    record s { cpm = record s.cpm { console = record s.cpm.console { screen = [] } } }
+    record s { session = record s.session { console = record s.session.console { screen = [] } } }
 
 -- ---- answers
 
@@ -91,7 +91,7 @@ reply text s = record { text = text; state = s }
 
 -- a line, with the line of the listing that shows the bytes at PC, and the state
 abbrev pub reply_at : List ℕ → List ℕ → MachineState → Reply
-reply_at listing text s = reply (with_source text (source_line listing s.cpm.regs.pc)) s
+reply_at listing text s = reply (with_source text (source_line listing s.session.regs.pc)) s
 
 -- what is answered with this system drive and this listing, and the state after it
 unfoldable pub answer : Disk → Cpu → List ℕ → Request → MachineState → Reply
@@ -99,9 +99,9 @@ answer system cpu listing (Grant steps) s = reply_at listing (grant_line (grante
 answer system cpu listing (GrantUntil pc steps) s = reply_at listing (grant_line (granted_until system pc steps s)) (after system (executed_until system pc steps s) s)
 answer system cpu listing (Dump address) s = reply (line_of (dump_line address (bytes_from s.memory address 16))) s
 answer system cpu listing (ListAt address) s = reply (line_of (instruction_line cpu address (bytes_from s.memory address 4))) s
-answer system cpu listing Registers s = reply_at listing (regs_line cpu s.cpm.regs s.count) s
+answer system cpu listing Registers s = reply_at listing (regs_line cpu s.session.regs s.count) s
 answer system cpu listing (Press keys) s = reply (if (press keys s).accepted then [] else unknown_line) (press keys s).state
-answer system cpu listing Output s = reply (line_of s.cpm.console.screen) (without_text s)
+answer system cpu listing Output s = reply (line_of s.session.console.screen) (without_text s)
 answer system cpu listing Quit s = reply [] s
 answer system cpu listing Unknown s = reply unknown_line s
 

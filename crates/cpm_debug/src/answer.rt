@@ -35,7 +35,7 @@ fn write_place<W: Write>(
     out: &mut W,
 ) -> io::Result<()>
     ensures { OnOk result (Appends (W.contents out.old) (W.contents out.new)
-        (with_source line.now (source_line listing.now machine.now.cpm.regs.pc))) }
+        (with_source line.now (source_line listing.now machine.now.session.regs.pc))) }
 {
     write_with_source(out, line, source_line(listing, machine.look().regs.pc))
 }
@@ -50,7 +50,7 @@ fn grant<W: Write>(
 ) -> io::Result<()>
     ensures state { machine.new ≡ after system.now (executed system.now steps machine.old) machine.old }
     ensures text { OnOk result (Appends (W.contents out.old) (W.contents out.new)
-        (with_source (grant_line (granted system.now steps machine.old)) (source_line listing.now machine.new.cpm.regs.pc))) }
+        (with_source (grant_line (granted system.now steps machine.old)) (source_line listing.now machine.new.session.regs.pc))) }
 {
     let granted = machine.grant(system, steps);
     write_place(grant_line(granted).as_str(), listing, machine, out)
@@ -67,7 +67,7 @@ fn grant_until<W: Write>(
 ) -> io::Result<()>
     ensures state { machine.new ≡ after system.now (executed_until system.now pc steps machine.old) machine.old }
     ensures text { OnOk result (Appends (W.contents out.old) (W.contents out.new)
-        (with_source (grant_line (granted_until system.now pc steps machine.old)) (source_line listing.now machine.new.cpm.regs.pc))) }
+        (with_source (grant_line (granted_until system.now pc steps machine.old)) (source_line listing.now machine.new.session.regs.pc))) }
 {
     let granted = machine.grant_until(system, steps, pc);
     write_place(grant_line(granted).as_str(), listing, machine, out)
@@ -95,7 +95,7 @@ fn list_at<W: Write>(cpu: Cpu, address: u16, machine: &Machine, out: &mut W) -> 
 #[tactic(auto, unfolding(cpm_machine::specs::Serve::look_of))]
 fn registers<W: Write>(cpu: Cpu, listing: &[u8], machine: &Machine, out: &mut W) -> io::Result<()>
     ensures { OnOk result (Appends (W.contents out.old) (W.contents out.new)
-        (with_source (regs_line cpu machine.now.cpm.regs machine.now.count) (source_line listing.now machine.now.cpm.regs.pc))) }
+        (with_source (regs_line cpu machine.now.session.regs machine.now.count) (source_line listing.now machine.now.session.regs.pc))) }
 {
     let look = machine.look();
     let line = regs_line(cpu, &look.regs, look.count);

@@ -45,7 +45,7 @@ pub(crate) fn write_with_source<W: Write>(out: &mut W, line: &str, source: &[u8]
 fn move_text<W: Write>(machine: &mut Machine, out: &mut W) -> io::Result<()>
     ensures state { OnOk result (machine.new ≡ without_text machine.old) }
     ensures text { OnOk result (Appends (W.contents out.old) (W.contents out.new)
-        machine.old.cpm.console.screen) }
+        machine.old.session.console.screen) }
 {
     let mut chunk = [0u8; CHUNK];
     loop {
@@ -61,7 +61,7 @@ fn move_text<W: Write>(machine: &mut Machine, out: &mut W) -> io::Result<()>
 pub(crate) fn write_text<W: Write>(machine: &mut Machine, out: &mut W) -> io::Result<()>
     ensures state { OnOk result (machine.new ≡ without_text machine.old) }
     ensures text { OnOk result (Appends (W.contents out.old) (W.contents out.new)
-        (line_of machine.old.cpm.console.screen)) }
+        (line_of machine.old.session.console.screen)) }
 {
     move_text(machine, out)?;
     write_line(out, "")

@@ -1,5 +1,5 @@
 //! The operations of the Zilog Z80 that the 8080 does not have.
-use crate::operation::{Arithmetic, Condition, Op, Pair, Place};
+use crate::operation::{Arithmetic, Condition, Op, WordOperand, ByteOperand};
 
 /// A shift or rotation of a byte: RLC, RRC, RL, RR, SLA, SRA and SRL.
 #[derive(Clone, Copy, Debug, PartialEq, Eq)]
@@ -40,17 +40,17 @@ pub enum Repeat {
 #[derive(Clone, Copy, Debug, PartialEq, Eq)]
 pub enum ExtendedOp {
     /// IN r, (C).
-    Input(Place),
+    Input(ByteOperand),
     /// OUT (C), r.
-    Output(Place),
+    Output(ByteOperand),
     /// SBC HL, ss.
-    SubtractBorrowPair(Pair),
+    SubtractBorrowPair(WordOperand),
     /// ADC HL, ss.
-    AddCarryPair(Pair),
+    AddCarryPair(WordOperand),
     /// LD (nn), ss.
-    StorePair(Pair, u16),
+    StorePair(WordOperand, u16),
     /// LD ss, (nn).
-    LoadPair(Pair, u16),
+    LoadPair(WordOperand, u16),
     /// NEG.
     Negate,
     /// RETN.
@@ -94,8 +94,8 @@ pub enum IndexedOp {
     Increment,
     Decrement,
     StoreImmediate(u8),
-    Load(Place),
-    Store(Place),
+    Load(ByteOperand),
+    Store(ByteOperand),
     Arithmetic(Arithmetic),
     Bits(BitOp),
 }
@@ -110,7 +110,7 @@ pub enum OpZ80 {
     JumpRelative(u8),
     JumpRelativeIf(Condition, u8),
     DecrementJump(u8),
-    Bits(BitOp, Place),
+    Bits(BitOp, ByteOperand),
     Extended(ExtendedOp),
     /// One of the 8080's, with an index register in the place of HL.
     WithIndex(IndexRegister, Op),

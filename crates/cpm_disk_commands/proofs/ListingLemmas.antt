@@ -2,7 +2,7 @@
 use Rattle.std.proofs.Common.{◌≡◌, ◌≢◌, ◌∙◌, ℕ, ◌+◌, ◌%◌, ◌<◌, ◌≤◌, Bool, true, false, ◌&&◌, ◌||◌, cond, eqb, ltb, List, [], ◌∷◌, ◌++◌, Option, length, get_or, drop, refl, sym, ap, arith, append_assoc, append-nil, eq-eqb, ne_eqb, le-ltb}
 use Rattle.std.specs.List.{insert, list_all, position_or_len}
 use Rattle.std.proofs.lemmas.List.{at_drop_more, at_drop_all}
-use Rattle.cpm_image_files.specs.declared.listing.Listed.{Listed}
+use Rattle.cpm_image_files.specs.declared.listing.DiskFile.{DiskFile}
 use Rattle.cpm_disk_commands.specs.HostNames.{host_part, shown_small}
 use Rattle.cpm_disk_commands.specs.Listing.{comes_before, is_blank, is_less, is_wanted, line_of, lines_of, placed, placed_all, seen, seen_part}
 
@@ -19,7 +19,7 @@ pub joined : {t' t'' : List ℕ} (t a b : List ℕ) → t' ≡ t ++ a → t'' �
 joined t a b e f = f ∙ ap (λ (xs : List ℕ). xs ++ b) e ∙ append_assoc t a b
 
 -- a file that is not read
-abbrev pub no_file : Listed
+abbrev pub no_file : DiskFile
 no_file = record { user = 0; name = []; records = 0 }
 
 -- ---- names that are compared
@@ -51,25 +51,25 @@ less_end name other i l = at_drop_all (λ (xs : List ℕ). is_less xs (drop i ot
 
 -- ---- files in their order
 
-pub placed_more : (done done' : List Listed) (files : List Listed) (i : ℕ) (d : Listed) (all : List Listed) → i < length files
+pub placed_more : (done done' : List DiskFile) (files : List DiskFile) (i : ℕ) (d : DiskFile) (all : List DiskFile) → i < length files
     → done' ≡ insert done (position_or_len (comes_before (get_or files i d)) done) (get_or files i d)
     → placed_all done (drop i files) ≡ all → placed_all done' (drop (i + 1) files) ≡ all
 unfolding placed placed_all
 placed_more done done' files i d all l e h =
-    ap (λ (xs : List Listed). placed_all xs (drop (i + 1) files)) e ∙ sym (at_drop_more (placed_all done) files i d l) ∙ h
+    ap (λ (xs : List DiskFile). placed_all xs (drop (i + 1) files)) e ∙ sym (at_drop_more (placed_all done) files i d l) ∙ h
 
-pub placed_end : (done files : List Listed) (i : ℕ) (all : List Listed) → length files ≤ i → placed_all done (drop i files) ≡ all → done ≡ all
+pub placed_end : (done files : List DiskFile) (i : ℕ) (all : List DiskFile) → length files ≤ i → placed_all done (drop i files) ≡ all → done ≡ all
 unfolding placed_all
 placed_end done files i all l h = sym (at_drop_all (placed_all done) files i l) ∙ h
 
 -- ---- lines and parts
 
-pub lines_more : (user : Option ℕ) (files : List Listed) (i : ℕ) (d : Listed) → i < length files
+pub lines_more : (user : Option ℕ) (files : List DiskFile) (i : ℕ) (d : DiskFile) → i < length files
     → lines_of user (drop i files) ≡ cond (is_wanted user (get_or files i d)) (line_of (get_or files i d)) [] ++ lines_of user (drop (i + 1) files)
 unfolding lines_of
 lines_more user files i d l = at_drop_more (lines_of user) files i d l
 
-pub lines_end : (user : Option ℕ) (files : List Listed) (i : ℕ) → length files ≤ i → lines_of user (drop i files) ≡ []
+pub lines_end : (user : Option ℕ) (files : List DiskFile) (i : ℕ) → length files ≤ i → lines_of user (drop i files) ≡ []
 unfolding lines_of
 lines_end user files i l = at_drop_all (lines_of user) files i l
 

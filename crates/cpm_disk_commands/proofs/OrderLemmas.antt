@@ -6,7 +6,7 @@ use Rattle.std.proofs.lemmas.List.Edits.{get_or-insert_at, get_or-insert_above, 
 use Rattle.std.proofs.lemmas.List.Sums.{fails_before_first, passes_at_first, prefix_len-le-length}
 use Rattle.std.proofs.lemmas.List.Sorted.{IsPermutation-append_left, IsPermutation-insert, IsPermutation-middle, IsPermutation-refl, IsPermutation-trans}
 use Rattle.std.specs.List.Sorted.{IsPermutation}
-use Rattle.cpm_image_files.specs.declared.listing.Listed.{Listed}
+use Rattle.cpm_image_files.specs.declared.listing.DiskFile.{DiskFile}
 use Rattle.cpm_disk_commands.specs.Listing.{comes_before, is_less, placed, placed_all, OrderLaw}
 
 -- ---- the first number that differs says what is less, or else what follows
@@ -115,22 +115,22 @@ module _ {X : Type 0} (before : X → X → Bool) (one_way : (x y : X) → befor
 
 -- ---- files, each put in its place
 
-before_one_way : (x y : Listed) → comes_before x y ≡ true → comes_before y x ≡ false
+before_one_way : (x y : DiskFile) → comes_before x y ≡ true → comes_before y x ≡ false
 unfolding comes_before
 before_one_way x y h = first_one_way x.user y.user (is_less x.name y.name) (is_less y.name x.name) (less_one_way x.name y.name) h
 
-before_trans : (x y z : Listed) → comes_before x y ≡ true → comes_before y z ≡ true → comes_before x z ≡ true
+before_trans : (x y z : DiskFile) → comes_before x y ≡ true → comes_before y z ≡ true → comes_before x z ≡ true
 unfolding comes_before
 before_trans x y z p q =
     first_trans x.user y.user z.user (is_less x.name y.name) (is_less y.name z.name) (is_less x.name z.name) (less_trans x.name y.name z.name) p q
 
-placed_ordered : (done files : List Listed) → IsOrdered comes_before done → IsOrdered comes_before (placed_all done files)
+placed_ordered : (done files : List DiskFile) → IsOrdered comes_before done → IsOrdered comes_before (placed_all done files)
 unfolding placed placed_all
 placed_ordered done [] h = h
 placed_ordered done (file ∷ files) h =
     placed_ordered (placed file done) files (insert_ordered comes_before before_one_way before_trans file done h)
 
-placed_same : (done files : List Listed) → IsPermutation (done ++ files) (placed_all done files)
+placed_same : (done files : List DiskFile) → IsPermutation (done ++ files) (placed_all done files)
 unfolding placed placed_all
 placed_same done [] = subst (λ xs. IsPermutation xs done) (sym (append-nil done)) (IsPermutation-refl done)
 placed_same done (file ∷ files) =

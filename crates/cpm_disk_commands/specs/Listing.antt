@@ -9,7 +9,7 @@ use Rattle.cpm_geom.specs.Disk.{Disk}
 use Rattle.cpm_geom.specs.Geometry.{dpb_of}
 use Rattle.cpm_geom.specs.declared.format.Format.{Format}
 use Rattle.cpm_image_files.specs.Shelf.{IsSoundDisk}
-use Rattle.cpm_image_files.specs.declared.listing.Listed.{Listed}
+use Rattle.cpm_image_files.specs.declared.listing.DiskFile.{DiskFile}
 use Rattle.cpm_image_files.specs.declared.listing.Shelf.{Shelf}
 use Rattle.cpm_disk_commands.specs.Damage.{damage_of}
 use Rattle.cpm_disk_commands.specs.declared.error.FilingError.{FilingError}
@@ -30,26 +30,26 @@ is_less [] bs = false
 is_less (a ∷ cs) [] = false
 is_less (a ∷ cs) (b ∷ bs) = nat_lt (a % 128) (b % 128) || ((a % 128 == b % 128) && is_less cs bs)
 
-unfoldable pub comes_before : Listed → Listed → Bool
+unfoldable pub comes_before : DiskFile → DiskFile → Bool
 comes_before file other = nat_lt file.user other.user || ((file.user == other.user) && is_less file.name other.name)
 
 -- a file in its place among others: before the first that it comes before
-unfoldable pub placed : Listed → List Listed → List Listed
+unfoldable pub placed : DiskFile → List DiskFile → List DiskFile
 placed file files = insert files (position_or_len (comes_before file) files) file
 
 -- files, each put in its place among those before it
-unfoldable pub placed_all : List Listed → List Listed → List Listed
+unfoldable pub placed_all : List DiskFile → List DiskFile → List DiskFile
 placed_all done [] = done
 placed_all done (file ∷ files) = placed_all (placed file done) files
 
-abbrev pub in_order : List Listed → List Listed
+abbrev pub in_order : List DiskFile → List DiskFile
 in_order files = placed_all [] files
 
 -- own: in order the files are the same, each as often, and none comes before one that stands before it
 abbrev pub OrderLaw : Type 0
 OrderLaw =
-    (files : List Listed) → IsPermutation files (in_order files)
-    × ((j k : ℕ) (d : Listed) → j < k → k < length (in_order files)
+    (files : List DiskFile) → IsPermutation files (in_order files)
+    × ((j k : ℕ) (d : DiskFile) → j < k → k < length (in_order files)
     → comes_before (slice_index_or (in_order files) k d) (slice_index_or (in_order files) j d) ≡ false)
 
 -- ---- a line
@@ -88,7 +88,7 @@ system_of name = if nat_lt 127 (slice_index name 9) then codes ", system" else [
 unfoldable pub unit_of : ℕ → List ℕ
 unit_of count = if count == 1 then codes " record" else codes " records"
 
-unfoldable pub line_of : Listed → List ℕ
+unfoldable pub line_of : DiskFile → List ℕ
 line_of file =
     codes "user " ++ right 2 (decimal file.user) ++ codes "  " ++ left 12 (seen_name file.name) ++ codes "  " ++ right 4 (decimal file.records)
     ++ unit_of file.records ++ read_only_of file.name ++ system_of file.name ++ codes "\n"
@@ -96,12 +96,12 @@ line_of file =
 -- ---- the list
 
 -- a file is of the user that is asked for, if one is
-unfoldable pub is_wanted : Option ℕ → Listed → Bool
+unfoldable pub is_wanted : Option ℕ → DiskFile → Bool
 is_wanted None file = true
 is_wanted (Some user) file = file.user == user
 
 -- a line for each file that is wanted
-unfoldable pub lines_of : Option ℕ → List Listed → List ℕ
+unfoldable pub lines_of : Option ℕ → List DiskFile → List ℕ
 lines_of user [] = []
 lines_of user (file ∷ files) = (if is_wanted user file then line_of file else []) ++ lines_of user files
 

@@ -3,8 +3,8 @@ ghost use Rattle.std.specs.Prelude.{◌≡◌};
 ghost use Rattle.cpm_disk_commands.specs.Refusals.{status_of};
 
 use crate::damage::{Damage, NamedFile};
-use cpm_command_line::Word;
-use cpm_image_files::Refusal;
+use cpm_command_line::ShownWord;
+use cpm_image_files::FileRefusal;
 use std::io;
 use thiserror::Error;
 
@@ -13,49 +13,49 @@ use thiserror::Error;
 pub enum FilingError {
     /// The text is no name of a file.
     #[error("HO1 '{0}' is no name of a file: 1 to 8 characters and, behind a dot, up to 3 are wanted, none of them a blank or of <>.,;:=?*[]_")]
-    NotName(Word),
+    NotName(ShownWord),
     /// The text is no pattern of names.
     #[error("HO1 '{0}' is no pattern of names: a name is wanted, where '?' stands for any character and a last '*' for all that follow")]
-    NotPattern(Word),
+    NotPattern(ShownWord),
     /// The text gives no file another name.
     #[error("HO1 '{0}' gives no file another name: NEW.TYP=OLD.TYP is wanted")]
-    NotPair(Word),
+    NotPair(ShownWord),
     /// Two files of the host would be one file of a disk.
     #[error("HO1 '{word}' would be {file} again, which a file before it is already; give one of them another name: FILE=NAME.TYP")]
     PutTwice {
-        word: Word,
+        word: ShownWord,
         file: NamedFile,
     },
     /// A file of the host is no image, by its length.
     #[error("HO6 '{image}' has {length} bytes, and the image of a drive has 256256 or 2105344; 'cpmhost disk new' makes a blank one")]
     NotImage {
-        image: Word,
+        image: ShownWord,
         length: usize,
     },
     /// The directory of the image in a file of the host doesn't agree with itself.
     #[error("HO6 '{image}': {damage}; a session can still read it")]
     Damaged {
-        image: Word,
+        image: ShownWord,
         damage: Damage,
     },
     /// No file of the user has a name that matches.
     #[error("HO6 '{image}' has no file '{pattern}' of user {user}; 'cpmhost disk list' shows its files")]
     NoFile {
-        image: Word,
-        pattern: Word,
+        image: ShownWord,
+        pattern: ShownWord,
         user: u8,
     },
     /// What was asked of a file of a disk is not done.
     #[error("HO6 '{image}', {file}: {reason}; {advice}", advice = advice(*.reason))]
     Refused {
-        image: Word,
+        image: ShownWord,
         file: NamedFile,
-        reason: Refusal,
+        reason: FileRefusal,
     },
     /// A file of a disk has a name that no file of the host gets.
     #[error("HO6 '{image}', {file}: a file of the host can't get this name; take it alone, by a pattern, to a file with '--to FILE'")]
     NoHostName {
-        image: Word,
+        image: ShownWord,
         file: NamedFile,
     },
     /// Standard output can't be written.
@@ -67,14 +67,14 @@ pub enum FilingError {
 }
 
 /// What a person can do about it.
-fn advice(reason: Refusal) -> &'static str {
+fn advice(reason: FileRefusal) -> &'static str {
     match reason {
-        Refusal::ReadOnly => "a program in a session can take the attribute away",
-        Refusal::DirectoryFull | Refusal::DiskFull => {
+        FileRefusal::ReadOnly => "a program in a session can take the attribute away",
+        FileRefusal::DirectoryFull | FileRefusal::DiskFull => {
             "remove files, or take a large disk ('cpmhost disk new --large')"
         }
-        Refusal::NoFile => "'cpmhost disk list' shows its files",
-        Refusal::Exists => "remove that one first, or choose another name",
+        FileRefusal::NoFile => "'cpmhost disk list' shows its files",
+        FileRefusal::Exists => "remove that one first, or choose another name",
     }
 }
 

@@ -6,7 +6,7 @@ ghost use Rattle.cpm_geom.specs.Geometry.{dpb_of};
 ghost use Rattle.cpm_disk_commands.specs.Listing.{free_line, is_blank, is_wanted, left, line_of, lines_of, read_only_of, right, seen, seen_name, seen_part, system_of, unit_of};
 
 use cpm_geom::Format;
-use cpm_image_files::Listed;
+use cpm_image_files::DiskFile;
 use itoa::Buffer;
 use std::alloc::AllocError;
 
@@ -17,7 +17,7 @@ const NAME_WIDTH: usize = 12;
 pub(crate) fn add_lines(
     text: &mut Vec<u8>,
     user: Option<u8>,
-    files: &[Listed],
+    files: &[DiskFile],
 ) -> Result<(), AllocError>
     ensures { OnOk result (text.new.items ≡ text.old.items ++ lines_of user files.now) }
 {
@@ -50,7 +50,7 @@ fn file_blocks(format: Format) -> u32
 
 /// Whether a file is of the user that is asked for, if one is.
 #[tactic(auto, unfolding(crate::specs::Listing::is_wanted))]
-fn is_wanted(user: Option<u8>, file: &Listed) -> bool
+fn is_wanted(user: Option<u8>, file: &DiskFile) -> bool
     ensures { result ≡ is_wanted user file.now }
 {
     match user {
@@ -61,7 +61,7 @@ fn is_wanted(user: Option<u8>, file: &Listed) -> bool
 
 /// Adds the line of a file.
 #[tactic(auto, unfolding(crate::specs::Listing::line_of))]
-fn add_line(text: &mut Vec<u8>, file: &Listed) -> Result<(), AllocError>
+fn add_line(text: &mut Vec<u8>, file: &DiskFile) -> Result<(), AllocError>
     ensures { OnOk result (text.new.items ≡ text.old.items ++ line_of file.now) }
 {
     text.extend_from_slice(b"user ")?;

@@ -10,7 +10,7 @@ use crate::error::FilingError;
 use crate::filing::damaged;
 use crate::lines::{add_free_line, add_lines};
 use cpm_geom::{Format, Image};
-use cpm_image_files::{Listed, Shelf, ShelfError, list};
+use cpm_image_files::{DiskFile, Shelf, ShelfError, list};
 use std::alloc::{AllocError, Global};
 use std::io;
 use std::io::Write;
@@ -79,7 +79,7 @@ fn text_of(
 }
 
 /// Files in the order of their users and names; refused for want of memory.
-fn in_order(alloc: Global, files: &[Listed]) -> Result<Vec<Listed>, AllocError>
+fn in_order(alloc: Global, files: &[DiskFile]) -> Result<Vec<DiskFile>, AllocError>
     ensures { IfOk result (λ sorted. sorted.items ≡ in_order files.now) }
 {
     let mut sorted = Vec::new(alloc);
@@ -91,7 +91,7 @@ fn in_order(alloc: Global, files: &[Listed]) -> Result<Vec<Listed>, AllocError>
 }
 
 /// The place of the first file that another comes before, or the end.
-fn place_of(files: &[Listed], file: &Listed) -> usize
+fn place_of(files: &[DiskFile], file: &DiskFile) -> usize
     ensures place { result ≡ position_or_len (comes_before file.now) files.now }
     ensures within { result ≤ length files.now }
 {
@@ -105,7 +105,7 @@ fn place_of(files: &[Listed], file: &Listed) -> usize
 
 /// Whether a file comes before another: by the users, and by the low seven bits of the names' characters.
 #[tactic(auto, unfolding(crate::specs::Listing::comes_before))]
-fn comes_before(file: &Listed, other: &Listed) -> bool
+fn comes_before(file: &DiskFile, other: &DiskFile) -> bool
     ensures { result ≡ comes_before file.now other.now }
 {
     file.user < other.user || (file.user == other.user && is_less(&file.name, &other.name))

@@ -9,14 +9,14 @@ ghost use Rattle.cpm_disk_commands.specs.Refusals.{named};
 use crate::error::FilingError;
 use crate::names::pattern_of;
 use cpm_command_line::shown;
-use cpm_image_files::{FileName, Listed};
+use cpm_image_files::{FileName, DiskFile};
 use std::alloc::{AllocError, Global};
 
 /// The files of a user whose names match a pattern, in the order of a disk's list; the name is that of the image's file.
 /// `NotPattern` where the text is none, and `NoFile` where no name matches.
 pub fn matching_files(
     alloc: Global,
-    files: &[Listed],
+    files: &[DiskFile],
     name: &str,
     user: u8,
     pattern: &str,
@@ -43,7 +43,7 @@ pub fn matching_files(
 /// The files of a user that match; refused for want of memory, where there is one.
 fn files_of(
     alloc: Global,
-    files: &[Listed],
+    files: &[DiskFile],
     user: u8,
     pattern: &[u8; 11],
 ) -> Result<Vec<FileName>, AllocError>
@@ -62,7 +62,7 @@ fn files_of(
 
 /// A file, if it is of the user and matches.
 #[tactic(auto, unfolding(crate::specs::Matching::is_meant))]
-fn file_meant(file: &Listed, user: u8, pattern: &[u8; 11]) -> Option<FileName>
+fn file_meant(file: &DiskFile, user: u8, pattern: &[u8; 11]) -> Option<FileName>
     requires { user < 16 }
     ensures { MatchOption result
         (is_meant user pattern.now file.now ≡ false)

@@ -10,7 +10,7 @@ use Rattle.cpm_drive.specs.declared.change.Change.{Change}
 use Rattle.cpm_drive.specs.declared.closing.Closing.{Closing}
 use Rattle.cpm_drive.specs.declared.closing.Closing.TheVariants.{Refused, Fault, Closed}
 use Rattle.cpm_drive.specs.declared.place.Arrival.{Arrival}
-use Rattle.cpm_drive.specs.declared.place.Sought.{Sought}
+use Rattle.cpm_drive.specs.declared.place.SoughtRecord.{SoughtRecord}
 use Rattle.cpm_drive.specs.declared.place.Access.{Access}
 use Rattle.cpm_drive.specs.declared.place.Access.TheVariants.{Read, Write}
 
@@ -56,7 +56,7 @@ purpose_of Read = reading
 purpose_of Write = writing
 
 -- an extent that is sought
-abbrev pub target_by : Sought → Target
+abbrev pub target_by : SoughtRecord → Target
 target_by s = record { number = s.number; current = s.current; unclosed = s.unclosed; missing = s.missing }
 
 abbrev pub place_by : Volume → Extent → Result ℕ Answer → Place
@@ -68,7 +68,7 @@ abbrev pub place_of_arrival : Volume → Arrival → Place
 place_of_arrival v a = place_by (with_change (with_change v a.closed) a.made) a.extent a.current
 
 -- a call that stands in the extent that was sought
-abbrev pub arrived : Sought → Extent → Change → Option Change → Arrival
+abbrev pub arrived : SoughtRecord → Extent → Change → Option Change → Arrival
 arrived s x change made =
     record { current = Ok s.current; extent = x; closed = Some change; made = made }
 

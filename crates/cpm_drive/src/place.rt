@@ -16,7 +16,7 @@ use cpm_volume::{Answer, Extent, Fcb};
 
 /// A record in another extent, and the answers where the open extent can't be closed and that one can't be had.
 #[derive(Clone, Copy, PartialEq, Eq, Debug)]
-pub struct Sought {
+pub struct SoughtRecord {
     pub number: u16,
     pub current: u8,
     pub unclosed: Answer,
@@ -42,7 +42,7 @@ pub enum Access {
     Write,
 }
 
-impl Sought {
+impl SoughtRecord {
     /// A call that stands at the record, in an extent that was opened or made.
     fn arrived(&self, extent: &Extent, closed: Change, made: Option<Change>) -> Arrival
         ensures { result ≡ arrived self.now extent.now closed made }
@@ -90,7 +90,7 @@ fn have_extent(
     closed: Change,
     user: u8,
     extent: &Extent,
-    sought: &Sought,
+    sought: &SoughtRecord,
 ) -> Arrival
     requires number { sought.now.number < 512 }
     requires within { closed.index ≤ (dpb_of image.now.format).last_entry }
@@ -129,7 +129,7 @@ fn cross(
     access: Access,
     user: u8,
     extent: &Extent,
-    sought: &Sought,
+    sought: &SoughtRecord,
 ) -> Arrival
     requires { sought.now.number < 512 }
     ensures place { place_of_arrival (volume_of image.now marks.now.reserved) result ≡ cross (dpb_of image.now.format) (purpose_of access) marks.now.is_protected (volume_of image.now marks.now.reserved) user extent.now (target_by sought.now) }
@@ -166,7 +166,7 @@ pub(crate) fn next_place(
     if number == 511 {
         return Arrival::stopped(&fcb.extent, Answer::NoRecord);
     }
-    let sought = Sought {
+    let sought = SoughtRecord {
         number: number + 1,
         current: 0,
         unclosed: Answer::NoRecord,
@@ -190,7 +190,7 @@ pub(crate) fn place_at(
     ensures made { access ≡ Access.Read → result.made ≡ None }
     ensures current { IfOk result.current (λ here. here < 128) }
 {
-    let sought = Sought {
+    let sought = SoughtRecord {
         number: number / 128,
         current: (number % 128) as u8,
         unclosed: Answer::CannotClose,

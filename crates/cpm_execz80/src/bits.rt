@@ -4,9 +4,9 @@ ghost use Rattle.cpm_memory.specs.Contents.{Contents, after_sets};
 ghost use Rattle.cpm_memory.specs.Room.{HasRoom};
 ghost use Rattle.cpm_execz80.specs.Bits.{shifted, shifted_out, bit_mask, has_bit_at, cleared, applied, is_test, meaning_bits};
 
-use cpm_decode::{BitOp, Place, Shift};
+use cpm_decode::{BitOp, ByteOperand, Shift};
 use cpm_exec8080::operands::{read_place, write_place};
-use cpm_flags::{Byte, Flags, Regs, set_shift_flags, set_test_flags};
+use cpm_flags::{ByteResult, Flags, Regs, set_shift_flags, set_test_flags};
 use cpm_memory::Memory;
 
 /// A byte shifted or rotated; `carry` is the flag before it.
@@ -73,7 +73,7 @@ pub fn without_bit(byte: u8, bit: u8) -> u8
 /// The byte that a shift, a rotation or an operation on a bit makes of a byte, and the flags.
 /// Zilog Z80 CPU User Manual, "Rotate and Shift Group" and "Bit Set, Reset, and Test Group".
 #[inline(always)]
-pub fn apply(op: BitOp, flags: Flags, byte: u8) -> Byte
+pub fn apply(op: BitOp, flags: Flags, byte: u8) -> ByteResult
     ensures { result ≡ applied op flags byte }
 {
     match op {
@@ -81,18 +81,18 @@ pub fn apply(op: BitOp, flags: Flags, byte: u8) -> Byte
             let value = shift_byte(shift, flags.carry, byte);
             let mut flags = flags;
             set_shift_flags(&mut flags, value, falls_out(shift, byte));
-            Byte { value, flags }
+            ByteResult { value, flags }
         }
         BitOp::Test(bit) => {
             let mut flags = flags;
             set_test_flags(&mut flags, has_bit(byte, bit));
-            Byte { value: byte, flags }
+            ByteResult { value: byte, flags }
         }
-        BitOp::Reset(bit) => Byte {
+        BitOp::Reset(bit) => ByteResult {
             value: without_bit(byte, bit),
             flags,
         },
-        BitOp::Set(bit) => Byte {
+        BitOp::Set(bit) => ByteResult {
             value: with_bit(byte, bit),
             flags,
         },
@@ -114,7 +114,7 @@ pub fn is_test_of_bit(op: BitOp) -> bool
 /// Does an operation of the prefix CBh with the byte in a register or at HL.
 /// Zilog Z80 CPU User Manual, "Rotate and Shift Group" and "Bit Set, Reset, and Test Group".
 #[inline(always)]
-pub fn perform_bits<M: Memory>(regs: &mut Regs, memory: &mut M, op: BitOp, place: Place)
+pub fn perform_bits<M: Memory>(regs: &mut Regs, memory: &mut M, op: BitOp, place: ByteOperand)
     requires { HasRoom (M.contents memory.old) }
     ensures regs { regs.new ≡ (meaning_bits op place (M.contents memory.old) regs.old).regs }
     ensures memory { M.contents memory.new ≡ after_sets (M.contents memory.old) (meaning_bits op place (M.contents memory.old) regs.old).stores }

@@ -16,7 +16,7 @@ use Rattle.cpm_machine.specs.declared.opening.OpenError.TheVariants.{BadDrives}
 use Rattle.cpm_play.specs.Playing.{HasText, alone_by}
 use Rattle.cpm_run.specs.Illegal.{bytes_at_pc}
 use Rattle.cpm_host.specs.declared.com.Script.{Script}
-use Rattle.cpm_host.specs.declared.com.Start.{Start}
+use Rattle.cpm_host.specs.declared.com.ProgramStart.{ProgramStart}
 use Rattle.cpm_host.specs.declared.ending.Ending.{Ending}
 use Rattle.cpm_host.specs.declared.error.HostError.{HostError}
 use Rattle.cpm_host.specs.declared.error.HostError.TheVariants.{OpeningRefused, OutputUnwritable, OutOfMemory, ProgramTooLong, RunRefused}
@@ -24,10 +24,10 @@ use Rattle.cpm_run.specs.declared.error.RunError.TheVariants.{FileRefused}
 
 -- the console bytes of a machine from which none was taken
 abbrev pub text_of : MachineState → List ℕ
-text_of s = s.cpm.console.screen
+text_of s = s.session.console.screen
 
 abbrev pub ending_of : MachineState → Ending
-ending_of s = record { ended = s.ended; count = s.count; pc = s.cpm.regs.pc; at_pc = bytes_at_pc s }
+ending_of s = record { ended = s.ended; count = s.count; pc = s.session.regs.pc; at_pc = bytes_at_pc s }
 
 -- these are the keys of the script, if there is one
 abbrev pub HasScript : Option Script → List Key → Type 0
@@ -57,7 +57,7 @@ pub record Given : Type 0 where
   pub tail : Option (List ℕ)
   pub drives : List Disk
 
-abbrev pub given : Start → Given
+abbrev pub given : ProgramStart → Given
 given start = record {
   cpu = start.cpu;
   program = start.program.items;

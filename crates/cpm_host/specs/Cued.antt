@@ -17,7 +17,7 @@ use Rattle.cpm_machine.specs.Opening.{opening_fault}
 use Rattle.cpm_play.specs.Cued.{AreAscii, HasEndedCued, IsCued, IsCutOff, key_count, waits_at}
 use Rattle.cpm_play.specs.Live.{AreGiven}
 use Rattle.cpm_play.specs.Playing.{alone_by}
-use Rattle.cpm_play.specs.declared.cued.Cued.{Cued}
+use Rattle.cpm_play.specs.declared.cued.CuedKeys.{CuedKeys}
 use Rattle.cpm_play.specs.declared.live.LiveError.{LiveError}
 use Rattle.cpm_host.specs.Com.{Given, IsStartRefusal, ending_of, machine_of, text_of}
 use Rattle.cpm_host.specs.Live.{IsOpeningRefused, begun}
@@ -25,7 +25,7 @@ use Rattle.cpm_host.specs.Refusals.{host_error_of_live}
 use Rattle.cpm_host.specs.declared.com.Script.{Script}
 use Rattle.cpm_host.specs.declared.cued.ForkedCues.{ForkedCues}
 use Rattle.cpm_host.specs.declared.live.SessionStart.{SessionStart}
-use Rattle.cpm_host.specs.declared.live.Typed.{Typed}
+use Rattle.cpm_host.specs.declared.live.LiveResult.{LiveResult}
 use Rattle.cpm_host.specs.declared.error.HostError.{HostError}
 use Rattle.cpm_host.specs.declared.error.HostError.TheVariants.{OutOfMemory, RunRefused}
 use Rattle.cpm_run.specs.declared.error.RunError.TheVariants.{FileRefused}
@@ -61,36 +61,36 @@ IsForkedRefusal parent own at OutOfMemory = ⊤
 IsForkedRefusal parent own at _ = ⊥
 
 -- A machine was played by a script that may wait: the keys that came are those that the script gives to the machine run alone; what it left is that of the machine run alone by these keys, for so many steps; it ended as a script has it end; and the keys as lines of a script are one that gives them again.
-pub record IsRehearsed (system : Disk) (start : MachineState) (steps : ℕ) (c : Cued) (t : Typed) : Type 0 where
+pub record IsRehearsed (system : Disk) (start : MachineState) (steps : ℕ) (c : CuedKeys) (t : LiveResult) : Type 0 where
   pub within : t.steps ≤ steps
   pub keys : IsCued system start steps c.waits_from c.cues.now t.keys.items
   pub given : AreGiven (key_count c.cues.now) t.steps t.keys.items
   pub ending : t.ran.ending ≡ ending_of (alone_by system t.keys.items t.steps start)
-  pub drives : t.ran.drives ≡ images_of (alone_by system t.keys.items t.steps start).cpm.disks
+  pub drives : t.ran.drives ≡ images_of (alone_by system t.keys.items t.steps start).session.disks
   pub ends : HasEndedCued system start steps c.waits_from c.stops_idle t.keys.items t.steps (alone_by system t.keys.items t.steps start)
   pub waits : t.waits ≡ waits_at system start t.keys.items t.steps
   pub replays : script (recorded t.keys.items) ≡ Ok t.keys.items
 
 -- and what it showed, and its keys as lines of a script, went to two writers
-pub record IsPlayedCued (system : Disk) (start : MachineState) (steps : ℕ) (c : Cued) (t : Typed) (before written unrecorded record_now : Option (List ℕ)) : Type 0 where
+pub record IsPlayedCued (system : Disk) (start : MachineState) (steps : ℕ) (c : CuedKeys) (t : LiveResult) (before written unrecorded record_now : Option (List ℕ)) : Type 0 where
   pub rehearsed : IsRehearsed system start steps c t
   pub text : Appends before written (text_of (alone_by system t.keys.items t.steps start))
   pub lines : Appends unrecorded record_now (recorded t.keys.items)
 
 -- it was not played to its end, and this is told of it
-pub record IsCutCued (system : Disk) (start : MachineState) (steps : ℕ) (c : Cued) (before written unrecorded record_now : Option (List ℕ)) (e : HostError) : Type 0 where
+pub record IsCutCued (system : Disk) (start : MachineState) (steps : ℕ) (c : CuedKeys) (before written unrecorded record_now : Option (List ℕ)) (e : HostError) : Type 0 where
   pub error : LiveError
   pub told : e ≡ host_error_of_live error
   pub now : MachineState
   pub short : IsCutOff system steps (key_count c.cues.now) start now before written unrecorded record_now error
 
 -- how such a program is refused: its machine is, as of a program that doesn't wait, or memory was refused for the system drive; or it was cut short
-abbrev pub IsWaitingRefusal : Given → ℕ → Cued → (before written unrecorded record_now : Option (List ℕ)) → HostError → Type 0
+abbrev pub IsWaitingRefusal : Given → ℕ → CuedKeys → (before written unrecorded record_now : Option (List ℕ)) → HostError → Type 0
 IsWaitingRefusal g steps c before written unrecorded record_now e =
     IsStartRefusal g e ⊎ IsCutCued (blank_disk Ibm3740) (machine_of g) steps c before written unrecorded record_now e
 
 -- a session that was played by itself was cut short, whatever became of what it showed and of its keys
-pub record IsRehearsalCut (system : Disk) (start : MachineState) (steps : ℕ) (c : Cued) (e : HostError) : Type 0 where
+pub record IsRehearsalCut (system : Disk) (start : MachineState) (steps : ℕ) (c : CuedKeys) (e : HostError) : Type 0 where
   pub before : Option (List ℕ)
   pub written : Option (List ℕ)
   pub unrecorded : Option (List ℕ)
@@ -98,5 +98,5 @@ pub record IsRehearsalCut (system : Disk) (start : MachineState) (steps : ℕ) (
   pub cut : IsCutCued system start steps c before written unrecorded record_now e
 
 -- how such a session is refused: its opening is, or it was cut short
-abbrev pub IsRehearsalRefusal : Disk → SessionStart → Cued → HostError → Type 0
+abbrev pub IsRehearsalRefusal : Disk → SessionStart → CuedKeys → HostError → Type 0
 IsRehearsalRefusal system s c e = IsOpeningRefused s.name.now (opening_fault s.opening) e ⊎ IsRehearsalCut system (begun s) s.steps c e

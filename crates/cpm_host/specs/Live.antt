@@ -17,7 +17,7 @@ use Rattle.cpm_play.specs.declared.live.LiveError.{LiveError}
 use Rattle.cpm_host.specs.Com.{Given, IsStartRefusal, ending_of, machine_of, text_of}
 use Rattle.cpm_host.specs.Refusals.{host_error_of_live}
 use Rattle.cpm_host.specs.declared.live.SessionStart.{SessionStart}
-use Rattle.cpm_host.specs.declared.live.Typed.{Typed}
+use Rattle.cpm_host.specs.declared.live.LiveResult.{LiveResult}
 use Rattle.cpm_host.specs.declared.error.HostError.{HostError}
 use Rattle.cpm_host.specs.declared.error.HostError.TheVariants.{OutOfMemory, RunRefused}
 use Rattle.cpm_run.specs.declared.error.RunError.TheVariants.{SessionRefused}
@@ -44,13 +44,13 @@ streams unread left before written unrecorded record_now = record {
 -- A machine was played by keys as they were typed: what it showed and left is that of the machine run alone by these keys, each at the count at
 -- which it was accepted, for so many steps; the keys are those that were read, up to ^]; and the record got just these keys as lines of a script, which gives
 -- them again.
-pub record IsPlayedLive (system : Disk) (start : MachineState) (steps most : ℕ) (t : Typed) (io : Streams) : Type 0 where
+pub record IsPlayedLive (system : Disk) (start : MachineState) (steps most : ℕ) (t : LiveResult) (io : Streams) : Type 0 where
   pub within : t.steps ≤ steps
   pub given : AreGiven most t.steps t.keys.items
   pub read : AreRead io.unread io.left t.keys.items
   pub text : Appends io.before io.written (text_of (alone_by system t.keys.items t.steps start))
   pub ending : t.ran.ending ≡ ending_of (alone_by system t.keys.items t.steps start)
-  pub drives : t.ran.drives ≡ images_of (alone_by system t.keys.items t.steps start).cpm.disks
+  pub drives : t.ran.drives ≡ images_of (alone_by system t.keys.items t.steps start).session.disks
   pub waits : t.waits ≡ waits_at system start t.keys.items t.steps
   pub lines : Appends io.unrecorded io.record_now (recorded t.keys.items)
   pub replays : most ≤ 4096 → script (recorded t.keys.items) ≡ Ok t.keys.items

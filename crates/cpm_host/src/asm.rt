@@ -80,7 +80,7 @@ pub fn run_asm(alloc: Global, source: &[u8]) -> Result<Vec<u8>, HostError>
 
 /// A program, and the listing of its source.
 #[derive(Debug, Drop)]
-pub struct Listed {
+pub struct ProgramListing {
     /// The bytes of the program from 0100h on.
     pub image: Vec<u8>,
     /// Each line of the source up to its end (1Ah), and a newline.
@@ -95,7 +95,7 @@ pub struct Listed {
 /// Assembles a source as `run_asm` does, and lists it.
 ///
 /// It is refused as by `run_asm`.
-pub fn run_asm_listed(alloc: Global, source: &[u8]) -> Result<Listed, HostError>
+pub fn run_asm_listed(alloc: Global, source: &[u8]) -> Result<ProgramListing, HostError>
     ensures exact { IfOk result (λ l. both_passes source.now ≡ Ok l.image.items) }
     ensures assembled { IfOk result (λ l. Assembled source.now l.image.items) }
     ensures listing { IfOk result (λ l. l.listing.items ≡ listing source.now l.image.items (places source.now)) }
@@ -104,7 +104,7 @@ pub fn run_asm_listed(alloc: Global, source: &[u8]) -> Result<Listed, HostError>
     match assemble_placed(alloc, source) {
         Ok(program) => {
             let listing = listing(alloc, source, &program)?;
-            Ok(Listed {
+            Ok(ProgramListing {
                 image: program.image,
                 listing,
             })

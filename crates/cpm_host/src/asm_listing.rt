@@ -5,7 +5,7 @@ ghost use Rattle.cpm_listing.specs.Digits.{hexadecimal, two_digits};
 ghost use Rattle.cpm_asm.specs.Placing.{bytes_at};
 ghost use Rattle.cpm_host.specs.AsmListing.{at_address, cells_at, cells_of, digits_of, front, further_rows, head, is_behind, later_places, left_after, line_text, listing, own_places, row_start};
 
-use cpm_asm::{Assembly, Placed, first_line, source_text};
+use cpm_asm::{Assembly, Placement, first_line, source_text};
 use std::alloc::{AllocError, Global};
 
 /// What stands before a line has so many columns, a multiple of 8, so that the tabs of the line stop where they do in the source.
@@ -22,7 +22,7 @@ struct Cell {
 }
 
 /// The bytes of an image at a place.
-fn bytes_at(image: &[u8], place: Placed) -> &[u8]
+fn bytes_at(image: &[u8], place: Placement) -> &[u8]
     ensures { result.now ≡ bytes_at image.now place }
 {
     let first = place.address.saturating_sub(0x100).min(image.len());
@@ -46,7 +46,7 @@ fn add_cells(cells: &mut Vec<Cell>, first: u16, bytes: &[u8]) -> Result<(), Allo
 }
 
 /// The bytes at places, one after another.
-fn cells_of(alloc: Global, image: &[u8], places: &[Placed]) -> Result<Vec<Cell>, AllocError>
+fn cells_of(alloc: Global, image: &[u8], places: &[Placement]) -> Result<Vec<Cell>, AllocError>
     ensures { IfOk result (λ cells. cells.items ≡ cells_of image.now places.now) }
 {
     let mut cells = Vec::new(alloc);
@@ -103,7 +103,7 @@ fn add_bytes(text: &mut Vec<u8>, cells: &[Cell]) -> Result<(), AllocError>
 }
 
 /// Adds the address of the first byte, else that of the first place, if there is one.
-fn add_head(text: &mut Vec<u8>, cells: &[Cell], places: &[Placed]) -> Result<(), AllocError>
+fn add_head(text: &mut Vec<u8>, cells: &[Cell], places: &[Placement]) -> Result<(), AllocError>
     ensures { OnOk result (text.new.items ≡ text.old.items ++ head cells.now places.now) }
 {
     match (cells.first(), places.first()) {
@@ -134,7 +134,7 @@ fn split_row(cells: &[Cell]) -> (&[Cell], &[Cell])
 }
 
 /// Adds what stands before a line: an address, and the first eight bytes.
-fn add_front(text: &mut Vec<u8>, cells: &[Cell], places: &[Placed]) -> Result<(), AllocError>
+fn add_front(text: &mut Vec<u8>, cells: &[Cell], places: &[Placement]) -> Result<(), AllocError>
     ensures { OnOk result (text.new.items ≡ text.old.items ++ front cells.now places.now) }
 {
     let begun = text.len();
@@ -176,7 +176,7 @@ fn add_line(
     text: &mut Vec<u8>,
     alloc: Global,
     image: &[u8],
-    places: &[Placed],
+    places: &[Placement],
     line: &[u8],
 ) -> Result<(), AllocError>
     ensures { OnOk result (text.new.items ≡ text.old.items ++ line_text image.now places.now line.now) }
@@ -190,14 +190,14 @@ fn add_line(
 }
 
 /// The first place that isn't of a line.
-fn first_behind(places: &[Placed], line: u64) -> Option<usize>
+fn first_behind(places: &[Placement], line: u64) -> Option<usize>
     ensures { result ≡ position (is_behind line) places.now }
 {
     places.iter().position(|place| place.line != line)
 }
 
 /// The places of a line, which stand at the front, and those behind them.
-fn split_at_line(places: &[Placed], line: u64) -> (&[Placed], &[Placed])
+fn split_at_line(places: &[Placement], line: u64) -> (&[Placement], &[Placement])
     ensures own { result.0.now ≡ own_places line places.now }
     ensures later { result.1.now ≡ later_places line places.now }
 {
@@ -214,7 +214,7 @@ pub(crate) fn listing(
     ensures { IfOk result (λ text. text.items ≡ listing source.now program.now.image.items program.now.places.items) }
 {
     let mut text: Vec<u8> = Vec::new(alloc);
-    let mut places: &[Placed] = &program.places;
+    let mut places: &[Placement] = &program.places;
     let mut rest = source_text(source);
     let mut number: u64 = 0;
     while !rest.is_empty() {

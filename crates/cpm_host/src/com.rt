@@ -59,7 +59,7 @@ pub(crate) fn keys_of(alloc: Global, script: Option<Script<'_>>) -> Result<Vec<K
 
 /// What a program runs with.
 #[derive(Drop)]
-pub struct Start {
+pub struct ProgramStart {
     pub cpu: Cpu,
     /// Its bytes, which lie from 0100h on.
     pub program: Vec<u8>,
@@ -69,7 +69,7 @@ pub struct Start {
     pub drives: Vec<Image>,
 }
 
-impl Start {
+impl ProgramStart {
     /// Refuses a program that no machine runs: `ProgramTooLong`, then `OpeningRefused` for more than four drives.
     pub fn check(&self) -> Result<(), HostError>
         ensures fits { OnOk result ((length (given self.now).program ≤ 58112) × (length (given self.now).drives ≤ 4)) }
@@ -87,7 +87,7 @@ impl Start {
 
 /// What a program came to.
 #[derive(Drop)]
-pub struct Ran {
+pub struct ProgramResult {
     pub ending: Ending,
     /// The drives A to D as it left them.
     pub drives: [Option<Image>; 4],
@@ -107,14 +107,14 @@ fn drives_or_blank(alloc: Global, drives: Vec<Image>) -> Result<Vec<Image>, Host
 }
 
 /// The machine that begins a program.
-pub(crate) fn machine_of(alloc: Global, start: Start) -> Result<Machine, HostError>
+pub(crate) fn machine_of(alloc: Global, start: ProgramStart) -> Result<Machine, HostError>
     ensures made { IfOk result (λ m. m ≡ machine_of (given start)) }
     ensures fresh { IfOk result IsFresh }
     ensures fits { OnOk result ((length (given start).program ≤ 58112) × (length (given start).drives ≤ 4)) }
     ensures refusal { IfErr result (IsStartRefusal (given start)) }
 {
     start.check()?;
-    let Start {
+    let ProgramStart {
         cpu,
         program,
         tail,
@@ -156,17 +156,17 @@ fn begun(
 /// may have got the beginning.
 pub fn run_com<W: Write, T: Watcher>(
     alloc: Global,
-    start: Start,
+    start: ProgramStart,
     script: Option<Script<'_>>,
     steps: u64,
     out: &mut W,
     watcher: &mut T,
-) -> Result<Ran, HostError>
+) -> Result<ProgramResult, HostError>
     // Text, ending and drives are those of the machine run alone.
     ensures text { OnOk result (Appends (W.contents out.old) (W.contents out.new)
         (text_of (ran_alone (given start) (keys_given script.entry) steps))) }
     ensures ending { IfOk result (λ r. r.ending ≡ ending_of (ran_alone (given start) (keys_given script.entry) steps)) }
-    ensures drives { IfOk result (λ r. r.drives ≡ images_of (ran_alone (given start) (keys_given script.entry) steps).cpm.disks) }
+    ensures drives { IfOk result (λ r. r.drives ≡ images_of (ran_alone (given start) (keys_given script.entry) steps).session.disks) }
     ensures script { IfOk result (λ _. HasScript script.entry (keys_given script.entry)) }
 
     ensures fits { OnOk result ((length (given start).program ≤ 58112) × (length (given start).drives ≤ 4)) }
@@ -184,11 +184,11 @@ pub fn run_com<W: Write, T: Watcher>(
 }
 
 /// What is left of a machine.
-pub(crate) fn left_of(machine: Machine) -> Ran
+pub(crate) fn left_of(machine: Machine) -> ProgramResult
     ensures ending { result.ending ≡ ending_of machine }
-    ensures drives { result.drives ≡ images_of machine.cpm.disks }
+    ensures drives { result.drives ≡ images_of machine.session.disks }
 {
     let ending = Ending::of(&machine);
     let Closed { drives, .. } = machine.finish();
-    Ran { ending, drives }
+    ProgramResult { ending, drives }
 }

@@ -10,14 +10,14 @@ ghost use Rattle.cpm_host.specs.Com.{given, machine_of};
 ghost use Rattle.cpm_host.specs.Cued.{AreFit, AreForked, IsCueRefusal, IsCutCued, IsForkedRefusal, IsPlayedCued, IsRehearsalRefusal, IsRehearsed, IsWaitingRefusal};
 ghost use Rattle.cpm_host.specs.Live.{begun};
 
-use crate::com::{Script, Start, keys_of, left_of, machine_of, script_refused};
+use crate::com::{Script, ProgramStart, keys_of, left_of, machine_of, script_refused};
 use crate::error::HostError;
-use crate::live::{SessionStart, Typed, opening_refused};
+use crate::live::{SessionStart, LiveResult, opening_refused};
 use cpm_geom::{Format, Image};
 use cpm_script::laws::{cues_in_order, forked_cues_in_order, plain_scripts, recorded_keys};
 use cpm_script::{Cue, Key, keys_before, read_cues, read_forked_cues};
 use cpm_machine::Machine;
-use cpm_play::{Cued, Live, Watcher, play_cues};
+use cpm_play::{CuedKeys, Live, Watcher, play_cues};
 use std::alloc::{AllocError, Global};
 use std::io;
 use std::io::Write;
@@ -97,11 +97,11 @@ fn play_cued<W: Write, S: Write, T: Watcher>(
     system: &Image,
     machine: Machine,
     steps: u64,
-    cued: Cued<'_>,
+    cued: CuedKeys<'_>,
     out: &mut W,
     record: &mut S,
     watcher: &mut T,
-) -> Result<Typed, HostError>
+) -> Result<LiveResult, HostError>
     requires fresh { IsFresh machine }
     requires fit { AreFit cued.cues.now }
     ensures played { IfOk result (λ t. IsPlayedCued system.now machine steps cued.entry t (W.contents out.old) (W.contents out.new) (S.contents «record».old) (S.contents «record».new)) }
@@ -120,7 +120,7 @@ fn play_cued<W: Write, S: Write, T: Watcher>(
         watcher,
     )?;
     let waits = machine.look().waiting;
-    Ok(Typed {
+    Ok(LiveResult {
         ran: left_of(machine),
         keys,
         steps,
@@ -136,13 +136,13 @@ fn play_cued<W: Write, S: Write, T: Watcher>(
 /// `OutputUnwritable` and `RecordUnwritable` have the errors of the two.
 pub fn run_waiting<W: Write, S: Write, T: Watcher>(
     alloc: Global,
-    start: Start,
+    start: ProgramStart,
     steps: u64,
-    cued: Cued<'_>,
+    cued: CuedKeys<'_>,
     out: &mut W,
     record: &mut S,
     watcher: &mut T,
-) -> Result<Typed, HostError>
+) -> Result<LiveResult, HostError>
     requires fit { AreFit cued.cues.now }
     ensures played { IfOk result (λ t. IsPlayedCued (blank_disk Ibm3740) (machine_of (given start)) steps cued.entry t (W.contents out.old) (W.contents out.new) (S.contents «record».old) (S.contents «record».new)) }
     ensures fits { OnOk result ((length (given start).program ≤ 58112) × (length (given start).drives ≤ 4)) }
@@ -161,9 +161,9 @@ pub fn rehearse_session<T: Watcher>(
     alloc: Global,
     system: &Image,
     start: SessionStart<'_>,
-    cued: Cued<'_>,
+    cued: CuedKeys<'_>,
     watcher: &mut T,
-) -> Result<Typed, HostError>
+) -> Result<LiveResult, HostError>
     requires fit { AreFit cued.cues.now }
     ensures played { IfOk result (λ t. IsRehearsed system.now (begun start.entry) start.entry.steps cued.entry t) }
     ensures refusal { IfErr result (IsRehearsalRefusal system.now start.entry cued.entry) }

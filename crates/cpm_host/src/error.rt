@@ -5,7 +5,7 @@ ghost use Rattle.cpm_host.specs.Refusals.{status_of, host_error_of, host_error_o
 
 use cpm_asm::AsmErrorKind;
 use cpm_check::CheckError;
-use cpm_command_line::{Fault, UsageError, Word};
+use cpm_command_line::{UsageFault, UsageError, ShownWord};
 use cpm_config::ConfigError;
 use cpm_debug::DebugError;
 use cpm_disk_commands::FilingError;
@@ -21,19 +21,19 @@ use thiserror::Error;
 pub enum HostError {
     /// The words of the command line name no task.
     #[error("HO1 {0}")]
-    Usage(Fault),
+    Usage(UsageFault),
     /// A word of the command line is no text.
     #[error("HO1 an argument is not UTF-8 text; try 'cpmhost --help'")]
     NotText,
     /// The configuration has no session of this name.
     #[error("HO1 the configuration has no session '{0}'")]
-    NoSession(Word),
+    NoSession(ShownWord),
     /// The session of this name is forked, so that its first keys are those of another.
     #[error("HO1 session '{0}' is forked: its keys can't be typed, but those of the session that it is forked from")]
-    NotOpened(Word),
+    NotOpened(ShownWord),
     /// A word is no part of a command's tail.
     #[error("HO1 '{0}' is no part of a command's tail: characters from ' ' to '~' are wanted, and at most 126 in all")]
-    TailRefused(Word),
+    TailRefused(ShownWord),
     /// A run is refused, or what one has too: HO2 a configuration, HO3 a key script, HO4, HO5, HO6 a file, HO9 a session.
     #[error("{0}")]
     RunRefused(RunError),
@@ -46,7 +46,7 @@ pub enum HostError {
     /// A file can't be read.
     #[error("HO4 can't read '{name}': {reason}")]
     FileUnreadable {
-        name: Word,
+        name: ShownWord,
         reason: io::Error,
     },
     /// Standard input can't be read.
@@ -61,18 +61,18 @@ pub enum HostError {
     /// A file can't be written.
     #[error("HO5 can't write '{name}': {reason}")]
     FileUnwritable {
-        name: Word,
+        name: ShownWord,
         reason: io::Error,
     },
     /// Several files were to go to this file.
     #[error("HO5 can't write several files to '{0}': it is no folder")]
-    NotAFolder(Word),
+    NotAFolder(ShownWord),
     /// The source has a fault in this line, where this was found.
     #[error("HO7 line {line}, '{found}': {reason}", reason = SourceFault {kind: *.kind, found: *.found})]
     SourceRefused {
         line: u64,
         kind: AsmErrorKind,
-        found: Word,
+        found: ShownWord,
     },
     /// Memory was refused.
     #[error("HO8 out of memory")]
@@ -95,7 +95,7 @@ impl fmt::Debug for HostError {
 #[derive(Clone, Copy)]
 struct SourceFault {
     kind: AsmErrorKind,
-    found: Word,
+    found: ShownWord,
 }
 
 impl fmt::Display for SourceFault {

@@ -8,7 +8,7 @@ ghost use Rattle.cpm_play.specs.Playing.{IsFresh};
 ghost use Rattle.cpm_host.specs.Com.{given, machine_of};
 ghost use Rattle.cpm_host.specs.Live.{IsCut, IsLiveRefusal, IsOpeningRefused, IsPlayedLive, IsSessionRefusal, begun, streams};
 
-use crate::com::{Ran, Start, left_of, machine_of};
+use crate::com::{ProgramResult, ProgramStart, left_of, machine_of};
 use crate::error::HostError;
 use cpm_command_line::shown;
 use cpm_geom::{Format, Image};
@@ -22,8 +22,8 @@ use std::io::{Read, Write};
 
 /// What was typed, and what came of it: it is the machine run alone by these keys for so many steps.
 #[derive(Drop)]
-pub struct Typed {
-    pub ran: Ran,
+pub struct LiveResult {
+    pub ran: ProgramResult,
     pub keys: Vec<Key>,
     pub steps: u64,
     /// Whether the machine then waits for a key.
@@ -43,7 +43,7 @@ fn play_typed<I: Read, W: Write, S: Write>(
     input: &mut I,
     out: &mut W,
     record: &mut S,
-) -> Result<Typed, HostError>
+) -> Result<LiveResult, HostError>
     requires { IsFresh machine }
     ensures played { IfOk result (λ t. IsPlayedLive system.now machine steps most_keys t (streams (I.remaining input.old) (I.remaining input.new) (W.contents out.old) (W.contents out.new) (S.contents «record».old) (S.contents «record».new))) }
     ensures refusal { IfErr result (IsCut system.now machine steps most_keys (streams (I.remaining input.old) (I.remaining input.new) (W.contents out.old) (W.contents out.new) (S.contents «record».old) (S.contents «record».new))) }
@@ -61,7 +61,7 @@ fn play_typed<I: Read, W: Write, S: Write>(
         record,
     )?;
     let waits = machine.look().waiting;
-    Ok(Typed {
+    Ok(LiveResult {
         ran: left_of(machine),
         keys,
         steps,
@@ -77,13 +77,13 @@ fn play_typed<I: Read, W: Write, S: Write>(
 /// `InputUnreadable`, `OutputUnwritable` and `RecordUnwritable` have the errors of the three.
 pub fn run_live<I: Read, W: Write, S: Write>(
     alloc: Global,
-    start: Start,
+    start: ProgramStart,
     steps: u64,
     most_keys: usize,
     input: &mut I,
     out: &mut W,
     record: &mut S,
-) -> Result<Typed, HostError>
+) -> Result<LiveResult, HostError>
     ensures played { IfOk result (λ t. IsPlayedLive (blank_disk Format.Ibm3740) (machine_of (given start)) steps most_keys t (streams (I.remaining input.old) (I.remaining input.new) (W.contents out.old) (W.contents out.new) (S.contents «record».old) (S.contents «record».new))) }
     ensures fits { OnOk result ((length (given start).program ≤ 58112) × (length (given start).drives ≤ 4)) }
     ensures refusal { IfErr result (IsLiveRefusal (given start) steps most_keys (streams (I.remaining input.old) (I.remaining input.new) (W.contents out.old) (W.contents out.new) (S.contents «record».old) (S.contents «record».new))) }
@@ -127,7 +127,7 @@ pub fn type_session<I: Read, W: Write, S: Write>(
     input: &mut I,
     out: &mut W,
     record: &mut S,
-) -> Result<Typed, HostError>
+) -> Result<LiveResult, HostError>
     ensures played { IfOk result (λ t. IsPlayedLive system.now (begun start.entry) start.entry.steps 4096 t (streams (I.remaining input.old) (I.remaining input.new) (W.contents out.old) (W.contents out.new) (S.contents «record».old) (S.contents «record».new))) }
     ensures refusal { IfErr result (IsSessionRefusal system.now start.entry 4096 (streams (I.remaining input.old) (I.remaining input.new) (W.contents out.old) (W.contents out.new) (S.contents «record».old) (S.contents «record».new))) }
 {

@@ -10,8 +10,8 @@ use Rattle.cpm_geom.specs.Geometry.{dpb_of}
 use Rattle.cpm_volume.specs.declared.extent.Entry.{Entry}
 use Rattle.cpm_volume.specs.Names.{protects, reserved_after}
 use Rattle.cpm_directory.specs.Login.{reserved_at_login}
-use Rattle.cpm_image_files.specs.declared.refusal.Refusal.{Refusal}
-use Rattle.cpm_image_files.specs.declared.refusal.Refusal.TheVariants.{ReadOnly, DirectoryFull, DiskFull}
+use Rattle.cpm_image_files.specs.declared.refusal.FileRefusal.{FileRefusal}
+use Rattle.cpm_image_files.specs.declared.refusal.FileRefusal.TheVariants.{ReadOnly, DirectoryFull, DiskFull}
 use Rattle.cpm_image_files.specs.Shelf.{entries_for, blocks_for, free_entries, free_blocks, refusal_of}
 use Rattle.cpm_image_files.specs.Appending.{entries_begun, blocks_begun}
 use Rattle.cpm_image_files.specs.Writing.{HasRoom}
@@ -101,7 +101,7 @@ room_less f es user name m n room h =
       blocks = (let need = room.blocks in omega arith);
     }
 
-refused : (r : Refusal) → Some r ≢ None
+refused : (r : FileRefusal) → Some r ≢ None
 refused r e = cc
 
 pub room_of : (d : Dpb) (es : List Entry) (user : ℕ) (name : List ℕ) (n : ℕ) → refusal_of d es user name n ≡ None → HasRoom d es user name n

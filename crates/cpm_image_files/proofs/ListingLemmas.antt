@@ -11,14 +11,14 @@ use Rattle.cpm_volume.specs.Files.{deleted, same_name, no_entry, entry_at, InUse
 use Rattle.cpm_volume.proofs.Entries.{any_index, in_use_within}
 use Rattle.cpm_volume.proofs.NameLemmas.{same_name-refl, same_name-trans}
 use Rattle.cpm_directory.specs.Directory.{entries_of}
-use Rattle.cpm_image_files.specs.declared.listing.Listed.{Listed}
+use Rattle.cpm_image_files.specs.declared.listing.DiskFile.{DiskFile}
 use Rattle.cpm_image_files.specs.Shelf.{entry_on}
 use Rattle.cpm_image_files.specs.Taken.{HasRecords}
 use Rattle.cpm_image_files.specs.Reach.{is_of_file}
 use Rattle.cpm_image_files.specs.Listing.{lists, file_at, first_listed, IsListedFile, AreListed}
 use Rattle.cpm_image_files.proofs.CountLemmas.{is_of_file_parts}
 
-no_file : Listed
+no_file : DiskFile
 no_file = record { user = deleted; name = []; records = 0 }
 
 is_of_file_from : (user : ℕ) (name : List ℕ) (e : Entry) → e.user ≡ user → same_name name e.extent.name ≡ true → is_of_file user name e ≡ true
@@ -28,7 +28,7 @@ is_of_file_from user name e a b = and_from _ _ (eq-eqb _ _ a) b
 later : (index i : ℕ) → i < index → i < index + 1
 later index i h = omega arith
 
-first_listed_is : (disk : Disk) (file : Listed) (i : ℕ) → i ≤ length (entries_of disk) → ((k : ℕ) → k < i → lists (entry_on disk k) file ≡ false) → (i < length (entries_of disk) → lists (entry_on disk i) file ≡ true) → first_listed disk file ≡ i
+first_listed_is : (disk : Disk) (file : DiskFile) (i : ℕ) → i ≤ length (entries_of disk) → ((k : ℕ) → k < i → lists (entry_on disk k) file ≡ false) → (i < length (entries_of disk) → lists (entry_on disk i) file ≡ true) → first_listed disk file ≡ i
 unfolding entry_at
 first_listed_is disk file i within fails passes = position_or_len_is (λ e. lists e file) (entries_of disk) i no_entry within fails passes
 
@@ -42,7 +42,7 @@ none_listed disk = record {
 }
 
 -- an entry that is in no need of a file of its own
-pub unused_entry : (disk : Disk) (index : ℕ) (files : List Listed) → AreListed disk index files → (entry_on disk index).user ≡ deleted → AreListed disk (index + 1) files
+pub unused_entry : (disk : Disk) (index : ℕ) (files : List DiskFile) → AreListed disk index files → (entry_on disk index).user ≡ deleted → AreListed disk (index + 1) files
 unused_entry disk index files so_far unused = record {
   each = so_far.each;
   before = λ k h. later index (first_listed disk (file_at files k)) (so_far.before k h);
@@ -54,7 +54,7 @@ unused_entry disk index files so_far unused = record {
   once = so_far.once;
 }
 
-pub listed_entry : (disk : Disk) (index : ℕ) (files : List Listed) → AreListed disk index files → list_any (lists (entry_on disk index)) files ≡ true → AreListed disk (index + 1) files
+pub listed_entry : (disk : Disk) (index : ℕ) (files : List DiskFile) → AreListed disk index files → list_any (lists (entry_on disk index)) files ≡ true → AreListed disk (index + 1) files
 unfolding no_file
 listed_entry disk index files so_far there = record {
   each = so_far.each;
@@ -68,7 +68,7 @@ listed_entry disk index files so_far there = record {
 }
 
 -- the file of an entry that none of the others is of
-module _ (disk : Disk) (index : ℕ) (files : List Listed) (file : Listed) (so_far : AreListed disk index files) (used : InUse (entries_of disk) index) (apart : list_any (lists (entry_on disk index)) files ≡ false) (user_is : file.user ≡ (entry_on disk index).user) (name_is : file.name ≡ (entry_on disk index).extent.name) (records : HasRecords disk file.user file.name file.records) where
+module _ (disk : Disk) (index : ℕ) (files : List DiskFile) (file : DiskFile) (so_far : AreListed disk index files) (used : InUse (entries_of disk) index) (apart : list_any (lists (entry_on disk index)) files ≡ false) (user_is : file.user ≡ (entry_on disk index).user) (name_is : file.name ≡ (entry_on disk index).extent.name) (records : HasRecords disk file.user file.name file.records) where
   size : length (files ++ file ∷ []) ≡ length files + 1
   size = length_push files file
 

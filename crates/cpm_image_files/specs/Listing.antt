@@ -10,7 +10,7 @@ use Rattle.cpm_directory.specs.Login.{reserved_at_login}
 use Rattle.cpm_directory.specs.WellFormed.{IsChecked}
 use Rattle.cpm_image_files.specs.declared.refusal.ShelfError.{ShelfError}
 use Rattle.cpm_image_files.specs.declared.refusal.ShelfError.TheVariants.{Damaged, Refused, OutOfMemory}
-use Rattle.cpm_image_files.specs.declared.listing.Listed.{Listed}
+use Rattle.cpm_image_files.specs.declared.listing.DiskFile.{DiskFile}
 use Rattle.cpm_image_files.specs.declared.listing.Shelf.{Shelf}
 use Rattle.cpm_image_files.specs.Shelf.{entry_on, IsSoundDisk}
 use Rattle.cpm_image_files.specs.Appending.{unreserved}
@@ -18,26 +18,26 @@ use Rattle.cpm_image_files.specs.Taken.{HasRecords}
 use Rattle.cpm_image_files.specs.Reach.{is_of_file}
 
 -- the entry is one of the file's: of its user and its name, in the low seven bits of each character (own)
-abbrev pub lists : Entry → Listed → Bool
+abbrev pub lists : Entry → DiskFile → Bool
 lists e file = is_of_file file.user file.name e
 
 -- the file at a place of a list; past the end one of no user (own)
-abbrev pub file_at : List Listed → ℕ → Listed
+abbrev pub file_at : List DiskFile → ℕ → DiskFile
 file_at files k = slice_index_or files k (record { user = deleted; name = []; records = 0 })
 
 -- the index of a file's first entry; the number of entries where it has none (own)
-abbrev pub first_listed : Disk → Listed → ℕ
+abbrev pub first_listed : Disk → DiskFile → ℕ
 first_listed disk file = position_or_len (λ e. lists e file) (entries_of disk)
 
 -- The file is there, its name has the attributes of its first entry, and it has so many records. (own)
-pub record IsListedFile (disk : Disk) (file : Listed) : Type 0 where
+pub record IsListedFile (disk : Disk) (file : DiskFile) : Type 0 where
   pub used : InUse (entries_of disk) (first_listed disk file)
   pub user_is : file.user ≡ (entry_on disk (first_listed disk file)).user
   pub name_is : file.name ≡ (entry_on disk (first_listed disk file)).extent.name
   pub records : HasRecords disk file.user file.name file.records
 
 -- Each file of the list is on the disk, with its first entry before an index, and they are in the order of these; each entry in use before the index is of exactly one of them. (own)
-pub record AreListed (disk : Disk) (index : ℕ) (files : List Listed) : Type 0 where
+pub record AreListed (disk : Disk) (index : ℕ) (files : List DiskFile) : Type 0 where
   pub each : (k : ℕ) → k < length files → IsListedFile disk (file_at files k)
   pub before : (k : ℕ) → k < length files → first_listed disk (file_at files k) < index
   pub order : (j k : ℕ) → j < k → k < length files → first_listed disk (file_at files j) < first_listed disk (file_at files k)

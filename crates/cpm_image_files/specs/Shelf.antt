@@ -11,8 +11,8 @@ use Rattle.cpm_volume.specs.Names.{is_named, protects, reserved_after}
 use Rattle.cpm_directory.specs.Directory.{entries_of}
 use Rattle.cpm_directory.specs.Login.{reserved_at_login}
 use Rattle.cpm_directory.specs.WellFormed.{fault_of, IsChecked}
-use Rattle.cpm_image_files.specs.declared.refusal.Refusal.{Refusal}
-use Rattle.cpm_image_files.specs.declared.refusal.Refusal.TheVariants.{ReadOnly, DirectoryFull, DiskFull}
+use Rattle.cpm_image_files.specs.declared.refusal.FileRefusal.{FileRefusal}
+use Rattle.cpm_image_files.specs.declared.refusal.FileRefusal.TheVariants.{ReadOnly, DirectoryFull, DiskFull}
 use Rattle.cpm_image_files.specs.declared.refusal.ShelfError.{ShelfError}
 use Rattle.cpm_image_files.specs.declared.refusal.ShelfError.TheVariants.{Damaged, Refused, OutOfMemory}
 
@@ -87,7 +87,7 @@ unfoldable pub free_blocks : Dpb → ℕ → List ℕ → List Entry → ℕ
 free_blocks d user name es = count_by not (reserved_after d user name es (reserved_at_login d es))
 
 -- why a file of so many records is not put into a directory: the first reason that there is (own)
-unfoldable pub refusal_of : Dpb → List Entry → ℕ → List ℕ → ℕ → Option Refusal
+unfoldable pub refusal_of : Dpb → List Entry → ℕ → List ℕ → ℕ → Option FileRefusal
 refusal_of d es user name records =
     if list_any (protects user name) es then Some ReadOnly
     else if nat_lt (free_entries user name es) (entries_for d records) then Some DirectoryFull

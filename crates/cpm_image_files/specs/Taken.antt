@@ -11,8 +11,8 @@ use Rattle.cpm_directory.specs.Login.{reserved_at_login}
 use Rattle.cpm_directory.specs.WellFormed.{IsChecked}
 use Rattle.cpm_drive.specs.Drive.{volume_of, after_writes}
 use Rattle.cpm_image_files.specs.Shelf.{record_on, entry_on, system_sectors, IsSoundDisk, KeepsOthers}
-use Rattle.cpm_image_files.specs.declared.refusal.Refusal.{Refusal}
-use Rattle.cpm_image_files.specs.declared.refusal.Refusal.TheVariants.{ReadOnly, DirectoryFull, DiskFull, NoFile, Exists}
+use Rattle.cpm_image_files.specs.declared.refusal.FileRefusal.{FileRefusal}
+use Rattle.cpm_image_files.specs.declared.refusal.FileRefusal.TheVariants.{ReadOnly, DirectoryFull, DiskFull, NoFile, Exists}
 use Rattle.cpm_image_files.specs.declared.refusal.ShelfError.{ShelfError}
 use Rattle.cpm_image_files.specs.declared.refusal.ShelfError.TheVariants.{Damaged, Refused, OutOfMemory}
 
@@ -48,7 +48,7 @@ pub record IsGot (disk : Disk) (user : ℕ) (name : List ℕ) (bytes : List ℕ)
   pub file : AreBytesOf disk user name bytes
 
 -- Why they are not: there is no such file. (own)
-abbrev pub IsGetReason : Disk → ℕ → List ℕ → Refusal → Type 0
+abbrev pub IsGetReason : Disk → ℕ → List ℕ → FileRefusal → Type 0
 IsGetReason disk user name NoFile = IsAbsent disk user name
 IsGetReason disk user name ReadOnly = ⊥
 IsGetReason disk user name Exists = ⊥
@@ -91,7 +91,7 @@ abbrev pub IsRemovable : Disk → ℕ → List ℕ → Type 0
 IsRemovable old user name = IsThere old user name × (list_any (protects user name) (entries_of old) ≡ false)
 
 -- Why a file is not taken from a disk: there is none; or an entry of it is read-only. (own)
-abbrev pub IsRemovalReason : Disk → ℕ → List ℕ → Refusal → Type 0
+abbrev pub IsRemovalReason : Disk → ℕ → List ℕ → FileRefusal → Type 0
 IsRemovalReason old user name NoFile = IsAbsent old user name
 IsRemovalReason old user name ReadOnly = list_any (protects user name) (entries_of old) ≡ true
 IsRemovalReason old user name Exists = ⊥
@@ -144,7 +144,7 @@ IsRenamable old user name new_name =
     IsThere old user name × IsFreeName old user name new_name × (list_any (protects user name) (entries_of old) ≡ false)
 
 -- Why it got none: there is no such file; there is another of the new name; or an entry of the file is read-only. The first of these. (own)
-abbrev pub IsRenameReason : Disk → ℕ → List ℕ → List ℕ → Refusal → Type 0
+abbrev pub IsRenameReason : Disk → ℕ → List ℕ → List ℕ → FileRefusal → Type 0
 IsRenameReason old user name new_name NoFile = IsAbsent old user name
 IsRenameReason old user name new_name Exists = IsThere old user name × (same_name name new_name ≡ false) × IsThere old user new_name
 IsRenameReason old user name new_name ReadOnly = IsFreeName old user name new_name × (list_any (protects user name) (entries_of old) ≡ true)

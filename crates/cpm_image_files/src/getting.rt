@@ -8,7 +8,7 @@ ghost use Rattle.cpm_image_files.specs.Taken.{AreBytesOf, IsGot, IsGetRefusal};
 use crate::name::FileName;
 use crate::needs::RECORD_SIZE;
 use crate::records::{is_there, next_entry, record_by, record_count};
-use crate::refusal::{Refusal, ShelfError};
+use crate::refusal::{FileRefusal, ShelfError};
 use cpm_directory::{LentImage, well_formed};
 use cpm_geom::Image;
 use std::alloc::{AllocError, Global};
@@ -25,7 +25,7 @@ pub fn get(alloc: Global, image: &Image, file: &FileName) -> Result<Vec<u8>, She
     }
     let image = LentImage::new(image);
     if !is_there(&image, file) {
-        return Err(ShelfError::Refused(Refusal::NoFile));
+        return Err(ShelfError::Refused(FileRefusal::NoFile));
     }
     match bytes_of(alloc, &image, file) {
         Ok(bytes) => Ok(bytes),

@@ -22,7 +22,7 @@ use std::alloc::{AllocError, Global};
 
 /// A file of a disk.
 #[derive(Clone, Copy, PartialEq, Eq, Debug)]
-pub struct Listed {
+pub struct DiskFile {
     pub user: u8,
     /// Eight characters of a name and three of a type, with the attribute bits of the file's first entry.
     pub name: [u8; 11],
@@ -33,7 +33,7 @@ pub struct Listed {
 /// The files of a disk, and how many of its blocks are free.
 #[derive(Drop)]
 pub struct Shelf {
-    pub files: Vec<Listed>,
+    pub files: Vec<DiskFile>,
     pub free_blocks: u16,
 }
 
@@ -58,7 +58,7 @@ pub fn list(alloc: Global, image: &Image) -> Result<Shelf, ShelfError>
 }
 
 /// The files of a sound disk; refused for want of memory.
-fn files_of(alloc: Global, image: &LentImage<'_>) -> Result<Vec<Listed>, AllocError>
+fn files_of(alloc: Global, image: &LentImage<'_>) -> Result<Vec<DiskFile>, AllocError>
     requires { IsSoundDisk image.now }
     ensures { IfOk result (λ files. AreListed image.now (length (entries_of image.now)) files.items) }
 {
@@ -73,7 +73,7 @@ fn files_of(alloc: Global, image: &LentImage<'_>) -> Result<Vec<Listed>, AllocEr
 }
 
 /// Whether the file of an entry is among these.
-fn is_listed(files: &[Listed], entry: &Entry) -> bool
+fn is_listed(files: &[DiskFile], entry: &Entry) -> bool
     ensures { result ≡ list_any (lists entry.now) files.now }
 {
     for file in files {
@@ -85,14 +85,14 @@ fn is_listed(files: &[Listed], entry: &Entry) -> bool
 }
 
 /// The file of an entry.
-fn file_of(image: &LentImage<'_>, entry: &Entry) -> Listed
+fn file_of(image: &LentImage<'_>, entry: &Entry) -> DiskFile
     requires sound { IsSoundDisk image.now }
     requires used { entry.now.user ≢ deleted }
     ensures user { result.user ≡ entry.now.user }
     ensures name { result.name ≡ entry.now.extent.name }
     ensures records { HasRecords image.now result.user result.name result.records }
 {
-    Listed {
+    DiskFile {
         user: entry.user,
         name: entry.extent.name,
         records: record_count(image, entry.user, &entry.extent.name),

@@ -9,7 +9,7 @@ ghost use Rattle.cpm_directory.specs.Directory.{entries_of};
 ghost use Rattle.cpm_image_files.specs.Shelf.{records_for, blocks_for, entries_for, free_entries, free_blocks, refusal_of, is_free_for};
 
 use crate::name::FileName;
-use crate::refusal::Refusal;
+use crate::refusal::FileRefusal;
 use cpm_directory::directory::DELETED;
 use cpm_directory::{LentImage, Reserved, is_named, login, without_files};
 use cpm_volume::Entry;
@@ -33,20 +33,20 @@ pub(crate) fn records_for(bytes: &[u8]) -> usize
 
 /// Why a file of so many records is not put on a disk: the first reason that there is.
 #[tactic(auto, unfolding(crate::specs::Shelf::refusal_of))]
-pub(crate) fn refusal_of(image: &LentImage<'_>, file: &FileName, records: usize) -> Option<Refusal>
+pub(crate) fn refusal_of(image: &LentImage<'_>, file: &FileName, records: usize) -> Option<FileRefusal>
     requires { records < 2 ^ 60 }
     ensures whole { IsDisk image.now }
     ensures value { result ≡ refusal_of (dpb_of image.now.format) (entries_of image.now) file.now.user file.now.name records }
 {
     let dpb = image.format().dpb();
     if is_protected(image, file) {
-        return Some(Refusal::ReadOnly);
+        return Some(FileRefusal::ReadOnly);
     }
     if free_entries(image, file) < entries_for(&dpb, records) {
-        return Some(Refusal::DirectoryFull);
+        return Some(FileRefusal::DirectoryFull);
     }
     if free_blocks(image, file) < blocks_for(&dpb, records) {
-        return Some(Refusal::DiskFull);
+        return Some(FileRefusal::DiskFull);
     }
     None
 }

@@ -5,7 +5,7 @@ use thiserror::Error;
 
 /// Why what was asked of a sound disk is not done.
 #[derive(Clone, Copy, Debug, PartialEq, Eq, Drop, Error)]
-pub enum Refusal {
+pub enum FileRefusal {
     /// The file may not be changed: an entry of it has the attribute read-only.
     #[error("the file is read-only")]
     ReadOnly,
@@ -30,7 +30,7 @@ pub enum ShelfError {
     #[error("{0}")]
     Damaged(DriveFault),
     #[error("{0}")]
-    Refused(Refusal),
+    Refused(FileRefusal),
     #[error("out of memory")]
     OutOfMemory,
 }

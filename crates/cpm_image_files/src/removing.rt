@@ -10,7 +10,7 @@ use crate::copies::copy_of;
 use crate::name::FileName;
 use crate::needs::is_protected;
 use crate::records::is_there;
-use crate::refusal::{Refusal, ShelfError};
+use crate::refusal::{FileRefusal, ShelfError};
 use cpm_directory::{LentImage, well_formed};
 use cpm_drive::Drive;
 use cpm_geom::Image;
@@ -36,16 +36,16 @@ pub fn remove(alloc: Global, image: &Image, file: &FileName) -> Result<Image, Sh
 }
 
 /// Why a file is not taken off a disk.
-fn refusal_of(image: &LentImage<'_>, file: &FileName) -> Option<Refusal>
+fn refusal_of(image: &LentImage<'_>, file: &FileName) -> Option<FileRefusal>
     ensures { MatchOption result
         (IsRemovable image.now file.now.user file.now.name)
         (λ e. IsRemovalReason image.now file.now.user file.now.name e) }
 {
     if !is_there(image, file) {
-        return Some(Refusal::NoFile);
+        return Some(FileRefusal::NoFile);
     }
     if is_protected(image, file) {
-        return Some(Refusal::ReadOnly);
+        return Some(FileRefusal::ReadOnly);
     }
     None
 }

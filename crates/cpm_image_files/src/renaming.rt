@@ -15,7 +15,7 @@ use crate::copies::copy_of;
 use crate::name::FileName;
 use crate::needs::is_protected;
 use crate::records::{is_same_name, is_there};
-use crate::refusal::{Refusal, ShelfError};
+use crate::refusal::{FileRefusal, ShelfError};
 use cpm_directory::{LentImage, is_named, well_formed};
 use cpm_drive::Drive;
 use cpm_geom::Image;
@@ -49,20 +49,20 @@ pub fn rename(
 }
 
 /// Why a file doesn't get another name.
-fn refusal_of(image: &LentImage<'_>, file: &FileName, name: &FileName) -> Option<Refusal>
+fn refusal_of(image: &LentImage<'_>, file: &FileName, name: &FileName) -> Option<FileRefusal>
     requires { name.now.user ≡ file.now.user }
     ensures { MatchOption result
         (IsRenamable image.now file.now.user file.now.name name.now.name)
         (λ e. IsRenameReason image.now file.now.user file.now.name name.now.name e) }
 {
     if !is_there(image, file) {
-        return Some(Refusal::NoFile);
+        return Some(FileRefusal::NoFile);
     }
     if is_taken(image, file, name) {
-        return Some(Refusal::Exists);
+        return Some(FileRefusal::Exists);
     }
     if is_protected(image, file) {
-        return Some(Refusal::ReadOnly);
+        return Some(FileRefusal::ReadOnly);
     }
     None
 }

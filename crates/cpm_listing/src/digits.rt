@@ -5,7 +5,7 @@ ghost use Rattle.cpm_listing.specs.Digits.{hexadecimal, two_digits, four_digits,
 use arrayvec::ArrayString;
 
 /// A line of text.
-pub(crate) type Line = ArrayString<96>;
+pub(crate) type ListingLine = ArrayString<96>;
 
 /// The digit of a number below 16.
 fn digit_of(value: u8) -> u8
@@ -35,7 +35,7 @@ pub fn four_digits(value: u16) -> [u8; 4]
 }
 
 /// Adds a character below 80h.
-pub(crate) fn add_character(line: &mut Line, character: char)
+pub(crate) fn add_character(line: &mut ListingLine, character: char)
     requires ascii { character < 128 }
     requires room { length line.old.bytes < 96 }
     ensures text { line.new.bytes ≡ line.old.bytes ++ character ∷ [] }
@@ -46,7 +46,7 @@ pub(crate) fn add_character(line: &mut Line, character: char)
 
 /// Adds a byte in two digits.
 #[tactic(auto, unfolding(crate::specs::Digits::two_digits))]
-pub(crate) fn add_byte(line: &mut Line, value: u8)
+pub(crate) fn add_byte(line: &mut ListingLine, value: u8)
     requires { length line.old.bytes + 2 ≤ 96 }
     ensures text { line.new.bytes ≡ line.old.bytes ++ two_digits value }
     ensures length { length line.new.bytes ≡ length line.old.bytes + 2 }
@@ -57,7 +57,7 @@ pub(crate) fn add_byte(line: &mut Line, value: u8)
 
 /// Adds a word in four digits.
 #[tactic(auto, unfolding(crate::specs::Digits::four_digits))]
-pub(crate) fn add_word(line: &mut Line, value: u16)
+pub(crate) fn add_word(line: &mut ListingLine, value: u16)
     requires { length line.old.bytes + 4 ≤ 96 }
     ensures text { line.new.bytes ≡ line.old.bytes ++ four_digits value }
     ensures length { length line.new.bytes ≡ length line.old.bytes + 4 }
@@ -68,7 +68,7 @@ pub(crate) fn add_word(line: &mut Line, value: u16)
 }
 
 /// Adds a text.
-pub(crate) fn add_text(line: &mut Line, text: &str)
+pub(crate) fn add_text(line: &mut ListingLine, text: &str)
     requires { length line.old.bytes + length text.now ≤ 96 }
     ensures text { line.new.bytes ≡ line.old.bytes ++ text.now }
     ensures length { length line.new.bytes ≡ length line.old.bytes + length text.now }
@@ -78,7 +78,7 @@ pub(crate) fn add_text(line: &mut Line, text: &str)
 
 /// Adds a text at the left of so many places.
 #[tactic(auto, unfolding(crate::specs::Digits::padded))]
-pub(crate) fn add_padded(line: &mut Line, text: &str, places: usize)
+pub(crate) fn add_padded(line: &mut ListingLine, text: &str, places: usize)
     requires fits { length text.now ≤ places }
     requires room { length line.old.bytes + places ≤ 96 }
     ensures text { line.new.bytes ≡ line.old.bytes ++ padded places text.now }
@@ -91,7 +91,7 @@ pub(crate) fn add_padded(line: &mut Line, text: &str, places: usize)
 }
 
 /// Adds each byte in two digits behind a space.
-fn add_behind_spaces(line: &mut Line, bytes: &[u8])
+fn add_behind_spaces(line: &mut ListingLine, bytes: &[u8])
     requires { length line.old.bytes + 3 * length bytes.now ≤ 96 }
     ensures text { line.new.bytes ≡ line.old.bytes ++ behind_spaces bytes.now }
     ensures length { length line.new.bytes ≡ length line.old.bytes + 3 * length bytes.now }
@@ -104,7 +104,7 @@ fn add_behind_spaces(line: &mut Line, bytes: &[u8])
 
 /// Adds bytes in two digits each, single spaces between them.
 #[tactic(auto, unfolding(crate::specs::Digits::spaced))]
-pub(crate) fn add_spaced(line: &mut Line, bytes: &[u8])
+pub(crate) fn add_spaced(line: &mut ListingLine, bytes: &[u8])
     requires { length line.old.bytes + 3 * length bytes.now ≤ 96 }
     ensures text { line.new.bytes ≡ line.old.bytes ++ spaced bytes.now }
     ensures length { length line.new.bytes ≡ length line.old.bytes + (3 * length bytes.now - 1) }

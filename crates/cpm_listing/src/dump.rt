@@ -2,7 +2,7 @@
 ghost use Rattle.std.specs.Prelude.{◌≡◌, ◌<◌, ◌≤◌, ◌+◌, ◌++◌, length, map};
 ghost use Rattle.cpm_listing.specs.Dump.{dump_line, shown};
 
-use crate::digits::{Line, add_character, add_spaced, add_text, add_word};
+use crate::digits::{ListingLine, add_character, add_spaced, add_text, add_word};
 use arrayvec::ArrayString;
 
 /// A byte as a character; a full stop stands for what doesn't print.
@@ -17,7 +17,7 @@ fn shown(byte: u8) -> char
 }
 
 /// Adds each byte as a character.
-fn add_shown(line: &mut Line, bytes: &[u8])
+fn add_shown(line: &mut ListingLine, bytes: &[u8])
     requires { length line.old.bytes + length bytes.now ≤ 96 }
     ensures text { line.new.bytes ≡ line.old.bytes ++ map shown bytes.now }
     ensures length { length line.new.bytes ≡ length line.old.bytes + length bytes.now }
@@ -32,7 +32,7 @@ fn add_shown(line: &mut Line, bytes: &[u8])
 pub fn dump_line(address: u16, bytes: &[u8; 16]) -> ArrayString<96>
     ensures { result.bytes ≡ dump_line address bytes.now }
 {
-    let mut line: Line = ArrayString::new();
+    let mut line: ListingLine = ArrayString::new();
     add_word(&mut line, address);
     add_text(&mut line, "  ");
     add_spaced(&mut line, bytes);

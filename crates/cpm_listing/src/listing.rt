@@ -2,7 +2,7 @@
 ghost use Rattle.std.specs.Prelude.{◌≡◌, ◌≤◌, ◌+◌, ◌*◌, ◌++◌, length};
 ghost use Rattle.cpm_listing.specs.Listing.{listing_line, statement, list_line};
 
-use crate::digits::{Line, add_padded, add_spaced, add_text, add_word};
+use crate::digits::{ListingLine, add_padded, add_spaced, add_text, add_word};
 use crate::mnemonics::mnemonic_of;
 use crate::operands::{add_byte_number, add_operands};
 use arrayvec::ArrayString;
@@ -10,7 +10,7 @@ use cpm_decode::{Decoded, row8080};
 
 /// Adds a name alone, or in four places with its operands behind a space.
 #[tactic(auto, unfolding(crate::specs::Listing::statement))]
-fn add_statement(line: &mut Line, name: &str, operands: &str)
+fn add_statement(line: &mut ListingLine, name: &str, operands: &str)
     requires short { length name.now ≤ 4 }
     requires room { length line.old.bytes + 5 + length operands.now ≤ 96 }
     ensures { line.new.bytes ≡ line.old.bytes ++ statement name.now operands.now }
@@ -32,16 +32,16 @@ pub(crate) fn listing_line(
     bytes: &[u8],
     name: &str,
     operands: &str,
-) -> Line
+) -> ListingLine
     requires few { 3 * length bytes.now ≤ places + 1 }
     requires places { places ≤ 11 }
     requires short { length name.now ≤ 4 }
     requires room { length operands.now ≤ 13 }
     ensures { result.bytes ≡ listing_line places address bytes.now (statement name.now operands.now) }
 {
-    let mut shown: Line = ArrayString::new();
+    let mut shown: ListingLine = ArrayString::new();
     add_spaced(&mut shown, bytes);
-    let mut line: Line = ArrayString::new();
+    let mut line: ListingLine = ArrayString::new();
     add_word(&mut line, address);
     add_text(&mut line, "  ");
     add_padded(&mut line, shown.as_str(), places);
@@ -56,7 +56,7 @@ pub(crate) fn listing_line(
 pub fn list_line(address: u16, bytes: [u8; 3]) -> ArrayString<96>
     ensures { result.bytes ≡ list_line address bytes }
 {
-    let mut operands: Line = ArrayString::new();
+    let mut operands: ListingLine = ArrayString::new();
     match row8080(bytes) {
         Some(Decoded { op, length }) => {
             add_operands(&mut operands, op);

@@ -2,7 +2,7 @@
 ghost use Rattle.std.specs.Prelude.{◌≡◌, ◌≤◌};
 ghost use Rattle.cpm_listing.specs.ListingZ80.{length_z80, list_line_z80};
 
-use crate::digits::Line;
+use crate::digits::ListingLine;
 use crate::listing::listing_line;
 use crate::mnemonics_z80::mnemonic_z80;
 use crate::operands::add_byte_number;
@@ -29,7 +29,7 @@ pub fn length_z80(bytes: [u8; 4]) -> usize
 pub fn list_line_z80(address: u16, bytes: [u8; 4]) -> ArrayString<96>
     ensures { result.bytes ≡ list_line_z80 address bytes }
 {
-    let mut operands: Line = ArrayString::new();
+    let mut operands: ListingLine = ArrayString::new();
     match rowz80(bytes) {
         Some(DecodedZ80 { op, length }) => {
             add_operands_z80(&mut operands, address.wrapping_add(length), op);

@@ -2,37 +2,37 @@
 ghost use Rattle.std.specs.Prelude.{◌≡◌, ◌≤◌, length};
 ghost use Rattle.cpm_listing.specs.Mnemonics.{place_name, pair_name, stack_pair_name, arithmetic_name, immediate_name, rotation_name, jump_name, call_name, return_name, mnemonic_of};
 
-use cpm_decode::{Arithmetic, Condition, Op, Pair, Place, Rotation, StackPair};
+use cpm_decode::{Arithmetic, Condition, Op, WordOperand, ByteOperand, Rotation, StackPair};
 
 /// The name of a register, or M for the byte at HL.
 #[tactic(auto, unfolding(crate::specs::Mnemonics::place_name))]
-pub(crate) fn place_name(place: Place) -> &'static str
+pub(crate) fn place_name(place: ByteOperand) -> &'static str
     ensures text { result.now ≡ place_name place }
     ensures short { length result.now ≤ 1 }
 {
     match place {
-        Place::B => "B",
-        Place::C => "C",
-        Place::D => "D",
-        Place::E => "E",
-        Place::H => "H",
-        Place::L => "L",
-        Place::AtHl => "M",
-        Place::A => "A",
+        ByteOperand::B => "B",
+        ByteOperand::C => "C",
+        ByteOperand::D => "D",
+        ByteOperand::E => "E",
+        ByteOperand::H => "H",
+        ByteOperand::L => "L",
+        ByteOperand::AtHl => "M",
+        ByteOperand::A => "A",
     }
 }
 
 /// The name of a pair, which is that of its first register.
 #[tactic(auto, unfolding(crate::specs::Mnemonics::pair_name))]
-pub(crate) fn pair_name(pair: Pair) -> &'static str
+pub(crate) fn pair_name(pair: WordOperand) -> &'static str
     ensures text { result.now ≡ pair_name pair }
     ensures short { length result.now ≤ 2 }
 {
     match pair {
-        Pair::Bc => "B",
-        Pair::De => "D",
-        Pair::Hl => "H",
-        Pair::Sp => "SP",
+        WordOperand::Bc => "B",
+        WordOperand::De => "D",
+        WordOperand::Hl => "H",
+        WordOperand::Sp => "SP",
     }
 }
 

@@ -2,13 +2,13 @@
 ghost use Rattle.std.specs.Prelude.{◌≡◌, ◌<◌, ◌≤◌, ◌+◌, ◌++◌, length};
 ghost use Rattle.cpm_listing.specs.Listing.{byte_number, word_number, restart_of, operands_of};
 
-use crate::digits::{Line, add_byte, add_text, add_word};
+use crate::digits::{ListingLine, add_byte, add_text, add_word};
 use crate::mnemonics::{pair_name, place_name, stack_pair_name};
 use cpm_decode::Op;
 
 /// Adds a byte as a source has it.
 #[tactic(auto, unfolding(crate::specs::Listing::byte_number))]
-pub(crate) fn add_byte_number(line: &mut Line, value: u8)
+pub(crate) fn add_byte_number(line: &mut ListingLine, value: u8)
     requires { length line.old.bytes + 4 ≤ 96 }
     ensures text { line.new.bytes ≡ line.old.bytes ++ byte_number value }
     ensures length { length line.new.bytes ≡ length line.old.bytes + 4 }
@@ -20,7 +20,7 @@ pub(crate) fn add_byte_number(line: &mut Line, value: u8)
 
 /// Adds a word as a source has it.
 #[tactic(auto, unfolding(crate::specs::Listing::word_number))]
-pub(crate) fn add_word_number(line: &mut Line, value: u16)
+pub(crate) fn add_word_number(line: &mut ListingLine, value: u16)
     requires { length line.old.bytes + 6 ≤ 96 }
     ensures text { line.new.bytes ≡ line.old.bytes ++ word_number value }
     ensures length { length line.new.bytes ≡ length line.old.bytes + 6 }
@@ -40,7 +40,7 @@ pub(crate) fn restart_of(address: u16) -> u8
 
 /// Adds the operands of an operation, a comma between two.
 #[tactic(auto, unfolding(crate::specs::Listing::operands_of))]
-pub(crate) fn add_operands(line: &mut Line, op: Op)
+pub(crate) fn add_operands(line: &mut ListingLine, op: Op)
     requires { length line.old.bytes + 9 ≤ 96 }
     ensures text { line.new.bytes ≡ line.old.bytes ++ operands_of op }
     ensures length { length line.new.bytes ≤ length line.old.bytes + 9 }

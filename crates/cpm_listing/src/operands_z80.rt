@@ -4,7 +4,7 @@ ghost use Rattle.cpm_listing.specs.Listing.{byte_number, word_number};
 ghost use Rattle.cpm_listing.specs.Mnemonics.{condition_name};
 ghost use Rattle.cpm_listing.specs.OperandsZ80.{in_parentheses, displacement_number, at_index, relative_target, small_number, accumulator_before, bit_before, shared_operands, extended_operands, indexed_operands, operands_z80};
 
-use crate::digits::{Line, add_byte, add_character, add_text};
+use crate::digits::{ListingLine, add_byte, add_character, add_text};
 use crate::mnemonics_z80::{
     condition_name, index_name, pair_name_z80, place_name_z80, stack_pair_name_z80,
 };
@@ -13,7 +13,7 @@ use arrayvec::ArrayString;
 use cpm_decode::{Arithmetic, BitOp, ExtendedOp, IndexRegister, IndexedOp, Op, OpZ80};
 
 /// Adds two operands.
-fn add_two(line: &mut Line, first: &str, second: &str)
+fn add_two(line: &mut ListingLine, first: &str, second: &str)
     requires { length line.old.bytes + length first.now + 1 + length second.now ≤ 96 }
     ensures text { line.new.bytes ≡ line.old.bytes ++ first.now ++ codes "," ++ second.now }
     ensures length { length line.new.bytes ≡ length line.old.bytes + length first.now + 1 + length second.now }
@@ -25,7 +25,7 @@ fn add_two(line: &mut Line, first: &str, second: &str)
 
 /// Adds a name in parentheses.
 #[tactic(auto, unfolding(crate::specs::OperandsZ80::in_parentheses))]
-fn add_at_name(line: &mut Line, name: &str)
+fn add_at_name(line: &mut ListingLine, name: &str)
     requires { length line.old.bytes + 2 + length name.now ≤ 96 }
     ensures text { line.new.bytes ≡ line.old.bytes ++ in_parentheses name.now }
     ensures length { length line.new.bytes ≡ length line.old.bytes + 2 + length name.now }
@@ -37,7 +37,7 @@ fn add_at_name(line: &mut Line, name: &str)
 
 /// Adds a byte in parentheses.
 #[tactic(auto, unfolding(crate::specs::OperandsZ80::in_parentheses))]
-fn add_at_byte(line: &mut Line, value: u8)
+fn add_at_byte(line: &mut ListingLine, value: u8)
     requires { length line.old.bytes + 6 ≤ 96 }
     ensures text { line.new.bytes ≡ line.old.bytes ++ in_parentheses (byte_number value) }
     ensures length { length line.new.bytes ≡ length line.old.bytes + 6 }
@@ -49,7 +49,7 @@ fn add_at_byte(line: &mut Line, value: u8)
 
 /// Adds a word in parentheses.
 #[tactic(auto, unfolding(crate::specs::OperandsZ80::in_parentheses))]
-fn add_at_word(line: &mut Line, value: u16)
+fn add_at_word(line: &mut ListingLine, value: u16)
     requires { length line.old.bytes + 8 ≤ 96 }
     ensures text { line.new.bytes ≡ line.old.bytes ++ in_parentheses (word_number value) }
     ensures length { length line.new.bytes ≡ length line.old.bytes + 8 }
@@ -61,7 +61,7 @@ fn add_at_word(line: &mut Line, value: u16)
 
 /// Adds a displacement with its sign.
 #[tactic(auto, unfolding(crate::specs::OperandsZ80::displacement_number))]
-fn add_displacement(line: &mut Line, displacement: u8)
+fn add_displacement(line: &mut ListingLine, displacement: u8)
     requires { length line.old.bytes + 4 ≤ 96 }
     ensures text { line.new.bytes ≡ line.old.bytes ++ displacement_number displacement }
     ensures length { length line.new.bytes ≡ length line.old.bytes + 4 }
@@ -78,7 +78,7 @@ fn add_displacement(line: &mut Line, displacement: u8)
 
 /// Adds the byte at an index register and a displacement.
 #[tactic(auto, unfolding(crate::specs::OperandsZ80::at_index, crate::specs::OperandsZ80::in_parentheses))]
-fn add_at_index(line: &mut Line, index: IndexRegister, displacement: u8)
+fn add_at_index(line: &mut ListingLine, index: IndexRegister, displacement: u8)
     requires { length line.old.bytes + 8 ≤ 96 }
     ensures text { line.new.bytes ≡ line.old.bytes ++ at_index index displacement }
     ensures length { length line.new.bytes ≡ length line.old.bytes + 8 }
@@ -103,7 +103,7 @@ fn relative_target(behind: u16, displacement: u8) -> u16
 }
 
 /// Adds the target of a relative jump.
-fn add_relative_target(line: &mut Line, behind: u16, displacement: u8)
+fn add_relative_target(line: &mut ListingLine, behind: u16, displacement: u8)
     requires { length line.old.bytes + 6 ≤ 96 }
     ensures text { line.new.bytes ≡ line.old.bytes ++ word_number (relative_target behind displacement) }
     ensures length { length line.new.bytes ≡ length line.old.bytes + 6 }
@@ -113,7 +113,7 @@ fn add_relative_target(line: &mut Line, behind: u16, displacement: u8)
 
 /// Adds the number of a bit or of an interrupt mode.
 #[tactic(auto, unfolding(crate::specs::OperandsZ80::small_number))]
-fn add_small_number(line: &mut Line, number: u8)
+fn add_small_number(line: &mut ListingLine, number: u8)
     requires { length line.old.bytes + 1 ≤ 96 }
     ensures text { line.new.bytes ≡ line.old.bytes ++ small_number number }
     ensures length { length line.new.bytes ≡ length line.old.bytes + 1 }
@@ -135,7 +135,7 @@ fn accumulator_before(operation: Arithmetic) -> &'static str
 
 /// Adds the number of a bit before the byte that it belongs to.
 #[tactic(auto, unfolding(crate::specs::OperandsZ80::bit_before))]
-fn add_bit_before(line: &mut Line, operation: BitOp)
+fn add_bit_before(line: &mut ListingLine, operation: BitOp)
     requires { length line.old.bytes + 2 ≤ 96 }
     ensures text { line.new.bytes ≡ line.old.bytes ++ bit_before operation }
     ensures length { length line.new.bytes ≤ length line.old.bytes + 2 }
@@ -151,7 +151,7 @@ fn add_bit_before(line: &mut Line, operation: BitOp)
 
 /// Adds the operands of an operation that the 8080 has too, with this pair for HL.
 #[tactic(auto, unfolding(crate::specs::OperandsZ80::shared_operands))]
-fn add_shared_operands(line: &mut Line, hl: &'static str, op: Op)
+fn add_shared_operands(line: &mut ListingLine, hl: &'static str, op: Op)
     requires pair { length hl.now ≡ 2 }
     requires room { length line.old.bytes + 13 ≤ 96 }
     ensures text { line.new.bytes ≡ line.old.bytes ++ shared_operands hl.now op }
@@ -235,7 +235,7 @@ fn add_shared_operands(line: &mut Line, hl: &'static str, op: Op)
 
 /// Adds the operands of an operation after EDh.
 #[tactic(auto, unfolding(crate::specs::OperandsZ80::extended_operands))]
-fn add_extended_operands(line: &mut Line, op: ExtendedOp)
+fn add_extended_operands(line: &mut ListingLine, op: ExtendedOp)
     requires { length line.old.bytes + 13 ≤ 96 }
     ensures text { line.new.bytes ≡ line.old.bytes ++ extended_operands op }
     ensures length { length line.new.bytes ≤ length line.old.bytes + 13 }
@@ -267,7 +267,7 @@ fn add_extended_operands(line: &mut Line, op: ExtendedOp)
 
 /// Adds the operands of an operation with this byte at an index register and a displacement.
 #[tactic(auto, unfolding(crate::specs::OperandsZ80::indexed_operands))]
-fn add_indexed_operands(line: &mut Line, at: &str, op: IndexedOp)
+fn add_indexed_operands(line: &mut ListingLine, at: &str, op: IndexedOp)
     requires byte { length at.now ≡ 8 }
     requires room { length line.old.bytes + 13 ≤ 96 }
     ensures text { line.new.bytes ≡ line.old.bytes ++ indexed_operands at.now op }
@@ -296,7 +296,7 @@ fn add_indexed_operands(line: &mut Line, at: &str, op: IndexedOp)
 /// Adds the operands of an operation whose instruction ends before this address.
 /// Zilog Z80 CPU User Manual, "Z80 Instruction Description".
 #[tactic(auto, unfolding(crate::specs::OperandsZ80::operands_z80))]
-pub(crate) fn add_operands_z80(line: &mut Line, behind: u16, op: OpZ80)
+pub(crate) fn add_operands_z80(line: &mut ListingLine, behind: u16, op: OpZ80)
     requires { length line.old.bytes + 13 ≤ 96 }
     ensures text { line.new.bytes ≡ line.old.bytes ++ operands_z80 behind op }
     ensures length { length line.new.bytes ≤ length line.old.bytes + 13 }
@@ -322,7 +322,7 @@ pub(crate) fn add_operands_z80(line: &mut Line, behind: u16, op: OpZ80)
             add_shared_operands(line, index_name(index), operation);
         }
         OpZ80::Indexed(index, displacement, operation) => {
-            let mut at: Line = ArrayString::new();
+            let mut at: ListingLine = ArrayString::new();
             add_at_index(&mut at, index, displacement);
             add_indexed_operands(line, at.as_str(), operation);
         }

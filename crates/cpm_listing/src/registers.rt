@@ -2,14 +2,14 @@
 ghost use Rattle.std.specs.Prelude.{◌≡◌, ◌≤◌, ◌+◌, ◌++◌, length, decimal};
 ghost use Rattle.cpm_listing.specs.Registers.{named_pair, regs_line};
 
-use crate::digits::{Line, add_byte, add_text, add_word};
+use crate::digits::{ListingLine, add_byte, add_text, add_word};
 use arrayvec::ArrayString;
 use cpm_flags::{Cpu, Regs, pack};
 use itoa::Buffer;
 
 /// Adds a pair of registers behind its name.
 #[tactic(auto, unfolding(crate::specs::Registers::named_pair))]
-fn add_pair(line: &mut Line, name: &str, high: u8, low: u8)
+fn add_pair(line: &mut ListingLine, name: &str, high: u8, low: u8)
     requires { length line.old.bytes + length name.now + 4 ≤ 96 }
     ensures text { line.new.bytes ≡ line.old.bytes ++ named_pair name.now high low }
     ensures length { length line.new.bytes ≡ length line.old.bytes + length name.now + 4 }
@@ -20,7 +20,7 @@ fn add_pair(line: &mut Line, name: &str, high: u8, low: u8)
 }
 
 /// Adds a number in decimal digits.
-fn add_number(line: &mut Line, value: u64)
+fn add_number(line: &mut ListingLine, value: u64)
     requires { length line.old.bytes + 20 ≤ 96 }
     ensures { line.new.bytes ≡ line.old.bytes ++ decimal value }
 {
@@ -35,7 +35,7 @@ fn add_number(line: &mut Line, value: u64)
 pub fn regs_line(cpu: Cpu, regs: &Regs, count: u64) -> ArrayString<96>
     ensures { result.bytes ≡ regs_line cpu regs.now count }
 {
-    let mut line: Line = ArrayString::new();
+    let mut line: ListingLine = ArrayString::new();
     add_text(&mut line, "A=");
     add_byte(&mut line, regs.a);
     add_text(&mut line, " F=");

@@ -4,12 +4,12 @@ use Rattle.std.proofs.lemmas.List.{append_assoc, take-append-drop}
 use Rattle.cpm_flags.specs.declared.regs.Cpu.{Cpu}
 use Rattle.cpm_geom.specs.Disk.{Disk}
 use Rattle.cpm_memory.specs.Contents.{Contents}
-use Rattle.cpm_bdos.specs.Behind.{cpm_behind}
+use Rattle.cpm_bdos.specs.Behind.{session_behind}
 use Rattle.cpm_bdos.proofs.Waiting.{bdos-behind, bios-behind}
 use Rattle.cpm_ccp.proofs.BehindLaws.{ccp-behind}
-use Rattle.cpm_bdos.specs.declared.cpm.Cpm.{Cpm}
-use Rattle.cpm_bdos.specs.declared.cpm.Mode.{Mode}
-use Rattle.cpm_bdos.specs.declared.cpm.Mode.TheVariants.{Program, Text, Line, Hold, Fault, Command}
+use Rattle.cpm_bdos.specs.declared.session.Session.{Session}
+use Rattle.cpm_bdos.specs.declared.session.Mode.{Mode}
+use Rattle.cpm_bdos.specs.declared.session.Mode.TheVariants.{Program, Text, Line, Hold, Fault, Command}
 use Rattle.cpm_machine.specs.declared.trap.Trap.{Trap}
 use Rattle.cpm_machine.specs.declared.trap.Trap.TheVariants.{CommandProcessor, Bdos, Bios}
 use Rattle.cpm_machine.specs.Trap.{trap_at}
@@ -23,9 +23,9 @@ use Rattle.cpm_machine.proofs.PressLaws.{AllCame, with_keys-nil, alone-add, alon
 
 module _ (system : Disk) (p q : List ℕ) where
   part_behind : Part → Part
-  part_behind x = record x { cpm = cpm_behind p q x.cpm }
+  part_behind x = record x { session = session_behind p q x.session }
 
-  at_trap-behind : (cpu : Cpu) (with_program : Bool) (t : Option Trap) (s : Cpm) (m : Contents) → at_trap system cpu with_program t (cpm_behind p q s) m ≡ part_behind (at_trap system cpu with_program t s m)
+  at_trap-behind : (cpu : Cpu) (with_program : Bool) (t : Option Trap) (s : Session) (m : Contents) → at_trap system cpu with_program t (session_behind p q s) m ≡ part_behind (at_trap system cpu with_program t s m)
   unfolding part_behind
   at_trap-behind cpu with_program None s m = refl
   at_trap-behind cpu true (Some CommandProcessor) s m = refl
@@ -33,7 +33,7 @@ module _ (system : Disk) (p q : List ℕ) where
   at_trap-behind cpu with_program (Some Bdos) s m = ap by_call (bdos-behind p q system s m)
   at_trap-behind cpu with_program (Some (Bios number)) s m = ap by_call (bios-behind p q number system s m)
 
-  part_in-behind : (cpu : Cpu) (with_program : Bool) (mode : Mode) (s : Cpm) (m : Contents) → part_in system cpu with_program mode (cpm_behind p q s) m ≡ part_behind (part_in system cpu with_program mode s m)
+  part_in-behind : (cpu : Cpu) (with_program : Bool) (mode : Mode) (s : Session) (m : Contents) → part_in system cpu with_program mode (session_behind p q s) m ≡ part_behind (part_in system cpu with_program mode s m)
   unfolding part_behind
   part_in-behind cpu with_program Program s m = at_trap-behind cpu with_program (trap_at s.regs.pc) s m
   part_in-behind cpu with_program (Text next) s m = ap by_call (bdos-behind p q system s m)
@@ -42,13 +42,13 @@ module _ (system : Disk) (p q : List ℕ) where
   part_in-behind cpu with_program Fault s m = ap by_call (bdos-behind p q system s m)
   part_in-behind cpu with_program (Command part) s m = ap by_call (ccp-behind p q system s m)
 
-  part-behind : (cpu : Cpu) (with_program : Bool) (s : Cpm) (m : Contents) → part system cpu with_program (cpm_behind p q s) m ≡ part_behind (part system cpu with_program s m)
+  part-behind : (cpu : Cpu) (with_program : Bool) (s : Session) (m : Contents) → part system cpu with_program (session_behind p q s) m ≡ part_behind (part system cpu with_program s m)
   unfolding part
   part-behind cpu with_program s m = part_in-behind cpu with_program s.mode s m
 
   step_if-behind : (b : Bool) (s : MachineState) → step_if system b (state_behind p q s) ≡ state_behind p q (step_if system b s)
   unfolding part_behind
-  step_if-behind true s = ap (after_part s) (part-behind s.cpu s.with_program s.cpm s.memory)
+  step_if-behind true s = ap (after_part s) (part-behind s.cpu s.with_program s.session s.memory)
   step_if-behind false s = refl
 
   pub step-behind : (s : MachineState) → step system (state_behind p q s) ≡ state_behind p q (step system s)
@@ -63,13 +63,13 @@ module _ (system : Disk) (p q : List ℕ) where
 moved : (p xs : List ℕ) (n : ℕ) → (p ++ take n xs) ++ drop n xs ≡ p ++ xs
 moved p xs n = append_assoc p (take n xs) (drop n xs) ∙ ap (λ ys. p ++ ys) (take-append-drop n xs)
 
-pub taken-behind : (p q : List ℕ) (room : ℕ) (s : MachineState) → state_behind (p ++ take (min room (length s.cpm.console.screen)) s.cpm.console.screen) q (taken room s) ≡ state_behind p q s
+pub taken-behind : (p q : List ℕ) (room : ℕ) (s : MachineState) → state_behind (p ++ take (min room (length s.session.console.screen)) s.session.console.screen) q (taken room s) ≡ state_behind p q s
 taken-behind p q room s =
-    ap (λ xs. record s { cpm = record s.cpm { console = record s.cpm.console { screen = xs; printer = q ++ s.cpm.console.printer } } }) (moved p s.cpm.console.screen (min room (length s.cpm.console.screen)))
+    ap (λ xs. record s { session = record s.session { console = record s.session.console { screen = xs; printer = q ++ s.session.console.printer } } }) (moved p s.session.console.screen (min room (length s.session.console.screen)))
 
-pub taken_list-behind : (p q : List ℕ) (room : ℕ) (s : MachineState) → state_behind p (q ++ take (min room (length s.cpm.console.printer)) s.cpm.console.printer) (taken_list room s) ≡ state_behind p q s
+pub taken_list-behind : (p q : List ℕ) (room : ℕ) (s : MachineState) → state_behind p (q ++ take (min room (length s.session.console.printer)) s.session.console.printer) (taken_list room s) ≡ state_behind p q s
 taken_list-behind p q room s =
-    ap (λ xs. record s { cpm = record s.cpm { console = record s.cpm.console { screen = p ++ s.cpm.console.screen; printer = xs } } }) (moved q s.cpm.console.printer (min room (length s.cpm.console.printer)))
+    ap (λ xs. record s { session = record s.session { console = record s.session.console { screen = p ++ s.session.console.screen; printer = xs } } }) (moved q s.session.console.printer (min room (length s.session.console.printer)))
 
 -- by this account the state, with the bytes that were taken put back in front, is that of the machine run alone
 record IsAlone (system : Disk) (a : Account) (s start : MachineState) : Type 0 where

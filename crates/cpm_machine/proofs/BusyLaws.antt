@@ -7,9 +7,9 @@ use Rattle.cpm_memory.specs.Contents.{Contents}
 use Rattle.cpm_bdos.specs.Function.{function_of}
 use Rattle.cpm_bdos.specs.Keys.{first_key}
 use Rattle.cpm_bdos.specs.Waiting.{function_needs_key, needs_key, is_waiting}
-use Rattle.cpm_bdos.specs.declared.cpm.Cpm.{Cpm}
-use Rattle.cpm_bdos.specs.declared.cpm.Mode.{Mode}
-use Rattle.cpm_bdos.specs.declared.cpm.Mode.TheVariants.{Program}
+use Rattle.cpm_bdos.specs.declared.session.Session.{Session}
+use Rattle.cpm_bdos.specs.declared.session.Mode.{Mode}
+use Rattle.cpm_bdos.specs.declared.session.Mode.TheVariants.{Program}
 use Rattle.cpm_machine.specs.declared.trap.Trap.TheVariants.{CommandProcessor, Bdos, Bios}
 use Rattle.cpm_machine.specs.MachineState.{MachineState}
 use Rattle.cpm_machine.specs.Trap.{trap_at}
@@ -28,13 +28,13 @@ by_tests pc needs false false false true ea eb ec ed h =
 by_tests pc needs false false false false ea eb ec ed h = refl
 
 -- what needs a key in a program lies at a trap
-needs-none : (s : Cpm) (m : Contents) → trap_at s.regs.pc ≡ None → needs_key Program s m ≡ false
+needs-none : (s : Session) (m : Contents) → trap_at s.regs.pc ≡ None → needs_key Program s m ≡ false
 unfolding trap_at
 needs-none s m h =
     by_tests s.regs.pc (function_needs_key (function_of s.regs.c) s m) (s.regs.pc == 58374) (s.regs.pc == 60422) (nat_le 64256 s.regs.pc && nat_le s.regs.pc 64272) (s.regs.pc == 64259) refl refl refl refl h
 
 -- so an instruction waits for none
-pub instruction-busy : (s : Cpm) (m : Contents) → s.mode ≡ Program → trap_at s.regs.pc ≡ None → is_waiting s m ≡ false
+pub instruction-busy : (s : Session) (m : Contents) → s.mode ≡ Program → trap_at s.regs.pc ≡ None → is_waiting s m ≡ false
 instruction-busy s m mode apart =
     ap (λ b. b && not (is_some (first_key s))) (ap (λ (at : Mode). needs_key at s m) mode ∙ needs-none s m apart)
 
@@ -45,6 +45,6 @@ IsBusy-on system k l a b h at g i below =
     (λ ge.
     let same : k + (i - k) ≡ i = omega arith in
     let is : after system (i - k) b ≡ after system (k + (i - k)) a = ap (after system (i - k)) at ∙ sym (after-add system k (i - k) a) in
-    let here : is_waiting (after system (k + (i - k)) a).cpm (after system (k + (i - k)) a).memory ≡ false = subst (λ (t : MachineState). is_waiting t.cpm t.memory ≡ false) is (g (i - k) (omega arith)) in
-    subst (λ j. is_waiting (after system j a).cpm (after system j a).memory ≡ false) same here)
+    let here : is_waiting (after system (k + (i - k)) a).session (after system (k + (i - k)) a).memory ≡ false = subst (λ (t : MachineState). is_waiting t.session t.memory ≡ false) is (g (i - k) (omega arith)) in
+    subst (λ j. is_waiting (after system j a).session (after system j a).memory ≡ false) same here)
     (cases_lt i k)

@@ -12,12 +12,12 @@ use Rattle.cpm_machine.specs.Alone.{Press, due, with_keys, alone}
 -- no keys
 pub with_keys-nil : (s : MachineState) → with_keys [] s ≡ s
 with_keys-nil s =
-    ap (λ (keys : List ℕ). record s { cpm = record s.cpm { console = record s.cpm.console { keys = keys } } }) (append-nil s.cpm.console.keys)
+    ap (λ (keys : List ℕ). record s { session = record s.session { console = record s.session.console { keys = keys } } }) (append-nil s.session.console.keys)
 
 -- one key more
 with_keys-more : (keys : List ℕ) (key : ℕ) (s : MachineState) → with_keys (keys ++ key ∷ []) s ≡ keyed key (with_keys keys s)
 with_keys-more keys key s =
-    ap (λ (all : List ℕ). record s { cpm = record s.cpm { console = record s.cpm.console { keys = all } } }) (sym (append_assoc s.cpm.console.keys keys (key ∷ [])))
+    ap (λ (all : List ℕ). record s { session = record s.session { console = record s.session.console { keys = all } } }) (sym (append_assoc s.session.console.keys keys (key ∷ [])))
 
 due_if-append : (b : Bool) (key : ℕ) (xs ys zs : List ℕ) → xs ≡ ys ++ zs → (if b then key ∷ xs else xs) ≡ (if b then key ∷ ys else ys) ++ zs
 due_if-append true key xs ys zs h = ap (λ all. key ∷ all) h

@@ -16,9 +16,9 @@ use Rattle.cpm_ccp.proofs.BoundLaws.{IsBounded-ccp}
 use Rattle.cpm_bdos.specs.Step.{bdos}
 use Rattle.cpm_ccp.specs.Step.{ccp}
 use Rattle.cpm_bdos.specs.Bounds.{IsFit}
-use Rattle.cpm_bdos.specs.declared.cpm.Cpm.{Cpm}
-use Rattle.cpm_bdos.specs.declared.cpm.Mode.{Mode}
-use Rattle.cpm_bdos.specs.declared.cpm.Mode.TheVariants.{Program, Text, Line, Hold, Fault, Command}
+use Rattle.cpm_bdos.specs.declared.session.Session.{Session}
+use Rattle.cpm_bdos.specs.declared.session.Mode.{Mode}
+use Rattle.cpm_bdos.specs.declared.session.Mode.TheVariants.{Program, Text, Line, Hold, Fault, Command}
 use Rattle.cpm_machine.specs.declared.trap.Trap.{Trap}
 use Rattle.cpm_machine.specs.declared.trap.Trap.TheVariants.{CommandProcessor, Bdos, Bios}
 use Rattle.cpm_machine.specs.Trap.{trap_at}
@@ -30,17 +30,17 @@ few_stores : (cpu : Cpu) (m : Contents) (regs : Regs) → length (effect_at cpu 
 few_stores I8080 m regs = few_stores_8080 m regs
 few_stores Z80 m regs = few_stores_z80 m regs
 
-record IsBoundedPart (s : Cpm) (m : Contents) (x : Part) : Type 0 where
+record IsBoundedPart (s : Session) (m : Contents) (x : Part) : Type 0 where
   pages : touched_of x.memory ≤ touched_of m + 8
-  output : IsWithin 4096 s.console x.cpm.console
+  output : IsWithin 4096 s.console x.session.console
 
-bounded_call : (system : Disk) (s : Cpm) (m : Contents) → IsFit s → IsBoundedPart s m (by_call (bdos system s m))
+bounded_call : (system : Disk) (s : Session) (m : Contents) → IsFit s → IsBoundedPart s m (by_call (bdos system s m))
 bounded_call system s m fit = let b = IsBounded-bdos system s m fit in record { pages = b.pages; output = b.output }
 
-bounded_command : (system : Disk) (s : Cpm) (m : Contents) → IsFit s → IsBoundedPart s m (by_call (ccp system s m))
+bounded_command : (system : Disk) (s : Session) (m : Contents) → IsFit s → IsBoundedPart s m (by_call (ccp system s m))
 bounded_command system s m fit = let b = IsBounded-ccp system s m fit in record { pages = b.pages; output = b.output }
 
-bounded_trap : (system : Disk) (cpu : Cpu) (with_program : Bool) (t : Option Trap) (s : Cpm) (m : Contents) → IsFit s → IsBoundedPart s m (at_trap system cpu with_program t s m)
+bounded_trap : (system : Disk) (cpu : Cpu) (with_program : Bool) (t : Option Trap) (s : Session) (m : Contents) → IsFit s → IsBoundedPart s m (at_trap system cpu with_program t s m)
 bounded_trap system cpu with_program None s m fit = record {
   pages = omega (arith, few_stores cpu m s.regs, touched_of-after_sets m (effect_at cpu m s.regs).stores);
   output = IsWithin-same 4096 s.console;
@@ -51,7 +51,7 @@ bounded_trap system cpu with_program (Some Bdos) s m fit = bounded_call system s
 bounded_trap system cpu with_program (Some (Bios number)) s m fit =
     let b = IsBounded-bios number system s m fit in record { pages = b.pages; output = b.output }
 
-bounded_mode : (system : Disk) (cpu : Cpu) (with_program : Bool) (mode : Mode) (s : Cpm) (m : Contents) → IsFit s → IsBoundedPart s m (part_in system cpu with_program mode s m)
+bounded_mode : (system : Disk) (cpu : Cpu) (with_program : Bool) (mode : Mode) (s : Session) (m : Contents) → IsFit s → IsBoundedPart s m (part_in system cpu with_program mode s m)
 bounded_mode system cpu with_program Program s m fit = bounded_trap system cpu with_program (trap_at s.regs.pc) s m fit
 bounded_mode system cpu with_program (Text next) s m fit = bounded_call system s m fit
 bounded_mode system cpu with_program Line s m fit = bounded_call system s m fit
@@ -59,19 +59,19 @@ bounded_mode system cpu with_program (Hold held) s m fit = bounded_call system s
 bounded_mode system cpu with_program Fault s m fit = bounded_call system s m fit
 bounded_mode system cpu with_program (Command part) s m fit = bounded_command system s m fit
 
-bounded_part : (system : Disk) (cpu : Cpu) (with_program : Bool) (s : Cpm) (m : Contents) → IsFit s → IsBoundedPart s m (part system cpu with_program s m)
+bounded_part : (system : Disk) (cpu : Cpu) (with_program : Bool) (s : Session) (m : Contents) → IsFit s → IsBoundedPart s m (part system cpu with_program s m)
 unfolding part
 bounded_part system cpu with_program s m fit = bounded_mode system cpu with_program s.mode s m fit
 
-bounded_if : (system : Disk) (b : Bool) (s : MachineState) → IsFit s.cpm → IsBounded s (step_if system b s)
-bounded_if system true s fit = let x = bounded_part system s.cpu s.with_program s.cpm s.memory fit in record { pages = x.pages; output = x.output }
-bounded_if system false s fit = record { pages = omega arith; output = IsWithin-same 4096 s.cpm.console }
+bounded_if : (system : Disk) (b : Bool) (s : MachineState) → IsFit s.session → IsBounded s (step_if system b s)
+bounded_if system true s fit = let x = bounded_part system s.cpu s.with_program s.session s.memory fit in record { pages = x.pages; output = x.output }
+bounded_if system false s fit = record { pages = omega arith; output = IsWithin-same 4096 s.session.console }
 
-pub IsBounded-step : (system : Disk) (s : MachineState) → IsFit s.cpm → IsBounded s (step system s)
+pub IsBounded-step : (system : Disk) (s : MachineState) → IsFit s.session → IsBounded s (step system s)
 unfolding step
 IsBounded-step system s fit = bounded_if system (is_running s.ended) s fit
 
 -- a step that is made, or not
-pub IsBounded-once : (system : Disk) (b : Bool) (s : MachineState) → IsFit s.cpm → IsBounded s (if b then step system s else s)
+pub IsBounded-once : (system : Disk) (b : Bool) (s : MachineState) → IsFit s.session → IsBounded s (if b then step system s else s)
 IsBounded-once system true s fit = IsBounded-step system s fit
-IsBounded-once system false s fit = record { pages = omega arith; output = IsWithin-same 4096 s.cpm.console }
+IsBounded-once system false s fit = record { pages = omega arith; output = IsWithin-same 4096 s.session.console }

@@ -16,8 +16,8 @@ not-false true h = cc
 not-false false h = refl
 
 -- what can be made so waits for no key
-pub can-busy : (s : MachineState) → can_work s ≡ true → is_waiting s.cpm s.memory ≡ false
-can-busy s h = not-false (is_waiting s.cpm s.memory) (and-right (can_step s) (not (is_waiting s.cpm s.memory)) h)
+pub can-busy : (s : MachineState) → can_work s ≡ true → is_waiting s.session s.memory ≡ false
+can-busy s h = not-false (is_waiting s.session s.memory) (and-right (can_step s) (not (is_waiting s.session s.memory)) h)
 
 -- a run of which no step waits, and which doesn't go on so, is what such a grant executes
 pub IsBusy-executed : (system : Disk) (n k : ℕ) (start now : MachineState) → IsRun system k start now → IsBusy system k start → k ≤ n → (k < n → can_work now ≡ false) → k ≡ executed_to_wait system n start

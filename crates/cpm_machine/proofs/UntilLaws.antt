@@ -20,11 +20,11 @@ or-true : (b : Bool) → (b || true) ≡ true
 or-true true = refl
 or-true false = refl
 
-goes-apart : (pc k : ℕ) (s : MachineState) → can_step s ≡ true → begins_at pc s.cpm ≡ false → can_go_on pc k s ≡ true
+goes-apart : (pc k : ℕ) (s : MachineState) → can_step s ≡ true → begins_at pc s.session ≡ false → can_go_on pc k s ≡ true
 goes-apart pc k s can apart = rw (can, apart) (or-true (k == 0))
 
 -- a run more, of which no step but the first begins at the address
-pub IsRunUntil-on : (system : Disk) (pc k l : ℕ) (start now next : MachineState) → IsRunUntil system pc k start now → can_go_on pc k now ≡ true → IsRun system l now next → ((i : ℕ) → 0 < i → i < l → begins_at pc (after system i now).cpm ≡ false) → IsRunUntil system pc (k + l) start next
+pub IsRunUntil-on : (system : Disk) (pc k l : ℕ) (start now next : MachineState) → IsRunUntil system pc k start now → can_go_on pc k now ≡ true → IsRun system l now next → ((i : ℕ) → 0 < i → i < l → begins_at pc (after system i now).session ≡ false) → IsRunUntil system pc (k + l) start next
 IsRunUntil-on system pc k l start now next h goes more apart = record {
   run = IsRun-on system k l start now next h.run more;
   each = λ i below. ⊎_elim (λ lt. h.each i lt)

@@ -13,11 +13,11 @@ use Rattle.cpm_bdos.specs.Waiting.{function_needs_key, needs_key, is_waiting, ca
 use Rattle.cpm_bdos.proofs.WaitLaws.{IsWaiting-now}
 use Rattle.cpm_ccp.specs.Step.{ccp}
 use Rattle.cpm_ccp.proofs.WaitLaws.{WaitsForKeys-now}
-use Rattle.cpm_bdos.specs.declared.cpm.Cpm.{Cpm}
-use Rattle.cpm_bdos.specs.declared.cpm.Mode.{Mode}
-use Rattle.cpm_bdos.specs.declared.cpm.Mode.TheVariants.{Program, Text, Line, Hold, Fault, Command}
-use Rattle.cpm_bdos.specs.declared.cpm.Went.{Went}
-use Rattle.cpm_bdos.specs.declared.cpm.Went.TheVariants.{Returned, Waits, GoesOn, Reboot}
+use Rattle.cpm_bdos.specs.declared.session.Session.{Session}
+use Rattle.cpm_bdos.specs.declared.session.Mode.{Mode}
+use Rattle.cpm_bdos.specs.declared.session.Mode.TheVariants.{Program, Text, Line, Hold, Fault, Command}
+use Rattle.cpm_bdos.specs.declared.session.Went.{Went}
+use Rattle.cpm_bdos.specs.declared.session.Went.TheVariants.{Returned, Waits, GoesOn, Reboot}
 use Rattle.cpm_machine.specs.declared.steps.Outcome.TheVariants as outcome
 use Rattle.cpm_machine.specs.declared.trap.Trap.{Trap}
 use Rattle.cpm_machine.specs.declared.trap.Trap.TheVariants.{CommandProcessor, Bdos, Bios}
@@ -34,36 +34,36 @@ went-waits GoesOn never = refl
 went-waits Reboot never = refl
 
 -- a call waits where it does nothing but wait, and else not
-wait-same : (waits : Bool) (s : Cpm) (m : Contents) (d : Did) → (waits ≡ true → d ≡ did s m Waits) → (waits ≡ false → d.went ≡ Waits → ⊥) → waits ≡ is_wait d.went
+wait-same : (waits : Bool) (s : Session) (m : Contents) (d : Did) → (waits ≡ true → d ≡ did s m Waits) → (waits ≡ false → d.went ≡ Waits → ⊥) → waits ≡ is_wait d.went
 wait-same true s m d still never = sym (ap (λ (x : Did). is_wait x.went) (still refl))
 wait-same false s m d still never = went-waits d.went (never refl)
 
 -- a step of a call of the BDOS or the BIOS
-call-waits : (system : Disk) (s : Cpm) (m : Contents) (d : Did) → is_command s.mode ≡ false → call_now system s m ≡ Some d → is_waiting s m ≡ is_wait d.went
+call-waits : (system : Disk) (s : Session) (m : Contents) (d : Did) → is_command s.mode ≡ false → call_now system s m ≡ Some d → is_waiting s m ≡ is_wait d.went
 call-waits system s m d plain h =
     wait-same (is_waiting s m) s m d
     (λ waits. let e : Some d ≡ Some (did s m Waits) = sym h ∙ (IsWaiting-now s m).changes_nothing waits plain system in cc)
     (λ goes. (IsWaiting-now s m).elsewhere goes system d h)
 
 -- a part of the command processor
-part-waits : (system : Disk) (s : Cpm) (m : Contents) → is_command s.mode ≡ true → is_waiting s m ≡ is_wait (ccp system s m).went
+part-waits : (system : Disk) (s : Session) (m : Contents) → is_command s.mode ≡ true → is_waiting s m ≡ is_wait (ccp system s m).went
 part-waits system s m command =
     wait-same (is_waiting s m) s m (ccp system s m)
     (λ waits. (WaitsForKeys-now system s m).changes_nothing command waits)
     (λ goes. (WaitsForKeys-now system s m).elsewhere command goes)
 
 -- neither the prompt nor an instruction is a wait
-never-waits : (s : Cpm) (m : Contents) → s.mode ≡ Program → (s.regs.pc == 60422) ≡ false → (s.regs.pc == 64259) ≡ false → is_waiting s m ≡ false
+never-waits : (s : Session) (m : Contents) → s.mode ≡ Program → (s.regs.pc == 60422) ≡ false → (s.regs.pc == 64259) ≡ false → is_waiting s m ≡ false
 never-waits s m mode a b =
     ap (λ (x : Mode). needs_key x s m && not (is_some (first_key s))) mode
     ∙ ap (λ t. (if t then function_needs_key (function_of s.regs.c) s m else s.regs.pc == 64259) && not (is_some (first_key s))) a
     ∙ ap (λ t. t && not (is_some (first_key s))) b
 
-prompt-waits : (system : Disk) (with_program : Bool) (s : Cpm) (m : Contents) → s.mode ≡ Program → false ≡ is_waiting_call (call_at system with_program (Some CommandProcessor) s m)
+prompt-waits : (system : Disk) (with_program : Bool) (s : Session) (m : Contents) → s.mode ≡ Program → false ≡ is_waiting_call (call_at system with_program (Some CommandProcessor) s m)
 prompt-waits system true s m mode = refl
 prompt-waits system false s m mode = went-waits (ccp system s m).went ((WaitsForKeys-now system s m).prompt mode)
 
-program-waits : (system : Disk) (with_program : Bool) (s : Cpm) (m : Contents) → s.mode ≡ Program → is_waiting s m ≡ is_waiting_call (call_at system with_program (trap_at s.regs.pc) s m)
+program-waits : (system : Disk) (with_program : Bool) (s : Session) (m : Contents) → s.mode ≡ Program → is_waiting s m ≡ is_waiting_call (call_at system with_program (trap_at s.regs.pc) s m)
 unfolding trap_at
 program-waits system with_program s m mode = by_tests (s.regs.pc == 58374) (s.regs.pc == 60422) (nat_le 64256 s.regs.pc && nat_le s.regs.pc 64272) refl refl refl
   where
@@ -90,7 +90,7 @@ program-waits system with_program s m mode = by_tests (s.regs.pc == 58374) (s.re
         let apart : (s.regs.pc == 64259) ≡ false = grind (arith, nat_tests) in
         never-waits s m mode eb apart
 
-call-waits_in : (system : Disk) (with_program : Bool) (mode : Mode) (s : Cpm) (m : Contents) → s.mode ≡ mode → is_waiting s m ≡ is_waiting_call (call_of system with_program mode s m)
+call-waits_in : (system : Disk) (with_program : Bool) (mode : Mode) (s : Session) (m : Contents) → s.mode ≡ mode → is_waiting s m ≡ is_waiting_call (call_of system with_program mode s m)
 call-waits_in system with_program Program s m e = program-waits system with_program s m e
 call-waits_in system with_program (Command part) s m e = part-waits system s m (ap is_command e)
 call-waits_in system with_program (Text next) s m e = call-waits system s m (bdos system s m) (ap is_command e) (ap (λ (x : Mode). call_in x system s m) e)
@@ -100,14 +100,14 @@ call-waits_in system with_program Fault s m e = call-waits system s m (bdos syst
 
 -- ---- the step is that call
 
-trap-part : (system : Disk) (cpu : Cpu) (with_program : Bool) (t : Option Trap) (s : Cpm) (m : Contents) (d : Did) → call_at system with_program t s m ≡ Some d → at_trap system cpu with_program t s m ≡ by_call d
+trap-part : (system : Disk) (cpu : Cpu) (with_program : Bool) (t : Option Trap) (s : Session) (m : Contents) (d : Did) → call_at system with_program t s m ≡ Some d → at_trap system cpu with_program t s m ≡ by_call d
 trap-part system cpu with_program None s m d h = absurd cc
 trap-part system cpu true (Some CommandProcessor) s m d h = absurd cc
 trap-part system cpu false (Some CommandProcessor) s m d h = let same : ccp system s m ≡ d = cc in ap by_call same
 trap-part system cpu with_program (Some Bdos) s m d h = let same : bdos system s m ≡ d = cc in ap by_call same
 trap-part system cpu with_program (Some (Bios number)) s m d h = let same : bios number system s m ≡ d = cc in ap by_call same
 
-call-part : (system : Disk) (cpu : Cpu) (with_program : Bool) (mode : Mode) (s : Cpm) (m : Contents) (d : Did) → call_of system with_program mode s m ≡ Some d → part_in system cpu with_program mode s m ≡ by_call d
+call-part : (system : Disk) (cpu : Cpu) (with_program : Bool) (mode : Mode) (s : Session) (m : Contents) (d : Did) → call_of system with_program mode s m ≡ Some d → part_in system cpu with_program mode s m ≡ by_call d
 call-part system cpu with_program Program s m d h = trap-part system cpu with_program (trap_at s.regs.pc) s m d h
 call-part system cpu with_program (Command part) s m d h = let same : ccp system s m ≡ d = cc in ap by_call same
 call-part system cpu with_program (Text next) s m d h = let same : bdos system s m ≡ d = cc in ap by_call same
@@ -115,14 +115,14 @@ call-part system cpu with_program Line s m d h = let same : bdos system s m ≡ 
 call-part system cpu with_program (Hold held) s m d h = let same : bdos system s m ≡ d = cc in ap by_call same
 call-part system cpu with_program Fault s m d h = let same : bdos system s m ≡ d = cc in ap by_call same
 
-trap-other : (system : Disk) (cpu : Cpu) (with_program : Bool) (t : Option Trap) (s : Cpm) (m : Contents) → call_at system with_program t s m ≡ None → (at_trap system cpu with_program t s m ≡ instruction cpu s m) ⊎ (at_trap system cpu with_program t s m ≡ made s m outcome.Exits)
+trap-other : (system : Disk) (cpu : Cpu) (with_program : Bool) (t : Option Trap) (s : Session) (m : Contents) → call_at system with_program t s m ≡ None → (at_trap system cpu with_program t s m ≡ instruction cpu s m) ⊎ (at_trap system cpu with_program t s m ≡ made s m outcome.Exits)
 trap-other system cpu with_program None s m h = inl refl
 trap-other system cpu true (Some CommandProcessor) s m h = inr refl
 trap-other system cpu false (Some CommandProcessor) s m h = absurd cc
 trap-other system cpu with_program (Some Bdos) s m h = absurd cc
 trap-other system cpu with_program (Some (Bios number)) s m h = absurd cc
 
-call-other : (system : Disk) (cpu : Cpu) (with_program : Bool) (mode : Mode) (s : Cpm) (m : Contents) → call_of system with_program mode s m ≡ None → (part_in system cpu with_program mode s m ≡ instruction cpu s m) ⊎ (part_in system cpu with_program mode s m ≡ made s m outcome.Exits)
+call-other : (system : Disk) (cpu : Cpu) (with_program : Bool) (mode : Mode) (s : Session) (m : Contents) → call_of system with_program mode s m ≡ None → (part_in system cpu with_program mode s m ≡ instruction cpu s m) ⊎ (part_in system cpu with_program mode s m ≡ made s m outcome.Exits)
 call-other system cpu with_program Program s m h = trap-other system cpu with_program (trap_at s.regs.pc) s m h
 call-other system cpu with_program (Command part) s m h = absurd cc
 call-other system cpu with_program (Text next) s m h = absurd cc
@@ -132,7 +132,7 @@ call-other system cpu with_program Fault s m h = absurd cc
 
 -- ---- the machine
 
-step-is : (system : Disk) (s : MachineState) (p : Part) → is_running s.ended ≡ true → part_in system s.cpu s.with_program s.cpm.mode s.cpm s.memory ≡ p → step system s ≡ after_part s p
+step-is : (system : Disk) (s : MachineState) (p : Part) → is_running s.ended ≡ true → part_in system s.cpu s.with_program s.session.mode s.session s.memory ≡ p → step system s ≡ after_part s p
 unfolding step part
 step-is system s p runs e = ap (λ b. step_if system b s) runs ∙ ap (after_part s) e
 
@@ -140,9 +140,9 @@ step-ended : (system : Disk) (s : MachineState) → is_running s.ended ≡ false
 unfolding step
 step-ended system s ended = ap (λ b. step_if system b s) ended
 
-look-waits : (s : MachineState) (runs : Bool) → is_running s.ended ≡ runs → (look_of s).waiting ≡ (runs && is_waiting s.cpm s.memory)
+look-waits : (s : MachineState) (runs : Bool) → is_running s.ended ≡ runs → (look_of s).waiting ≡ (runs && is_waiting s.session s.memory)
 unfolding look_of
-look-waits s runs e = ap (λ b. b && is_waiting s.cpm s.memory) e
+look-waits s runs e = ap (λ b. b && is_waiting s.session s.memory) e
 
 either-step : (system : Disk) (s : MachineState) (p q : Part) (x : Part) → (step system s ≡ after_part s x) → (x ≡ p) ⊎ (x ≡ q) → (step system s ≡ after_part s p) ⊎ (step system s ≡ after_part s q)
 either-step system s p q x e (inl h) = inl (e ∙ ap (after_part s) h)
@@ -150,11 +150,11 @@ either-step system s p q x e (inr h) = inr (e ∙ ap (after_part s) h)
 
 pub waits-exactly : (system : Disk) (s : MachineState) → WaitsWhereItSays system s
 waits-exactly system s = record {
-  waiting = λ runs. look-waits s true runs ∙ call-waits_in system s.with_program s.cpm.mode s.cpm s.memory refl;
+  waiting = λ runs. look-waits s true runs ∙ call-waits_in system s.with_program s.session.mode s.session s.memory refl;
   ended = λ ended. (look-waits s false ended, step-ended system s ended);
-  call = λ d runs h. step-is system s (by_call d) runs (call-part system s.cpu s.with_program s.cpm.mode s.cpm s.memory d h);
+  call = λ d runs h. step-is system s (by_call d) runs (call-part system s.cpu s.with_program s.session.mode s.session s.memory d h);
   other = λ runs h.
-      let now = part_in system s.cpu s.with_program s.cpm.mode s.cpm s.memory in
-      either-step system s (instruction s.cpu s.cpm s.memory) (made s.cpm s.memory outcome.Exits) now (step-is system s now runs refl)
-      (call-other system s.cpu s.with_program s.cpm.mode s.cpm s.memory h);
+      let now = part_in system s.cpu s.with_program s.session.mode s.session s.memory in
+      either-step system s (instruction s.cpu s.session s.memory) (made s.session s.memory outcome.Exits) now (step-is system s now runs refl)
+      (call-other system s.cpu s.with_program s.session.mode s.session s.memory h);
 }

@@ -14,10 +14,10 @@ use Rattle.cpm_bdos.specs.Step.{bdos, bios}
 use Rattle.cpm_bdos.specs.Waiting.{is_waiting, call_in, is_command}
 use Rattle.cpm_bdos.proofs.WaitLaws.{IsWaiting-now}
 use Rattle.cpm_ccp.proofs.WaitLaws.{WaitsForKeys-now}
-use Rattle.cpm_bdos.specs.declared.cpm.Cpm.{Cpm}
-use Rattle.cpm_bdos.specs.declared.cpm.Mode.{Mode}
-use Rattle.cpm_bdos.specs.declared.cpm.Mode.TheVariants.{Program, Text, Line, Hold, Fault, Command}
-use Rattle.cpm_bdos.specs.declared.cpm.Went.TheVariants.{Waits}
+use Rattle.cpm_bdos.specs.declared.session.Session.{Session}
+use Rattle.cpm_bdos.specs.declared.session.Mode.{Mode}
+use Rattle.cpm_bdos.specs.declared.session.Mode.TheVariants.{Program, Text, Line, Hold, Fault, Command}
+use Rattle.cpm_bdos.specs.declared.session.Went.TheVariants.{Waits}
 use Rattle.cpm_machine.specs.declared.reply.End.{End}
 use Rattle.cpm_machine.specs.declared.reply.End.TheVariants.{Running, Quota, CountEnd}
 use Rattle.cpm_machine.specs.declared.steps.Outcome.TheVariants as outcome
@@ -29,7 +29,7 @@ use Rattle.cpm_machine.specs.Runner.{IsSound, IsRun}
 use Rattle.cpm_machine.specs.Step.{part, part_in, at_trap, by_call, made, end_of, after_part, step_if, is_running, step, after, can_step}
 
 -- the call that PC names is that of the trap there
-call-at_trap : (system : Disk) (cpu : Cpu) (with_program : Bool) (s : Cpm) (m : Contents) (d : Did) → call_in Program system s m ≡ Some d → at_trap system cpu with_program (trap_at s.regs.pc) s m ≡ by_call d
+call-at_trap : (system : Disk) (cpu : Cpu) (with_program : Bool) (s : Session) (m : Contents) (d : Did) → call_in Program system s m ≡ Some d → at_trap system cpu with_program (trap_at s.regs.pc) s m ≡ by_call d
 unfolding trap_at
 call-at_trap system cpu with_program s m d = by_tests s.regs.pc (s.regs.pc == 58374) (s.regs.pc == 60422) (nat_le 64256 s.regs.pc && nat_le s.regs.pc 64272) refl refl refl
   where
@@ -44,7 +44,7 @@ call-at_trap system cpu with_program s m d = by_tests s.regs.pc (s.regs.pc == 58
     by_tests pc false false false ea eb ec h = absurd cc
 
 -- and in the other modes it is the BDOS's
-call-part_in : (system : Disk) (cpu : Cpu) (with_program : Bool) (mode : Mode) (s : Cpm) (m : Contents) (d : Did) → call_in mode system s m ≡ Some d → part_in system cpu with_program mode s m ≡ by_call d
+call-part_in : (system : Disk) (cpu : Cpu) (with_program : Bool) (mode : Mode) (s : Session) (m : Contents) (d : Did) → call_in mode system s m ≡ Some d → part_in system cpu with_program mode s m ≡ by_call d
 call-part_in system cpu with_program Program s m d h = call-at_trap system cpu with_program s m d h
 call-part_in system cpu with_program (Text next) s m d h = let same : bdos system s m ≡ d = cc in ap by_call same
 call-part_in system cpu with_program Line s m d h = let same : bdos system s m ≡ d = cc in ap by_call same
@@ -53,12 +53,12 @@ call-part_in system cpu with_program Fault s m d h = let same : bdos system s m 
 call-part_in system cpu with_program (Command part) s m d h = absurd cc
 
 -- a call that waits changes nothing
-by_call-waits : (system : Disk) (cpu : Cpu) (with_program : Bool) (mode : Mode) (s : Cpm) (m : Contents) → s.mode ≡ mode → is_command mode ≡ false → is_waiting s m ≡ true → part_in system cpu with_program mode s m ≡ made s m outcome.GoesOn
+by_call-waits : (system : Disk) (cpu : Cpu) (with_program : Bool) (mode : Mode) (s : Session) (m : Contents) → s.mode ≡ mode → is_command mode ≡ false → is_waiting s m ≡ true → part_in system cpu with_program mode s m ≡ made s m outcome.GoesOn
 by_call-waits system cpu with_program mode s m e plain h =
     call-part_in system cpu with_program mode s m (did s m Waits) (ap (λ mode. call_in mode system s m) (sym e) ∙ (IsWaiting-now s m).changes_nothing h (ap is_command e ∙ plain) system)
 
 -- and neither does a part of the command processor
-part-waits_in : (system : Disk) (cpu : Cpu) (with_program : Bool) (mode : Mode) (s : Cpm) (m : Contents) → s.mode ≡ mode → is_waiting s m ≡ true → part_in system cpu with_program mode s m ≡ made s m outcome.GoesOn
+part-waits_in : (system : Disk) (cpu : Cpu) (with_program : Bool) (mode : Mode) (s : Session) (m : Contents) → s.mode ≡ mode → is_waiting s m ≡ true → part_in system cpu with_program mode s m ≡ made s m outcome.GoesOn
 part-waits_in system cpu with_program (Command part) s m e h = ap by_call ((WaitsForKeys-now system s m).changes_nothing (ap is_command e) h)
 part-waits_in system cpu with_program Program s m e h = by_call-waits system cpu with_program Program s m e refl h
 part-waits_in system cpu with_program (Text next) s m e h = by_call-waits system cpu with_program (Text next) s m e refl h
@@ -66,16 +66,16 @@ part-waits_in system cpu with_program Line s m e h = by_call-waits system cpu wi
 part-waits_in system cpu with_program (Hold held) s m e h = by_call-waits system cpu with_program (Hold held) s m e refl h
 part-waits_in system cpu with_program Fault s m e h = by_call-waits system cpu with_program Fault s m e refl h
 
-part-waits : (system : Disk) (cpu : Cpu) (with_program : Bool) (s : Cpm) (m : Contents) → is_waiting s m ≡ true → part system cpu with_program s m ≡ made s m outcome.GoesOn
+part-waits : (system : Disk) (cpu : Cpu) (with_program : Bool) (s : Session) (m : Contents) → is_waiting s m ≡ true → part system cpu with_program s m ≡ made s m outcome.GoesOn
 unfolding part
 part-waits system cpu with_program s m h = part-waits_in system cpu with_program s.mode s m refl h
 
-pub step-waits : (system : Disk) (s : MachineState) → (look_of s).waiting ≡ true → step system s ≡ after_part s (made s.cpm s.memory outcome.GoesOn)
+pub step-waits : (system : Disk) (s : MachineState) → (look_of s).waiting ≡ true → step system s ≡ after_part s (made s.session s.memory outcome.GoesOn)
 unfolding look_of step
 step-waits system s h =
-    let runs : is_running s.ended ≡ true = and-left (is_running s.ended) (is_waiting s.cpm s.memory) h in
-    let waits : is_waiting s.cpm s.memory ≡ true = and-right (is_running s.ended) (is_waiting s.cpm s.memory) h in
-    ap (λ b. step_if system b s) runs ∙ ap (after_part s) (part-waits system s.cpu s.with_program s.cpm s.memory waits)
+    let runs : is_running s.ended ≡ true = and-left (is_running s.ended) (is_waiting s.session s.memory) h in
+    let waits : is_waiting s.session s.memory ≡ true = and-right (is_running s.ended) (is_waiting s.session s.memory) h in
+    ap (λ b. step_if system b s) runs ∙ ap (after_part s) (part-waits system s.cpu s.with_program s.session s.memory waits)
 
 -- ---- waits in one stroke
 
@@ -97,7 +97,7 @@ goes_on n s sound h below =
     subst (λ q. end_of outcome.GoesOn n (touched_of s.memory) q ≡ Running) sound.limit (goes-by_tests (n == 18446744073709551615) (nat_lt s.memory.limit 256 && nat_lt s.memory.limit (touched_of s.memory + 8)) n s.memory below (sound.room h) refl refl)
 
 -- a session that waits does so up to the greatest count
-pub after-waits : (system : Disk) (k : ℕ) (s : MachineState) → IsSound s → is_running s.ended ≡ true → is_waiting s.cpm s.memory ≡ true → s.count + k ≤ 18446744073709551615 → after system k s ≡ waited s k
+pub after-waits : (system : Disk) (k : ℕ) (s : MachineState) → IsSound s → is_running s.ended ≡ true → is_waiting s.session s.memory ≡ true → s.count + k ≤ 18446744073709551615 → after system k s ≡ waited s k
 unfolding look_of
 after-waits system zero s sound h waits most =
     sym (ap (λ (e : End). record s { count = s.count + 0; ended = e }) (goes_on (s.count + 0) s sound h (omega (arith, sound.count h)))
@@ -107,16 +107,16 @@ after-waits system (suc k) s sound h waits most =
     let goes : end_of outcome.GoesOn (s.count + k) (touched_of s.memory) s.quota ≡ Running = goes_on (s.count + k) s sound h (omega arith) in
     let next : s.count + k + 1 ≡ s.count + suc k = omega arith in
     ap (step system) (after-waits system k s sound h waits (omega arith))
-    ∙ step-waits system (waited s k) (ap (λ (e : End). is_running e && is_waiting s.cpm s.memory) goes ∙ waits)
+    ∙ step-waits system (waited s k) (ap (λ (e : End). is_running e && is_waiting s.session s.memory) goes ∙ waits)
     ∙ ap (λ n. record s { count = n; ended = end_of outcome.GoesOn n (touched_of s.memory) s.quota }) next
 
 -- and each of these steps may be made
-pub IsRun-waits : (system : Disk) (k : ℕ) (s : MachineState) → IsSound s → can_step s ≡ true → is_waiting s.cpm s.memory ≡ true → s.count + k ≤ 18446744073709551615 → IsRun system k s (waited s k)
+pub IsRun-waits : (system : Disk) (k : ℕ) (s : MachineState) → IsSound s → can_step s ≡ true → is_waiting s.session s.memory ≡ true → s.count + k ≤ 18446744073709551615 → IsRun system k s (waited s k)
 IsRun-waits system k s sound can waits most = record {
   now_is = sym (after-waits system k s sound (runs s can) waits most);
   each = λ i below. ap can_step (after-waits system i s sound (runs s can) waits (omega arith))
-      ∙ ap (λ (e : End). is_running e && has_room s.cpm.console) (goes_on (s.count + i) s sound (runs s can) (omega arith))
-      ∙ and-right (is_running s.ended) (has_room s.cpm.console) can;
+      ∙ ap (λ (e : End). is_running e && has_room s.session.console) (goes_on (s.count + i) s sound (runs s can) (omega arith))
+      ∙ and-right (is_running s.ended) (has_room s.session.console) can;
   sound = record {
     limit = sound.limit;
     count = λ h. ⊎_elim (λ (lt : s.count + k < 18446744073709551615). lt)

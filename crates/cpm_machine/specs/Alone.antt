@@ -17,7 +17,7 @@ due count (press ∷ presses) = if press.after == count then press.key ∷ due c
 -- the state with keys pressed
 abbrev pub with_keys : List ℕ → MachineState → MachineState
 with_keys keys s =
-    record s { cpm = record s.cpm { console = record s.cpm.console { keys = s.cpm.console.keys ++ keys } } }
+    record s { session = record s.session { console = record s.session.console { keys = s.session.console.keys ++ keys } } }
 
 -- own: the machine run alone for so many steps with this system drive. A key that comes after some steps can be read by the step that begins then, and by later ones.
 abbrev pub alone : Disk → List Press → ℕ → MachineState → MachineState

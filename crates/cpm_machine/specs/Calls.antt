@@ -2,7 +2,7 @@
 use Rattle.std.specs.Prelude.{ℕ, ◌+◌, List, [], ◌∷◌, ◌++◌, length, take, min, Bool, true, false}
 use Rattle.cpm_geom.specs.Disk.{Disk}
 use Rattle.cpm_memory.specs.Contents.{byte_at}
-use Rattle.cpm_bdos.specs.Behind.{cpm_behind}
+use Rattle.cpm_bdos.specs.Behind.{session_behind}
 use Rattle.cpm_machine.specs.declared.reply.Granted.{Granted}
 use Rattle.cpm_machine.specs.declared.reply.Look.{Look}
 use Rattle.cpm_machine.specs.MachineState.{MachineState}
@@ -46,8 +46,8 @@ unfoldable pub serve : Disk → Call → MachineState → Served
 serve system (Key key) s = served_key (takes_key s) key s
 serve system (Grant steps) s = record { answer = Grants (granted system steps s); state = after system (executed system steps s) s }
 serve system (GrantUntil steps pc) s = record { answer = Grants (granted_until system pc steps s); state = after system (executed_until system pc steps s) s }
-serve system (Take room) s = record { answer = Bytes (take (min room (length s.cpm.console.screen)) s.cpm.console.screen); state = taken room s }
-serve system (TakeList room) s = record { answer = Bytes (take (min room (length s.cpm.console.printer)) s.cpm.console.printer); state = taken_list room s }
+serve system (Take room) s = record { answer = Bytes (take (min room (length s.session.console.screen)) s.session.console.screen); state = taken room s }
+serve system (TakeList room) s = record { answer = Bytes (take (min room (length s.session.console.printer)) s.session.console.printer); state = taken_list room s }
 serve system LookAt s = record { answer = Looked (look_of s); state = s }
 serve system (Peek address) s = record { answer = Peeked (byte_at s.memory address); state = s }
 
@@ -81,4 +81,4 @@ account_after system (call ∷ calls) a s = account_after system calls (entered 
 
 -- the state with the bytes that were taken put back in front
 abbrev pub state_behind : List ℕ → List ℕ → MachineState → MachineState
-state_behind p q s = record s { cpm = cpm_behind p q s.cpm }
+state_behind p q s = record s { session = session_behind p q s.session }

@@ -38,18 +38,18 @@ Cutting = (system : Disk) (a b : ℕ) (s : MachineState) →
 -- a step newly writes at most 8 pages, and puts at most 4,096 bytes on each device
 pub record IsBounded (old new : MachineState) : Type 0 where
   pub pages : touched_of new.memory ≤ touched_of old.memory + 8
-  pub output : IsWithin 4096 old.cpm.console new.cpm.console
+  pub output : IsWithin 4096 old.session.console new.session.console
 
 abbrev pub Bounded : Type 0
-Bounded = (system : Disk) (s : MachineState) → IsFit s.cpm → IsBounded s (step system s)
+Bounded = (system : Disk) (s : MachineState) → IsFit s.session → IsBounded s (step system s)
 
 -- a step takes pending keys from the front alone, and adds none
 abbrev pub KeysLeave : Type 0
-KeysLeave = (system : Disk) (s : MachineState) → length (step system s).cpm.console.keys ≤ length s.cpm.console.keys
+KeysLeave = (system : Disk) (s : MachineState) → length (step system s).session.console.keys ≤ length s.session.console.keys
 
 -- it takes the first one or none, and the others stay in their order
 abbrev pub KeysFromFront : Type 0
-KeysFromFront = (system : Disk) (s : MachineState) → IsFromFront s.cpm.console.keys (step system s).cpm.console.keys
+KeysFromFront = (system : Disk) (s : MachineState) → IsFromFront s.session.console.keys (step system s).session.console.keys
 
 -- After any calls the state, with the bytes that were taken put back in front, is that of the machine run alone from the start, for the keys that were accepted and the steps that were executed: whatever was taken and looked at, however the grants were cut, and as if the keys had been known beforehand.
 abbrev pub Alone : Type 0
@@ -59,7 +59,7 @@ Alone = (system : Disk) (calls : List Call) (start : MachineState) →
 
 -- a step of a machine that waits for a key changes its count alone, and its end by that
 abbrev pub Waiting : Type 0
-Waiting = (system : Disk) (s : MachineState) → (look_of s).waiting ≡ true → step system s ≡ after_part s (made s.cpm s.memory outcome.GoesOn)
+Waiting = (system : Disk) (s : MachineState) → (look_of s).waiting ≡ true → step system s ≡ after_part s (made s.session s.memory outcome.GoesOn)
 
 -- And it is said to wait nowhere else: exactly where its next step is that of a call which needs a key and finds none.
 abbrev pub WaitsExactly : Type 0

@@ -7,7 +7,7 @@ use Rattle.cpm_memory.specs.Layout.{command_processor_address, program_address, 
 use Rattle.cpm_memory.specs.Opening.{opening}
 use Rattle.cpm_console.specs.Terminal.{blank}
 use Rattle.cpm_bdos.specs.Step.{opened}
-use Rattle.cpm_bdos.specs.declared.cpm.Cpm.{Cpm}
+use Rattle.cpm_bdos.specs.declared.session.Session.{Session}
 use Rattle.cpm_ccp.specs.Loading.{memory_started}
 use Rattle.cpm_machine.specs.declared.reply.End.{End}
 use Rattle.cpm_machine.specs.declared.reply.End.TheVariants.{Running}
@@ -15,7 +15,7 @@ use Rattle.cpm_machine.specs.declared.reply.End.TheVariants.{Running}
 pub record MachineState : Type 0 where
   pub cpu : Cpu
   -- the registers, the call in progress, and the console with the bytes that wait to be taken
-  pub cpm : Cpm
+  pub session : Session
   -- the bytes, and which pages were written
   pub memory : Contents
   -- how many pages may be written, 256 for all
@@ -34,7 +34,7 @@ program_puts program = run_puts program_address program ++ word_puts stack_addre
 abbrev pub opened_machine : Cpu → ℕ → List Disk → MachineState
 opened_machine cpu quota drives = record {
   cpu = cpu;
-  cpm = opened blank drives;
+  session = opened blank drives;
   memory = opening quota;
   quota = quota;
   count = 0;
@@ -46,7 +46,7 @@ opened_machine cpu quota drives = record {
 abbrev pub loaded : List ℕ → MachineState → MachineState
 loaded program s =
     record s {
-      cpm = record s.cpm { regs = record s.cpm.regs { pc = program_address } };
+      session = record s.session { regs = record s.session.regs { pc = program_address } };
       memory = after_sets s.memory (program_puts program);
       with_program = true;
     }

@@ -25,30 +25,30 @@ why n k s = if k == n then All else if not (is_running s.ended) then Stopped els
 
 -- own: 4,096 keys may be pending
 abbrev pub takes_key : MachineState → Bool
-takes_key s = nat_lt (length s.cpm.console.keys) 4096
+takes_key s = nat_lt (length s.session.console.keys) 4096
 
 -- the state after a key was pressed, which the next step can read
 abbrev pub keyed : ℕ → MachineState → MachineState
-keyed key s = record s { cpm = record s.cpm { console = pressed s.cpm.console key } }
+keyed key s = record s { session = record s.session { console = pressed s.session.console key } }
 
 -- what is seen of a state
 unfoldable pub look_of : MachineState → Look
 look_of s = record {
-  regs = s.cpm.regs;
+  regs = s.session.regs;
   count = s.count;
   ended = s.ended;
   pages = touched_of s.memory;
-  waiting = is_running s.ended && is_waiting s.cpm s.memory;
-  keys = length s.cpm.console.keys;
-  console = length s.cpm.console.screen;
-  list = length s.cpm.console.printer;
+  waiting = is_running s.ended && is_waiting s.session s.memory;
+  keys = length s.session.console.keys;
+  console = length s.session.console.screen;
+  list = length s.session.console.printer;
 }
 
 -- the state after up to so many console bytes, or list bytes, were taken
 abbrev pub taken : ℕ → MachineState → MachineState
 taken room s =
-    record s { cpm = record s.cpm { console = record s.cpm.console { screen = drop (min room (length s.cpm.console.screen)) s.cpm.console.screen } } }
+    record s { session = record s.session { console = record s.session.console { screen = drop (min room (length s.session.console.screen)) s.session.console.screen } } }
 
 abbrev pub taken_list : ℕ → MachineState → MachineState
 taken_list room s =
-    record s { cpm = record s.cpm { console = record s.cpm.console { printer = drop (min room (length s.cpm.console.printer)) s.cpm.console.printer } } }
+    record s { session = record s.session { console = record s.session.console { printer = drop (min room (length s.session.console.printer)) s.session.console.printer } } }

@@ -8,7 +8,7 @@ use Rattle.cpm_machine.specs.Serve.{longest}
 
 -- own: the next step can be made, and is none that waits for a key
 abbrev pub can_work : MachineState → Bool
-can_work s = can_step s && not (is_waiting s.cpm s.memory)
+can_work s = can_step s && not (is_waiting s.session s.memory)
 
 -- own: such a grant executes the greatest number of steps, at most n, of which each can be made so
 unfoldable pub executed_to_wait : Disk → ℕ → MachineState → ℕ

@@ -5,11 +5,11 @@ use Rattle.cpm_memory.specs.Contents.{Contents}
 use Rattle.cpm_bdos.specs.Did.{Did}
 use Rattle.cpm_bdos.specs.Step.{bdos, bios}
 use Rattle.cpm_ccp.specs.Step.{ccp}
-use Rattle.cpm_bdos.specs.declared.cpm.Cpm.{Cpm}
-use Rattle.cpm_bdos.specs.declared.cpm.Mode.{Mode}
-use Rattle.cpm_bdos.specs.declared.cpm.Mode.TheVariants.{Program, Command}
-use Rattle.cpm_bdos.specs.declared.cpm.Went.{Went}
-use Rattle.cpm_bdos.specs.declared.cpm.Went.TheVariants.{Returned, Waits, GoesOn, Reboot}
+use Rattle.cpm_bdos.specs.declared.session.Session.{Session}
+use Rattle.cpm_bdos.specs.declared.session.Mode.{Mode}
+use Rattle.cpm_bdos.specs.declared.session.Mode.TheVariants.{Program, Command}
+use Rattle.cpm_bdos.specs.declared.session.Went.{Went}
+use Rattle.cpm_bdos.specs.declared.session.Went.TheVariants.{Returned, Waits, GoesOn, Reboot}
 use Rattle.cpm_machine.specs.declared.steps.Outcome.TheVariants as outcome
 use Rattle.cpm_machine.specs.declared.trap.Trap.{Trap}
 use Rattle.cpm_machine.specs.declared.trap.Trap.TheVariants.{CommandProcessor, Bdos, Bios}
@@ -19,26 +19,26 @@ use Rattle.cpm_machine.specs.Serve.{look_of}
 use Rattle.cpm_machine.specs.Step.{made, instruction, part, by_call, after_part, is_running, step}
 
 -- a machine made with a program ends at the command processor, which is no call (own)
-abbrev pub call_at_prompt : Disk → Bool → Cpm → Contents → Option Did
+abbrev pub call_at_prompt : Disk → Bool → Session → Contents → Option Did
 call_at_prompt system true s m = None
 call_at_prompt system false s m = Some (ccp system s m)
 
 -- the call that is done at a trap, with what it leaves; an instruction is none (own)
-abbrev pub call_at : Disk → Bool → Option Trap → Cpm → Contents → Option Did
+abbrev pub call_at : Disk → Bool → Option Trap → Session → Contents → Option Did
 call_at system with_program None s m = None
 call_at system with_program (Some CommandProcessor) s m = call_at_prompt system with_program s m
 call_at system with_program (Some Bdos) s m = Some (bdos system s m)
 call_at system with_program (Some (Bios number)) s m = Some (bios number system s m)
 
 -- the call, or the part of the command processor, of which the mode asks a step (own)
-abbrev pub call_of : Disk → Bool → Mode → Cpm → Contents → Option Did
+abbrev pub call_of : Disk → Bool → Mode → Session → Contents → Option Did
 call_of system with_program Program s m = call_at system with_program (trap_at s.regs.pc) s m
 call_of system with_program (Command part) s m = Some (ccp system s m)
 call_of system with_program _ s m = Some (bdos system s m)
 
 -- that of the next step of a session that runs (own)
 abbrev pub next_call : Disk → MachineState → Option Did
-next_call system s = call_of system s.with_program s.cpm.mode s.cpm s.memory
+next_call system s = call_of system s.with_program s.session.mode s.session s.memory
 
 -- it needs a key, and none is pending (own)
 abbrev pub is_wait : Went → Bool
@@ -60,4 +60,4 @@ pub record WaitsWhereItSays (system : Disk) (s : MachineState) : Type 0 where
   -- the step is that call
   pub call : (d : Did) → is_running s.ended ≡ true → next_call system s ≡ Some d → step system s ≡ after_part s (by_call d)
   -- where there is none it is an instruction, or the end of a machine made with a program
-  pub other : is_running s.ended ≡ true → next_call system s ≡ None → (step system s ≡ after_part s (instruction s.cpu s.cpm s.memory)) ⊎ (step system s ≡ after_part s (made s.cpm s.memory outcome.Exits))
+  pub other : is_running s.ended ≡ true → next_call system s ≡ None → (step system s ≡ after_part s (instruction s.cpu s.session s.memory)) ⊎ (step system s ≡ after_part s (made s.session s.memory outcome.Exits))

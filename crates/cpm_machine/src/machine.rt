@@ -16,7 +16,7 @@ use crate::opening::{OpenError, Opening};
 use crate::reply::{Closed, End, Granted, KeysFull, Look};
 use crate::steps::{self, Runner};
 use crate::{to_wait, until};
-use cpm_bdos::Cpm;
+use cpm_bdos::Session;
 use cpm_ccp::{Tail, leave_tail};
 use cpm_console::Console;
 use cpm_decode::DecodeCache;
@@ -129,7 +129,7 @@ impl Machine {
         } = parts;
         let runner = Runner {
             cpu,
-            cpm: Cpm::new(console, drives),
+            session: Session::new(console, drives),
             quota,
             count: 0,
             ended: End::Running,
@@ -144,7 +144,7 @@ impl Machine {
         requires { self.old.quota ≡ 256 }
         ensures { self.new ≡ loaded program.now self.old }
     {
-        self.runner.cpm.regs.pc = PROGRAM;
+        self.runner.session.regs.pc = PROGRAM;
         self.runner.with_program = true;
         set_run(&mut self.memory, PROGRAM, program);
         set_word(&mut self.memory, STACK, COMMAND_PROCESSOR);
@@ -165,7 +165,7 @@ impl Machine {
         ensures state { self.new ≡ (if result then step system.now self.old else self.old) }
         ensures bounds { IsBounded self.old self.new }
     {
-        self.runner.cpm.numbers_fit();
+        self.runner.session.numbers_fit();
         self.grant(system, 1).executed == 1
     }
 
@@ -205,7 +205,7 @@ impl Machine {
         ensures accepted { IfOk result (λ _. takes_key self.old ≡ true × self.new ≡ keyed key self.old) }
         ensures refused { IfErr result (λ _. takes_key self.old ≡ false × self.new ≡ self.old) }
     {
-        if self.runner.cpm.console.give(key) {
+        if self.runner.session.console.give(key) {
             Ok(())
         } else {
             Err(KeysFull)
@@ -214,20 +214,20 @@ impl Machine {
 
     /// Moves out the first console bytes, as many as fit, and says how many.
     pub fn take(&mut self, out: &mut [u8]) -> usize
-        ensures count { result ≡ min (length out.old) (length self.old.cpm.console.screen) }
-        ensures bytes { out.new ≡ take result self.old.cpm.console.screen ++ drop result out.old }
+        ensures count { result ≡ min (length out.old) (length self.old.session.console.screen) }
+        ensures bytes { out.new ≡ take result self.old.session.console.screen ++ drop result out.old }
         ensures state { self.new ≡ taken (length out.old) self.old }
     {
-        self.runner.cpm.console.take(out)
+        self.runner.session.console.take(out)
     }
 
     /// Moves out the first list bytes, as many as fit, and says how many.
     pub fn take_list(&mut self, out: &mut [u8]) -> usize
-        ensures count { result ≡ min (length out.old) (length self.old.cpm.console.printer) }
-        ensures bytes { out.new ≡ take result self.old.cpm.console.printer ++ drop result out.old }
+        ensures count { result ≡ min (length out.old) (length self.old.session.console.printer) }
+        ensures bytes { out.new ≡ take result self.old.session.console.printer ++ drop result out.old }
         ensures state { self.new ≡ taken_list (length out.old) self.old }
     {
-        self.runner.cpm.console.take_list(out)
+        self.runner.session.console.take_list(out)
     }
 
     /// What is seen of the machine.
@@ -247,12 +247,12 @@ impl Machine {
     /// What is left of the machine. Bytes not taken are dropped.
     pub fn finish(self) -> Closed
         ensures look { result.look ≡ look_of self }
-        ensures drives { result.drives ≡ images_of self.cpm.disks }
+        ensures drives { result.drives ≡ images_of self.session.disks }
     {
         let look = self.look();
         let Machine { runner, .. } = self;
-        let Runner { cpm, .. } = runner;
-        let Cpm { disks, .. } = cpm;
+        let Runner { session, .. } = runner;
+        let Session { disks, .. } = session;
         let drives = disks.into_images();
         Closed { look, drives }
     }

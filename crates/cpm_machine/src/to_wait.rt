@@ -15,7 +15,7 @@ use cpm_memory::Memory;
 fn can_work<M: Memory>(runner: &Runner, memory: &M) -> bool
     ensures { result ≡ can_work (state_of runner.now (M.contents memory.now)) }
 {
-    can_step(runner, memory) && !waits(&runner.cpm, memory)
+    can_step(runner, memory) && !waits(&runner.session, memory)
 }
 
 /// Executes the greatest number of steps, at most `steps`, that can be made and of which none waits for a key; says how many.

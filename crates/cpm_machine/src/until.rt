@@ -8,22 +8,22 @@ ghost use Rattle.cpm_machine.specs.Until.{begins_at, can_go_on, executed_until, 
 
 use crate::reply::{End, Granted, Why};
 use crate::steps::{Runner, can_step, step_or_wait};
-use cpm_bdos::{Cpm, Mode};
+use cpm_bdos::{Session, Mode};
 use cpm_geom::Image;
 use cpm_memory::Memory;
 
 /// Whether the next step begins in the program at this address.
-fn begins_at(cpm: &Cpm, pc: u16) -> bool
-    ensures { result ≡ begins_at pc cpm.now }
+fn begins_at(session: &Session, pc: u16) -> bool
+    ensures { result ≡ begins_at pc session.now }
 {
-    cpm.mode == Mode::Program && cpm.regs.pc == pc
+    session.mode == Mode::Program && session.regs.pc == pc
 }
 
 /// Whether a grant that executed so many steps makes a further one.
 fn can_go_on<M: Memory>(runner: &Runner, memory: &M, pc: u16, executed: u64) -> bool
     ensures { result ≡ can_go_on pc executed (state_of runner.now (M.contents memory.now)) }
 {
-    can_step(runner, memory) && (executed == 0 || !begins_at(&runner.cpm, pc))
+    can_step(runner, memory) && (executed == 0 || !begins_at(&runner.session, pc))
 }
 
 /// Why a grant ended here.
@@ -35,7 +35,7 @@ fn why_ended<M: Memory>(runner: &Runner, memory: &M, pc: u16, steps: u64, execut
         Why::All
     } else if runner.ended != End::Running {
         Why::Stopped
-    } else if executed != 0 && begins_at(&runner.cpm, pc) {
+    } else if executed != 0 && begins_at(&runner.session, pc) {
         Why::Break
     } else {
         Why::Blocked
@@ -64,7 +64,7 @@ pub fn grant_until<M: Memory>(
     let mut executed = 0;
     while executed < steps && can_go_on(runner, memory, pc, executed) {
         // Of steps that begin at the address only the first may be made.
-        let most = if begins_at(&runner.cpm, pc) {
+        let most = if begins_at(&runner.session, pc) {
             1
         } else {
             steps - executed

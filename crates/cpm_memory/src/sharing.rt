@@ -3,7 +3,7 @@
 ghost use Rattle.std.specs.Prelude.{◌≡◌, ◌+◌, ◌<◌, ℕ, Some, None, slice_set, IsErr, IfOk, OnErr, ◌↔◌};
 
 use crate::pages::TableId;
-use crate::store::{FrameStore, MemoryError};
+use crate::store::{FrameStore, MemError};
 
 impl FrameStore {
     ghost use Rattle.cpm_memory.specs.Frames.{IsSound, IsTaken, table_at, private_at, place_of, owners_at, used_by, reserved_by, memory_of, memory_at, memories, KeepsPlaces, KeepsStamps};
@@ -38,7 +38,7 @@ impl FrameStore {
     }
 
     /// Takes a table, whose memory is that of another one, and reserves as many frames as that one has. Its pages are made of the same frames: none is copied.
-    pub fn share(&mut self, table: TableId) -> Result<TableId, MemoryError>
+    pub fn share(&mut self, table: TableId) -> Result<TableId, MemError>
         requires taken { IsTaken self.old table }
         requires tables { taken_in (memories self.old) < 64 }
         ensures free { IfOk result (λ t. memory_at self.old t ≡ None) }

@@ -37,7 +37,7 @@ none-due n i (k ∷ keys) order below =
 -- ---- all but the pending keys
 
 abbrev pub keyless : MachineState → MachineState
-keyless s = record s { cpm = record s.cpm { console = record s.cpm.console { keys = [] } } }
+keyless s = record s { session = record s.session { console = record s.session.console { keys = [] } } }
 
 -- keys that come with the last step or later are pending at most
 pub alone-taken : (system : Disk) (pressed later : List Press) (n : ℕ) (start : MachineState) → ((i : ℕ) → i < n → due i later ≡ []) → keyless (alone system (pressed ++ later) n start) ≡ keyless (alone system pressed n start)
@@ -65,7 +65,7 @@ alone-ended system presses n (suc k) start ended =
 
 -- ---- steps alone
 
-pub after-pending : (system : Disk) (n : ℕ) (s : MachineState) → length (after system n s).cpm.console.keys ≤ length s.cpm.console.keys
+pub after-pending : (system : Disk) (n : ℕ) (s : MachineState) → length (after system n s).session.console.keys ≤ length s.session.console.keys
 after-pending system zero s = omega arith
 after-pending system (suc n) s =
     let before = after-pending system n s in let last = keys_leave-step system (after system n s) in omega arith
@@ -83,12 +83,12 @@ first_left (x ∷ xs) ys some e = cc
 
 text-step : (system : Disk) (s : MachineState) → HasText s → HasText (step system s)
 text-step system s some =
-    let screen = s.cpm.console.screen in
-    let bare : MachineState = record s { cpm = record s.cpm { console = record s.cpm.console { screen = [] } } } in
+    let screen = s.session.console.screen in
+    let bare : MachineState = record s { session = record s.session { console = record s.session.console { screen = [] } } } in
     let split : state_behind screen [] bare ≡ s =
-    ap (λ (xs : List ℕ). record s { cpm = record s.cpm { console = record s.cpm.console { screen = xs } } }) (append-nil screen) in
+    ap (λ (xs : List ℕ). record s { session = record s.session { console = record s.session.console { screen = xs } } }) (append-nil screen) in
     let kept : state_behind screen [] (step system bare) ≡ step system s = sym (step-behind system screen [] bare) ∙ ap (step system) split in
-    subst HasText kept (first_left screen (step system bare).cpm.console.screen some)
+    subst HasText kept (first_left screen (step system bare).session.console.screen some)
 
 pub text-alone : (system : Disk) (presses : List Press) (n k : ℕ) (start : MachineState) → HasText (alone system presses n start) → HasText (alone system presses (n + k) start)
 text-alone system presses n zero start some = subst (λ m. HasText (alone system presses m start)) (sym (add-zero n)) some

@@ -49,9 +49,9 @@ module _ (system : Disk) (k : ℕ) (old now : MachineState) (before written : Op
   pub takes-later : takes_key old ≡ true → takes_key now ≡ true
   takes-later takes =
       let left_it = after-pending system k old in
-      let same : length now.cpm.console.keys ≡ length (after system k old).cpm.console.keys = ap (λ (s : MachineState). length s.cpm.console.keys) run.state in
-      let room : length old.cpm.console.keys < 4096 = grind (arith, nat_tests) in
-      let still : length now.cpm.console.keys < 4096 = omega arith in
+      let same : length now.session.console.keys ≡ length (after system k old).session.console.keys = ap (λ (s : MachineState). length s.session.console.keys) run.state in
+      let room : length old.session.console.keys < 4096 = grind (arith, nat_tests) in
+      let still : length now.session.console.keys < 4096 = omega arith in
       grind (arith, nat_tests)
 
   pub reached : (key : Key) (done : ℕ) → done ≤ key.count → HasStopped false system (key.count - done) k old now → is_running now.ended ≡ true → done + k ≡ key.count
@@ -93,10 +93,10 @@ module _ {system : Disk} {steps most : ℕ} {start now : MachineState} {before w
   pub going-runs : (i : ℕ) → runs_at system start keys (done + i) ≡ is_running (after system i now).ended
   going-runs i = ap (λ (s : MachineState). is_running s.ended) (going-state i)
 
-  pub going-shows : (i : ℕ) → screen_at system start keys (done + i) ≡ screen_at system start keys done ++ (after system i now).cpm.console.screen
+  pub going-shows : (i : ℕ) → screen_at system start keys (done + i) ≡ screen_at system start keys done ++ (after system i now).session.console.screen
   going-shows i =
-      ap (λ (s : MachineState). s.cpm.console.screen) (going-state i)
-      ∙ ap (λ xs. xs ++ (after system i now).cpm.console.screen) (going-screen system steps most start now before written unrecorded record_now keys done going)
+      ap (λ (s : MachineState). s.session.console.screen) (going-state i)
+      ∙ ap (λ xs. xs ++ (after system i now).session.console.screen) (going-screen system steps most start now before written unrecorded record_now keys done going)
 
   -- steps whose text is taken
   pub going-run : (k : ℕ) (next : MachineState) (written_then : Option (List ℕ)) → k ≤ steps - done → HasRun system k now next written written_then →
@@ -146,9 +146,9 @@ module _ {system : Disk} {steps most : ℕ} {start now : MachineState} {before w
         subst (λ ks. IsGoing system steps most start next before written_then unrecorded record_now ks done_now) (sym same) went
 
     -- what it has shown then
-    pub idle-shows : screen_at system start keys done_now ≡ screen_at system start keys done ++ (after system (done_now - done) now).cpm.console.screen
+    pub idle-shows : screen_at system start keys done_now ≡ screen_at system start keys done ++ (after system (done_now - done) now).session.console.screen
     idle-shows =
-        let P : ℕ → Type 0 = λ n. screen_at system start keys n ≡ screen_at system start keys done ++ (after system (done_now - done) now).cpm.console.screen in
+        let P : ℕ → Type 0 = λ n. screen_at system start keys n ≡ screen_at system start keys done ++ (after system (done_now - done) now).session.console.screen in
         subst P past (going-shows (done_now - done))
 
     -- whether it waits there

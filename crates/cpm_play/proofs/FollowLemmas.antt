@@ -28,8 +28,8 @@ use Rattle.cpm_play.proofs.RunLemmas.{bare, ended-waits}
 screen-pressed : (system : Disk) (start : MachineState) (keys more : List Key) (key : Key) → more ≡ keys ++ key ∷ [] → screen_at system start more key.count ≡ screen_at system start keys key.count
 screen-pressed system start keys more key is =
     ap (λ ks. screen_at system start ks key.count) is
-    ∙ ap (λ ps. (alone system ps key.count start).cpm.console.screen) (presses-more keys key)
-    ∙ ap (λ (s : MachineState). s.cpm.console.screen) (alone-pressed system (presses_of keys) key.count key.byte start)
+    ∙ ap (λ ps. (alone system ps key.count start).session.console.screen) (presses-more keys key)
+    ∙ ap (λ (s : MachineState). s.session.console.screen) (alone-pressed system (presses_of keys) key.count key.byte start)
 
 -- an empty text stands everywhere
 empty-shown : (text shown : List ℕ) → text ≡ [] → HasShown text shown
@@ -65,7 +65,7 @@ pub record IsFollowing (system : Disk) (start : MachineState) (steps waits_from 
   pub busy : HasNoWait system start keys (max waits_from (last_count 0 keys)) done
   pub ascii : AreAscii rest
   pub room : length keys + key_count rest ≤ most
-  pub pending : length now.cpm.console.keys ≤ length keys
+  pub pending : length now.session.console.keys ≤ length keys
 
 pub follow-start : (system : Disk) (start : MachineState) (steps waits_from : ℕ) (cues : List Cue) (written record_now : Option (List ℕ)) (keys : List Key) (shown : List ℕ) → IsFresh start → AreAscii cues → keys ≡ [] → shown ≡ [] →
     IsFollowing system start steps waits_from (key_count cues) cues start written written record_now record_now keys 0 cues shown
@@ -80,7 +80,7 @@ follow-start system start steps waits_from cues written record_now keys shown fr
       busy = λ i low high. absurd (omega arith);
       ascii = ascii;
       room = omega arith;
-      pending = let bare : length start.cpm.console.keys ≡ 0 = ap length fresh.keys in omega arith;
+      pending = let bare : length start.session.console.keys ≡ 0 = ap length fresh.keys in omega arith;
     })
 
 -- this cue is a key at this count, where the one before it counts from another on
@@ -134,7 +134,7 @@ module _ {system : Disk} {start : MachineState} {steps waits_from most : ℕ} {c
     takes-cue few =
         let pending = following.pending in
         let count = cue.room in
-        let room : length now.cpm.console.keys < 4096 = omega arith in
+        let room : length now.session.console.keys < 4096 = omega arith in
         grind (arith, nat_tests)
 
     -- a key that comes
@@ -170,8 +170,8 @@ module _ {system : Disk} {start : MachineState} {steps waits_from most : ℕ} {c
           pending =
               let before_it = following.pending in
               let left_it = after-pending system k now in
-              let one : length next.cpm.console.keys ≡ length (after system k now).cpm.console.keys + 1 =
-              ap (λ (s : MachineState). length s.cpm.console.keys) pressed.state ∙ length_push (after system k now).cpm.console.keys key.byte in
+              let one : length next.session.console.keys ≡ length (after system k now).session.console.keys + 1 =
+              ap (λ (s : MachineState). length s.session.console.keys) pressed.state ∙ length_push (after system k now).session.console.keys key.byte in
               omega arith;
         })
 
@@ -220,7 +220,7 @@ module _ {system : Disk} {start : MachineState} {steps waits_from most : ℕ} {c
   module _ {text : Vec ℕ Global} {others : List Cue} (following : IsFollowing system start steps waits_from most cues now before written unrecorded record_now keys done (Wait text ∷ others) shown)
       {done_now : ℕ} {next : MachineState} {written_then : Option (List ℕ)} (left : List ℕ) (within_steps : done_now ≤ steps)
       (idled : HasIdled system steps waits_from done done_now now next written written_then)
-      (kept : looks_back (Wait text ∷ others) ≡ true → left ≡ shown ++ (after system (done_now - done) now).cpm.console.screen) where
+      (kept : looks_back (Wait text ∷ others) ≡ true → left ≡ shown ++ (after system (done_now - done) now).session.console.screen) where
     pub wait-going : IsGoing system steps most start next before written_then unrecorded record_now keys done_now
     wait-going = idle-going following.going idled keys refl within_steps
 
@@ -233,13 +233,13 @@ module _ {system : Disk} {start : MachineState} {steps waits_from most : ℕ} {c
     waits-there : waits_at system start keys done_now ≡ (look_of next).waiting
     waits-there = idle-waits following.going idled
 
-    grows : screen_at system start keys done_now ≡ screen_at system start keys done ++ (after system (done_now - done) now).cpm.console.screen
+    grows : screen_at system start keys done_now ≡ screen_at system start keys done ++ (after system (done_now - done) now).session.console.screen
     grows = idle-shows following.going idled
 
     seen : looks_back (Wait text ∷ others) ≡ true → left ≡ drop following.mark (screen_at system start keys done_now)
     seen looks =
-        kept looks ∙ ap (λ xs. xs ++ (after system (done_now - done) now).cpm.console.screen) (following.kept looks)
-        ∙ sym (drop-append-le following.mark (screen_at system start keys done) (after system (done_now - done) now).cpm.console.screen following.marked)
+        kept looks ∙ ap (λ xs. xs ++ (after system (done_now - done) now).session.console.screen) (following.kept looks)
+        ∙ sym (drop-append-le following.mark (screen_at system start keys done) (after system (done_now - done) now).session.console.screen following.marked)
         ∙ ap (drop following.mark) (sym grows)
 
     shown-there : (b : Bool) → looks_back (Wait text ∷ others) ≡ b → HasShown text.items left → HasShown text.items (drop following.mark (screen_at system start keys done_now))
@@ -263,8 +263,8 @@ module _ {system : Disk} {start : MachineState} {steps waits_from most : ℕ} {c
       mark = following.mark;
       marked =
           let marked = following.marked in
-          let longer : length (screen_at system start keys done_now) ≡ length (screen_at system start keys done) + length (after system (done_now - done) now).cpm.console.screen =
-          ap length grows ∙ length-append (screen_at system start keys done) (after system (done_now - done) now).cpm.console.screen in
+          let longer : length (screen_at system start keys done_now) ≡ length (screen_at system start keys done) + length (after system (done_now - done) now).session.console.screen =
+          ap length grows ∙ length-append (screen_at system start keys done) (after system (done_now - done) now).session.console.screen in
           omega arith;
       cued = λ ks h. following.cued ks (inl (
         done_now,
@@ -282,7 +282,7 @@ module _ {system : Disk} {start : MachineState} {steps waits_from most : ℕ} {c
       pending =
           let before_it = following.pending in
           let left_it = after-pending system (done_now - done) now in
-          let same : length next.cpm.console.keys ≡ length (after system (done_now - done) now).cpm.console.keys = ap (λ (s : MachineState). length s.cpm.console.keys) idled.run.state in
+          let same : length next.session.console.keys ≡ length (after system (done_now - done) now).session.console.keys = ap (λ (s : MachineState). length s.session.console.keys) idled.run.state in
           omega arith;
     }
 

@@ -71,10 +71,10 @@ gone-turn system start keys done k console list now gone = record {
 
 gone-taken : (system : Disk) (start : MachineState) (keys : List Key) (done : ℕ) (console list : List ℕ) (now : MachineState) →
     HasGone system start keys done console list now →
-    HasGone system start keys done (console ++ now.cpm.console.screen) (list ++ now.cpm.console.printer) (without_list (without_text now))
+    HasGone system start keys done (console ++ now.session.console.screen) (list ++ now.session.console.printer) (without_list (without_text now))
 gone-taken system start keys done console list now gone = record {
-  state = ap₂ (λ (xs ys : List ℕ). record now { cpm = record now.cpm { console = record now.cpm.console { screen = xs; printer = ys } } })
-      (append-nil (console ++ now.cpm.console.screen)) (append-nil (list ++ now.cpm.console.printer)) ∙ gone.state;
+  state = ap₂ (λ (xs ys : List ℕ). record now { session = record now.session { console = record now.session.console { screen = xs; printer = ys } } })
+      (append-nil (console ++ now.session.console.screen)) (append-nil (list ++ now.session.console.printer)) ∙ gone.state;
   come = gone.come;
   typed = gone.typed;
 }
@@ -115,19 +115,19 @@ module _ (system : Disk) (steps most : ℕ) (start now : MachineState) (before w
 
   -- steps whose text is taken
   pub going-turn : (k : ℕ) (turned last : MachineState) (written_then : Option (List ℕ)) → k ≤ steps - done → turned ≡ after system k now →
-      last ≡ without_list (without_text turned) → Appends written written_then turned.cpm.console.screen →
+      last ≡ without_list (without_text turned) → Appends written written_then turned.session.console.screen →
       IsGoing system steps most start last before written_then unrecorded record_now keys (done + k)
   going-turn k turned last written_then fits is taken writes =
       let within = going.within in
       let there : HasGone system start keys (done + k) going.console going.list turned =
       subst (λ s. HasGone system start keys (done + k) going.console going.list s) (sym is) (gone-turn system start keys done k going.console going.list now going.gone) in
       record {
-        console = going.console ++ turned.cpm.console.screen;
-        list = going.list ++ turned.cpm.console.printer;
-        gone = subst (λ s. HasGone system start keys (done + k) (going.console ++ turned.cpm.console.screen) (going.list ++ turned.cpm.console.printer) s) (sym taken)
+        console = going.console ++ turned.session.console.screen;
+        list = going.list ++ turned.session.console.printer;
+        gone = subst (λ s. HasGone system start keys (done + k) (going.console ++ turned.session.console.screen) (going.list ++ turned.session.console.printer) s) (sym taken)
             (gone-taken system start keys (done + k) going.console going.list turned there);
-        shown = appends_more before written written_then written_then going.console turned.cpm.console.screen going.shown writes (keeps_all written_then);
-        quiet = record { screen = ap (λ (s : MachineState). s.cpm.console.screen) taken; printer = ap (λ (s : MachineState). s.cpm.console.printer) taken };
+        shown = appends_more before written written_then written_then going.console turned.session.console.screen going.shown writes (keeps_all written_then);
+        quiet = record { screen = ap (λ (s : MachineState). s.session.console.screen) taken; printer = ap (λ (s : MachineState). s.session.console.printer) taken };
         within = omega arith;
         few = going.few;
         noted = going.noted;
@@ -143,26 +143,26 @@ module _ (system : Disk) (steps most : ℕ) (start now : MachineState) (before w
         done = done + k;
         within = omega arith;
         given = record { typed = there.typed; come = there.come; few = going.few };
-        text = λ none. shown (both_empty going.console (after system k now).cpm.console.screen (ap (λ (s : MachineState). s.cpm.console.screen) there.state ∙ none));
+        text = λ none. shown (both_empty going.console (after system k now).session.console.screen (ap (λ (s : MachineState). s.session.console.screen) there.state ∙ none));
       }
 
-  pub going-screen : going.console ≡ (alone_by system keys done start).cpm.console.screen
-  going-screen = sym (append-nil going.console) ∙ ap (λ xs. going.console ++ xs) (sym going.quiet.screen) ∙ ap (λ (s : MachineState). s.cpm.console.screen) going.gone.state
+  pub going-screen : going.console ≡ (alone_by system keys done start).session.console.screen
+  going-screen = sym (append-nil going.console) ∙ ap (λ xs. going.console ++ xs) (sym going.quiet.screen) ∙ ap (λ (s : MachineState). s.session.console.screen) going.gone.state
 
   -- what it is now
   pub going-given : AreGiven most done keys
   going-given = record { typed = going.gone.typed; come = going.gone.come; few = going.few }
 
-  pub going-shown : Appends before written (alone_by system keys done start).cpm.console.screen
+  pub going-shown : Appends before written (alone_by system keys done start).session.console.screen
   going-shown = subst (λ xs. Appends before written xs) going-screen going.shown
 
   pub going-ending : EndsAs (alone_by system keys done start) now
   going-ending = record {
     count = ap (λ (s : MachineState). s.count) going.gone.state;
     ended = ap (λ (s : MachineState). s.ended) going.gone.state;
-    regs = ap (λ (s : MachineState). s.cpm.regs) going.gone.state;
+    regs = ap (λ (s : MachineState). s.session.regs) going.gone.state;
     memory = ap (λ (s : MachineState). s.memory) going.gone.state;
-    disks = ap (λ (s : MachineState). s.cpm.disks) going.gone.state;
+    disks = ap (λ (s : MachineState). s.session.disks) going.gone.state;
   }
 
   -- it waits for a key exactly where that one does

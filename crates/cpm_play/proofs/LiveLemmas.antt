@@ -48,7 +48,7 @@ module _ (system : Disk) (steps most : ℕ) (start now : MachineState) (before w
 
   -- the steps of a turn, whose text is taken
   pub live-turn : (k : ℕ) (turned last : MachineState) (written_then : Option (List ℕ)) → k ≤ steps - done → turned ≡ after system k now →
-      last ≡ without_list (without_text turned) → Appends written written_then turned.cpm.console.screen →
+      last ≡ without_list (without_text turned) → Appends written written_then turned.session.console.screen →
       IsLive system steps most start last before written_then unrecorded record_now unread left keys (done + k)
   live-turn k turned last written_then fits is taken writes = record {
     going = going-turn system steps most start now before written unrecorded record_now keys done live.going k turned last written_then fits is taken writes;
@@ -107,7 +107,7 @@ unfolding executed_until
 unmoved system pc n k s quiet some is none =
     let longest = longest-is (λ i. can_go_on pc i (after system i s)) n in
     let blocked : can_go_on pc 0 s ≡ false = subst (λ i. i < n → can_go_on pc i (after system i s) ≡ false) (sym is ∙ none) longest.greatest some in
-    go (is_running s.ended) (has_room s.cpm.console) (room s.cpm.console quiet.screen quiet.printer) blocked
+    go (is_running s.ended) (has_room s.session.console) (room s.session.console quiet.screen quiet.printer) blocked
   where
     room : (t : Terminal) → t.screen ≡ [] → t.printer ≡ [] → has_room t ≡ true
     room t x y = ap₂ (λ (a b : List ℕ). nat_le (length a) 4096 && nat_le (length b) 4096) x y
@@ -120,5 +120,5 @@ unmoved system pc n k s quiet some is none =
 pub takes-first : (s : MachineState) (look : Look) → look ≡ look_of s → look.keys ≡ 0 → takes_key s ≡ true
 unfolding look_of
 takes-first s look is none =
-    let count : length s.cpm.console.keys ≡ 0 = sym (ap (λ (l : Look). l.keys) is) ∙ none in
+    let count : length s.session.console.keys ≡ 0 = sym (ap (λ (l : Look). l.keys) is) ∙ none in
     grind (arith, nat_tests)

@@ -42,7 +42,7 @@ on-start system keys steps start fresh order = record {
   came = λ i past. refl;
   later = order;
   within = omega arith;
-  pending = let none : length start.cpm.console.keys ≡ 0 = ap length fresh.keys in omega arith;
+  pending = let none : length start.session.console.keys ≡ 0 = ap length fresh.keys in omega arith;
   all = record { within = omega arith; most = omega arith; all = inl refl };
 }
 
@@ -83,7 +83,7 @@ on-key system keys steps byte start pace console list now is on =
       came = λ i past. ap (due i) presses ∙ AllCame-pressed (presses_of (take pace.pressed keys)) pace.done byte on.came i past;
       later = subst (λ n. IsInOrder n (drop (pace.pressed + 1) keys)) same order.1;
       within = omega arith;
-      pending = let longer : length (now.cpm.console.keys ++ byte ∷ []) ≡ length now.cpm.console.keys + 1 = length_push now.cpm.console.keys byte in omega arith;
+      pending = let longer : length (now.session.console.keys ++ byte ∷ []) ≡ length now.session.console.keys + 1 = length_push now.session.console.keys byte in omega arith;
       all = record { within = on.all.within; most = on.all.most; all = on.all.all };
     }
 
@@ -93,7 +93,7 @@ pub takes-due : (system : Disk) (keys : List Key) (steps byte : ℕ) (start : Ma
 takes-due system keys steps byte start pace console list now few is on =
     let within : pace.pressed < length keys = slice_get_within keys pace.pressed is.key is.at in
     let pending = on.pending in
-    let room : length now.cpm.console.keys < 4096 = omega arith in
+    let room : length now.session.console.keys < 4096 = omega arith in
     grind (arith, nat_tests)
 
 all-later : (steps k : ℕ) (pace : Pace) (now next : MachineState) → k ≤ left_in pace → (is_running now.ended ≡ false → is_running next.ended ≡ false) → IsOfAll steps pace now → IsOfAll steps (record pace { done = pace.done + k }) next
@@ -131,7 +131,7 @@ on-behind system keys steps start pace console list console' list' now next same
   came = on.came;
   later = on.later;
   within = on.within;
-  pending = subst (λ (ks : List ℕ). length ks ≤ pace.pressed) (sym (ap (λ (s : MachineState). s.cpm.console.keys) same)) on.pending;
+  pending = subst (λ (ks : List ℕ). length ks ≤ pace.pressed) (sym (ap (λ (s : MachineState). s.session.console.keys) same)) on.pending;
   all = record {
     within = on.all.within;
     most = on.all.most;
@@ -141,7 +141,7 @@ on-behind system keys steps start pace console list console' list' now next same
 
 -- bytes of a device that are taken
 pub on-take : (system : Disk) (keys : List Key) (steps room : ℕ) (start : MachineState) (pace : Pace) (console list : List ℕ) (now : MachineState) (on_device : Device) → IsOn system keys steps start pace console list now →
-    let waits = waiting_on on_device now.cpm.console in
+    let waits = waiting_on on_device now.session.console in
     let bytes = take (min room (length waits)) waits in
     IsOn system keys steps start pace (console_with on_device bytes console) (list_with on_device bytes list) (taken_from on_device room now)
 on-take system keys steps room start pace console list now device.Console on = on-behind system keys steps start pace console list _ _ now (taken room now) (taken-behind console list room now) on
@@ -167,7 +167,7 @@ unfolding executed
 stopped system n s none some is =
     let longest = longest-is (λ k. can_step (after system k s)) n in
     let blocked : can_step s ≡ false = subst (λ k. k < n → can_step (after system k s) ≡ false) (sym is) longest.greatest some in
-    go (is_running s.ended) (has_room s.cpm.console) (room s.cpm.console none.screen none.printer) blocked
+    go (is_running s.ended) (has_room s.session.console) (room s.session.console none.screen none.printer) blocked
   where
     room : (t : Terminal) → t.screen ≡ [] → t.printer ≡ [] → has_room t ≡ true
     room t x y = ap₂ (λ (a b : List ℕ). nat_le (length a) 4096 && nat_le (length b) 4096) x y
@@ -218,13 +218,13 @@ pub on-end : (system : Disk) (keys : List Key) (steps : ℕ) (start : MachineSta
 on-end system keys steps start pace console list now on quiet none =
     let same : keyless (alone system (presses_of keys) steps start) ≡ keyless (state_behind console list now) = keys-all system keys steps start pace console list now on none in
     record {
-      screen = sym (append-nil console) ∙ ap (λ xs. console ++ xs) (sym quiet.screen) ∙ ap (λ (s : MachineState). s.cpm.console.screen) (sym same);
-      printer = sym (append-nil list) ∙ ap (λ xs. list ++ xs) (sym quiet.printer) ∙ ap (λ (s : MachineState). s.cpm.console.printer) (sym same);
+      screen = sym (append-nil console) ∙ ap (λ xs. console ++ xs) (sym quiet.screen) ∙ ap (λ (s : MachineState). s.session.console.screen) (sym same);
+      printer = sym (append-nil list) ∙ ap (λ xs. list ++ xs) (sym quiet.printer) ∙ ap (λ (s : MachineState). s.session.console.printer) (sym same);
       count = ap (λ (s : MachineState). s.count) (sym same);
       ended = ap (λ (s : MachineState). s.ended) (sym same);
-      regs = ap (λ (s : MachineState). s.cpm.regs) (sym same);
+      regs = ap (λ (s : MachineState). s.session.regs) (sym same);
       memory = ap (λ (s : MachineState). s.memory) (sym same);
-      disks = ap (λ (s : MachineState). s.cpm.disks) (sym same);
+      disks = ap (λ (s : MachineState). s.session.disks) (sym same);
     }
 
 -- text that a session shows is text of the whole
@@ -232,9 +232,9 @@ pub on-text : (system : Disk) (keys : List Key) (steps : ℕ) (start : MachineSt
     HasText (alone system (presses_of keys) steps start)
 on-text system keys steps start pace console list now on some =
     let same = keys-taken system keys steps start pace console list now on in
-    let screen : (alone system (presses_of keys) pace.done start).cpm.console.screen ≡ console ++ now.cpm.console.screen =
-    ap (λ (s : MachineState). s.cpm.console.screen) same in
-    let here : HasText (alone system (presses_of keys) pace.done start) = λ none. some (both_empty console now.cpm.console.screen (sym screen ∙ none)) in
+    let screen : (alone system (presses_of keys) pace.done start).session.console.screen ≡ console ++ now.session.console.screen =
+    ap (λ (s : MachineState). s.session.console.screen) same in
+    let here : HasText (alone system (presses_of keys) pace.done start) = λ none. some (both_empty console now.session.console.screen (sym screen ∙ none)) in
     let within = on.all.within in let most = on.all.most in
     let total : pace.done + (steps - pace.done) ≡ steps = omega arith in
     subst (λ n. HasText (alone system (presses_of keys) n start)) total (text-alone system (presses_of keys) pace.done (steps - pace.done) start here)
@@ -288,11 +288,11 @@ on-advance system keys steps k quantum start old new console list now quiet none
 
 -- all bytes that wait are taken
 on-taken : (system : Disk) (keys : List Key) (steps : ℕ) (start : MachineState) (pace : Pace) (console list : List ℕ) (now : MachineState) → IsOn system keys steps start pace console list now →
-    IsOn system keys steps start pace (console ++ now.cpm.console.screen) (list ++ now.cpm.console.printer) (without_list (without_text now))
+    IsOn system keys steps start pace (console ++ now.session.console.screen) (list ++ now.session.console.printer) (without_list (without_text now))
 on-taken system keys steps start pace console list now on =
     on-behind system keys steps start pace console list _ _ now (without_list (without_text now))
-    (ap₂ (λ (xs ys : List ℕ). record now { cpm = record now.cpm { console = record now.cpm.console { screen = xs; printer = ys } } })
-    (append-nil (console ++ now.cpm.console.screen)) (append-nil (list ++ now.cpm.console.printer))) on
+    (ap₂ (λ (xs ys : List ℕ). record now { session = record now.session { console = record now.session.console { screen = xs; printer = ys } } })
+    (append-nil (console ++ now.session.console.screen)) (append-nil (list ++ now.session.console.printer))) on
 
 pub shown-start : (system : Disk) (keys : List Key) (steps : ℕ) (start : MachineState) (o : Option (List ℕ)) → IsFresh start → IsInOrder 0 keys → IsShown system keys steps start (first_pace steps) start o o
 shown-start system keys steps start o fresh order = record {
@@ -328,19 +328,19 @@ pressed-more keys byte old pace now s next (Err fault) few due accepted refused 
 pub shown-turn : (system : Disk) (keys : List Key) (steps k quantum : ℕ) (start : MachineState) (old pressed new : Pace) (now next turned last : MachineState) (before middle written : Option (List ℕ)) →
     IsShown system keys steps start old now before middle → IsPressed keys old pressed now next → due_at pressed.done (slice_get keys pressed.pressed) ≡ None → 1 ≤ quantum →
     k ≡ executed system (turn_of pressed keys quantum) next → k ≤ turn_of pressed keys quantum → turned ≡ after system k next → IsAdvanced k pressed new →
-    last ≡ without_list (without_text turned) → Appends middle written turned.cpm.console.screen → IsShown system keys steps start new last before written
+    last ≡ without_list (without_text turned) → Appends middle written turned.session.console.screen → IsShown system keys steps start new last before written
 shown-turn system keys steps k quantum start old pressed new now next turned last before middle written shown press none some is turn state moves taken_all writes =
     let here : IsOn system keys steps start pressed shown.text shown.list next = press.on system steps start shown.text shown.list shown.on in
     let there : IsOn system keys steps start new shown.text shown.list (after system k next) =
     on-advance system keys steps k quantum start pressed new shown.text shown.list next (press.quiet shown.quiet) none some is turn moves here in
     let P : MachineState → Type 0 = λ s. IsOn system keys steps start new shown.text shown.list s in
-    let Q : MachineState → Type 0 = λ s. IsOn system keys steps start new (shown.text ++ turned.cpm.console.screen) (shown.list ++ turned.cpm.console.printer) s in
+    let Q : MachineState → Type 0 = λ s. IsOn system keys steps start new (shown.text ++ turned.session.console.screen) (shown.list ++ turned.session.console.printer) s in
     record {
-      text = shown.text ++ turned.cpm.console.screen;
-      list = shown.list ++ turned.cpm.console.printer;
+      text = shown.text ++ turned.session.console.screen;
+      list = shown.list ++ turned.session.console.printer;
       on = subst Q (sym taken_all) (on-taken system keys steps start new shown.text shown.list turned (subst P (sym state) there));
-      appended = appends_more before middle written written shown.text turned.cpm.console.screen shown.appended writes (keeps_all written);
-      quiet = record { screen = ap (λ (s : MachineState). s.cpm.console.screen) taken_all; printer = ap (λ (s : MachineState). s.cpm.console.printer) taken_all };
+      appended = appends_more before middle written written shown.text turned.session.console.screen shown.appended writes (keeps_all written);
+      quiet = record { screen = ap (λ (s : MachineState). s.session.console.screen) taken_all; printer = ap (λ (s : MachineState). s.session.console.printer) taken_all };
     }
 
 -- text of a turn is text of the whole
@@ -355,7 +355,7 @@ shown-text system keys steps k quantum start old pressed new now next turned bef
     on-text system keys steps start new shown.text shown.list (after system k next) there (subst HasText state text)
 
 pub shown-end : (system : Disk) (keys : List Key) (steps : ℕ) (start : MachineState) (pace : Pace) (now : MachineState) (before written : Option (List ℕ)) → IsShown system keys steps start pace now before written → left_in pace ≡ 0 →
-    Appends before written (alone system (presses_of keys) steps start).cpm.console.screen × EndsAs (alone system (presses_of keys) steps start) now
+    Appends before written (alone system (presses_of keys) steps start).session.console.screen × EndsAs (alone system (presses_of keys) steps start) now
 shown-end system keys steps start pace now before written shown none =
     let played : IsPlayed system keys steps start now shown.text shown.list = on-end system keys steps start pace shown.text shown.list now shown.on shown.quiet none in
     (subst (λ xs. Appends before written xs) played.screen shown.appended, record { count = played.count; ended = played.ended; regs = played.regs; memory = played.memory; disks = played.disks })

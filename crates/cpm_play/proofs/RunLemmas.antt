@@ -29,15 +29,15 @@ use Rattle.cpm_play.proofs.TextLemmas.{appends_more, appends_none, both_empty, k
 abbrev pub bare : MachineState → MachineState
 bare s = without_list (without_text s)
 
-behind-bare : (s : MachineState) → state_behind s.cpm.console.screen s.cpm.console.printer (bare s) ≡ s
+behind-bare : (s : MachineState) → state_behind s.session.console.screen s.session.console.printer (bare s) ≡ s
 behind-bare s =
-    ap₂ (λ (xs ys : List ℕ). record s { cpm = record s.cpm { console = record s.cpm.console { screen = xs; printer = ys } } })
-    (append-nil s.cpm.console.screen) (append-nil s.cpm.console.printer)
+    ap₂ (λ (xs ys : List ℕ). record s { session = record s.session { console = record s.session.console { screen = xs; printer = ys } } })
+    (append-nil s.session.console.screen) (append-nil s.session.console.printer)
 
 pub quiet-taken : (old now : MachineState) (before written : Option (List ℕ)) → IsTaken old now before written → IsQuiet now
 quiet-taken old now before written taken = record {
-  screen = ap (λ (s : MachineState). s.cpm.console.screen) taken.state;
-  printer = ap (λ (s : MachineState). s.cpm.console.printer) taken.state;
+  screen = ap (λ (s : MachineState). s.session.console.screen) taken.state;
+  printer = ap (λ (s : MachineState). s.session.console.printer) taken.state;
 }
 
 -- ---- a text that is looked for
@@ -50,27 +50,27 @@ find-none shown text (Some place) first none found = absurd (let bad : ⊥ = cc 
 
 pub run-none : (system : Disk) (s : MachineState) (written : Option (List ℕ)) → IsQuiet s → HasRun system 0 s s written written
 run-none system s written quiet = record {
-  state = ap₂ (λ (xs ys : List ℕ). record s { cpm = record s.cpm { console = record s.cpm.console { screen = xs; printer = ys } } }) quiet.screen quiet.printer;
+  state = ap₂ (λ (xs ys : List ℕ). record s { session = record s.session { console = record s.session.console { screen = xs; printer = ys } } }) quiet.screen quiet.printer;
   text = subst (λ xs. Appends written written xs) (sym quiet.screen) (appends_none written);
 }
 
-pub kept-none : (s : MachineState) (old : List ℕ) → IsQuiet s → old ≡ old ++ s.cpm.console.screen
+pub kept-none : (s : MachineState) (old : List ℕ) → IsQuiet s → old ≡ old ++ s.session.console.screen
 kept-none s old quiet = sym (append-nil old) ∙ ap (λ xs. old ++ xs) (sym quiet.screen)
 
 module _ (system : Disk) (k : ℕ) (old mid : MachineState) (before middle : Option (List ℕ)) (run : HasRun system k old mid before middle) where
   -- with the output that was taken put back in front the steps go on
-  pub run-on : (j : ℕ) → after system (k + j) old ≡ state_behind (after system k old).cpm.console.screen (after system k old).cpm.console.printer (after system j mid)
+  pub run-on : (j : ℕ) → after system (k + j) old ≡ state_behind (after system k old).session.console.screen (after system k old).session.console.printer (after system j mid)
   run-on j =
       let far : MachineState = after system k old in
-      after-add system k j old ∙ ap (after system j) (sym (behind-bare far)) ∙ after-behind system far.cpm.console.screen far.cpm.console.printer j (bare far)
-      ∙ ap (λ s. state_behind far.cpm.console.screen far.cpm.console.printer (after system j s)) (sym run.state)
+      after-add system k j old ∙ ap (after system j) (sym (behind-bare far)) ∙ after-behind system far.session.console.screen far.session.console.printer j (bare far)
+      ∙ ap (λ s. state_behind far.session.console.screen far.session.console.printer (after system j s)) (sym run.state)
 
   pub run-more : (j : ℕ) (turned next : MachineState) (written : Option (List ℕ)) → turned ≡ after system j mid → IsTaken turned next middle written → HasRun system (k + j) old next before written
   run-more j turned next written is taken = record {
     state = taken.state ∙ ap bare is ∙ sym (ap bare (run-on j));
-    text = subst (λ xs. Appends before written xs) (sym (ap (λ (s : MachineState). s.cpm.console.screen) (run-on j)))
-        (appends_more before middle written written (after system k old).cpm.console.screen (after system j mid).cpm.console.screen run.text
-        (subst (λ (s : MachineState). Appends middle written s.cpm.console.screen) is taken.text) (keeps_all written));
+    text = subst (λ xs. Appends before written xs) (sym (ap (λ (s : MachineState). s.session.console.screen) (run-on j)))
+        (appends_more before middle written written (after system k old).session.console.screen (after system j mid).session.console.screen run.text
+        (subst (λ (s : MachineState). Appends middle written s.session.console.screen) is taken.text) (keeps_all written));
   }
 
   -- one that makes no step
@@ -87,23 +87,23 @@ module _ (system : Disk) (k : ℕ) (old mid : MachineState) (before middle : Opt
   run-cut steps j turned next written (Unwritable e) fits is cut = (
     k + j,
     fits,
-    λ none. cut (ap (λ (s : MachineState). s.cpm.console.screen) is
-        ∙ both_empty (after system k old).cpm.console.screen (after system j mid).cpm.console.screen (sym (ap (λ (s : MachineState). s.cpm.console.screen) (run-on j)) ∙ none)),
+    λ none. cut (ap (λ (s : MachineState). s.session.console.screen) is
+        ∙ both_empty (after system k old).session.console.screen (after system j mid).session.console.screen (sym (ap (λ (s : MachineState). s.session.console.screen) (run-on j)) ∙ none)),
   )
   run-cut steps j turned next written OutOfMemory fits is cut = (k + j, fits, run-more j turned next written is cut)
 
   -- what is kept grows with what is shown
-  pub kept-more : (j : ℕ) (turned : MachineState) (start kept more : List ℕ) → turned ≡ after system j mid → kept ≡ start ++ (after system k old).cpm.console.screen → more ≡ kept ++ turned.cpm.console.screen →
-      more ≡ start ++ (after system (k + j) old).cpm.console.screen
+  pub kept-more : (j : ℕ) (turned : MachineState) (start kept more : List ℕ) → turned ≡ after system j mid → kept ≡ start ++ (after system k old).session.console.screen → more ≡ kept ++ turned.session.console.screen →
+      more ≡ start ++ (after system (k + j) old).session.console.screen
   kept-more j turned start kept more turns had is =
-      is ∙ ap (λ (s : MachineState). kept ++ s.cpm.console.screen) turns ∙ ap (λ xs. xs ++ (after system j mid).cpm.console.screen) had ∙ append_assoc start (after system k old).cpm.console.screen (after system j mid).cpm.console.screen
-      ∙ ap (λ xs. start ++ xs) (sym (ap (λ (s : MachineState). s.cpm.console.screen) (run-on j)))
+      is ∙ ap (λ (s : MachineState). kept ++ s.session.console.screen) turns ∙ ap (λ xs. xs ++ (after system j mid).session.console.screen) had ∙ append_assoc start (after system k old).session.console.screen (after system j mid).session.console.screen
+      ∙ ap (λ xs. start ++ xs) (sym (ap (λ (s : MachineState). s.session.console.screen) (run-on j)))
 
 -- ---- waits
 
 -- whatever output waits to be taken
 pub waits-behind : (p q : List ℕ) (s : MachineState) → (look_of (state_behind p q s)).waiting ≡ (look_of s).waiting
-waits-behind p q s = waits-output (p ++ s.cpm.console.screen) (q ++ s.cpm.console.printer) s
+waits-behind p q s = waits-output (p ++ s.session.console.screen) (q ++ s.session.console.printer) s
 
 pub waits-bare : (s : MachineState) → (look_of (bare s)).waiting ≡ (look_of s).waiting
 waits-bare s = waits-output [] [] s
@@ -111,7 +111,7 @@ waits-bare s = waits-output [] [] s
 -- one that has ended does not
 pub ended-waits : (s : MachineState) → is_running s.ended ≡ false → (look_of s).waiting ≡ false
 unfolding look_of
-ended-waits s ended = ap (λ b. b && is_waiting s.cpm s.memory) ended
+ended-waits s ended = ap (λ b. b && is_waiting s.session s.memory) ended
 
 pub busy-more : (system : Disk) (k j : ℕ) (old mid : MachineState) (before middle : Option (List ℕ)) → HasRun system k old mid before middle →
     IsBusyFor system k old → IsBusyFor system j mid → IsBusyFor system (k + j) old
@@ -121,7 +121,7 @@ busy-more system k j old mid before middle run first second i below = ⊎_elim (
     let P : ℕ → Type 0 = λ n. (look_of (after system n old)).waiting ≡ false in
     let far : MachineState = after system k old in
     subst P at (ap (λ (s : MachineState). (look_of s).waiting) (run-on system k old mid before middle run (i - k))
-    ∙ waits-behind far.cpm.console.screen far.cpm.console.printer (after system (i - k) mid) ∙ second (i - k) (omega arith)))
+    ∙ waits-behind far.session.console.screen far.session.console.printer (after system (i - k) mid) ∙ second (i - k) (omega arith)))
     (cases_lt i k)
 
 -- ---- what a turn executes
@@ -136,7 +136,7 @@ stopped-ended system n k s next quiet some is none at =
     let longest = longest-is (λ i. can_step (after system i s)) n in
     let blocked : can_step s ≡ false = subst (λ i. i < n → can_step (after system i s) ≡ false) (sym is ∙ none) longest.greatest some in
     ap (λ (t : MachineState). is_running t.ended) (at ∙ ap (λ m. after system m s) none)
-    ∙ go (is_running s.ended) (has_room s.cpm.console) (room-quiet s.cpm.console quiet.screen quiet.printer) blocked
+    ∙ go (is_running s.ended) (has_room s.session.console) (room-quiet s.session.console quiet.screen quiet.printer) blocked
   where
     go : (a b : Bool) → b ≡ true → (a && b) ≡ false → a ≡ false
     go false b e f = refl
@@ -150,8 +150,8 @@ stopped-waits system n k s next quiet some is none at =
     let longest = longest-is (λ i. can_work (after system i s)) n in
     let blocked : can_work s ≡ false = subst (λ i. i < n → can_work (after system i s) ≡ false) (sym is ∙ none) longest.greatest some in
     let same : next ≡ s = at ∙ ap (λ m. after system m s) none in
-    subst (λ (t : MachineState). (is_running t.ended ≡ false) ⊎ ((is_running t.ended && is_waiting t.cpm t.memory) ≡ true)) (sym same)
-    (go (is_running s.ended) (has_room s.cpm.console) (is_waiting s.cpm s.memory) (room-quiet s.cpm.console quiet.screen quiet.printer) blocked)
+    subst (λ (t : MachineState). (is_running t.ended ≡ false) ⊎ ((is_running t.ended && is_waiting t.session t.memory) ≡ true)) (sym same)
+    (go (is_running s.ended) (has_room s.session.console) (is_waiting s.session s.memory) (room-quiet s.session.console quiet.screen quiet.printer) blocked)
   where
     go : (a b w : Bool) → b ≡ true → ((a && b) && not w) ≡ false → (a ≡ false) ⊎ ((a && w) ≡ true)
     go false b w e f = inl refl
@@ -165,7 +165,7 @@ busy-granted system n k s is i below =
     let longest = longest-is (λ i. can_work (after system i s)) n in
     let works : can_work (after system i s) ≡ true = longest.each i (subst (λ m. i < m) is below) in
     let t : MachineState = after system i s in
-    go (is_running t.ended) (has_room t.cpm.console) (is_waiting t.cpm t.memory) works
+    go (is_running t.ended) (has_room t.session.console) (is_waiting t.session t.memory) works
   where
     go : (a b w : Bool) → ((a && b) && not w) ≡ true → (a && w) ≡ false
     go false b w e = refl
@@ -245,7 +245,7 @@ module _ (system : Disk) (steps waits_from done pause k j : ℕ) (old mid next :
           let P : ℕ → Type 0 = λ n. (look_of (after system n old)).waiting ≡ false in
           let far : MachineState = after system k old in
           subst P at (ap (λ (s : MachineState). (look_of s).waiting) (run-on system k old mid before middle run (i - done - k))
-          ∙ waits-behind far.cpm.console.screen far.cpm.console.printer (after system (i - done - k) mid) ∙ stopped_then.0 (i - done - k) (omega arith));
+          ∙ waits-behind far.session.console.screen far.session.console.printer (after system (i - done - k) mid) ∙ stopped_then.0 (i - done - k) (omega arith));
       why = ⊎_elim (λ (all : j ≡ steps - (done + k)). inl (omega arith))
           (λ rest. ⊎_elim (λ ended. inr (inl ended)) waits rest) stopped_then.1;
     }
@@ -260,8 +260,8 @@ module _ (system : Disk) (steps waits_from done pause k j : ℕ) (old mid next :
             (λ ended. inr (inl (ended_then ended))) stopped
 
     -- and what is kept is what both showed
-    pub pause-kept : (start kept more : List ℕ) → kept ≡ start ++ (after system k old).cpm.console.screen → more ≡ kept ++ (after system j mid).cpm.console.screen →
-        more ≡ start ++ (after system ((done + k + j) - done) old).cpm.console.screen
+    pub pause-kept : (start kept more : List ℕ) → kept ≡ start ++ (after system k old).session.console.screen → more ≡ kept ++ (after system j mid).session.console.screen →
+        more ≡ start ++ (after system ((done + k + j) - done) old).session.console.screen
     pause-kept start kept more had is =
-        let P : ℕ → Type 0 = λ n. more ≡ start ++ (after system n old).cpm.console.screen in
+        let P : ℕ → Type 0 = λ n. more ≡ start ++ (after system n old).session.console.screen in
         subst P (sym together) (kept-more system k old mid before middle run j (after system j mid) start kept more refl had is)

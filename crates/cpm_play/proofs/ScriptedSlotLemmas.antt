@@ -135,7 +135,7 @@ took-count n room out waiting fits bytes = record {
 
 -- a slot that is open gives its bytes
 take-served : (h : Host) (id room : ℕ) (on : Device) (s : MachineState) → slot_at id h.slots ≡ Some s →
-    let waits = waiting_on on s.cpm.console in
+    let waits = waiting_on on s.session.console in
     reply_at h id (Calls (take_call on room)) ≡ reply.Bytes (record { items = take (min room (length waits)) waits })
 take-served h id room on s at = reply-served h id (take_call on room) s at ∙ ap (λ (x : Served). reply_of x.answer) (serve-take h.system on room s)
 
@@ -149,7 +149,7 @@ bytes-taken h id room n on out replied fits = go (slot_at id h.slots) refl
   where
     go : (o : Option MachineState) → slot_at id h.slots ≡ o → AreTaken n room out (waits_in on o)
     go None at = let bad : true ≡ false = ap is_bytes replied ∙ bytes-none h id (take_call on room) at in absurd (let no : ⊥ = cc in no)
-    go (Some s) at = took-count n room out (waiting_on on s.cpm.console) fits (ap bytes_in (replied ∙ take-served h id room on s at))
+    go (Some s) at = took-count n room out (waiting_on on s.session.console) fits (ap bytes_in (replied ∙ take-served h id room on s at))
 
 pub bytes-refused : (h : Host) (id room : ℕ) (on : Device) (out : List ℕ) (fault : Refusal) → take_reply (Err fault) out ≡ reply_at h id (Calls (take_call on room)) → AreTaken 0 room out (waits_in on (slot_at id h.slots))
 bytes-refused h id room on out fault replied = go (slot_at id h.slots) refl
@@ -220,7 +220,7 @@ pub playing-take : (steps n room : ℕ) (start : MachineState) (on : Device) (ou
     new ≡ after_ask old p.id.0 (Calls (take_call on room)) → HasAdded on (take n out) p q → IsPlaying steps start p old → IsPlaying steps start q new
 playing-take steps n room start on out p q old new took is added playing =
     let s = playing.now in
-    let waits = waiting_on on s.cpm.console in
+    let waits = waiting_on on s.session.console in
     let next = taken_from on room s in
     let t : AreTaken n room out waits = subst (λ o. AreTaken n room out (waits_in on o)) playing.stands took in
     let bytes = take (min room (length waits)) waits in

@@ -8,17 +8,17 @@ use Rattle.cpm_play.specs.Playing.{HasText}
 
 -- the state with other bytes on its console, or on its list device
 abbrev pub with_text : List ℕ → MachineState → MachineState
-with_text xs s = record s { cpm = record s.cpm { console = record s.cpm.console { screen = xs } } }
+with_text xs s = record s { session = record s.session { console = record s.session.console { screen = xs } } }
 
 abbrev pub with_list : List ℕ → MachineState → MachineState
-with_list xs s = record s { cpm = record s.cpm { console = record s.cpm.console { printer = xs } } }
+with_list xs s = record s { session = record s.session { console = record s.session.console { printer = xs } } }
 
 -- some of the console bytes were moved to the writer
 pub record IsMoved (start now : MachineState) (before after : Option (List ℕ)) : Type 0 where
   pub text : List ℕ
   pub written : Appends before after text
-  pub whole : text ++ now.cpm.console.screen ≡ start.cpm.console.screen
-  pub state : now ≡ with_text now.cpm.console.screen start
+  pub whole : text ++ now.session.console.screen ≡ start.session.console.screen
+  pub state : now ≡ with_text now.session.console.screen start
 
 -- known bytes grow twice, and then stay
 pub appends_more : (before middle grown kept : Option (List ℕ)) (xs ys : List ℕ) → Appends before middle xs → Appends middle grown ys → Keeps grown kept
@@ -39,12 +39,12 @@ keeps_all (Some xs) = refl
 
 -- one chunk more
 pub moved_more : (start now next : MachineState) (before middle grown kept : Option (List ℕ)) (room : ℕ) (chunk : List ℕ) → IsMoved start now before middle
-    → chunk ≡ take (min room (length now.cpm.console.screen)) now.cpm.console.screen → next ≡ taken room now → Appends middle grown chunk → Keeps grown kept
+    → chunk ≡ take (min room (length now.session.console.screen)) now.session.console.screen → next ≡ taken room now → Appends middle grown chunk → Keeps grown kept
     → IsMoved start next before kept
 moved_more start now next before middle grown kept room chunk moved is state writes keeps =
-    let screen = now.cpm.console.screen in
+    let screen = now.session.console.screen in
     let count = min room (length screen) in
-    let left : next.cpm.console.screen ≡ drop count screen = ap (λ (s : MachineState). s.cpm.console.screen) state in
+    let left : next.session.console.screen ≡ drop count screen = ap (λ (s : MachineState). s.session.console.screen) state in
     record {
       text = moved.text ++ chunk;
       written = appends_more before middle grown kept moved.text chunk moved.written writes keeps;
@@ -65,7 +65,7 @@ kept_none start written old whole = record {
 }
 
 pub kept_more : (start now next : MachineState) (before middle grown held : Option (List ℕ)) (room : ℕ) (chunk old kept more : List ℕ) (had whole : Bool) → IsMovedKept start now before middle old kept had
-    → chunk ≡ take (min room (length now.cpm.console.screen)) now.cpm.console.screen → next ≡ taken room now → Appends middle grown chunk → Keeps grown held
+    → chunk ≡ take (min room (length now.session.console.screen)) now.session.console.screen → next ≡ taken room now → Appends middle grown chunk → Keeps grown held
     → (whole ≡ true → had ≡ true) → (whole ≡ true → more ≡ kept ++ chunk) → IsMovedKept start next before held old more whole
 unfolding moved_more
 kept_more start now next before middle grown held room chunk old kept more had whole so_far is state writes keeps all keeps_it = record {
@@ -95,8 +95,8 @@ both_empty (x ∷ xs) ys e = absurd (let bad : ⊥ = cc in bad)
 
 -- bytes were there to be taken
 pub moved_text : (start now : MachineState) (before written : Option (List ℕ)) (room count : ℕ) → IsMoved start now before written
-    → count ≡ min room (length now.cpm.console.screen) → (count ≡ 0 → ⊥) → HasText start
+    → count ≡ min room (length now.session.console.screen) → (count ≡ 0 → ⊥) → HasText start
 moved_text start now before written room count moved is some none =
-    let left : now.cpm.console.screen ≡ [] = both_empty moved.text now.cpm.console.screen (moved.whole ∙ none) in
-    let zero : length now.cpm.console.screen ≡ 0 = ap length left in
+    let left : now.session.console.screen ≡ [] = both_empty moved.text now.session.console.screen (moved.whole ∙ none) in
+    let zero : length now.session.console.screen ≡ 0 = ap length left in
     some (omega arith)

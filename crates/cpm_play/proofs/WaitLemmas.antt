@@ -5,11 +5,11 @@ use Rattle.cpm_memory.specs.Layout.{bdos_address, console_input_address}
 use Rattle.cpm_bdos.specs.Function.{function_of}
 use Rattle.cpm_bdos.specs.Keys.{first_key}
 use Rattle.cpm_bdos.specs.Waiting.{function_needs_key, is_waiting, needs_key, part_needs_key}
-use Rattle.cpm_bdos.specs.declared.cpm.CommandPart.{CommandPart}
-use Rattle.cpm_bdos.specs.declared.cpm.CommandPart.TheVariants as part
-use Rattle.cpm_bdos.specs.declared.cpm.Cpm.{Cpm}
-use Rattle.cpm_bdos.specs.declared.cpm.Mode.{Mode}
-use Rattle.cpm_bdos.specs.declared.cpm.Mode.TheVariants.{Program, Text, Line, Hold, Fault, Command}
+use Rattle.cpm_bdos.specs.declared.session.CommandPart.{CommandPart}
+use Rattle.cpm_bdos.specs.declared.session.CommandPart.TheVariants as part
+use Rattle.cpm_bdos.specs.declared.session.Session.{Session}
+use Rattle.cpm_bdos.specs.declared.session.Mode.{Mode}
+use Rattle.cpm_bdos.specs.declared.session.Mode.TheVariants.{Program, Text, Line, Hold, Fault, Command}
 use Rattle.cpm_bdos.specs.declared.function.Function.{Function}
 use Rattle.cpm_bdos.specs.declared.function.Function.TheVariants as function
 use Rattle.cpm_machine.specs.MachineState.{MachineState}
@@ -17,10 +17,10 @@ use Rattle.cpm_machine.specs.Serve.{look_of}
 use Rattle.cpm_machine.specs.Step.{is_running}
 
 -- the session with other output that waits
-abbrev pub with_output : List ℕ → List ℕ → Cpm → Cpm
+abbrev pub with_output : List ℕ → List ℕ → Session → Session
 with_output xs ys s = record s { console = record s.console { screen = xs; printer = ys } }
 
-module _ (xs ys : List ℕ) (s : Cpm) (m : Contents) where
+module _ (xs ys : List ℕ) (s : Session) (m : Contents) where
   function-same : (f : Function) → function_needs_key f (with_output xs ys s) m ≡ function_needs_key f s m
   function-same function.WarmBoot = refl
   function-same function.ReadKey = refl
@@ -71,6 +71,6 @@ module _ (xs ys : List ℕ) (s : Cpm) (m : Contents) where
   waits-same : is_waiting (with_output xs ys s) m ≡ is_waiting s m
   waits-same = ap (λ b. b && not (is_some (first_key s))) (needs-same s.mode)
 
-pub waits-output : (xs ys : List ℕ) (s : MachineState) → (look_of (record s { cpm = with_output xs ys s.cpm })).waiting ≡ (look_of s).waiting
+pub waits-output : (xs ys : List ℕ) (s : MachineState) → (look_of (record s { session = with_output xs ys s.session })).waiting ≡ (look_of s).waiting
 unfolding look_of
-waits-output xs ys s = ap (λ b. is_running s.ended && b) (waits-same xs ys s.cpm s.memory)
+waits-output xs ys s = ap (λ b. is_running s.ended && b) (waits-same xs ys s.session s.memory)

@@ -28,7 +28,7 @@ abbrev pub runs_at : Disk → MachineState → List Key → ℕ → Bool
 runs_at system start keys n = is_running (alone_by system keys n start).ended
 
 abbrev pub screen_at : Disk → MachineState → List Key → ℕ → List ℕ
-screen_at system start keys n = (alone_by system keys n start).cpm.console.screen
+screen_at system start keys n = (alone_by system keys n start).session.console.screen
 
 -- it waits at none of the counts from one up to another
 abbrev pub HasNoWait : Disk → MachineState → List Key → (from until : ℕ) → Type 0
@@ -120,7 +120,7 @@ looks_back (Wait text ∷ cues) = not (length text.items == 0) || looks_back cue
 -- the output of a state was taken: a writer got the console bytes
 pub record IsTaken (old now : MachineState) (before written : Option (List ℕ)) : Type 0 where
   pub state : now ≡ without_list (without_text old)
-  pub text : Appends before written old.cpm.console.screen
+  pub text : Appends before written old.session.console.screen
 
 -- why it was not: the writer failed, and there was text; or it was, but memory was refused in which to keep it
 abbrev pub IsUntaken : (old now : MachineState) → (before written : Option (List ℕ)) → LiveError → Type 0
@@ -152,7 +152,7 @@ IsRunCut system steps old now before written e = (k : ℕ) × (k ≤ steps) × I
 pub record HasPressed (system : Disk) (key : Key) (k : ℕ) (old now : MachineState) (before written unrecorded record_now : Option (List ℕ)) : Type 0 where
   pub runs : is_running (after system k old).ended ≡ true
   pub state : now ≡ keyed key.byte (without_list (without_text (after system k old)))
-  pub text : Appends before written (after system k old).cpm.console.screen
+  pub text : Appends before written (after system k old).session.console.screen
   pub noted : Appends unrecorded record_now (key_line key)
 
 -- a key does not come: its count is past the steps, and nothing was done; or the machine ends before it, and has shown all

@@ -66,7 +66,7 @@ pub record HasCome (system : Disk) (steps most : ℕ) (start now : MachineState)
   pub done : ℕ
   pub within : done ≤ steps
   pub given : AreGiven most done keys
-  pub text : Appends before written (alone_by system keys done start).cpm.console.screen
+  pub text : Appends before written (alone_by system keys done start).session.console.screen
   pub ending : EndsAs (alone_by system keys done start) now
 
 -- it had text to show by these keys

@@ -48,7 +48,7 @@ pub record IsOn (system : Disk) (keys : List Key) (steps : ℕ) (start : Machine
   pub came : (i : ℕ) → pace.done < i → due i (presses_of (take pace.pressed keys)) ≡ []
   pub later : IsInOrder pace.done (drop pace.pressed keys)
   pub within : pace.pressed ≤ length keys
-  pub pending : length now.cpm.console.keys ≤ pace.pressed
+  pub pending : length now.session.console.keys ≤ pace.pressed
   pub all : IsOfAll steps pace now
 
 -- a machine and its pace, after the keys that are due
@@ -58,10 +58,10 @@ pub record IsPressed (keys : List Key) (old new : Pace) (now next : MachineState
 
 -- the state with its console bytes taken, and with its list bytes taken
 abbrev pub without_text : MachineState → MachineState
-without_text s = record s { cpm = record s.cpm { console = record s.cpm.console { screen = [] } } }
+without_text s = record s { session = record s.session { console = record s.session.console { screen = [] } } }
 
 abbrev pub without_list : MachineState → MachineState
-without_list s = record s { cpm = record s.cpm { console = record s.cpm.console { printer = [] } } }
+without_list s = record s { session = record s.session { console = record s.session.console { printer = [] } } }
 
 -- the same of a machine, whose console bytes a writer got and whose list bytes were dropped
 pub record IsShown (system : Disk) (keys : List Key) (steps : ℕ) (start : MachineState) (pace : Pace) (now : MachineState) (before written : Option (List ℕ)) : Type 0 where

@@ -20,33 +20,33 @@ alone_by system keys steps start = alone system (presses_of keys) steps start
 
 -- A session was played: it has shown what the machine run alone for its keys and steps shows, and has come to its end, count, registers, memory and drives, whatever the turns were.
 pub record IsPlayed (system : Disk) (keys : List Key) (steps : ℕ) (start now : MachineState) (console list : List ℕ) : Type 0 where
-  pub screen : console ≡ (alone system (presses_of keys) steps start).cpm.console.screen
-  pub printer : list ≡ (alone system (presses_of keys) steps start).cpm.console.printer
+  pub screen : console ≡ (alone system (presses_of keys) steps start).session.console.screen
+  pub printer : list ≡ (alone system (presses_of keys) steps start).session.console.printer
   pub count : now.count ≡ (alone system (presses_of keys) steps start).count
   pub ended : now.ended ≡ (alone system (presses_of keys) steps start).ended
-  pub regs : now.cpm.regs ≡ (alone system (presses_of keys) steps start).cpm.regs
+  pub regs : now.session.regs ≡ (alone system (presses_of keys) steps start).session.regs
   pub memory : now.memory ≡ (alone system (presses_of keys) steps start).memory
-  pub disks : now.cpm.disks ≡ (alone system (presses_of keys) steps start).cpm.disks
+  pub disks : now.session.disks ≡ (alone system (presses_of keys) steps start).session.disks
 
 -- the end, count, registers, memory and drives of another state
 pub record EndsAs (other now : MachineState) : Type 0 where
   pub count : now.count ≡ other.count
   pub ended : now.ended ≡ other.ended
-  pub regs : now.cpm.regs ≡ other.cpm.regs
+  pub regs : now.session.regs ≡ other.session.regs
   pub memory : now.memory ≡ other.memory
-  pub disks : now.cpm.disks ≡ other.cpm.disks
+  pub disks : now.session.disks ≡ other.session.disks
 
 -- no key is pending, and no byte waits to be taken
 pub record IsFresh (s : MachineState) : Type 0 where
-  pub keys : s.cpm.console.keys ≡ []
-  pub screen : s.cpm.console.screen ≡ []
-  pub printer : s.cpm.console.printer ≡ []
+  pub keys : s.session.console.keys ≡ []
+  pub screen : s.session.console.screen ≡ []
+  pub printer : s.session.console.printer ≡ []
 
 -- no byte waits to be taken
 pub record IsQuiet (s : MachineState) : Type 0 where
-  pub screen : s.cpm.console.screen ≡ []
-  pub printer : s.cpm.console.printer ≡ []
+  pub screen : s.session.console.screen ≡ []
+  pub printer : s.session.console.printer ≡ []
 
 -- the machine run alone shows some text
 abbrev pub HasText : MachineState → Type 0
-HasText s = s.cpm.console.screen ≢ []
+HasText s = s.session.console.screen ≢ []

@@ -60,7 +60,7 @@ pub record AreTaken (n room : ℕ) (out waiting : List ℕ) : Type 0 where
 -- the bytes that wait on a device of a slot
 abbrev pub waits_in : Device → Option MachineState → List ℕ
 waits_in on None = []
-waits_in on (Some s) = waiting_on on s.cpm.console
+waits_in on (Some s) = waiting_on on s.session.console
 
 -- what was shown on the console, and on the list device, with more bytes of a device
 abbrev pub console_with : Device → List ℕ → List ℕ → List ℕ

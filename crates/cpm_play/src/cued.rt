@@ -23,7 +23,7 @@ use std::io::Write;
 
 /// What a machine is played by.
 #[derive(Clone, Copy, Debug)]
-pub struct Cued<'a> {
+pub struct CuedKeys<'a> {
     /// What a script says whose lines may wait.
     pub cues: &'a [Cue],
     /// Where the machine waits for a key before so many steps, that does not count: a forked session's waits count from its fork on.
@@ -60,8 +60,8 @@ fn keep(kept: &mut Vec<u8>, whole: bool, bytes: &[u8]) -> bool
 /// Moves all console bytes to the writer, and keeps them; says whether there was memory for all.
 fn move_kept<W: Write>(machine: &mut Machine, kept: &mut Vec<u8>, out: &mut W) -> io::Result<bool>
     ensures state { OnOk result (machine.new ≡ without_text machine.old) }
-    ensures text { OnOk result (Appends (W.contents out.old) (W.contents out.new) machine.old.cpm.console.screen) }
-    ensures kept { IfOk result (λ whole. whole ≡ true → kept.new.items ≡ kept.old.items ++ machine.old.cpm.console.screen) }
+    ensures text { OnOk result (Appends (W.contents out.old) (W.contents out.new) machine.old.session.console.screen) }
+    ensures kept { IfOk result (λ whole. whole ≡ true → kept.new.items ≡ kept.old.items ++ machine.old.session.console.screen) }
     ensures refused { OnErr result (HasText machine.old) }
 {
     let mut chunk = [0u8; CHUNK];
@@ -85,7 +85,7 @@ fn show_kept<W: Write>(
     out: &mut W,
 ) -> Result<(), LiveError>
     ensures taken { OnOk result (IsTaken machine.old machine.new (W.contents out.old) (W.contents out.new)) }
-    ensures kept { OnOk result (keeps ≡ true → kept.new.items ≡ kept.old.items ++ machine.old.cpm.console.screen) }
+    ensures kept { OnOk result (keeps ≡ true → kept.new.items ≡ kept.old.items ++ machine.old.session.console.screen) }
     ensures refused { IfErr result (IsUntaken machine.old machine.new (W.contents out.old) (W.contents out.new)) }
 {
     if !keeps {
@@ -121,7 +121,7 @@ fn run<W: Write, T: Watcher>(
     ensures within { IfOk result (λ k. k ≤ steps) }
     ensures run { IfOk result (λ k. HasRun system.now k machine.old machine.new (W.contents out.old) (W.contents out.new)) }
     ensures stopped { IfOk result (λ k. HasStopped to_wait system.now steps k machine.old machine.new) }
-    ensures kept { IfOk result (λ k. keeps ≡ true → kept.new.items ≡ kept.old.items ++ (after system.now k machine.old).cpm.console.screen) }
+    ensures kept { IfOk result (λ k. keeps ≡ true → kept.new.items ≡ kept.old.items ++ (after system.now k machine.old).session.console.screen) }
     ensures refused { IfErr result (IsRunCut system.now steps machine.old machine.new (W.contents out.old) (W.contents out.new)) }
 {
     let mut executed = 0;
@@ -222,7 +222,7 @@ impl Live {
         ensures idled { OnOk result (HasIdled system.now steps waits_from self.old.steps self.new.steps machine.old machine.new (W.contents out.old) (W.contents out.new)) }
         ensures within { OnOk result (self.new.steps ≤ steps) }
         ensures still { self.new.keys.items ≡ self.old.keys.items }
-        ensures kept { OnOk result (keeps ≡ true → shown.new.items ≡ shown.old.items ++ (after system.now (self.new.steps - self.old.steps) machine.old).cpm.console.screen) }
+        ensures kept { OnOk result (keeps ≡ true → shown.new.items ≡ shown.old.items ++ (after system.now (self.new.steps - self.old.steps) machine.old).session.console.screen) }
         ensures refused { IfErr result (IsRunCut system.now (steps - self.old.steps) machine.old machine.new (W.contents out.old) (W.contents out.new)) }
     {
         let pause = waits_from.min(steps).saturating_sub(self.steps);
@@ -243,7 +243,7 @@ fn follow<W: Write, S: Write, T: Watcher>(
     system: &Image,
     machine: &mut Machine,
     steps: u64,
-    cued: Cued<'_>,
+    cued: CuedKeys<'_>,
     out: &mut W,
     record: &mut S,
     watcher: &mut T,
@@ -308,7 +308,7 @@ pub fn play_cues<W: Write, S: Write, T: Watcher>(
     system: &Image,
     machine: &mut Machine,
     steps: u64,
-    cued: Cued<'_>,
+    cued: CuedKeys<'_>,
     out: &mut W,
     record: &mut S,
     watcher: &mut T,
@@ -320,7 +320,7 @@ pub fn play_cues<W: Write, S: Write, T: Watcher>(
     ensures keys { IfOk result (λ live. IsCued system.now machine.old steps cued.entry.waits_from cued.entry.cues.now live.keys.items) }
     ensures given { IfOk result (λ live. AreGiven (key_count cued.entry.cues.now) live.steps live.keys.items) }
     ensures text { IfOk result (λ live. Appends (W.contents out.old) (W.contents out.new)
-        (alone_by system.now live.keys.items live.steps machine.old).cpm.console.screen) }
+        (alone_by system.now live.keys.items live.steps machine.old).session.console.screen) }
     ensures ending { IfOk result (λ live. EndsAs (alone_by system.now live.keys.items live.steps machine.old) machine.new) }
     ensures record { IfOk result (λ live. Appends (S.contents record.old) (S.contents record.new) (recorded live.keys.items)) }
     ensures ends { IfOk result (λ live. HasEndedCued system.now machine.old steps cued.entry.waits_from cued.entry.stops_idle live.keys.items live.steps machine.new) }

@@ -16,7 +16,7 @@ mod turn;
 mod typing;
 mod watch;
 
-pub use cued::{Cued, play_cues};
+pub use cued::{CuedKeys, play_cues};
 pub use error::PlayError;
 pub use live::{Live, LiveError, play_live};
 pub use machine::play_machine;

@@ -103,7 +103,7 @@ impl Live {
 /// Moves all console bytes to the writer, and drops the list bytes.
 pub(crate) fn show<W: Write>(machine: &mut Machine, out: &mut W) -> Result<(), LiveError>
     ensures state { OnOk result (machine.new ≡ without_list (without_text machine.old)) }
-    ensures text { OnOk result (Appends (W.contents out.old) (W.contents out.new) machine.old.cpm.console.screen) }
+    ensures text { OnOk result (Appends (W.contents out.old) (W.contents out.new) machine.old.session.console.screen) }
     ensures refused { IfErr result (λ e. IsUnwritable e × HasText machine.old) }
 {
     if let Err(error) = move_text(machine, out) {
@@ -148,7 +148,7 @@ pub fn play_live<I: Read, W: Write, S: Write>(
     ensures within { IfOk result (λ live. live.steps ≤ steps) }
     ensures keys { IfOk result (λ live. AreGiven most_keys live.steps live.keys.items) }
     ensures text { IfOk result (λ live. Appends (W.contents out.old) (W.contents out.new)
-        (alone_by system.now live.keys.items live.steps machine.old).cpm.console.screen) }
+        (alone_by system.now live.keys.items live.steps machine.old).session.console.screen) }
     ensures ending { IfOk result (λ live. EndsAs (alone_by system.now live.keys.items live.steps machine.old) machine.new) }
     ensures record { IfOk result (λ live. Appends (S.contents record.old) (S.contents record.new) (recorded live.keys.items)) }
     ensures input { IfOk result (λ live. AreRead (I.remaining input.old) (I.remaining input.new) live.keys.items) }

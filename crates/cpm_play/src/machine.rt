@@ -49,7 +49,7 @@ fn press_due(machine: &mut Machine, keys: &[Key], pace: &mut Pace)
 pub(crate) fn move_text<W: Write>(machine: &mut Machine, out: &mut W) -> io::Result<()>
     ensures state { OnOk result (machine.new ≡ without_text machine.old) }
     ensures text { OnOk result (Appends (W.contents out.old) (W.contents out.new)
-        machine.old.cpm.console.screen) }
+        machine.old.session.console.screen) }
     ensures refused { OnErr result (HasText machine.old) }
 {
     let mut chunk = [0u8; CHUNK];
@@ -86,7 +86,7 @@ pub fn play_machine<W: Write, T: Watcher>(
     requires few { length keys.now ≤ 4096 }
     requires fresh { IsFresh machine.old }
     ensures text { OnOk result (Appends (W.contents out.old) (W.contents out.new)
-        (alone_by system.now keys.now steps machine.old).cpm.console.screen) }
+        (alone_by system.now keys.now steps machine.old).session.console.screen) }
     ensures ending { OnOk result (EndsAs (alone_by system.now keys.now steps machine.old) machine.new) }
     ensures refused { OnErr result (HasText (alone_by system.now keys.now steps machine.old)) }
 {

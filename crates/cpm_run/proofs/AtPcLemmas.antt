@@ -27,7 +27,7 @@ abbrev IsRefused : Reply → Type 0
 IsRefused (reply.Refused fault) = ⊤
 IsRefused _ = ⊥
 
-pub looked_pc : (h : Host) (id : ℕ) (look : Look) (s : MachineState) → look_reply (Ok look) ≡ reply_at h id (Calls LookAt) → slot_at id h.slots ≡ Some s → look.regs.pc ≡ s.cpm.regs.pc
+pub looked_pc : (h : Host) (id : ℕ) (look : Look) (s : MachineState) → look_reply (Ok look) ≡ reply_at h id (Calls LookAt) → slot_at id h.slots ≡ Some s → look.regs.pc ≡ s.session.regs.pc
 unfolding serve look_of
 looked_pc h id look s replied at = ap pc_in (replied ∙ reply-served h id LookAt s at)
 

@@ -5,7 +5,7 @@ use Rattle.std.proofs.lemmas.List.{drop_all, length-map, map-append, take_all}
 use Rattle.cpm_batch.specs.Inputs.{SessionInput}
 use Rattle.cpm_batch.specs.Outputs.{SessionOutput, left_by}
 use Rattle.cpm_batch.specs.declared.output.SessionFiles.{SessionFiles}
-use Rattle.cpm_config.specs.declared.config.Session.{Session}
+use Rattle.cpm_config.specs.declared.config.SessionConfig.{SessionConfig}
 use Rattle.cpm_drives.specs.Disks.{images_of}
 use Rattle.cpm_flags.specs.declared.regs.Regs.{Regs}
 use Rattle.cpm_geom.specs.Disk.{Disk}
@@ -30,14 +30,14 @@ use Rattle.cpm_run.specs.declared.report.SessionReport.{SessionReport}
 
 -- ---- one session
 
-abbrev reported : Session → End → ℕ → ℕ → ℕ → List ℕ → Reported
+abbrev reported : SessionConfig → End → ℕ → ℕ → ℕ → List ℕ → Reported
 reported s ended count bytes pc at_pc = record { name = string_bytes s.name; ended = ended; count = count; bytes = bytes; pc = pc; at_pc = at_pc }
 
 -- the same registers, and the same memory
-bytes_are : (s t : MachineState) → s.cpm.regs ≡ t.cpm.regs → s.memory ≡ t.memory → bytes_at_pc s ≡ bytes_at_pc t
-bytes_are s t regs memory = ap (λ (m : Contents). run_at m s.cpm.regs.pc 4) memory ∙ ap (λ (r : Regs). run_at t.memory r.pc 4) regs
+bytes_are : (s t : MachineState) → s.session.regs ≡ t.session.regs → s.memory ≡ t.memory → bytes_at_pc s ≡ bytes_at_pc t
+bytes_are s t regs memory = ap (λ (m : Contents). run_at m s.session.regs.pc 4) memory ∙ ap (λ (r : Regs). run_at t.memory r.pc 4) regs
 
-report_is : (system : Disk) (is : List SessionInput) (i : SessionInput) (s : Session) (p : ScriptedSlot) (closed : Closed) (last : MachineState) → i.session ≡ s → closed.look ≡ look_of last
+report_is : (system : Disk) (is : List SessionInput) (i : SessionInput) (s : SessionConfig) (p : ScriptedSlot) (closed : Closed) (last : MachineState) → i.session ≡ s → closed.look ≡ look_of last
     → IsPlayed system i.keys i.session.steps (start_of is i) last p.console.items p.list.items → report_by s p closed (bytes_at_pc last) ≡ reported_of i.session (run_of system is i)
 unfolding look_of run_of
 report_is system is i s p closed last same look played =
@@ -46,44 +46,44 @@ report_is system is i s p closed last same look played =
     let pc = ap (λ (l : Look). l.regs.pc) look ∙ ap (λ (r : Regs). r.pc) played.regs in
     let t = run_of system is i in
     let at_pc = bytes_are last t played.regs played.memory in
-    ap (λ (x : Session). reported x closed.look.ended closed.look.count (length p.console.items) closed.look.regs.pc (bytes_at_pc last)) (sym same)
+    ap (λ (x : SessionConfig). reported x closed.look.ended closed.look.count (length p.console.items) closed.look.regs.pc (bytes_at_pc last)) (sym same)
     ∙ ap (λ (e : End). reported i.session e closed.look.count (length p.console.items) closed.look.regs.pc (bytes_at_pc last)) ended
     ∙ ap (λ (n : ℕ). reported i.session t.ended n (length p.console.items) closed.look.regs.pc (bytes_at_pc last)) count
     ∙ ap (λ (xs : List ℕ). reported i.session t.ended t.count (length xs) closed.look.regs.pc (bytes_at_pc last)) played.screen
-    ∙ ap (λ (n : ℕ). reported i.session t.ended t.count (length t.cpm.console.screen) n (bytes_at_pc last)) pc
-    ∙ ap (λ (xs : List ℕ). reported i.session t.ended t.count (length t.cpm.console.screen) t.cpm.regs.pc xs) at_pc
+    ∙ ap (λ (n : ℕ). reported i.session t.ended t.count (length t.session.console.screen) n (bytes_at_pc last)) pc
+    ∙ ap (λ (xs : List ℕ). reported i.session t.ended t.count (length t.session.console.screen) t.session.regs.pc xs) at_pc
 
-abbrev output : Session → List ℕ → List ℕ → List (Option Disk) → SessionOutput
+abbrev output : SessionConfig → List ℕ → List ℕ → List (Option Disk) → SessionOutput
 output s console list drives = record { session = s; console = console; list = list; drives = drives }
 
-files_is : (system : Disk) (is : List SessionInput) (i : SessionInput) (s : Session) (p : ScriptedSlot) (closed : Closed) (last : MachineState) → i.session ≡ s → closed.drives ≡ images_of last.cpm.disks
+files_is : (system : Disk) (is : List SessionInput) (i : SessionInput) (s : SessionConfig) (p : ScriptedSlot) (closed : Closed) (last : MachineState) → i.session ≡ s → closed.drives ≡ images_of last.session.disks
     → IsPlayed system i.keys i.session.steps (start_of is i) last p.console.items p.list.items → files_by s p closed ≡ left_of i.session (run_of system is i)
 unfolding run_of
 files_is system is i s p closed last same drives played =
-    ap (λ (t : Session). output t p.console.items p.list.items closed.drives) (sym same)
+    ap (λ (t : SessionConfig). output t p.console.items p.list.items closed.drives) (sym same)
     ∙ ap (λ (xs : List ℕ). output i.session xs p.list.items closed.drives) played.screen
-    ∙ ap (λ (xs : List ℕ). output i.session (run_of system is i).cpm.console.screen xs closed.drives) played.printer
-    ∙ ap (λ (ds : List (Option Disk)). output i.session (run_of system is i).cpm.console.screen (run_of system is i).cpm.console.printer ds) (drives ∙ ap images_of played.disks)
+    ∙ ap (λ (xs : List ℕ). output i.session (run_of system is i).session.console.screen xs closed.drives) played.printer
+    ∙ ap (λ (ds : List (Option Disk)). output i.session (run_of system is i).session.console.screen (run_of system is i).session.console.printer ds) (drives ∙ ap images_of played.disks)
 
 -- ---- one after another
 
 -- the input in turn, and the place behind it
-record IsAt (is : List SessionInput) (k next : ℕ) (s : Session) : Type 0 where
+record IsAt (is : List SessionInput) (k next : ℕ) (s : SessionConfig) : Type 0 where
   input : SessionInput
   first : drop k is ≡ input ∷ drop next is
   more : take next is ≡ take k is ++ input ∷ []
   session : input.session ≡ s
 
-later : (i : SessionInput) (is : List SessionInput) (k : ℕ) (s : Session) → IsAt is k (suc k) s → IsAt (i ∷ is) (suc k) (suc (suc k)) s
+later : (i : SessionInput) (is : List SessionInput) (k : ℕ) (s : SessionConfig) → IsAt is k (suc k) s → IsAt (i ∷ is) (suc k) (suc (suc k)) s
 later i is k s at = record { input = at.input; first = at.first; more = ap (λ (xs : List SessionInput). i ∷ xs) at.more; session = at.session }
 
-there : (is : List SessionInput) (sessions : List Session) (k : ℕ) (s : Session) → map (λ i. i.session) is ≡ sessions → k < length sessions → s ≡ get_or sessions k s → IsAt is k (suc k) s
+there : (is : List SessionInput) (sessions : List SessionConfig) (k : ℕ) (s : SessionConfig) → map (λ i. i.session) is ≡ sessions → k < length sessions → s ≡ get_or sessions k s → IsAt is k (suc k) s
 there [] sessions k s same below found = absurd (let none : length sessions ≡ 0 = ap length (sym same) in omega (arith, below, none))
 there (i ∷ is) [] k s same below found = absurd (omega (arith, below))
 there (i ∷ is) (t ∷ ts) zero s same below found = record { input = i; first = refl; more = refl; session = let h : i.session ≡ t = cc in h ∙ sym found }
 there (i ∷ is) (t ∷ ts) (suc k) s same below found = later i is k s (there is ts k s (let rest : map (λ j. j.session) is ≡ ts = cc in rest) (omega (arith, below)) found)
 
-is_at : (is : List SessionInput) (sessions : List Session) (k : ℕ) (s : Session) → map (λ i. i.session) is ≡ sessions → k < length sessions → s ≡ get_or sessions k s → IsAt is k (k + 1) s
+is_at : (is : List SessionInput) (sessions : List SessionConfig) (k : ℕ) (s : SessionConfig) → map (λ i. i.session) is ≡ sessions → k < length sessions → s ≡ get_or sessions k s → IsAt is k (k + 1) s
 is_at is sessions k s same below found =
     let next : suc k ≡ k + 1 = omega arith in
     subst (λ (n : ℕ). IsAt is k n s) next (there is sessions k s same below found)
@@ -126,7 +126,7 @@ pub record IsFinishedTo (system : Disk) (is : List SessionInput) (k : ℕ) (now 
   pub rows : map report_view reports ≡ map (λ i. reported_of i.session (run_of system is i)) (take k is)
   pub outputs : map left_by files ≡ map (λ i. left_of i.session (run_of system is i)) (take k is)
 
-abbrev pub IsFinishing : List Session → ℕ → List SlotState → List SlotState → List Player → List Player → List SessionReport → List SessionFiles → Type 0
+abbrev pub IsFinishing : List SessionConfig → ℕ → List SlotState → List SlotState → List Player → List Player → List SessionReport → List SessionFiles → Type 0
 IsFinishing sessions k start now players rest reports files = (system : Disk) (is : List SessionInput) → map (λ i. i.session) is ≡ sessions → AllEnded system is start is players
     → IsFinishedTo system is k now rest reports files
 
@@ -134,7 +134,7 @@ IsFinishing sessions k start now players rest reports files = (system : Disk) (i
 abbrev pub Closing : Host → Host → List Player → Option (ScriptedSlot × Closed × List ℕ) → List Player → Type 0
 Closing old new rest r left = (p : ScriptedSlot) (ps : List Player) (s : MachineState) → rest ≡ Playing p ∷ ps → slot_at p.id.0 old.slots ≡ Some s → IsClosed p ps s old new r left
 
-module _ (sessions : List Session) (k : ℕ) (s : Session) (start : List SlotState) (old new : Host) (players : List Player) (r : Option (ScriptedSlot × Closed × List ℕ)) (left : List Player) (below : k < length sessions) (at : s ≡ get_or sessions k s) where
+module _ (sessions : List SessionConfig) (k : ℕ) (s : SessionConfig) (start : List SlotState) (old new : Host) (players : List Player) (r : Option (ScriptedSlot × Closed × List ℕ)) (left : List Player) (below : k < length sessions) (at : s ≡ get_or sessions k s) where
   finish_one : (q : ScriptedSlot) (closed : Closed) (bytes : List ℕ) (rest : List Player) (reports : List SessionReport) (files : List SessionFiles) (report : SessionReport) (file : SessionFiles) (system : Disk) (is : List SessionInput)
       → map (λ i. i.session) is ≡ sessions → IsFinishedTo system is k old.slots rest reports files → Closing old new rest r left → r ≡ Some (q, closed, bytes) → report_view report ≡ report_by s q closed bytes
       → left_by file ≡ files_by s q closed → IsFinishedTo system is (k + 1) new.slots left (reports ++ report ∷ []) (files ++ file ∷ [])
@@ -192,7 +192,7 @@ module _ (sessions : List Session) (k : ℕ) (s : Session) (start : List SlotSta
           let c = close e.slot ps e.last (ap (λ (y : Player). y ∷ ps) e.plays) e.stands in
           not_both (e.slot, c.closed, bytes_at_pc e.last) (sym none ∙ c.result)
 
-pub finished : (sessions : List Session) (k : ℕ) (start now : List SlotState) (players rest : List Player) (reports : List SessionReport) (files : List SessionFiles) → length sessions ≤ k
+pub finished : (sessions : List SessionConfig) (k : ℕ) (start now : List SlotState) (players rest : List Player) (reports : List SessionReport) (files : List SessionFiles) → length sessions ≤ k
     → IsFinishing sessions k start now players rest reports files → AreFinished sessions start players reports files
 finished sessions k start now players rest reports files all h = λ system is same ended.
     let f = h system is same ended in
@@ -210,7 +210,7 @@ written_back n ps begun played whole first long =
     ap (λ (xs : List Player). take n (played ++ xs)) none ∙ ap (λ (xs : List Player). take n xs) (append-nil played) ∙ take_all n played (omega (arith, whole, same))
 
 -- sessions that had players and were played are reported, and leave their files, as their machines alone
-pub all_finished : (system : Disk) (old new : Host) (sessions slice : List Session) (is : List SessionInput) (ps begun played qs : List Player) (reports : List SessionReport)
+pub all_finished : (system : Disk) (old new : Host) (sessions slice : List SessionConfig) (is : List SessionInput) (ps begun played qs : List Player) (reports : List SessionReport)
     (files : List SessionFiles) → old.system ≡ system → slice ≡ sessions → begun ≡ ps → qs ≡ played → map (λ i. i.session) is ≡ sessions → HavePlayers old.slots is ps
     → AllPlayed old new begun played → AreFinished slice new.slots qs reports files → (map report_view reports ≡ reports_of system is) × (map left_by files ≡ files_left system is)
 all_finished system old new sessions slice is ps begun played qs reports files drive whole first last inputs slots h all =

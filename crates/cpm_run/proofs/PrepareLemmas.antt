@@ -5,7 +5,7 @@ use Rattle.cpm_batch.specs.Inputs.{Forks, Opens, SessionInput, StartInput, given
 use Rattle.cpm_batch.specs.declared.input.Input.{Input}
 use Rattle.cpm_batch.specs.declared.input.Start.{Start}
 use Rattle.cpm_batch.specs.declared.input.Start.TheVariants as start
-use Rattle.cpm_config.specs.declared.config.Session.{Session}
+use Rattle.cpm_config.specs.declared.config.SessionConfig.{SessionConfig}
 use Rattle.cpm_flags.specs.declared.regs.Cpu.{Cpu}
 use Rattle.cpm_geom.specs.Disk.{Disk}
 use Rattle.cpm_script.specs.declared.script.Key.{Key}
@@ -117,7 +117,7 @@ pub record IsPreparedTo (start now : Host) (all rest : List SessionInput) (ps : 
   pub accepted : (whole : List SessionInput) → AllAccepted whole now rest → AllAccepted whole start all
   pub openable : AreOpenable now rest → AreOpenable start all
 
-abbrev input_of : Session → StartInput → List Key → SessionInput
+abbrev input_of : SessionConfig → StartInput → List Key → SessionInput
 input_of session b keys = record { session = session; start = b; keys = keys }
 
 -- the next of those still to come
@@ -126,7 +126,7 @@ pub prepared_next : (start now : Host) (all : List SessionInput) (rest more : Li
 prepared_next start now all rest more x ps steps h = subst (λ (xs : List Input). IsPreparedTo start now all (map given xs) ps) steps h
 
 -- one that is opened
-opened_more : (start now new : Host) (all rest : List SessionInput) (session : Session) (cpu : Cpu) (quota : ℕ) (drives : List Disk) (keys : List Key) (ps : List Player) (p : ScriptedSlot) (o : Opening)
+opened_more : (start now new : Host) (all rest : List SessionInput) (session : SessionConfig) (cpu : Cpu) (quota : ℕ) (drives : List Disk) (keys : List Key) (ps : List Player) (p : ScriptedSlot) (o : Opening)
     → IsPreparedTo start now all (input_of session (Opens cpu quota drives) keys ∷ rest) ps → IsOpening cpu quota drives o → OpensSlot o keys session.steps now new p
     → IsPreparedTo start new all rest (ps ++ Playing p ∷ [])
 opened_more start now new all rest session cpu quota drives keys ps p o h is open_slot =
@@ -154,7 +154,7 @@ opened_more start now new all rest session cpu quota drives keys ps p o h is ope
     subst (λ (host : Host). IsPreparedTo start host all rest (ps ++ Playing p ∷ [])) (sym open_slot.host) made
 
 -- one that is to be forked
-forked_more : (start now new : Host) (all rest : List SessionInput) (session : Session) (parent at : ℕ) (keys : List Key) (ps : List Player) (fork : Fork)
+forked_more : (start now new : Host) (all rest : List SessionInput) (session : SessionConfig) (parent at : ℕ) (keys : List Key) (ps : List Player) (fork : Fork)
     → IsPreparedTo start now all (input_of session (Forks parent at) keys ∷ rest) ps → IsForkFor (input_of session (Forks parent at) keys) parent at fork → new ≡ now
     → IsPreparedTo start new all rest (ps ++ Waiting fork ∷ [])
 forked_more start now new all rest session parent at keys ps fork h is same =
@@ -174,7 +174,7 @@ forked_more start now new all rest session parent at keys ps fork h is same =
     } in
     subst (λ (host : Host). IsPreparedTo start host all rest (ps ++ Waiting fork ∷ [])) (sym same) made
 
-more_by : (start now new : Host) (all rest : List SessionInput) (session : Session) (b : StartInput) (keys : List Key) (ps : List Player) (p : Player)
+more_by : (start now new : Host) (all rest : List SessionInput) (session : SessionConfig) (b : StartInput) (keys : List Key) (ps : List Player) (p : Player)
     → IsPreparedTo start now all (input_of session b keys ∷ rest) ps → IsPreparedBy b (input_of session b keys) now new p → IsPreparedTo start new all rest (ps ++ p ∷ [])
 more_by start now new all rest session (Opens cpu quota drives) keys ps (Playing slot) h r = opened_more start now new all rest session cpu quota drives keys ps slot r.0 h r.1 r.2
 more_by start now new all rest session (Opens cpu quota drives) keys ps (Waiting fork) h r = absurd r
@@ -187,7 +187,7 @@ pub prepared_more : (start now new : Host) (all rest : List SessionInput) (i : S
 prepared_more start now new all rest i ps more p h r pushed =
     subst (λ (qs : List Player). IsPreparedTo start new all rest qs) (sym pushed) (more_by start now new all rest i.session i.start i.keys ps p h r)
 
-refused_by : (start now : Host) (all rest : List SessionInput) (session : Session) (b : StartInput) (keys : List Key) (ps : List Player) (e : RunError) (whole : List SessionInput)
+refused_by : (start now : Host) (all rest : List SessionInput) (session : SessionConfig) (b : StartInput) (keys : List Key) (ps : List Player) (e : RunError) (whole : List SessionInput)
     → IsPreparedTo start now all (input_of session b keys ∷ rest) ps → IsStartRefusal now b e → IsSlotRefusal whole start all e
 refused_by start now all rest session (Opens cpu quota drives) keys ps (refusal.SessionRefused name fault) whole h r = h.refused whole fault (r.0, r.1, inl r.2)
 refused_by start now all rest session (Opens cpu quota drives) keys ps refusal.OutOfMemory whole h r = tt

@@ -6,7 +6,7 @@ use Rattle.cpm_batch.specs.Reads.{AreRead, StopsAtFault, StopsAtInput, StopsAtSe
 use Rattle.cpm_batch.specs.declared.error.ReadError.{ReadError}
 use Rattle.cpm_batch.specs.declared.error.ReadError.TheVariants as reading
 use Rattle.cpm_config.specs.declared.config.Config.{Config}
-use Rattle.cpm_config.specs.declared.config.Session.{Session}
+use Rattle.cpm_config.specs.declared.config.SessionConfig.{SessionConfig}
 use Rattle.cpm_geom.specs.Disk.{Disk}
 use Rattle.cpm_store.specs.Files.{Files}
 use Rattle.cpm_slots.specs.Host.{new_host}
@@ -34,7 +34,7 @@ none_for_memory (ImageIn name ∷ ns) log h = ⊎_elim (λ f. f) (λ t. none_for
 none_for_memory (ScriptIn name ∷ ns) log h = ⊎_elim (λ f. f) (λ t. none_for_memory ns t.rest t.goes_on) h
 none_for_memory (ForkedScriptIn name at before ∷ ns) log h = ⊎_elim (λ f. f) (λ t. none_for_memory ns t.rest t.goes_on) h
 
-none_in_sessions : (before : List SessionInput) (ss : List Session) (log : List Access) → StopsAtSession before ss reading.OutOfMemory log → ⊥
+none_in_sessions : (before : List SessionInput) (ss : List SessionConfig) (log : List Access) → StopsAtSession before ss reading.OutOfMemory log → ⊥
 none_in_sessions before [] log h = h
 none_in_sessions before (s ∷ ss) log h =
     ⊎_elim (λ f. none_for_memory (needs_of before s) log f) (λ t. none_in_sessions (before ++ t.0 ∷ []) ss t.2.rest t.2.goes_on) h

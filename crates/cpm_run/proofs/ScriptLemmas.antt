@@ -10,7 +10,7 @@ use Rattle.cpm_config.specs.Entries.{SessionEntries}
 use Rattle.cpm_config.specs.Rules.{at_fault, fork_fault, forks_fault, is_at, origin_fault, origin_view, parent_in, session_view}
 use Rattle.cpm_config.specs.declared.config.Origin.{Origin}
 use Rattle.cpm_config.specs.declared.config.Origin.TheVariants as origin
-use Rattle.cpm_config.specs.declared.config.Session.{Session}
+use Rattle.cpm_config.specs.declared.config.SessionConfig.{SessionConfig}
 use Rattle.cpm_config.specs.declared.field.Field.TheVariants as field
 use Rattle.cpm_config.proofs.FaultLemmas.{neither}
 use Rattle.cpm_flags.specs.declared.regs.Cpu.{Cpu}
@@ -144,7 +144,7 @@ pressable_from files n before (i ∷ is) few h none place =
     (λ next. subst (λ (all : List SessionInput). IfSome (slice_get is next) (λ j. IsPressableBy all j.start j)) (append_assoc before (i ∷ []) is)
     (pressable_from files (n + 1) (before ++ i ∷ []) is (few_more before i few good.few) h.1 later next)) place
 
-pub inputs_pressable : (files : Option Files) (sessions : List Session) (is : List SessionInput) → map (λ i. i.session) is ≡ sessions → AllInputs files [] is
+pub inputs_pressable : (files : Option Files) (sessions : List SessionConfig) (is : List SessionInput) → map (λ i. i.session) is ≡ sessions → AllInputs files [] is
     → forks_fault 1 [] (map session_view sessions) ≡ None → ArePressable is
 inputs_pressable files sessions is same h none =
     let seen : map (λ x. session_view x.session) is ≡ map session_view sessions = seen_sessions is ∙ ap (map session_view) same in

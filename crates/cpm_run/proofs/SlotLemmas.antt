@@ -27,11 +27,11 @@ fault_of (Some f) e r other = ap (λ (x : OpenError). Some x) (sym r)
 
 -- what was closed
 closed_is : (p : ScriptedSlot) (ps rest : List Player) (s : MachineState) (old new : Host) (c : Closed) → slot_at p.id.0 old.slots ≡ Some s
-    → IfSome (slot_at p.id.0 old.slots) (λ s. (c.look ≡ look_of s) × (c.drives ≡ images_of s.cpm.disks)) → new ≡ after_ask old p.id.0 Closes → rest ≡ ps
+    → IfSome (slot_at p.id.0 old.slots) (λ s. (c.look ≡ look_of s) × (c.drives ≡ images_of s.session.disks)) → new ≡ after_ask old p.id.0 Closes → rest ≡ ps
     → IsClosed p ps s old new (Some (p, c, bytes_at_pc s)) rest
 closed_is p ps rest s old new c at was is left =
-    let of_it : (c.look ≡ look_of s) × (c.drives ≡ images_of s.cpm.disks) =
-    subst (λ (o : Option MachineState). IfSome o (λ s. (c.look ≡ look_of s) × (c.drives ≡ images_of s.cpm.disks))) at was in
+    let of_it : (c.look ≡ look_of s) × (c.drives ≡ images_of s.session.disks) =
+    subst (λ (o : Option MachineState). IfSome o (λ s. (c.look ≡ look_of s) × (c.drives ≡ images_of s.session.disks))) at was in
     record {
       closed = c;
       result = refl;
@@ -44,15 +44,15 @@ closed_is p ps rest s old new c at was is left =
 -- of a slot that nothing has changed yet, whose bytes at the program counter were read
 pub first_closed : (p q : ScriptedSlot) (ps rest all : List Player) (s : MachineState) (old middle new : Host) (c : Closed) (bytes : List ℕ) → all ≡ Playing p ∷ ps → all ≡ Playing q ∷ rest
     → slot_at p.id.0 old.slots ≡ Some s → ((t : MachineState) → slot_at q.id.0 old.slots ≡ Some t → bytes ≡ bytes_at_pc t) → middle ≡ old
-    → IfSome (slot_at q.id.0 middle.slots) (λ s. (c.look ≡ look_of s) × (c.drives ≡ images_of s.cpm.disks)) → new ≡ after_ask middle q.id.0 Closes
+    → IfSome (slot_at q.id.0 middle.slots) (λ s. (c.look ≡ look_of s) × (c.drives ≡ images_of s.session.disks)) → new ≡ after_ask middle q.id.0 Closes
     → IsClosed p ps s old new (Some (q, c, bytes)) rest
 first_closed p q ps rest all s old middle new c bytes is first at reads stays kept closed =
     let same : q ≡ p = cc in
     let left : rest ≡ ps = cc in
-    let was = subst (λ (h : Host). IfSome (slot_at q.id.0 h.slots) (λ s. (c.look ≡ look_of s) × (c.drives ≡ images_of s.cpm.disks))) stays kept in
+    let was = subst (λ (h : Host). IfSome (slot_at q.id.0 h.slots) (λ s. (c.look ≡ look_of s) × (c.drives ≡ images_of s.session.disks))) stays kept in
     let closes = subst (λ (h : Host). new ≡ after_ask h q.id.0 Closes) stays closed in
     let there : bytes ≡ bytes_at_pc s = reads s (ap (λ (x : ScriptedSlot). slot_at x.id.0 old.slots) same ∙ at) in
-    let here = subst (λ (x : ScriptedSlot). IfSome (slot_at x.id.0 old.slots) (λ s. (c.look ≡ look_of s) × (c.drives ≡ images_of s.cpm.disks))) same was in
+    let here = subst (λ (x : ScriptedSlot). IfSome (slot_at x.id.0 old.slots) (λ s. (c.look ≡ look_of s) × (c.drives ≡ images_of s.session.disks))) same was in
     let so = subst (λ (x : ScriptedSlot). new ≡ after_ask old x.id.0 Closes) same closes in
     subst (λ (x : ScriptedSlot). IsClosed p ps s old new (Some (x, c, bytes)) rest) (sym same)
     (subst (λ (xs : List ℕ). IsClosed p ps s old new (Some (p, c, xs)) rest) (sym there) (closed_is p ps rest s old new c at here so left))

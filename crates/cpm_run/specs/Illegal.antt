@@ -8,7 +8,7 @@ use Rattle.cpm_run.specs.declared.illegal.IllegalBytes.{IllegalBytes}
 
 -- the four bytes from the program counter on; 0000h follows FFFFh
 abbrev pub bytes_at_pc : MachineState → List ℕ
-bytes_at_pc s = run_at s.memory s.cpm.regs.pc 4
+bytes_at_pc s = run_at s.memory s.session.regs.pc 4
 
 -- where it ended so, the program counter and the bytes there
 abbrev pub illegal_of : End → ℕ → List ℕ → Option IllegalBytes

@@ -4,7 +4,7 @@ use Rattle.cpm_batch.specs.Inputs.{Forks, IsOpened, Opens, SessionInput, StartIn
 use Rattle.cpm_batch.specs.Outputs.{SessionOutput, left_by}
 use Rattle.cpm_batch.specs.declared.output.SessionFiles.{SessionFiles}
 use Rattle.cpm_config.specs.declared.config.Config.{Config}
-use Rattle.cpm_config.specs.declared.config.Session.{Session}
+use Rattle.cpm_config.specs.declared.config.SessionConfig.{SessionConfig}
 use Rattle.cpm_drives.specs.Disks.{images_of}
 use Rattle.cpm_geom.specs.Disk.{Disk}
 use Rattle.cpm_script.specs.Fork.{keys_before}
@@ -154,12 +154,12 @@ pub record IsClosed (p : ScriptedSlot) (ps : List Player) (s : MachineState) (ol
   pub closed : Closed
   pub result : r ≡ Some (p, closed, bytes_at_pc s)
   pub look : closed.look ≡ look_of s
-  pub drives : closed.drives ≡ images_of s.cpm.disks
+  pub drives : closed.drives ≡ images_of s.session.disks
   pub left : rest ≡ ps
   pub others : (id : ℕ) → id ≢ p.id.0 → slot_at id new.slots ≡ slot_at id old.slots
 
 -- what is reported of a session, by what is left of it
-abbrev pub report_by : Session → ScriptedSlot → Closed → List ℕ → Reported
+abbrev pub report_by : SessionConfig → ScriptedSlot → Closed → List ℕ → Reported
 report_by session p closed at_pc = record {
   name = string_bytes session.name;
   ended = closed.look.ended;
@@ -169,12 +169,12 @@ report_by session p closed at_pc = record {
   at_pc = at_pc;
 }
 
-abbrev pub files_by : Session → ScriptedSlot → Closed → SessionOutput
+abbrev pub files_by : SessionConfig → ScriptedSlot → Closed → SessionOutput
 files_by session p closed =
     record { session = session; console = p.console.items; list = p.list.items; drives = closed.drives }
 
 -- one more session that ended so is reported, and leaves its files
-pub record HasAdded (session : Session) (p : ScriptedSlot) (closed : Closed) (at_pc : List ℕ) (reports more : List SessionReport) (files others : List SessionFiles) : Type 0 where
+pub record HasAdded (session : SessionConfig) (p : ScriptedSlot) (closed : Closed) (at_pc : List ℕ) (reports more : List SessionReport) (files others : List SessionFiles) : Type 0 where
   pub report : SessionReport
   pub reported : report_view report ≡ report_by session p closed at_pc
   pub pushed : more ≡ reports ++ report ∷ []
@@ -183,7 +183,7 @@ pub record HasAdded (session : Session) (p : ScriptedSlot) (closed : Closed) (at
   pub added : others ≡ files ++ file ∷ []
 
 -- each session that ended so is reported, and leaves its files
-abbrev pub AreFinished : List Session → List SlotState → List Player → List SessionReport → List SessionFiles → Type 0
+abbrev pub AreFinished : List SessionConfig → List SlotState → List Player → List SessionReport → List SessionFiles → Type 0
 AreFinished sessions slots players reports files = (system : Disk) (is : List SessionInput)
     → map (λ i. i.session) is ≡ sessions → AllEnded system is slots is players
     → (map report_view reports ≡ reports_of system is) × (map left_by files ≡ files_left system is)

@@ -8,11 +8,11 @@ use Rattle.cpm_config.specs.Rules.{config_view, fault_or, forks_fault, place_of,
 use Rattle.cpm_config.specs.declared.config.Config.{Config}
 use Rattle.cpm_config.specs.declared.config.Origin.{Origin}
 use Rattle.cpm_config.specs.declared.config.Origin.TheVariants as origin
-use Rattle.cpm_config.specs.declared.config.Session.{Session}
+use Rattle.cpm_config.specs.declared.config.SessionConfig.{SessionConfig}
 use Rattle.cpm_config.specs.declared.fault.ConfigError.TheVariants.{Range}
 use Rattle.cpm_config.specs.declared.field.Field.{Field}
 use Rattle.cpm_config.specs.declared.field.Field.TheVariants.{Frames, Quantum}
-use Rattle.cpm_config.specs.declared.field.Place.{Place}
+use Rattle.cpm_config.specs.declared.field.ConfigKey.{ConfigKey}
 use Rattle.cpm_drives.specs.Disks.{images_of}
 use Rattle.cpm_flags.specs.declared.regs.Cpu.{Cpu}
 use Rattle.cpm_flags.specs.declared.regs.Cpu.TheVariants.{I8080}
@@ -58,12 +58,12 @@ unfoldable pub run_of : Disk → List SessionInput → SessionInput → MachineS
 run_of system inputs i = alone_by system i.keys i.session.steps (start_of inputs i)
 
 -- what is left of it for its files: all bytes of its console and of its list device, and its drives
-abbrev pub left_of : Session → MachineState → SessionOutput
+abbrev pub left_of : SessionConfig → MachineState → SessionOutput
 left_of session s = record {
   session = session;
-  console = s.cpm.console.screen;
-  list = s.cpm.console.printer;
-  drives = images_of s.cpm.disks;
+  console = s.session.console.screen;
+  list = s.session.console.printer;
+  drives = images_of s.session.disks;
 }
 
 -- what is reported of it: its name, its end, its steps, the number of its console bytes, and its program counter with the bytes there
@@ -75,13 +75,13 @@ pub record Reported : Type 0 where
   pub pc : ℕ
   pub at_pc : List ℕ
 
-abbrev pub reported_of : Session → MachineState → Reported
+abbrev pub reported_of : SessionConfig → MachineState → Reported
 reported_of session s = record {
   name = string_bytes session.name;
   ended = s.ended;
   count = s.count;
-  bytes = length s.cpm.console.screen;
-  pc = s.cpm.regs.pc;
+  bytes = length s.session.console.screen;
+  pc = s.session.regs.pc;
   at_pc = bytes_at_pc s;
 }
 
@@ -107,7 +107,7 @@ top_fault config =
     else if config.quantum == 0 then Some Quantum else None
 
 -- the first place at which nothing can be run: a number at the top, or a fork from no earlier session that is opened, or at a count above the steps of either
-abbrev pub config_fault : Config → Option Place
+abbrev pub config_fault : Config → Option ConfigKey
 config_fault config = fault_or 0 (top_fault config) (forks_fault 1 [] (config_view config).sessions)
 
 -- ---- room for all of them
@@ -203,22 +203,22 @@ abbrev pub own_quota : Origin → ℕ
 own_quota (origin.Opened cpu quota drives) = quota
 own_quota (origin.Forked parent at) = 0
 
-abbrev pub quota_if_any : Option Session → ℕ
+abbrev pub quota_if_any : Option SessionConfig → ℕ
 quota_if_any None = 0
 quota_if_any (Some s) = own_quota s.origin
 
 -- those that the session at a place may write
-abbrev pub quota_at : List Session → Option ℕ → ℕ
+abbrev pub quota_at : List SessionConfig → Option ℕ → ℕ
 quota_at sessions place = quota_if_any (option_and_then (slice_get sessions) place)
 
 -- those that a session of these may write: as many as the one that it is forked from, where it is
-abbrev pub quota_in : List Session → Origin → ℕ
+abbrev pub quota_in : List SessionConfig → Origin → ℕ
 quota_in sessions (origin.Opened cpu quota drives) = quota
 quota_in sessions (origin.Forked parent at) = quota_at sessions (place_of (string_bytes parent) (map session_view sessions))
 
 -- the pages that all sessions may write
 abbrev pub quotas_of : Config → ℕ
-quotas_of config = sum_by (λ (s : Session). quota_in config.sessions.items s.origin) config.sessions.items
+quotas_of config = sum_by (λ (s : SessionConfig). quota_in config.sessions.items s.origin) config.sessions.items
 
 -- a session's opening or its fork is refused
 pub record IsOpenRefusal (config : Config) (fault : OpenError) (old : Option Files) : Type 0 where

@@ -9,7 +9,7 @@ use cpm_slots::{Host, SlotId};
 
 /// The program counter of a slot that is open.
 fn pc_of(host: &mut Host, id: SlotId) -> u16
-    ensures pc { (s : MachineState) → slot_at id.0 host.old.host.slots ≡ Some s → result ≡ s.cpm.regs.pc }
+    ensures pc { (s : MachineState) → slot_at id.0 host.old.host.slots ≡ Some s → result ≡ s.session.regs.pc }
     ensures host { host.new ≡ host.old }
 {
     match host.look(id) {

@@ -4,7 +4,7 @@ ghost use Rattle.cpm_run.specs.declared.error.RunError.TheVariants.{OutOfMemory}
 ghost use Rattle.cpm_run.specs.Refusals.{run_error_of_reading, status_of};
 
 use cpm_batch::ReadError;
-use cpm_command_line::Word;
+use cpm_command_line::ShownWord;
 use cpm_config::ConfigError;
 use cpm_machine::OpenError;
 use std::alloc::{AllocError, AllocFailed};
@@ -22,20 +22,20 @@ pub enum RunError {
     FileRefused(ReadError),
     /// A file of a run can't be written.
     #[error("HO5 can't write '{0}'")]
-    WriteFault(Word),
+    WriteFault(ShownWord),
     /// Memory was refused.
     #[error("HO8 out of memory")]
     OutOfMemory,
     /// The session of this name can't be opened so.
     #[error("HO9 session '{name}': {fault}")]
     SessionRefused {
-        name: Word,
+        name: ShownWord,
         fault: OpenError,
     },
     /// The session of this name can't be opened: the quotas of all sessions are more pages than there are frames.
     #[error("HO9 session '{name}': quotas of {quotas} pages in all, and frames = {frames}")]
     FramesExceeded {
-        name: Word,
+        name: ShownWord,
         quotas: u128,
         frames: u16,
     },

@@ -20,8 +20,8 @@ use crate::error::RunError;
 use crate::quotas::quotas_of;
 use crate::report::SessionReport;
 use cpm_batch::{Input, Inputs, SessionFiles, Start};
-use cpm_command_line::{Word, shown};
-use cpm_config::{Config, Session};
+use cpm_command_line::{ShownWord, shown};
+use cpm_config::{Config, SessionConfig};
 use cpm_script::Key;
 use cpm_slots::{ForkError, Host};
 use cpm_machine::{Closed, OpenError, Opening};
@@ -31,13 +31,13 @@ use std::vec::IntoIter;
 
 /// What is left of all sessions: what is reported of each, and what is written.
 #[derive(Drop)]
-pub(crate) struct Played<'a> {
+pub(crate) struct RunResults<'a> {
     pub(crate) reports: Vec<SessionReport>,
     pub(crate) files: Vec<SessionFiles<'a>>,
 }
 
 /// Why a session has no slot, if its opening is refused so.
-fn refused(session: &Session, fault: OpenError) -> RunError
+fn refused(session: &SessionConfig, fault: OpenError) -> RunError
     ensures { (h : HostValue) (o : OpeningValue) → IsRefusal (refusal_of h o) fault → IsOpeningRefusal h o result }
 {
     match fault {
@@ -53,7 +53,7 @@ fn refused(session: &Session, fault: OpenError) -> RunError
 fn open_slot(
     alloc: Global,
     host: &mut Host,
-    session: &Session,
+    session: &SessionConfig,
     opening: Opening,
     keys: Vec<Key>,
 ) -> Result<ScriptedSlot, RunError>
@@ -111,7 +111,7 @@ fn play_refusal(config: &Config, refusal: RunError) -> RunError
 }
 
 /// The name of the session at a place.
-fn name_at(config: &Config, place: usize) -> Word {
+fn name_at(config: &Config, place: usize) -> ShownWord {
     match config.sessions.get(place) {
         Some(session) => shown(session.name.as_str()),
         None => shown(""),
@@ -182,7 +182,7 @@ fn next_closed(
 /// What is reported of a session, and what is written.
 fn finish<'a>(
     alloc: Global,
-    session: &'a Session,
+    session: &'a SessionConfig,
     slot: ScriptedSlot,
     closed: Closed,
     at_pc: [u8; 4],
@@ -210,12 +210,12 @@ fn finish<'a>(
     Ok((report, files))
 }
 
-impl<'a> Played<'a> {
+impl<'a> RunResults<'a> {
     /// Adds what is reported of a session that has ended so, and what is written.
     fn add(
         &mut self,
         alloc: Global,
-        session: &'a Session,
+        session: &'a SessionConfig,
         ended: (ScriptedSlot, Closed, [u8; 4]),
     ) -> Result<(), AllocError>
         ensures { OnOk result (HasAdded session.entry.now ended.0 ended.1 ended.2 self.old.reports.items self.new.reports.items self.old.files.items self.new.files.items) }
@@ -232,13 +232,13 @@ impl<'a> Played<'a> {
 fn finish_all<'a>(
     alloc: Global,
     host: &mut Host,
-    sessions: &'a [Session],
+    sessions: &'a [SessionConfig],
     players: Vec<Player>,
-) -> Result<Played<'a>, AllocError>
+) -> Result<RunResults<'a>, AllocError>
     requires { AllDiffer players.items }
     ensures { IfOk result (λ played. AreFinished sessions.entry.now host.old.host.slots players.items played.reports.items played.files.items) }
 {
-    let mut played = Played {
+    let mut played = RunResults {
         reports: Vec::new(alloc),
         files: Vec::new(alloc),
     };
@@ -296,7 +296,7 @@ pub(crate) fn play_all<'a, T: Watcher>(
     config: &'a Config,
     inputs: Inputs<'_>,
     watcher: &mut T,
-) -> Result<Played<'a>, RunError>
+) -> Result<RunResults<'a>, RunError>
     requires least { 16 ≤ config.now.frames }
     requires most { config.now.frames ≤ 16384 }
     requires quantum { 1 ≤ config.now.quantum }

@@ -2,10 +2,10 @@
 ghost use Rattle.std.specs.Prelude.{◌≡◌};
 ghost use Rattle.cpm_run.specs.Run.{own_quota, quota_at, quota_in, quotas_of};
 
-use cpm_config::{Config, Origin, Session, place_of};
+use cpm_config::{Config, Origin, SessionConfig, place_of};
 
 /// The pages that an opened session may write.
-fn own_quota(session: &Session) -> u16
+fn own_quota(session: &SessionConfig) -> u16
     ensures { result ≡ own_quota session.now.origin }
 {
     match &session.origin {
@@ -15,7 +15,7 @@ fn own_quota(session: &Session) -> u16
 }
 
 /// Those that the session at a place may write.
-fn quota_at(sessions: &[Session], place: Option<usize>) -> u16
+fn quota_at(sessions: &[SessionConfig], place: Option<usize>) -> u16
     ensures { result ≡ quota_at sessions.now place }
 {
     match place.and_then(|place| sessions.get(place)) {
@@ -25,7 +25,7 @@ fn quota_at(sessions: &[Session], place: Option<usize>) -> u16
 }
 
 /// Those that a session of these may write: as many as the one that it is forked from, where it is.
-fn quota_in(sessions: &[Session], session: &Session) -> u16
+fn quota_in(sessions: &[SessionConfig], session: &SessionConfig) -> u16
     ensures { result ≡ quota_in sessions.now session.now.origin }
 {
     match &session.origin {

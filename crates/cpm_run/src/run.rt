@@ -9,11 +9,11 @@ ghost use Rattle.cpm_run.specs.Playing.{ArePressable, IsPlayRefusal};
 ghost use Rattle.cpm_run.specs.Run.{AllAccepted, HasAccessed, HasRun, IsDeviceFault, IsJudged, IsRunRefusal, IsStoppedRun, IsWriteRefusal, config_fault, outputs_of, report_view, reports_of, top_fault};
 
 use crate::error::RunError;
-use crate::play::{Played, open_all, play_all};
+use crate::play::{RunResults, open_all, play_all};
 use crate::report::Report;
 use cpm_batch::{Inputs, outputs_of, read_inputs};
 use cpm_command_line::shown;
-use cpm_config::{Config, ConfigError, Field, Place};
+use cpm_config::{Config, ConfigError, Field, ConfigKey};
 use cpm_slots::{LEAST_FRAMES, MOST_FRAMES};
 use cpm_store::{Output, Store, StoreError, write_all};
 use cpm_play::Watcher;
@@ -34,11 +34,11 @@ fn top_fault(config: &Config) -> Option<Field>
 
 /// The first place of the configuration at which nothing can be run: one of these numbers, or a fork from no earlier session that is opened, or at a
 /// count above the steps of either.
-fn config_fault(config: &Config) -> Option<Place>
+fn config_fault(config: &Config) -> Option<ConfigKey>
     ensures { result ≡ config_fault config.now }
 {
     match top_fault(config) {
-        Some(field) => Some(Place { session: 0, field }),
+        Some(field) => Some(ConfigKey { session: 0, field }),
         None => config.fork_fault(),
     }
 }
@@ -79,7 +79,7 @@ fn play_inputs<'a, T: Watcher>(
     ensures accepted { OnOk result (AllAccepted (map given inputs.entry.sessions.items) (new_host inputs.entry.system config.entry.now.frames) (map given inputs.entry.sessions.items)) }
     ensures refusal { IfErr result (IsPlayRefusal config.entry.now (new_host inputs.entry.system config.entry.now.frames) (map given inputs.entry.sessions.items)) }
 {
-    let Played { reports, files } = play_all(alloc, config, inputs, watcher)?;
+    let RunResults { reports, files } = play_all(alloc, config, inputs, watcher)?;
     let outputs = outputs_of(alloc, files)?;
     Ok((reports, outputs))
 }

@@ -13,7 +13,7 @@ use Rattle.cpm_script.specs.KeyText.{first_key, keys_of}
 use Rattle.cpm_script.specs.Laws.{KeysAreAscii}
 use Rattle.cpm_script.specs.Script.{is_skipped, is_space, most_keys, numbered, or_fault}
 use Rattle.cpm_script.specs.declared.cue.Cue.{Cue}
-use Rattle.cpm_script.specs.declared.cue.Reading.{Reading}
+use Rattle.cpm_script.specs.declared.cue.ScriptReading.{ScriptReading}
 use Rattle.cpm_script.specs.declared.fault.LineFault.TheVariants.{NoKey, NotAKey, TooManyKeys}
 use Rattle.cpm_script.specs.declared.script.Key.{Key}
 use Rattle.cpm_script.proofs.KeyLemmas.{fits, fronted, keys_of-first, too_many}
@@ -56,7 +56,7 @@ its-count n None byte = refl
 its-count n (Some count) byte = refl
 
 -- a key more
-pub key-pushed : (old : Reading) (cues : Vec Cue Global) (at : Option ℕ) (byte : ℕ) → IsReading old → old.keys < 4096
+pub key-pushed : (old : ScriptReading) (cues : Vec Cue Global) (at : Option ℕ) (byte : ℕ) → IsReading old → old.keys < 4096
     → all_said cues ≡ all_said old.cues ++ pressed at byte ∷ [] → IsReading (record { cues = cues; keys = old.keys + 1; last = unwrap_or at old.last })
 key-pushed old cues at byte good room is =
     let count = ap keys_in is ∙ keys_in-append (all_said old.cues) (pressed at byte ∷ []) in
@@ -68,7 +68,7 @@ key-pushed old cues at byte good room is =
     }
 
 -- a wait more
-pub wait-pushed : (old new : Reading) (text : List ℕ) → IsReading old → new.keys ≡ old.keys → new.last ≡ old.last
+pub wait-pushed : (old new : ScriptReading) (text : List ℕ) → IsReading old → new.keys ≡ old.keys → new.last ≡ old.last
     → all_said new.cues ≡ all_said old.cues ++ Awaited text ∷ [] → IsReading new
 wait-pushed old new text good same_keys same_last is =
     let count = ap keys_in is ∙ keys_in-append (all_said old.cues) (Awaited text ∷ []) in

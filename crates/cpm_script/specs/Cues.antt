@@ -10,11 +10,11 @@ use Rattle.cpm_script.specs.KeyText.{count_of, keys_of}
 use Rattle.cpm_script.specs.Script.{is_skipped, is_space, most_keys, numbered, or_fault}
 use Rattle.cpm_script.specs.declared.cue.Cue.{Cue}
 use Rattle.cpm_script.specs.declared.cue.Cue.TheVariants as cue
-use Rattle.cpm_script.specs.declared.cue.Reading.{Reading}
+use Rattle.cpm_script.specs.declared.cue.ScriptReading.{ScriptReading}
 use Rattle.cpm_script.specs.declared.script.Key.{Key}
-use Rattle.cpm_script.specs.declared.script.Stop.{Stop}
-use Rattle.cpm_script.specs.declared.script.Stop.TheVariants as stop
-use Rattle.cpm_script.specs.declared.script.Stop.TheVariants.{Fault}
+use Rattle.cpm_script.specs.declared.script.KeyStop.{KeyStop}
+use Rattle.cpm_script.specs.declared.script.KeyStop.TheVariants as stop
+use Rattle.cpm_script.specs.declared.script.KeyStop.TheVariants.{Fault}
 use Rattle.cpm_script.specs.declared.fault.LineFault.{LineFault}
 use Rattle.cpm_script.specs.declared.fault.LineFault.TheVariants.{NoCount, CountFalls, NotAKey, NoKey, NoText, TooManyKeys}
 use Rattle.cpm_script.specs.declared.fault.ScriptError.{ScriptError}
@@ -157,7 +157,7 @@ has_cue = list_any is_cue
 -- ---- the code's values
 
 -- the numbers beside the cues are theirs
-pub record IsReading (reading : Reading) : Type 0 where
+pub record IsReading (reading : ScriptReading) : Type 0 where
   pub keys : reading.keys ≡ keys_in (all_said reading.cues)
   pub last : reading.last ≡ last_count 0 (all_said reading.cues)
   pub room : reading.keys ≤ most_keys
@@ -169,7 +169,7 @@ ReadsCues (Err (Line number fault)) read = read ≡ Err (number, fault)
 ReadsCues (Err OutOfMemory) read = Unit {0}
 
 -- what was added to the cues, unless memory ran out
-abbrev pub AddsCues : Result (List Said) LineFault → Result (Unit {0}) Stop → List Said → Type 0
+abbrev pub AddsCues : Result (List Said) LineFault → Result (Unit {0}) KeyStop → List Said → Type 0
 AddsCues read (Ok done) new = read ≡ Ok new
 AddsCues read (Err (Fault fault)) new = read ≡ Err fault
 AddsCues read (Err stop.OutOfMemory) new = Unit {0}

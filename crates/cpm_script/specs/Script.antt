@@ -6,9 +6,9 @@ use Rattle.std.specs.declared.alloc.Global.{Global}
 use Rattle.std.specs.Str.Lines.{lines}
 use Rattle.cpm_script.specs.KeyText.{count_of, keys_of}
 use Rattle.cpm_script.specs.declared.script.Key.{Key}
-use Rattle.cpm_script.specs.declared.script.Stop.{Stop}
-use Rattle.cpm_script.specs.declared.script.Stop.TheVariants as stop
-use Rattle.cpm_script.specs.declared.script.Stop.TheVariants.{Fault}
+use Rattle.cpm_script.specs.declared.script.KeyStop.{KeyStop}
+use Rattle.cpm_script.specs.declared.script.KeyStop.TheVariants as stop
+use Rattle.cpm_script.specs.declared.script.KeyStop.TheVariants.{Fault}
 use Rattle.cpm_script.specs.declared.fault.LineFault.{LineFault}
 use Rattle.cpm_script.specs.declared.fault.LineFault.TheVariants.{NoCount, CountFalls, NotAKey, NoKey, TooManyKeys}
 use Rattle.cpm_script.specs.declared.fault.ScriptError.{ScriptError}
@@ -92,7 +92,7 @@ Reads (Err (Line number fault)) read = read ≡ Err (number, fault)
 Reads (Err OutOfMemory) read = Unit {0}
 
 -- what was added to the keys, unless memory ran out
-abbrev pub Adds : Result (List Key) LineFault → Result (Unit {0}) Stop → List Key → Type 0
+abbrev pub Adds : Result (List Key) LineFault → Result (Unit {0}) KeyStop → List Key → Type 0
 Adds read (Ok done) new = read ≡ Ok new
 Adds read (Err (Fault fault)) new = read ≡ Err fault
 Adds read (Err stop.OutOfMemory) new = Unit {0}

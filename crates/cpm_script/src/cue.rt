@@ -8,7 +8,7 @@ use crate::count::count_of;
 use crate::fault::{LineFault, ScriptError};
 use crate::keys::{are_keys, count_keys, first_key};
 use crate::lines::first_line;
-use crate::script::{Key, MOST_KEYS, Stop, is_blank, is_comment, parted};
+use crate::script::{Key, MOST_KEYS, KeyStop, is_blank, is_comment, parted};
 use memchr::memmem;
 use std::alloc::{AllocError, Global};
 
@@ -52,7 +52,7 @@ pub fn plain_keys(alloc: Global, cues: &[Cue]) -> Result<Vec<Key>, AllocError>
 
 /// What was read of a script so far.
 #[derive(Drop)]
-struct Reading {
+struct ScriptReading {
     cues: Vec<Cue>,
     /// How many keys they have.
     keys: usize,
@@ -71,7 +71,7 @@ fn pressed(at: Option<u64>, byte: u8) -> Cue
 }
 
 /// Adds a key.
-fn push_key(reading: &mut Reading, at: Option<u64>, byte: u8) -> Result<(), AllocError>
+fn push_key(reading: &mut ScriptReading, at: Option<u64>, byte: u8) -> Result<(), AllocError>
     requires reading { IsReading reading.old }
     requires room { reading.old.keys < 4096 }
     ensures added { OnOk result (all_said reading.new.cues ≡ all_said reading.old.cues ++ pressed at byte ∷ []) }
@@ -85,7 +85,7 @@ fn push_key(reading: &mut Reading, at: Option<u64>, byte: u8) -> Result<(), Allo
 }
 
 /// Adds the keys that a text stands for, for which there is room.
-fn push_keys(reading: &mut Reading, at: Option<u64>, text: &[u8]) -> Result<(), AllocError>
+fn push_keys(reading: &mut ScriptReading, at: Option<u64>, text: &[u8]) -> Result<(), AllocError>
     requires reading { IsReading reading.old }
     requires keys { is_some (keys_of text.now) ≡ true }
     requires room { IfSome (keys_of text.now) (λ ks. reading.old.keys + length ks ≤ 4096) }
@@ -101,40 +101,40 @@ fn push_keys(reading: &mut Reading, at: Option<u64>, text: &[u8]) -> Result<(), 
 }
 
 /// Adds the keys that a text stands for.
-fn add_text(reading: &mut Reading, at: Option<u64>, text: &[u8]) -> Result<(), Stop>
+fn add_text(reading: &mut ScriptReading, at: Option<u64>, text: &[u8]) -> Result<(), KeyStop>
     requires { IsReading reading.old }
     ensures added { AddsCues (with_text (all_said reading.old.cues) at text.now) result (all_said reading.new.cues) }
     ensures reading { OnOk result (IsReading reading.new) }
 {
     let Some(count) = count_keys(text) else {
-        return Err(Stop::Fault(LineFault::NotAKey));
+        return Err(KeyStop::Fault(LineFault::NotAKey));
     };
     if count == 0 {
-        return Err(Stop::Fault(LineFault::NoKey));
+        return Err(KeyStop::Fault(LineFault::NoKey));
     }
     if count > MOST_KEYS - reading.keys {
-        return Err(Stop::Fault(LineFault::TooManyKeys));
+        return Err(KeyStop::Fault(LineFault::TooManyKeys));
     }
     match push_keys(reading, at, text) {
         Ok(()) => Ok(()),
-        Err(_) => Err(Stop::OutOfMemory),
+        Err(_) => Err(KeyStop::OutOfMemory),
     }
 }
 
 /// Adds the keys of a text at the count that a number writes.
-fn add_counted(reading: &mut Reading, number: &[u8], text: &[u8]) -> Result<(), Stop>
+fn add_counted(reading: &mut ScriptReading, number: &[u8], text: &[u8]) -> Result<(), KeyStop>
     requires { IsReading reading.old }
     ensures added { AddsCues (with_counted (all_said reading.old.cues) number.now text.now) result (all_said reading.new.cues) }
     ensures reading { OnOk result (IsReading reading.new) }
-    ensures memory { IsErrOf result Stop.OutOfMemory → is_some (count_of number.now) ≡ true }
+    ensures memory { IsErrOf result KeyStop.OutOfMemory → is_some (count_of number.now) ≡ true }
 {
     let Some(count) = count_of(number) else {
-        return Err(Stop::Fault(LineFault::NoCount));
+        return Err(KeyStop::Fault(LineFault::NoCount));
     };
     if reading.last <= count {
         add_text(reading, Some(count), text)
     } else {
-        Err(Stop::Fault(LineFault::CountFalls))
+        Err(KeyStop::Fault(LineFault::CountFalls))
     }
 }
 
@@ -153,7 +153,7 @@ fn key_bytes(alloc: Global, text: &[u8]) -> Result<Vec<u8>, AllocError>
 }
 
 /// Adds that the session waits for a key, and has shown what a text stands for.
-fn push_wait(reading: &mut Reading, alloc: Global, shown: &[u8]) -> Result<(), AllocError>
+fn push_wait(reading: &mut ScriptReading, alloc: Global, shown: &[u8]) -> Result<(), AllocError>
     requires reading { IsReading reading.old }
     requires keys { is_some (keys_of shown.now) ≡ true }
     ensures added { OnOk result (option_map (λ bytes. all_said reading.old.cues ++ Awaited bytes ∷ []) (keys_of shown.now) ≡ Some (all_said reading.new.cues)) }
@@ -165,17 +165,17 @@ fn push_wait(reading: &mut Reading, alloc: Global, shown: &[u8]) -> Result<(), A
 }
 
 /// Adds the keys of a text, once the session waits and has shown what another text stands for.
-fn add_awaited(reading: &mut Reading, alloc: Global, shown: &[u8], text: &[u8]) -> Result<(), Stop>
+fn add_awaited(reading: &mut ScriptReading, alloc: Global, shown: &[u8], text: &[u8]) -> Result<(), KeyStop>
     requires { IsReading reading.old }
     ensures added { AddsCues (with_awaited (all_said reading.old.cues) shown.now text.now) result (all_said reading.new.cues) }
     ensures reading { OnOk result (IsReading reading.new) }
 {
     if !are_keys(shown) {
-        return Err(Stop::Fault(LineFault::NotAKey));
+        return Err(KeyStop::Fault(LineFault::NotAKey));
     }
     match push_wait(reading, alloc, shown) {
         Ok(()) => add_text(reading, None, text),
-        Err(_) => Err(Stop::OutOfMemory),
+        Err(_) => Err(KeyStop::OutOfMemory),
     }
 }
 
@@ -204,14 +204,14 @@ pub(crate) fn quoted(text: &[u8]) -> Option<(&[u8], &[u8])>
 }
 
 /// Adds the keys behind a text in quotes, once the session waits and has shown that text.
-fn add_expected(reading: &mut Reading, alloc: Global, text: &[u8]) -> Result<(), Stop>
+fn add_expected(reading: &mut ScriptReading, alloc: Global, text: &[u8]) -> Result<(), KeyStop>
     requires { IsReading reading.old }
     ensures added { AddsCues (with_expected (all_said reading.old.cues) text.now) result (all_said reading.new.cues) }
     ensures reading { OnOk result (IsReading reading.new) }
 {
     match quoted(text) {
         Some((shown, keys)) => add_awaited(reading, alloc, shown, keys),
-        None => Err(Stop::Fault(LineFault::NoText)),
+        None => Err(KeyStop::Fault(LineFault::NoText)),
     }
 }
 
@@ -228,11 +228,11 @@ pub(crate) fn is_expect(word: &[u8]) -> bool
 }
 
 /// Adds what a line says that begins with this word.
-fn add_word(reading: &mut Reading, alloc: Global, word: &[u8], text: &[u8]) -> Result<(), Stop>
+fn add_word(reading: &mut ScriptReading, alloc: Global, word: &[u8], text: &[u8]) -> Result<(), KeyStop>
     requires { IsReading reading.old }
     ensures added { AddsCues (with_word (all_said reading.old.cues) word.now text.now) result (all_said reading.new.cues) }
     ensures reading { OnOk result (IsReading reading.new) }
-    ensures memory { IsErrOf result Stop.OutOfMemory → is_opening word.now ≡ true }
+    ensures memory { IsErrOf result KeyStop.OutOfMemory → is_opening word.now ≡ true }
 {
     if is_wait(word) {
         add_awaited(reading, alloc, &[], text)
@@ -244,11 +244,11 @@ fn add_word(reading: &mut Reading, alloc: Global, word: &[u8], text: &[u8]) -> R
 }
 
 /// Adds what one more line says.
-fn add_line(reading: &mut Reading, alloc: Global, line: &[u8]) -> Result<(), Stop>
+fn add_line(reading: &mut ScriptReading, alloc: Global, line: &[u8]) -> Result<(), KeyStop>
     requires { IsReading reading.old }
     ensures added { AddsCues (with_line (all_said reading.old.cues) line.now) result (all_said reading.new.cues) }
     ensures reading { OnOk result (IsReading reading.new) }
-    ensures memory { IsErrOf result Stop.OutOfMemory → is_cue line.now ≡ true }
+    ensures memory { IsErrOf result KeyStop.OutOfMemory → is_cue line.now ≡ true }
 {
     if is_blank(line) || is_comment(line) {
         return Ok(());
@@ -271,7 +271,7 @@ pub fn read_cues(alloc: Global, text: &[u8]) -> Result<Vec<Cue>, ScriptError>
     // Want of memory is answered only where a line has a count or waits.
     ensures memory { IsErrOf result ScriptError.OutOfMemory → has_cue (lines text.now) ≡ true }
 {
-    let mut reading = Reading {
+    let mut reading = ScriptReading {
         cues: Vec::new(alloc),
         keys: 0,
         last: 0,
@@ -283,8 +283,8 @@ pub fn read_cues(alloc: Global, text: &[u8]) -> Result<Vec<Cue>, ScriptError>
         number += 1;
         match add_line(&mut reading, alloc, line) {
             Ok(()) => rest = after,
-            Err(Stop::Fault(fault)) => return Err(ScriptError::Line { number, fault }),
-            Err(Stop::OutOfMemory) => return Err(ScriptError::OutOfMemory),
+            Err(KeyStop::Fault(fault)) => return Err(ScriptError::Line { number, fault }),
+            Err(KeyStop::OutOfMemory) => return Err(ScriptError::OutOfMemory),
         }
     }
     Ok(reading.cues)

@@ -21,7 +21,7 @@ pub struct Key {
 
 /// Why the keys of a line are not added.
 #[derive(Clone, Copy)]
-pub(crate) enum Stop {
+pub(crate) enum KeyStop {
     Fault(LineFault),
     OutOfMemory,
 }
@@ -63,25 +63,25 @@ fn add_key(keys: &mut Vec<Key>, key: Key) -> Result<(), AllocError>
 }
 
 /// Adds the keys that a text stands for, all at one count.
-fn add_keys(keys: &mut Vec<Key>, count: u64, text: &[u8]) -> Result<(), Stop>
+fn add_keys(keys: &mut Vec<Key>, count: u64, text: &[u8]) -> Result<(), KeyStop>
     requires { length keys.old.items ≤ 4096 }
     ensures added { Adds (with_text keys.old.items count text.now) result keys.new.items }
     ensures room { OnOk result (length keys.new.items ≤ 4096) }
 {
     if text.is_empty() {
-        return Err(Stop::Fault(LineFault::NoKey));
+        return Err(KeyStop::Fault(LineFault::NoKey));
     }
     let mut rest = text;
     while !rest.is_empty() {
         let Some((byte, after)) = first_key(rest) else {
-            return Err(Stop::Fault(LineFault::NotAKey));
+            return Err(KeyStop::Fault(LineFault::NotAKey));
         };
         if keys.len() >= MOST_KEYS {
-            return Err(Stop::Fault(fault_past_last_key(rest)));
+            return Err(KeyStop::Fault(fault_past_last_key(rest)));
         }
         match add_key(keys, Key { count, byte }) {
             Ok(()) => rest = after,
-            Err(_) => return Err(Stop::OutOfMemory),
+            Err(_) => return Err(KeyStop::OutOfMemory),
         }
     }
     Ok(())
@@ -110,28 +110,28 @@ pub(crate) fn parted(line: &[u8]) -> (&[u8], &[u8])
 }
 
 /// Adds the keys of a text at the count that a number writes.
-fn add_counted(keys: &mut Vec<Key>, number: &[u8], text: &[u8]) -> Result<(), Stop>
+fn add_counted(keys: &mut Vec<Key>, number: &[u8], text: &[u8]) -> Result<(), KeyStop>
     requires { length keys.old.items ≤ 4096 }
     ensures added { Adds (with_counted keys.old.items number.now text.now) result keys.new.items }
     ensures room { OnOk result (length keys.new.items ≤ 4096) }
-    ensures memory { IsErrOf result Stop.OutOfMemory → is_some (count_of number.now) ≡ true }
+    ensures memory { IsErrOf result KeyStop.OutOfMemory → is_some (count_of number.now) ≡ true }
 {
     let Some(count) = count_of(number) else {
-        return Err(Stop::Fault(LineFault::NoCount));
+        return Err(KeyStop::Fault(LineFault::NoCount));
     };
     if is_after(keys.as_slice(), count) {
         add_keys(keys, count, text)
     } else {
-        Err(Stop::Fault(LineFault::CountFalls))
+        Err(KeyStop::Fault(LineFault::CountFalls))
     }
 }
 
 /// Adds the keys of one more line.
-fn add_line(keys: &mut Vec<Key>, line: &[u8]) -> Result<(), Stop>
+fn add_line(keys: &mut Vec<Key>, line: &[u8]) -> Result<(), KeyStop>
     requires { length keys.old.items ≤ 4096 }
     ensures added { Adds (with_line keys.old.items line.now) result keys.new.items }
     ensures room { OnOk result (length keys.new.items ≤ 4096) }
-    ensures memory { IsErrOf result Stop.OutOfMemory → is_counted line.now ≡ true }
+    ensures memory { IsErrOf result KeyStop.OutOfMemory → is_counted line.now ≡ true }
 {
     if is_blank(line) || is_comment(line) {
         return Ok(());
@@ -161,8 +161,8 @@ pub fn read_keys(alloc: Global, text: &[u8]) -> Result<Vec<Key>, ScriptError>
         number += 1;
         match add_line(&mut keys, line) {
             Ok(()) => rest = after,
-            Err(Stop::Fault(fault)) => return Err(ScriptError::Line { number, fault }),
-            Err(Stop::OutOfMemory) => return Err(ScriptError::OutOfMemory),
+            Err(KeyStop::Fault(fault)) => return Err(ScriptError::Line { number, fault }),
+            Err(KeyStop::OutOfMemory) => return Err(ScriptError::OutOfMemory),
         }
     }
     Ok(keys)

@@ -9,10 +9,10 @@ use arrayvec::ArrayString;
 use itoa::Buffer;
 
 /// A line with one key: at most 20 digits, a space, two characters and a line feed.
-type Line = ArrayString<32>;
+type KeyLine = ArrayString<32>;
 
 /// Adds a character below 80h.
-fn add_character(line: &mut Line, byte: u8)
+fn add_character(line: &mut KeyLine, byte: u8)
     requires ascii { byte < 128 }
     requires room { length line.old.bytes < 32 }
     ensures text { line.new.bytes ≡ line.old.bytes ++ byte ∷ [] }
@@ -22,7 +22,7 @@ fn add_character(line: &mut Line, byte: u8)
 }
 
 /// Adds a caret and a character below 80h.
-fn add_behind_caret(line: &mut Line, byte: u8)
+fn add_behind_caret(line: &mut KeyLine, byte: u8)
     requires ascii { byte < 128 }
     requires room { length line.old.bytes + 2 ≤ 32 }
     ensures text { line.new.bytes ≡ line.old.bytes ++ caret ∷ byte ∷ [] }
@@ -34,7 +34,7 @@ fn add_behind_caret(line: &mut Line, byte: u8)
 
 /// Adds a key below 80h.
 #[tactic(auto, unfolding(crate::specs::Recording::key_text))]
-fn add_key(line: &mut Line, byte: u8)
+fn add_key(line: &mut KeyLine, byte: u8)
     requires ascii { byte < 128 }
     requires room { length line.old.bytes + 2 ≤ 32 }
     ensures text { line.new.bytes ≡ line.old.bytes ++ key_text byte }
@@ -58,7 +58,7 @@ pub fn key_line(key: Key) -> Option<ArrayString<32>>
     if !key.byte.is_ascii() {
         return None;
     }
-    let mut line: Line = ArrayString::new();
+    let mut line: KeyLine = ArrayString::new();
     let mut buffer = Buffer::new();
     line.push_str(buffer.format(key.count));
     add_character(&mut line, b' ');

@@ -20,9 +20,9 @@ use Rattle.cpm_slots.proofs.CallLaws.{with_slots}
 
 -- what is left of a session that was closed
 abbrev pub IsLeft : Look → List (Option Disk) → MachineState → Type 0
-IsLeft look drives s = (look ≡ look_of s) × (drives ≡ images_of s.cpm.disks)
+IsLeft look drives s = (look ≡ look_of s) × (drives ≡ images_of s.session.disks)
 
-pub left-at : (m : List (Option Contents)) (slots : List Slot) (i : ℕ) (s : Slot) (look : Look) (drives : List (Option Disk)) → slice_get slots i ≡ Some s → IfSome (slice_get (slots_of m slots) i) (λ x. look ≡ look_of x.state) → drives ≡ images_of s.runner.cpm.disks → IfSome (slice_get (slots_of m slots) i) (λ x. IsLeft look drives x.state)
+pub left-at : (m : List (Option Contents)) (slots : List Slot) (i : ℕ) (s : Slot) (look : Look) (drives : List (Option Disk)) → slice_get slots i ≡ Some s → IfSome (slice_get (slots_of m slots) i) (λ x. look ≡ look_of x.state) → drives ≡ images_of s.runner.session.disks → IfSome (slice_get (slots_of m slots) i) (λ x. IsLeft look drives x.state)
 left-at m slots i s look drives at h is =
     let e = slots-at m slots i s at in
     let seen : look ≡ look_of (slot_of m s).state = rw e at h in

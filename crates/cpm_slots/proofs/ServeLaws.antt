@@ -21,17 +21,17 @@ use Rattle.cpm_slots.specs.Index.{Serves}
 
 -- a key that was pressed
 pub key-result : (system : Disk) (key : ℕ) (s : MachineState) (r : Result ⊤ Refusal) (now : Terminal) →
-    IfOk r (λ _. (takes_key s ≡ true) × (now ≡ pressed s.cpm.console key)) →
-    IfErr r (λ fault. (fault ≡ refusal.KeysFull) × (takes_key s ≡ false) × (now ≡ s.cpm.console)) →
-    Serves system (Key key) (key_reply r) s (record s { cpm = record s.cpm { console = now } })
+    IfOk r (λ _. (takes_key s ≡ true) × (now ≡ pressed s.session.console key)) →
+    IfErr r (λ fault. (fault ≡ refusal.KeysFull) × (takes_key s ≡ false) × (now ≡ s.session.console)) →
+    Serves system (Key key) (key_reply r) s (record s { session = record s.session { console = now } })
 unfolding serve
 key-result system key s (Ok done) now accepted refused = record {
   replied = ap (λ b. reply_of (served_key b key s).answer) (sym accepted.0);
-  state = ap (λ con. record s { cpm = record s.cpm { console = con } }) accepted.1 ∙ ap (λ b. (served_key b key s).state) (sym accepted.0);
+  state = ap (λ con. record s { session = record s.session { console = con } }) accepted.1 ∙ ap (λ b. (served_key b key s).state) (sym accepted.0);
 }
 key-result system key s (Err fault) now accepted refused = record {
   replied = ap (λ (x : Refusal). reply.Refused x) refused.0 ∙ ap (λ b. reply_of (served_key b key s).answer) (sym refused.1);
-  state = ap (λ con. record s { cpm = record s.cpm { console = con } }) refused.2 ∙ ap (λ b. (served_key b key s).state) (sym refused.1);
+  state = ap (λ con. record s { session = record s.session { console = con } }) refused.2 ∙ ap (λ b. (served_key b key s).state) (sym refused.1);
 }
 
 pub taken-front : (n k : ℕ) (xs ys : List ℕ) → k ≡ min n (length xs) → take k (take k xs ++ ys) ≡ take (min n (length xs)) xs
@@ -43,27 +43,27 @@ taken-front n k xs ys h =
 -- the state after up to so many bytes of a device were taken
 abbrev pub taken_from : Device → ℕ → MachineState → MachineState
 taken_from on room s =
-    let waits = waiting_on on s.cpm.console in
-    record s { cpm = record s.cpm { console = with_waiting on (drop (min room (length waits)) waits) s.cpm.console } }
+    let waits = waiting_on on s.session.console in
+    record s { session = record s.session { console = with_waiting on (drop (min room (length waits)) waits) s.session.console } }
 
 -- bytes that were taken into some room
 pub serve-take : (system : Disk) (on : Device) (room : ℕ) (s : MachineState) →
-    let waits = waiting_on on s.cpm.console in
+    let waits = waiting_on on s.session.console in
     let served : Served = record { answer = Bytes (take (min room (length waits)) waits); state = taken_from on room s } in
     serve system (take_call on room) s ≡ served
 unfolding serve
 serve-take system device.Console room s = refl
 serve-take system device.List room s = refl
 
-pub takes : (system : Disk) (on : Device) (room k : ℕ) (out rest : List ℕ) (s : MachineState) (now : Terminal) → k ≡ min room (length (waiting_on on s.cpm.console)) →
-    out ≡ take k (waiting_on on s.cpm.console) ++ rest → now ≡ with_waiting on (drop k (waiting_on on s.cpm.console)) s.cpm.console →
-    Serves system (take_call on room) (reply.Bytes (record { items = take k out })) s (record s { cpm = record s.cpm { console = now } })
+pub takes : (system : Disk) (on : Device) (room k : ℕ) (out rest : List ℕ) (s : MachineState) (now : Terminal) → k ≡ min room (length (waiting_on on s.session.console)) →
+    out ≡ take k (waiting_on on s.session.console) ++ rest → now ≡ with_waiting on (drop k (waiting_on on s.session.console)) s.session.console →
+    Serves system (take_call on room) (reply.Bytes (record { items = take k out })) s (record s { session = record s.session { console = now } })
 takes system on room k out rest s now e h is =
-    let waits = waiting_on on s.cpm.console in
+    let waits = waiting_on on s.session.console in
     record {
       replied = ap (λ bytes. reply.Bytes (record { items = bytes })) (ap (take k) h ∙ taken-front room k waits rest e)
           ∙ ap (λ (x : Served). reply_of x.answer) (sym (serve-take system on room s));
-      state = ap (λ con. record s { cpm = record s.cpm { console = con } }) (is ∙ ap (λ n. with_waiting on (drop n waits) s.cpm.console) e)
+      state = ap (λ con. record s { session = record s.session { console = con } }) (is ∙ ap (λ n. with_waiting on (drop n waits) s.session.console) e)
           ∙ ap (λ (x : Served). x.state) (sym (serve-take system on room s));
     }
 

@@ -22,7 +22,7 @@ use crate::slots::{
     Slot, close_at, grant_at, index_of, key_at, look_at, numbers_fit, peek_at, quotas_of, table_at,
     take_at,
 };
-use cpm_bdos::Cpm;
+use cpm_bdos::Session;
 use cpm_console::{Console, Device};
 use cpm_decode::DecodeCache;
 use cpm_geom::Image;
@@ -331,7 +331,7 @@ impl Host {
     /// Closes a slot, whose number never comes again, and gives what is left of it. Bytes not taken are dropped.
     pub fn close(&mut self, id: SlotId) -> Result<Closed, Refusal>
         ensures reply { close_reply result ≡ reply_at self.old.host id.0 Closes }
-        ensures closed { IfOk result (λ c. IfSome (slot_at id.0 self.old.host.slots) (λ s. (c.look ≡ look_of s) × (c.drives ≡ images_of s.cpm.disks))) }
+        ensures closed { IfOk result (λ c. IfSome (slot_at id.0 self.old.host.slots) (λ s. (c.look ≡ look_of s) × (c.drives ≡ images_of s.session.disks))) }
         ensures host { self.new.host ≡ after_ask self.old.host id.0 Closes }
         ensures unchanged { OnErr result (self.new ≡ self.old) }
     {
@@ -351,7 +351,7 @@ fn opened(opening: Opening, console: Console, cache: DecodeCache) -> Runner
     let Opening { cpu, quota, drives } = opening;
     Runner {
         cpu,
-        cpm: Cpm::new(console, drives),
+        session: Session::new(console, drives),
         quota,
         count: 0,
         ended: End::Running,

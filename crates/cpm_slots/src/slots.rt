@@ -64,10 +64,10 @@ pub fn quotas_of(slots: &[Slot]) -> u64
 
 /// Does nothing, and says of each session that its columns and its line's length are bytes, and its addresses words.
 pub fn numbers_fit(slots: &[Slot])
-    ensures { All (λ slot. IsFit slot.runner.cpm) slots.now }
+    ensures { All (λ slot. IsFit slot.runner.session) slots.now }
 {
     for slot in slots {
-        slot.runner.cpm.numbers_fit();
+        slot.runner.session.numbers_fit();
     }
 }
 
@@ -91,7 +91,7 @@ fn press(runner: &mut Runner, key: u8) -> Result<(), Refusal>
     ensures cache { runner.new.cache ≡ runner.old.cache }
     ensures kept { OnErr result (runner.new ≡ runner.old) }
 {
-    give(&mut runner.cpm.console, key)
+    give(&mut runner.session.console, key)
 }
 
 /// Moves out the first bytes of a session's device.
@@ -104,7 +104,7 @@ fn take_from(runner: &mut Runner, device: Device, out: &mut [u8]) -> usize
     ensures quota { runner.new.quota ≡ runner.old.quota }
     ensures cache { runner.new.cache ≡ runner.old.cache }
 {
-    runner.cpm.console.take_from(device, out)
+    runner.session.console.take_from(device, out)
 }
 
 /// Presses a key in the session at a place.
@@ -181,7 +181,7 @@ fn grant_table(
     ensures frames { store.new.private ≡ store.old.private }
     ensures store { IsSoundStore store.new }
 {
-    if stop.is_some() || steps < LEAST_COPIED || runner.cpm.mode != Mode::Program {
+    if stop.is_some() || steps < LEAST_COPIED || runner.session.mode != Mode::Program {
         let mut view = store.view(table);
         return grant_to(system, runner, &mut view, steps, stop);
     }
@@ -252,7 +252,7 @@ pub fn close_at(slots: &mut Vec<Slot>, store: &mut FrameStore, index: usize) -> 
     requires index { index < length slots.old.items }
     requires have_tables { HaveTables (memories store.old) slots.old.items }
     requires cached { AllCached (memories store.old) store.old.stamps slots.old.items }
-    ensures closed { IfSome (slice_get (slots_of (memories store.old) slots.old.items) index) (λ x. (result.look ≡ look_of x.state) × (result.drives ≡ images_of x.state.cpm.disks)) }
+    ensures closed { IfSome (slice_get (slots_of (memories store.old) slots.old.items) index) (λ x. (result.look ≡ look_of x.state) × (result.drives ≡ images_of x.state.session.disks)) }
     ensures slots { slots_of (memories store.new) slots.new.items ≡ remove (slots_of (memories store.old) slots.old.items) index }
     ensures have_tables { HaveTables (memories store.new) slots.new.items }
     ensures cached { AllCached (memories store.new) store.new.stamps slots.new.items }
@@ -262,7 +262,7 @@ pub fn close_at(slots: &mut Vec<Slot>, store: &mut FrameStore, index: usize) -> 
     let look = look_at(slots, store, index);
     let Slot { runner, table, .. } = slots.remove(index);
     store.release(table);
-    let Runner { cpm, .. } = runner;
-    let drives = cpm.disks.into_images();
+    let Runner { session, .. } = runner;
+    let drives = session.disks.into_images();
     Closed { look, drives }
 }

@@ -6,7 +6,7 @@ use crate::disk::read_image;
 use crate::files::{check_file, read_file, write_file};
 use crate::output::Outputs;
 use crate::place::check_com;
-use crate::progress::{Form, Teller, Told};
+use crate::progress::{Form, Teller, Audience};
 use crate::refused::Refused;
 use crate::rehearse::waits_in;
 use crate::screen::Screen;
@@ -14,7 +14,7 @@ use crate::typing::{Terminals, record_in, tell_full, tell_quit};
 use crate::waiting_word;
 use cpm_geom::Image;
 use cpm_host::{
-    ComTask, Cued, Ending, HostError, Ran, Script, Start, Tail, Typed, cues_of, run_com, run_live,
+    ComTask, CuedKeys, Ending, HostError, ProgramResult, Script, ProgramStart, Tail, LiveResult, cues_of, run_com, run_live,
     run_waiting, tail_of,
 };
 use std::io;
@@ -60,11 +60,11 @@ fn check_outs(
 }
 
 /// What the program runs with.
-fn start_of(rt: &(impl Files + AllocGlobal), task: &ComTask<'_>) -> Result<Start, Refused> {
+fn start_of(rt: &(impl Files + AllocGlobal), task: &ComTask<'_>) -> Result<ProgramStart, Refused> {
     let program = read_file(rt, task.file)?;
     let tail = tail_if_any(rt, task)?;
     let drives = drives_of(rt, &task.drives)?;
-    Ok(Start {
+    Ok(ProgramStart {
         cpu: task.cpu,
         program,
         tail,
@@ -93,9 +93,9 @@ fn drives_of(rt: &(impl Files + AllocGlobal), names: &[&str]) -> Result<Vec<Imag
 fn play_script(
     rt: &(impl Files + Print + Eprint + AllocGlobal),
     task: &ComTask<'_>,
-    start: Start,
+    start: ProgramStart,
     terminals: Terminals,
-) -> Result<(Ran, bool), Refused> {
+) -> Result<(ProgramResult, bool), Refused> {
     let text = match task.keys {
         Some(name) => read_file(rt, name)?,
         None => Vec::new(rt.alloc()),
@@ -116,12 +116,12 @@ fn play_script(
 fn play_waiting(
     rt: &(impl Files + Print + Eprint + AllocGlobal),
     task: &ComTask<'_>,
-    start: Start,
+    start: ProgramStart,
     script: Script<'_>,
     terminals: Terminals,
-) -> Result<(Ran, bool), Refused> {
+) -> Result<(ProgramResult, bool), Refused> {
     let cues = cues_of(rt.alloc(), script)?;
-    let cued = Cued {
+    let cued = CuedKeys {
         cues: cues.as_slice(),
         waits_from: 0,
         stops_idle: task.stops_idle,
@@ -139,11 +139,11 @@ fn play_waiting(
 fn play_cued<W: Write>(
     rt: &(impl Files + Eprint + AllocGlobal),
     task: &ComTask<'_>,
-    start: Start,
-    cued: Cued<'_>,
+    start: ProgramStart,
+    cued: CuedKeys<'_>,
     out: &mut W,
     terminals: Terminals,
-) -> Result<Typed, Refused>
+) -> Result<LiveResult, Refused>
     requires { AreFit cued.cues.now }
 {
     let mut record = record_in(rt, task.record)?;
@@ -165,17 +165,17 @@ fn play_cued<W: Write>(
 /// Tells how far a program is, if that is asked.
 fn teller_of<'a, R: Eprint>(rt: &'a R, task: &ComTask<'_>, terminals: Terminals) -> Teller<'a, R> {
     let form = Form::of(task.has_progress, terminals.is_error_terminal);
-    Teller::new(rt, Told::Program, form)
+    Teller::new(rt, Audience::Program, form)
 }
 
 /// Runs a program by the keys of a script, and says nothing of whether it then waits. A screen gets its control bytes as text.
 fn play(
     rt: &(impl Print + Eprint + AllocGlobal),
     task: &ComTask<'_>,
-    start: Start,
+    start: ProgramStart,
     script: Script<'_>,
     terminals: Terminals,
-) -> Result<(Ran, bool), Refused> {
+) -> Result<(ProgramResult, bool), Refused> {
     let ran = if terminals.is_screen {
         let mut screen = Screen::new(io::writer(rt));
         play_to(rt, task, start, script, &mut screen, terminals)?
@@ -189,11 +189,11 @@ fn play(
 fn play_to<W: Write>(
     rt: &(impl Eprint + AllocGlobal),
     task: &ComTask<'_>,
-    start: Start,
+    start: ProgramStart,
     script: Script<'_>,
     out: &mut W,
     terminals: Terminals,
-) -> Result<Ran, HostError> {
+) -> Result<ProgramResult, HostError> {
     let steps = task.steps.unwrap_or(STEPS);
     let mut teller = teller_of(rt, task, terminals);
     let ran = run_com(rt.alloc(), start, Some(script), steps, out, &mut teller);
@@ -205,9 +205,9 @@ fn play_to<W: Write>(
 fn play_keyboard(
     rt: &(impl Files + Input + Print + Eprint + AllocGlobal),
     task: &ComTask<'_>,
-    start: Start,
+    start: ProgramStart,
     terminals: Terminals,
-) -> Result<(Ran, bool), Refused> {
+) -> Result<(ProgramResult, bool), Refused> {
     let mut record = record_in(rt, task.record)?;
     let most_keys = record.most_keys();
     tell_quit(rt);
@@ -226,11 +226,11 @@ fn play_keyboard(
 fn play_live<W: Write, S: Write>(
     rt: &(impl Input + AllocGlobal),
     task: &ComTask<'_>,
-    start: Start,
+    start: ProgramStart,
     most_keys: usize,
     out: &mut W,
     record: &mut S,
-) -> Result<Typed, HostError> {
+) -> Result<LiveResult, HostError> {
     let steps = task.steps.unwrap_or(u64::MAX);
     match BufReader::new(rt.alloc(), rt.reader()) {
         Ok(mut input) => run_live(rt.alloc(), start, steps, most_keys, &mut input, out, record),

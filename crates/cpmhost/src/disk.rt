@@ -205,7 +205,7 @@ fn add_new(files: &mut Vec<FileName>, others: &[FileName]) -> Result<(), AllocEr
 
 /// A file that was taken out of an image, and where it is to go.
 #[derive(Drop)]
-pub struct Taken {
+pub struct Extraction {
     pub path: String,
     pub bytes: Vec<u8>,
 }
@@ -238,7 +238,7 @@ fn take_all(
     files: &[FileName],
     is_text: bool,
     to: Option<&str>,
-) -> Result<Vec<Taken>, Refused> {
+) -> Result<Vec<Extraction>, Refused> {
     let is_to_file = to.is_some_and(|path| !Path::new(path).is_dir(rt));
     if is_to_file && files.len() > 1 {
         return Err(Refused::from(HostError::NotAFolder(shown(to.unwrap_or("")))));
@@ -247,7 +247,7 @@ fn take_all(
     for file in files {
         let path = path_of(rt, name, file, to, is_to_file)?;
         let bytes = get_file(rt.alloc(), image, name, file, is_text)?;
-        all.push(Taken { path, bytes })?;
+        all.push(Extraction { path, bytes })?;
     }
     Ok(all)
 }
@@ -256,7 +256,7 @@ fn take_all(
 fn write_all(
     rt: &(impl Files + AllocGlobal),
     outputs: Outputs,
-    all: &[Taken],
+    all: &[Extraction],
 ) -> Result<(), Refused> {
     for taken in all {
         check_file(rt, outputs, taken.path.as_str())?;

@@ -7,7 +7,7 @@ use crate::output::Outputs;
 use crate::place::script_paths;
 use crate::refused::{Behind, Refused};
 use crate::rehearse::Rehearsals;
-use cpm_host::{Config, HostError, RunError, Session, Store, StoreError, read_whole, shown};
+use cpm_host::{Config, HostError, RunError, SessionConfig, Store, StoreError, read_whole, shown};
 use std::alloc::{AllocError, Global};
 use std::io::ErrorKind;
 use std::rt::Files;
@@ -76,7 +76,7 @@ pub fn check_outputs(
 fn check_session(
     rt: &(impl Files + AllocGlobal),
     outputs: Outputs,
-    session: &Session,
+    session: &SessionConfig,
 ) -> Result<(), HostError>
     ensures refusal { IfErr result (λ e. IsOutRefusal e ⊎ (e ≡ HostError.OutOfMemory)) }
 {
@@ -141,7 +141,7 @@ fn write_script(
     rt: &(impl Files + AllocGlobal),
     outputs: Outputs,
     rehearsed: Option<&[u8]>,
-    session: &Session,
+    session: &SessionConfig,
     to: &str,
 ) -> Result<(), HostError> {
     match (rehearsed, &session.keys) {

@@ -4,7 +4,7 @@ use crate::files::{MachineFiles, read_file};
 use crate::output::Outputs;
 use crate::refused::Refused;
 use crate::rehearse::{Rehearsals, waits_in};
-use cpm_host::{Config, Origin, Script, Session, cues_of, forked_cues_of, judge_host};
+use cpm_host::{Config, Origin, Script, SessionConfig, cues_of, forked_cues_of, judge_host};
 use std::rt::Files;
 
 /// Refuses a configuration that would be refused once the session of this name was typed at: all is read and judged but what is typed, and but whether there is
@@ -45,7 +45,7 @@ fn set_aside(
 }
 
 /// Whether the script of a session waits; refused for its first line with a fault, if it does.
-fn judge_waiting(rt: &(impl Files + AllocGlobal), session: &Session) -> Result<bool, Refused> {
+fn judge_waiting(rt: &(impl Files + AllocGlobal), session: &SessionConfig) -> Result<bool, Refused> {
     let Some(keys) = &session.keys else {
         return Ok(false);
     };

@@ -30,7 +30,7 @@ use files::{
 use judge::judge;
 use output::Outputs;
 use place::{check_apart, check_asm};
-use progress::{Form, Teller, Told};
+use progress::{Form, Teller, Audience};
 use refused::{Behind, Refused};
 use rehearse::{Rehearsals, rehearse_all};
 use screen::Screen;
@@ -116,7 +116,7 @@ fn play_sessions(
     form: Form,
 ) -> Result<(), Refused> {
     let mut files = MachineFiles::new(rt, outputs, rehearsals);
-    let mut teller = Teller::new(rt, Told::Sessions(config), form);
+    let mut teller = Teller::new(rt, Audience::Sessions(config), form);
     let ran = run_host(rt.alloc(), config, &mut files, &mut teller);
     teller.end();
     match ran {

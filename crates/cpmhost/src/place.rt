@@ -1,9 +1,9 @@
 //! Which file of the machine a name is of, by whatever spelling or link.
 
-use crate::disk::Taken;
+use crate::disk::Extraction;
 use crate::output::target_of;
 use crate::refused::{Behind, Refused};
-use cpm_host::{ComTask, Config, HostError, Origin, RunError, RunTask, Session, shown};
+use cpm_host::{ComTask, Config, HostError, Origin, RunError, RunTask, SessionConfig, shown};
 use std::alloc::{AllocError, Global};
 use std::fs;
 use std::io::ErrorKind;
@@ -13,7 +13,7 @@ use std::rt::Files;
 
 /// Where a file lies: names with one place are of one file.
 #[derive(PartialEq, Eq, Drop)]
-struct Place {
+struct FileIdentity {
     device: u64,
     node: u64,
     /// Of a file that isn't there yet, its name in the folder that the numbers are of.
@@ -24,7 +24,7 @@ struct Place {
 fn place_in_folder(
     rt: &(impl Files + AllocGlobal),
     target: Path<'_>,
-) -> Result<Option<Place>, AllocError> {
+) -> Result<Option<FileIdentity>, AllocError> {
     let (Some(folder), Some(name)) = (target.parent(), target.file_name()) else {
         return Ok(None);
     };
@@ -35,7 +35,7 @@ fn place_in_folder(
     let Ok(found) = fs::metadata(rt, folder) else {
         return Ok(None);
     };
-    Ok(Some(Place {
+    Ok(Some(FileIdentity {
         device: found.dev(),
         node: found.ino(),
         name: Some(String::from_str(rt.alloc(), name)?),
@@ -43,14 +43,14 @@ fn place_in_folder(
 }
 
 /// The place of the file of a name. None of what is no file of its own, as a pipe or a device, and of what can't be looked at.
-fn place_of(rt: &(impl Files + AllocGlobal), name: &str) -> Result<Option<Place>, AllocError> {
+fn place_of(rt: &(impl Files + AllocGlobal), name: &str) -> Result<Option<FileIdentity>, AllocError> {
     let target = match target_of(rt, name) {
         Ok(target) => target,
         Err(error) if error.kind() == ErrorKind::OutOfMemory => return Err(AllocError),
         Err(_) => return Ok(None),
     };
     match fs::metadata(rt, target.as_path()) {
-        Ok(found) if found.is_file() => Ok(Some(Place {
+        Ok(found) if found.is_file() => Ok(Some(FileIdentity {
             device: found.dev(),
             node: found.ino(),
             name: None,
@@ -64,17 +64,17 @@ fn place_of(rt: &(impl Files + AllocGlobal), name: &str) -> Result<Option<Place>
 
 /// A file of a run.
 #[derive(Drop)]
-struct Named<'a> {
+struct RunFile<'a> {
     name: &'a str,
-    place: Place,
+    place: FileIdentity,
     is_image: bool,
 }
 
 /// The files of a run that were looked at so far.
 #[derive(Drop)]
 struct Looked<'a> {
-    inputs: Vec<Named<'a>>,
-    outputs: Vec<Named<'a>>,
+    inputs: Vec<RunFile<'a>>,
+    outputs: Vec<RunFile<'a>>,
 }
 
 impl<'a> Looked<'a> {
@@ -92,7 +92,7 @@ impl<'a> Looked<'a> {
         is_image: bool,
     ) -> Result<(), Refused> {
         if let Some(place) = place_of(rt, name)? {
-            self.inputs.push(Named {
+            self.inputs.push(RunFile {
                 name,
                 place,
                 is_image,
@@ -110,7 +110,7 @@ impl<'a> Looked<'a> {
     ) -> Result<(), Refused> {
         if let Some(place) = place_of(rt, name)? {
             self.check_new(&place, name, is_image)?;
-            self.outputs.push(Named {
+            self.outputs.push(RunFile {
                 name,
                 place,
                 is_image,
@@ -120,7 +120,7 @@ impl<'a> Looked<'a> {
     }
 
     /// Refuses an output at a place that is an output before it, or an input; but an image may take the place of one that was read.
-    fn check_new(&self, place: &Place, name: &str, is_image: bool) -> Result<(), Refused> {
+    fn check_new(&self, place: &FileIdentity, name: &str, is_image: bool) -> Result<(), Refused> {
         if let Some(other) = self.outputs.iter().find(|other| other.place == *place) {
             return Err(twin(other.name, Behind::Output(shown(name))));
         }
@@ -198,7 +198,7 @@ impl<'a> Looked<'a> {
         &mut self,
         rt: &(impl Files + AllocGlobal),
         image: &'a str,
-        all: &'a [Taken],
+        all: &'a [Extraction],
     ) -> Result<(), Refused> {
         self.add_input(rt, image, true)?;
         for taken in all {
@@ -211,7 +211,7 @@ impl<'a> Looked<'a> {
     fn add_inputs_of(
         &mut self,
         rt: &(impl Files + AllocGlobal),
-        session: &'a Session,
+        session: &'a SessionConfig,
     ) -> Result<(), Refused> {
         if let Origin::Opened { drives, .. } = &session.origin {
             for drive in drives {
@@ -228,7 +228,7 @@ impl<'a> Looked<'a> {
     fn add_outputs_of(
         &mut self,
         rt: &(impl Files + AllocGlobal),
-        session: &'a Session,
+        session: &'a SessionConfig,
     ) -> Result<(), Refused> {
         self.add_output(rt, session.console.as_str(), false)?;
         if let Some(list) = &session.list {
@@ -306,7 +306,7 @@ pub fn check_asm(
 pub fn check_taken(
     rt: &(impl Files + AllocGlobal),
     image: &str,
-    all: &[Taken],
+    all: &[Extraction],
 ) -> Result<(), Refused> {
     let mut looked = Looked::new(rt.alloc());
     looked.add_taken(rt, image, all)

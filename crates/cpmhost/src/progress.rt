@@ -28,7 +28,7 @@ impl Form {
 
 /// Of whom it is told.
 #[derive(Clone, Copy, Debug, Drop)]
-pub enum Told<'a> {
+pub enum Audience<'a> {
     Program,
     /// The sessions of a configuration.
     Sessions(&'a Config),
@@ -40,14 +40,14 @@ pub enum Told<'a> {
 #[derive(Drop)]
 pub struct Teller<'a, R: Eprint> {
     rt: &'a R,
-    whom: Told<'a>,
+    whom: Audience<'a>,
     form: Form,
     /// How many parts were told.
     told: u128,
 }
 
 impl<'a, R: Eprint> Teller<'a, R> {
-    pub fn new(rt: &'a R, whom: Told<'a>, form: Form) -> Teller<'a, R> {
+    pub fn new(rt: &'a R, whom: Audience<'a>, form: Form) -> Teller<'a, R> {
         Teller {
             rt,
             whom,
@@ -71,9 +71,9 @@ impl<'a, R: Eprint> Teller<'a, R> {
             _ => ("", "\n"),
         };
         match self.whom {
-            Told::Program => self.tell_program(before, percent, behind),
-            Told::Alone(name) => self.tell_alone(before, percent, name, behind),
-            Told::Sessions(config) => match config.sessions.get(progress.slowest) {
+            Audience::Program => self.tell_program(before, percent, behind),
+            Audience::Alone(name) => self.tell_alone(before, percent, name, behind),
+            Audience::Sessions(config) => match config.sessions.get(progress.slowest) {
                 Some(slowest) if progress.ended < progress.sessions => {
                     self.tell_slowest(before, percent, progress, slowest.name.as_str(), behind);
                 }

@@ -2,7 +2,7 @@
 ghost use Rattle.std.specs.Prelude.{◌≡◌};
 
 use cpm_disk_commands::FilingError;
-use cpm_host::{HostError, Word};
+use cpm_host::{HostError, ShownWord};
 use std::alloc::{AllocError, AllocFailed};
 use std::{fmt, io};
 
@@ -13,9 +13,9 @@ pub enum Behind {
     /// Why the machine didn't read or write the file.
     Reason(io::Error),
     /// The output of this name is the same file.
-    Output(Word),
+    Output(ShownWord),
     /// The input of this name is the same file.
-    Input(Word),
+    Input(ShownWord),
 }
 
 /// Why a command is refused, on one line.

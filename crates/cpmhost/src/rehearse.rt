@@ -6,12 +6,12 @@ ghost use Rattle.cpm_host.specs.Cued.{AreFit};
 
 use crate::disk::read_image;
 use crate::files::{copied, read_file};
-use crate::progress::{Form, Teller, Told};
+use crate::progress::{Form, Teller, Audience};
 use crate::refused::Refused;
 use cpm_geom::Image;
 use cpm_host::{
-    Config, Cue, Cued, ForkedCues, HostError, Key, Opening, Origin, Script, Session, SessionStart,
-    Typed, cues_of, forked_cues_of, key_line, rehearse_session,
+    Config, Cue, CuedKeys, ForkedCues, HostError, Key, Opening, Origin, Script, SessionConfig, SessionStart,
+    LiveResult, cues_of, forked_cues_of, key_line, rehearse_session,
 };
 use std::alloc::{AllocError, Global};
 use std::rt::Files;
@@ -73,7 +73,7 @@ impl Rehearsals {
         &mut self,
         rt: &impl AllocGlobal,
         place: usize,
-        typed: Typed,
+        typed: LiveResult,
         before: usize,
         is_idle: bool,
     ) -> Result<String, AllocError> {
@@ -135,8 +135,8 @@ struct Part {
 
 /// What a session came to that was played before the run.
 #[derive(Drop)]
-struct Played {
-    typed: Typed,
+struct RehearsalResult {
+    typed: LiveResult,
     /// How many of its keys its parent had before it was forked.
     before: usize,
     /// Whether it ended where it waits and no key comes.
@@ -159,7 +159,7 @@ fn rehearse_at(
     let Some(played) = rehearse(rt, config, place, all, stops_idle, form)? else {
         return Ok(());
     };
-    let Played {
+    let RehearsalResult {
         typed,
         before,
         is_idle,
@@ -182,7 +182,7 @@ fn rehearse(
     all: &Rehearsals,
     stops_idle: bool,
     form: Form,
-) -> Result<Option<Played>, Refused>
+) -> Result<Option<RehearsalResult>, Refused>
     requires { place < length config.now.sessions.items }
 {
     let session = &config.sessions[place];
@@ -200,11 +200,11 @@ fn rehearse(
 fn play_part(
     rt: &(impl Files + Eprint + AllocGlobal),
     config: &Config,
-    session: &Session,
+    session: &SessionConfig,
     part: Part,
     stops_idle: bool,
     form: Form,
-) -> Result<Played, Refused>
+) -> Result<RehearsalResult, Refused>
     requires { AreFit part.cues.items }
 {
     let Part {
@@ -220,7 +220,7 @@ fn play_part(
         opening,
         steps: session.steps,
     };
-    let cued = Cued {
+    let cued = CuedKeys {
         cues: cues.as_slice(),
         waits_from: forked_at,
         stops_idle,
@@ -228,7 +228,7 @@ fn play_part(
     let typed = play_alone(rt, &system, start, cued, form)?;
     let is_idle = stops_idle && typed.waits;
     let steps = typed.steps.max(forked_at).max(last_fork(config, name));
-    Ok(Played {
+    Ok(RehearsalResult {
         typed,
         before,
         is_idle,
@@ -241,12 +241,12 @@ fn play_alone(
     rt: &(impl Eprint + AllocGlobal),
     system: &Image,
     start: SessionStart<'_>,
-    cued: Cued<'_>,
+    cued: CuedKeys<'_>,
     form: Form,
-) -> Result<Typed, HostError>
+) -> Result<LiveResult, HostError>
     requires { AreFit cued.cues.now }
 {
-    let mut teller = Teller::new(rt, Told::Alone(start.name), form);
+    let mut teller = Teller::new(rt, Audience::Alone(start.name), form);
     let played = rehearse_session(rt.alloc(), system, start, cued, &mut teller);
     teller.end();
     played
@@ -257,7 +257,7 @@ fn part_of(
     rt: &(impl Files + AllocGlobal),
     config: &Config,
     all: &Rehearsals,
-    session: &Session,
+    session: &SessionConfig,
     text: &[u8],
 ) -> Result<Option<Part>, Refused>
     ensures { IfOk result (λ part. IfSome part (λ p. AreFit p.cues.items)) }
@@ -275,7 +275,7 @@ fn part_of(
 /// What a session is played by that is opened.
 fn opened_part(
     rt: &(impl Files + AllocGlobal),
-    session: &Session,
+    session: &SessionConfig,
     script: Script<'_>,
 ) -> Result<Option<Part>, Refused>
     ensures { IfOk result (λ part. IfSome part (λ p. AreFit p.cues.items)) }
@@ -295,7 +295,7 @@ fn opened_part(
 fn forked_part(
     rt: &(impl Files + AllocGlobal),
     all: &Rehearsals,
-    parent: &Session,
+    parent: &SessionConfig,
     at: u64,
     script: Script<'_>,
 ) -> Result<Option<Part>, Refused>
@@ -317,7 +317,7 @@ fn forked_part(
 fn forked_cues(
     rt: &(impl Files + AllocGlobal),
     all: &Rehearsals,
-    parent: &Session,
+    parent: &SessionConfig,
     at: u64,
     script: Script<'_>,
 ) -> Result<ForkedCues, Refused>
@@ -338,7 +338,7 @@ pub fn waits_in(text: &[u8]) -> bool {
 fn script_of(
     rt: &(impl Files + AllocGlobal),
     all: &Rehearsals,
-    session: &Session,
+    session: &SessionConfig,
 ) -> Result<Vec<u8>, Refused> {
     let Some(name) = &session.keys else {
         return Ok(Vec::new(rt.alloc()));
@@ -350,7 +350,7 @@ fn script_of(
 }
 
 /// The script of a session, of which this is the text.
-fn script_with<'a>(session: &'a Session, text: &'a [u8]) -> Script<'a> {
+fn script_with<'a>(session: &'a SessionConfig, text: &'a [u8]) -> Script<'a> {
     let name = match &session.keys {
         Some(name) => name.as_str(),
         None => "",
@@ -371,7 +371,7 @@ pub fn place_of(config: &Config, name: &str) -> Option<usize>
 /// What a session is opened with; none where it is forked.
 pub fn opening_of(
     rt: &(impl Files + AllocGlobal),
-    session: &Session,
+    session: &SessionConfig,
 ) -> Result<Option<Opening>, Refused> {
     let Origin::Opened { cpu, quota, drives } = &session.origin else {
         return Ok(None);

@@ -8,7 +8,7 @@ use crate::refused::Refused;
 use crate::rehearse::{Rehearsals, last_fork, opening_of, place_of};
 use crate::screen::Screen;
 use cpm_geom::Image;
-use cpm_host::{Config, HostError, MOST_SCRIPT, SessionStart, Typed, shown, type_session};
+use cpm_host::{Config, HostError, MOST_SCRIPT, SessionStart, LiveResult, shown, type_session};
 use std::io::{BufReader, Write};
 use std::rt::Files;
 use std::{fs, io};
@@ -116,7 +116,7 @@ fn type_at(
     place: usize,
     record: Option<&str>,
     is_screen: bool,
-) -> Result<Typed, Refused>
+) -> Result<LiveResult, Refused>
     requires { place < length config.now.sessions.items }
 {
     let session = &config.sessions[place];
@@ -140,7 +140,7 @@ fn typed_by(
     start: SessionStart<'_>,
     record: Option<&str>,
     is_screen: bool,
-) -> Result<Typed, Refused> {
+) -> Result<LiveResult, Refused> {
     let mut record = record_in(rt, record)?;
     tell_quit(rt);
     let typed = if is_screen {
@@ -159,7 +159,7 @@ fn typed_to<W: Write, S: Write>(
     start: SessionStart<'_>,
     out: &mut W,
     record: &mut S,
-) -> Result<Typed, HostError> {
+) -> Result<LiveResult, HostError> {
     match BufReader::new(rt.alloc(), rt.reader()) {
         Ok(mut input) => type_session(rt.alloc(), system, start, &mut input, out, record),
         Err(_) => Err(HostError::OutOfMemory),

@@ -1,13 +1,13 @@
 //! The commands, over bytes, writers and a store in memory.
 
-use crate::Outcome;
+use crate::CallOutcome;
 use crate::machines::letter;
 use crate::stores::{holds, put};
 use crate::texts::{CONFIG, KEYS, SOURCE};
 use cpm_flags::Cpu;
 use cpm_geom::{Format, Image};
 use cpm_host::{
-    Config, DebugError, HostError, MemoryStore, RunError, Script, Start, Tail, Unwatched,
+    Config, DebugError, HostError, MemoryStore, RunError, Script, ProgramStart, Tail, Unwatched,
     judge_host, run_asm, run_com, run_debug, run_host, run_list, run_live, tail_of,
 };
 use std::alloc::{AllocError, Global};
@@ -35,10 +35,10 @@ impl Write for Counter {
 }
 
 /// A program that prints a letter, with a tail.
-pub fn start(alloc: Global) -> Result<Start, AllocError> {
+pub fn start(alloc: Global) -> Result<ProgramStart, AllocError> {
     let mut drives = Vec::new(alloc);
     drives.push(Image::blank(alloc, Format::Ibm3740)?)?;
-    Ok(Start {
+    Ok(ProgramStart {
         cpu: Cpu::I8080,
         program: letter(alloc)?,
         tail: Tail::new(b" A.TXT"),
@@ -46,28 +46,28 @@ pub fn start(alloc: Global) -> Result<Start, AllocError> {
     })
 }
 
-pub fn tail(alloc: Global) -> Outcome {
+pub fn tail(alloc: Global) -> CallOutcome {
     match tail_of(alloc, &["a.txt", "b:b.txt"]) {
-        Ok(_) => Outcome::Made,
-        Err(HostError::OutOfMemory) => Outcome::Refused,
-        Err(_) => Outcome::Wrong,
+        Ok(_) => CallOutcome::Made,
+        Err(HostError::OutOfMemory) => CallOutcome::Refused,
+        Err(_) => CallOutcome::Wrong,
     }
 }
 
-pub fn live(alloc: Global) -> Result<Outcome, AllocError> {
+pub fn live(alloc: Global) -> Result<CallOutcome, AllocError> {
     let start = start(alloc)?;
     let mut input: &[u8] = b"a";
     let mut out = Counter { count: 0 };
     let mut record = Counter { count: 0 };
     let live = run_live(alloc, start, 100, 10, &mut input, &mut out, &mut record);
     Ok(match live {
-        Ok(typed) if typed.ran.ending.count == 7 && out.count == 1 => Outcome::Made,
-        Err(HostError::OutOfMemory) => Outcome::Refused,
-        _ => Outcome::Wrong,
+        Ok(typed) if typed.ran.ending.count == 7 && out.count == 1 => CallOutcome::Made,
+        Err(HostError::OutOfMemory) => CallOutcome::Refused,
+        _ => CallOutcome::Wrong,
     })
 }
 
-pub fn com(alloc: Global) -> Result<Outcome, AllocError> {
+pub fn com(alloc: Global) -> Result<CallOutcome, AllocError> {
     let start = start(alloc)?;
     let script = Script {
         name: "one.keys",
@@ -76,40 +76,40 @@ pub fn com(alloc: Global) -> Result<Outcome, AllocError> {
     let mut out = Counter { count: 0 };
     Ok(
         match run_com(alloc, start, Some(script), 100, &mut out, &mut Unwatched) {
-            Ok(ran) if ran.ending.count == 7 && out.count == 1 => Outcome::Made,
-            Err(HostError::OutOfMemory) => Outcome::refused_if(out.count == 0),
-            _ => Outcome::Wrong,
+            Ok(ran) if ran.ending.count == 7 && out.count == 1 => CallOutcome::Made,
+            Err(HostError::OutOfMemory) => CallOutcome::refused_if(out.count == 0),
+            _ => CallOutcome::Wrong,
         },
     )
 }
 
-pub fn asm(alloc: Global) -> Outcome {
+pub fn asm(alloc: Global) -> CallOutcome {
     match run_asm(alloc, SOURCE) {
-        Ok(_) => Outcome::Made,
-        Err(HostError::OutOfMemory) => Outcome::Refused,
-        Err(_) => Outcome::Wrong,
+        Ok(_) => CallOutcome::Made,
+        Err(HostError::OutOfMemory) => CallOutcome::Refused,
+        Err(_) => CallOutcome::Wrong,
     }
 }
 
-pub fn debug(alloc: Global) -> Result<Outcome, AllocError> {
+pub fn debug(alloc: Global) -> Result<CallOutcome, AllocError> {
     let program = letter(alloc)?;
     let mut lines: &[u8] = b"S 2\nR\nK ^M\nG EC06 100\nO\nD 0100\nL 0100\nQ\n";
     let mut out = Counter { count: 0 };
     Ok(
         match run_debug(alloc, Cpu::Z80, program, &[], &mut lines, &mut out) {
-            Ok(()) if out.count > 0 => Outcome::Made,
-            Err(DebugError::OutOfMemory) => Outcome::Refused,
-            _ => Outcome::Wrong,
+            Ok(()) if out.count > 0 => CallOutcome::Made,
+            Err(DebugError::OutOfMemory) => CallOutcome::Refused,
+            _ => CallOutcome::Wrong,
         },
     )
 }
 
 /// It takes no memory.
-pub fn list() -> Outcome {
+pub fn list() -> CallOutcome {
     let mut out = Counter { count: 0 };
     match run_list(Cpu::Z80, SOURCE, &mut out) {
-        Ok(()) if out.count > 0 => Outcome::Made,
-        _ => Outcome::Wrong,
+        Ok(()) if out.count > 0 => CallOutcome::Made,
+        _ => CallOutcome::Wrong,
     }
 }
 
@@ -144,48 +144,48 @@ fn are_written_in_order(store: &MemoryStore, blank: &[u8]) -> bool {
     holds(store, "p.img", blank) && holds(store, "a.img", blank) && holds(store, "one.keys", KEYS)
 }
 
-fn run_over(alloc: Global, config: &Config, store: &mut MemoryStore, blank: &[u8]) -> Outcome {
+fn run_over(alloc: Global, config: &Config, store: &mut MemoryStore, blank: &[u8]) -> CallOutcome {
     let answer = run_host(alloc, config, store, &mut Unwatched);
     let is_right = are_written_in_order(store, blank);
     match answer {
-        Ok(_) if is_right && store.file("two.txt").is_some() => Outcome::Made,
+        Ok(_) if is_right && store.file("two.txt").is_some() => CallOutcome::Made,
         Err(RunError::OutOfMemory) => {
-            Outcome::refused_if(is_right && store.file("two.txt").is_none())
+            CallOutcome::refused_if(is_right && store.file("two.txt").is_none())
         }
-        _ => Outcome::Wrong,
+        _ => CallOutcome::Wrong,
     }
 }
 
-fn run_configured(alloc: Global, config: &Config) -> Result<Outcome, AllocError> {
+fn run_configured(alloc: Global, config: &Config) -> Result<CallOutcome, AllocError> {
     let blank = Image::blank(alloc, Format::Ibm3740)?.into_bytes();
     let mut store = filled(alloc, blank.as_slice())?;
     Ok(run_over(alloc, config, &mut store, blank.as_slice()))
 }
 
-pub fn run(alloc: Global) -> Result<Outcome, AllocError> {
+pub fn run(alloc: Global) -> Result<CallOutcome, AllocError> {
     match Config::read(alloc, CONFIG.as_bytes()) {
         Ok(config) => run_configured(alloc, &config),
         Err(_) => Err(AllocError),
     }
 }
 
-fn judge_over(alloc: Global, config: &Config, store: &mut MemoryStore) -> Outcome {
+fn judge_over(alloc: Global, config: &Config, store: &mut MemoryStore) -> CallOutcome {
     let answer = judge_host(alloc, config, store);
     let is_unwritten = store.file("one.txt").is_none() && store.file("two.txt").is_none();
     match answer {
-        Ok(()) => Outcome::made_if(is_unwritten),
-        Err(RunError::OutOfMemory) => Outcome::refused_if(is_unwritten),
-        Err(_) => Outcome::Wrong,
+        Ok(()) => CallOutcome::made_if(is_unwritten),
+        Err(RunError::OutOfMemory) => CallOutcome::refused_if(is_unwritten),
+        Err(_) => CallOutcome::Wrong,
     }
 }
 
-fn judge_configured(alloc: Global, config: &Config) -> Result<Outcome, AllocError> {
+fn judge_configured(alloc: Global, config: &Config) -> Result<CallOutcome, AllocError> {
     let blank = Image::blank(alloc, Format::Ibm3740)?.into_bytes();
     let mut store = filled(alloc, blank.as_slice())?;
     Ok(judge_over(alloc, config, &mut store))
 }
 
-pub fn judge(alloc: Global) -> Result<Outcome, AllocError> {
+pub fn judge(alloc: Global) -> Result<CallOutcome, AllocError> {
     match Config::read(alloc, CONFIG.as_bytes()) {
         Ok(config) => judge_configured(alloc, &config),
         Err(_) => Err(AllocError),

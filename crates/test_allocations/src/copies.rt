@@ -1,8 +1,8 @@
 //! Copies: of an image, of a console, and of a session with its drives.
 
-use crate::Outcome;
+use crate::CallOutcome;
 use crate::machines::{is_marked, marked, opening};
-use cpm_bdos::Cpm;
+use cpm_bdos::Session;
 use cpm_console::Console;
 use cpm_flags::Cpu;
 use cpm_geom::{Format, Image};
@@ -14,11 +14,11 @@ const KEY: u8 = b'D';
 
 const SHOWN: u8 = b'A';
 
-pub fn image(alloc: Global) -> Result<Outcome, AllocError> {
+pub fn image(alloc: Global) -> Result<CallOutcome, AllocError> {
     let drive = marked(alloc)?;
     Ok(match drive.copy(alloc) {
-        Ok(copy) => Outcome::made_if(is_marked(&copy) && is_marked(&drive)),
-        Err(AllocError) => Outcome::refused_if(is_marked(&drive)),
+        Ok(copy) => CallOutcome::made_if(is_marked(&copy) && is_marked(&drive)),
+        Err(AllocError) => CallOutcome::refused_if(is_marked(&drive)),
     })
 }
 
@@ -39,27 +39,27 @@ fn is_used(console: &Console) -> bool {
         && console.column() == 1
 }
 
-pub fn console(alloc: Global) -> Result<Outcome, AllocError> {
+pub fn console(alloc: Global) -> Result<CallOutcome, AllocError> {
     let console = used(alloc)?;
     Ok(match console.copy(alloc) {
-        Ok(copy) => Outcome::made_if(is_used(&copy) && is_used(&console)),
-        Err(AllocError) => Outcome::refused_if(is_used(&console)),
+        Ok(copy) => CallOutcome::made_if(is_used(&copy) && is_used(&console)),
+        Err(AllocError) => CallOutcome::refused_if(is_used(&console)),
     })
 }
 
 /// Whether a session has the console of `used` and two drives as `marked` made them. Where it has no drive it gives the other one, which is blank.
-fn is_whole(cpm: &Cpm, blank: &Image) -> bool {
-    is_marked(cpm.disks.image_at(blank, 0))
-        && is_marked(cpm.disks.image_at(blank, 1))
-        && is_used(&cpm.console)
+fn is_whole(session: &Session, blank: &Image) -> bool {
+    is_marked(session.disks.image_at(blank, 0))
+        && is_marked(session.disks.image_at(blank, 1))
+        && is_used(&session.console)
 }
 
-pub fn session(alloc: Global) -> Result<Outcome, AllocError> {
+pub fn session(alloc: Global) -> Result<CallOutcome, AllocError> {
     let blank = Image::blank(alloc, Format::Ibm3740)?;
     let Opening { drives, .. } = opening(alloc, Cpu::I8080, 16)?;
-    let cpm = Cpm::new(used(alloc)?, drives);
-    Ok(match cpm.copy(alloc) {
-        Ok(copy) => Outcome::made_if(is_whole(&copy, &blank) && is_whole(&cpm, &blank)),
-        Err(AllocError) => Outcome::refused_if(is_whole(&cpm, &blank)),
+    let session = Session::new(used(alloc)?, drives);
+    Ok(match session.copy(alloc) {
+        Ok(copy) => CallOutcome::made_if(is_whole(&copy, &blank) && is_whole(&session, &blank)),
+        Err(AllocError) => CallOutcome::refused_if(is_whole(&session, &blank)),
     })
 }

@@ -2,7 +2,7 @@
 
 ghost use Rattle.std.specs.Prelude.{◌≡◌, IfOk};
 
-use crate::Outcome;
+use crate::CallOutcome;
 use cpm_disk_commands::{
     FilingError, file_name, get_file, list_files, matching_files, new_image, put_file, remove_file,
     rename_file, write_list,
@@ -47,25 +47,25 @@ fn disk(alloc: Global) -> Result<Image, AllocError> {
 }
 
 /// What came of a call on a disk, which is left alone.
-fn came<T: Drop>(answer: Result<T, ShelfError>) -> Outcome {
+fn came<T: Drop>(answer: Result<T, ShelfError>) -> CallOutcome {
     match answer {
-        Ok(_) => Outcome::Made,
-        Err(ShelfError::OutOfMemory) => Outcome::Refused,
-        Err(_) => Outcome::Wrong,
+        Ok(_) => CallOutcome::Made,
+        Err(ShelfError::OutOfMemory) => CallOutcome::Refused,
+        Err(_) => CallOutcome::Wrong,
     }
 }
 
 /// The same of one that is told.
-fn told<T: Drop>(answer: Result<T, FilingError>) -> Outcome {
+fn told<T: Drop>(answer: Result<T, FilingError>) -> CallOutcome {
     match answer {
-        Ok(_) => Outcome::Made,
-        Err(FilingError::OutOfMemory) => Outcome::Refused,
-        Err(_) => Outcome::Wrong,
+        Ok(_) => CallOutcome::Made,
+        Err(FilingError::OutOfMemory) => CallOutcome::Refused,
+        Err(_) => CallOutcome::Wrong,
     }
 }
 
 /// Makes the call of cpm_image_files of this name.
-pub fn of_shelf(alloc: Global, name: &str) -> Result<Outcome, AllocError> {
+pub fn of_shelf(alloc: Global, name: &str) -> Result<CallOutcome, AllocError> {
     let disk = disk(alloc)?;
     Ok(match name {
         "put" => came(put(alloc, &disk, &other()?, TEXT)),
@@ -75,12 +75,12 @@ pub fn of_shelf(alloc: Global, name: &str) -> Result<Outcome, AllocError> {
         "list" => came(list(alloc, &disk)),
         "to_text" => came(to_text(alloc, TEXT).map_err(|_| ShelfError::OutOfMemory)),
         "from_text" => came(from_text(alloc, b"a\r\n\x1A").map_err(|_| ShelfError::OutOfMemory)),
-        _ => Outcome::Wrong,
+        _ => CallOutcome::Wrong,
     })
 }
 
 /// Makes the call of cpm_disk_commands of this name.
-pub fn of_filing(alloc: Global, name: &str) -> Result<Outcome, AllocError> {
+pub fn of_filing(alloc: Global, name: &str) -> Result<CallOutcome, AllocError> {
     let disk = disk(alloc)?;
     let (file, other) = (file()?, other()?);
     Ok(match name {
@@ -91,7 +91,7 @@ pub fn of_filing(alloc: Global, name: &str) -> Result<Outcome, AllocError> {
         "rename_file" => told(renamed(alloc, &disk)),
         "matching_files" => told(matching(alloc, &disk)),
         "write_list" => told(listed(alloc, &disk)),
-        _ => Outcome::Wrong,
+        _ => CallOutcome::Wrong,
     })
 }
 

@@ -1,34 +1,34 @@
 //! A host, and a slot that is opened beside two others.
 
-use crate::Outcome;
+use crate::CallOutcome;
 use crate::machines::{is_handed_back, is_marked, marked, opening};
 use cpm_flags::Cpu;
 use cpm_slots::{ForkError, Host, SlotId};
 use cpm_machine::{Look, OpenError};
 use std::alloc::{AllocError, Global};
 
-pub fn new(alloc: Global) -> Result<Outcome, AllocError> {
+pub fn new(alloc: Global) -> Result<CallOutcome, AllocError> {
     let system = marked(alloc)?;
     Ok(match Host::new(alloc, system, 64) {
-        Ok(_) => Outcome::Made,
-        Err((back, OpenError::OutOfMemory)) => Outcome::refused_if(is_marked(&back)),
-        Err(_) => Outcome::Wrong,
+        Ok(_) => CallOutcome::Made,
+        Err((back, OpenError::OutOfMemory)) => CallOutcome::refused_if(is_marked(&back)),
+        Err(_) => CallOutcome::Wrong,
     })
 }
 
 /// All that can be seen of a slot: its look, and each byte of its memory.
 #[derive(Drop, PartialEq)]
-struct Seen {
+struct WholeSlot {
     look: Option<Look>,
     memory: Vec<u8>,
 }
 
-fn look_at(alloc: Global, host: &mut Host, id: SlotId) -> Result<Seen, AllocError> {
+fn look_at(alloc: Global, host: &mut Host, id: SlotId) -> Result<WholeSlot, AllocError> {
     let mut memory = Vec::with_capacity(alloc, 65_536)?;
     for address in 0..=u16::MAX {
         memory.push(host.peek(id, address).unwrap_or(0))?;
     }
-    Ok(Seen {
+    Ok(WholeSlot {
         look: host.look(id).ok(),
         memory,
     })
@@ -47,14 +47,14 @@ fn start(alloc: Global, host: &mut Host, cpu: Cpu, steps: u64) -> Result<SlotId,
 }
 
 /// Opens a third slot, once more where memory was refused.
-fn open_third(alloc: Global, host: &mut Host) -> Result<Outcome, AllocError> {
+fn open_third(alloc: Global, host: &mut Host) -> Result<CallOutcome, AllocError> {
     let opening = opening(alloc, Cpu::I8080, 16)?;
     Ok(match host.open(alloc, opening) {
-        Ok(id) if id == SlotId(2) => Outcome::Made,
+        Ok(id) if id == SlotId(2) => CallOutcome::Made,
         Err((back, OpenError::OutOfMemory)) => {
-            Outcome::refused_if(is_handed_back(&back, Cpu::I8080, 16))
+            CallOutcome::refused_if(is_handed_back(&back, Cpu::I8080, 16))
         }
-        _ => Outcome::Wrong,
+        _ => CallOutcome::Wrong,
     })
 }
 
@@ -63,7 +63,7 @@ fn is_as_before(
     alloc: Global,
     host: &mut Host,
     id: SlotId,
-    before: &Seen,
+    before: &WholeSlot,
 ) -> Result<bool, AllocError> {
     let now = look_at(alloc, host, id)?;
     Ok(now.look.is_some() && now == *before && host.grant(id, 5).is_ok_and(|did| did.executed == 5))
@@ -74,7 +74,7 @@ fn are_as_before(
     alloc: Global,
     host: &mut Host,
     ids: [SlotId; 2],
-    before: &[Seen; 2],
+    before: &[WholeSlot; 2],
 ) -> Result<bool, AllocError> {
     Ok(
         is_as_before(alloc, host, ids[0], &before[0])?
@@ -84,46 +84,46 @@ fn are_as_before(
 
 /// Opens a slot in a host that has two, whose looks and memories are compared before and after. After a refusal the third opens with the
 /// number that it would have had.
-fn open_beside(alloc: Global, host: &mut Host) -> Result<Outcome, AllocError> {
+fn open_beside(alloc: Global, host: &mut Host) -> Result<CallOutcome, AllocError> {
     let first = start(alloc, host, Cpu::I8080, 17)?;
     let second = start(alloc, host, Cpu::Z80, 3)?;
     let before = [look_at(alloc, host, first)?, look_at(alloc, host, second)?];
     let outcome = open_third(alloc, host)?;
     if !are_as_before(alloc, host, [first, second], &before)? {
-        return Ok(Outcome::Wrong);
+        return Ok(CallOutcome::Wrong);
     }
-    if outcome == Outcome::Refused && open_third(alloc, host)? != Outcome::Made {
-        return Ok(Outcome::Wrong);
+    if outcome == CallOutcome::Refused && open_third(alloc, host)? != CallOutcome::Made {
+        return Ok(CallOutcome::Wrong);
     }
     Ok(outcome)
 }
 
 /// Forks the first slot, once more where memory was refused.
-fn fork_first(alloc: Global, host: &mut Host) -> Outcome {
+fn fork_first(alloc: Global, host: &mut Host) -> CallOutcome {
     match host.fork(alloc, SlotId(0)) {
-        Ok(id) if id == SlotId(2) => Outcome::Made,
-        Err(ForkError::OutOfMemory) => Outcome::Refused,
-        _ => Outcome::Wrong,
+        Ok(id) if id == SlotId(2) => CallOutcome::Made,
+        Err(ForkError::OutOfMemory) => CallOutcome::Refused,
+        _ => CallOutcome::Wrong,
     }
 }
 
 /// Forks a slot in a host that has two, whose looks and memories are compared before and after. What is seen of the fork is what is seen of
 /// the slot that was forked.
-fn fork_beside(alloc: Global, host: &mut Host) -> Result<Outcome, AllocError> {
+fn fork_beside(alloc: Global, host: &mut Host) -> Result<CallOutcome, AllocError> {
     let first = start(alloc, host, Cpu::I8080, 17)?;
     let second = start(alloc, host, Cpu::Z80, 3)?;
     let before = [look_at(alloc, host, first)?, look_at(alloc, host, second)?];
     let outcome = fork_first(alloc, host);
-    if outcome == Outcome::Refused && fork_first(alloc, host) != Outcome::Made {
-        return Ok(Outcome::Wrong);
+    if outcome == CallOutcome::Refused && fork_first(alloc, host) != CallOutcome::Made {
+        return Ok(CallOutcome::Wrong);
     }
     let is_right = are_as_before(alloc, host, [first, second], &before)?
         && is_as_before(alloc, host, SlotId(2), &before[0])?;
-    Ok(if is_right { outcome } else { Outcome::Wrong })
+    Ok(if is_right { outcome } else { CallOutcome::Wrong })
 }
 
 /// The same in a new host.
-pub fn fork(alloc: Global) -> Result<Outcome, AllocError> {
+pub fn fork(alloc: Global) -> Result<CallOutcome, AllocError> {
     match Host::new(alloc, marked(alloc)?, 48) {
         Ok(mut host) => fork_beside(alloc, &mut host),
         Err(_) => Err(AllocError),
@@ -131,7 +131,7 @@ pub fn fork(alloc: Global) -> Result<Outcome, AllocError> {
 }
 
 /// A third slot beside two in a new host.
-pub fn open(alloc: Global) -> Result<Outcome, AllocError> {
+pub fn open(alloc: Global) -> Result<CallOutcome, AllocError> {
     match Host::new(alloc, marked(alloc)?, 48) {
         Ok(mut host) => open_beside(alloc, &mut host),
         Err(_) => Err(AllocError),

@@ -1,6 +1,6 @@
 //! Memories, consoles, and machines with what is passed to them.
 
-use crate::Outcome;
+use crate::CallOutcome;
 use cpm_console::Console;
 use cpm_flags::Cpu;
 use cpm_geom::{Format, Image};
@@ -14,24 +14,24 @@ const MARK: u8 = 0x5A;
 /// Prints `A` and returns.
 const LETTER: &[u8] = &[0x0E, 0x02, 0x1E, 0x41, 0xCD, 0x05, 0x00, 0xC9];
 
-pub fn flat_memory(alloc: Global) -> Outcome {
+pub fn flat_memory(alloc: Global) -> CallOutcome {
     match FlatMemory::new(alloc) {
-        Ok(_) => Outcome::Made,
-        Err(AllocError) => Outcome::Refused,
+        Ok(_) => CallOutcome::Made,
+        Err(AllocError) => CallOutcome::Refused,
     }
 }
 
-pub fn frame_store(alloc: Global) -> Outcome {
+pub fn frame_store(alloc: Global) -> CallOutcome {
     match FrameStore::new(alloc, 64) {
-        Ok(_) => Outcome::Made,
-        Err(AllocError) => Outcome::Refused,
+        Ok(_) => CallOutcome::Made,
+        Err(AllocError) => CallOutcome::Refused,
     }
 }
 
-pub fn console(alloc: Global) -> Outcome {
+pub fn console(alloc: Global) -> CallOutcome {
     match Console::new(alloc) {
-        Ok(_) => Outcome::Made,
-        Err(AllocError) => Outcome::Refused,
+        Ok(_) => CallOutcome::Made,
+        Err(AllocError) => CallOutcome::Refused,
     }
 }
 
@@ -77,40 +77,40 @@ pub fn is_handed_back(opening: &Opening, cpu: Cpu, quota: u16) -> bool {
     opening.cpu == cpu && opening.quota == quota && opening.drives.len() == 2
 }
 
-pub fn machine(alloc: Global) -> Result<Outcome, AllocError> {
+pub fn machine(alloc: Global) -> Result<CallOutcome, AllocError> {
     let opening = opening(alloc, Cpu::Z80, 16)?;
     Ok(match Machine::new(alloc, opening) {
-        Ok(_) => Outcome::Made,
+        Ok(_) => CallOutcome::Made,
         Err((back, OpenError::OutOfMemory)) => {
-            Outcome::refused_if(is_handed_back(&back, Cpu::Z80, 16))
+            CallOutcome::refused_if(is_handed_back(&back, Cpu::Z80, 16))
         }
-        Err(_) => Outcome::Wrong,
+        Err(_) => CallOutcome::Wrong,
     })
 }
 
-pub fn machine_with_program(alloc: Global) -> Result<Outcome, AllocError> {
+pub fn machine_with_program(alloc: Global) -> Result<CallOutcome, AllocError> {
     let opening = opening(alloc, Cpu::I8080, 256)?;
     let program = letter(alloc)?;
     Ok(match Machine::with_program(alloc, opening, program) {
-        Ok(_) => Outcome::Made,
-        Err((back, program, OpenError::OutOfMemory)) => Outcome::refused_if(
+        Ok(_) => CallOutcome::Made,
+        Err((back, program, OpenError::OutOfMemory)) => CallOutcome::refused_if(
             program.as_slice() == LETTER && is_handed_back(&back, Cpu::I8080, 256),
         ),
-        Err(_) => Outcome::Wrong,
+        Err(_) => CallOutcome::Wrong,
     })
 }
 
-pub fn machine_with_command(alloc: Global) -> Result<Outcome, AllocError> {
+pub fn machine_with_command(alloc: Global) -> Result<CallOutcome, AllocError> {
     let opening = opening(alloc, Cpu::I8080, 256)?;
     let program = letter(alloc)?;
     let tail = Tail::new(b" A.TXT").ok_or(AllocError)?;
     Ok(
         match Machine::with_command(alloc, opening, program, &tail) {
-            Ok(_) => Outcome::Made,
-            Err((back, program, OpenError::OutOfMemory)) => Outcome::refused_if(
+            Ok(_) => CallOutcome::Made,
+            Err((back, program, OpenError::OutOfMemory)) => CallOutcome::refused_if(
                 program.as_slice() == LETTER && is_handed_back(&back, Cpu::I8080, 256),
             ),
-            Err(_) => Outcome::Wrong,
+            Err(_) => CallOutcome::Wrong,
         },
     )
 }

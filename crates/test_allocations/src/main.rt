@@ -18,7 +18,7 @@ use std::process::ExitCode;
 
 /// What came of a call.
 #[derive(Clone, Copy, Debug, PartialEq, Eq)]
-pub enum Outcome {
+pub enum CallOutcome {
     /// It did what it should.
     Made,
     /// It answered that memory was refused, and left all else as it should.
@@ -29,32 +29,32 @@ pub enum Outcome {
     Unprepared,
 }
 
-impl Outcome {
+impl CallOutcome {
     /// That of a call that was made, where what it gave is right.
-    pub fn made_if(is_right: bool) -> Outcome {
+    pub fn made_if(is_right: bool) -> CallOutcome {
         if is_right {
-            Outcome::Made
+            CallOutcome::Made
         } else {
-            Outcome::Wrong
+            CallOutcome::Wrong
         }
     }
 
     /// That of a call that was refused for want of memory, where the rest is as it should be.
-    pub fn refused_if(is_right: bool) -> Outcome {
+    pub fn refused_if(is_right: bool) -> CallOutcome {
         if is_right {
-            Outcome::Refused
+            CallOutcome::Refused
         } else {
-            Outcome::Wrong
+            CallOutcome::Wrong
         }
     }
 
     /// The word that is printed.
     fn word(self) -> &'static str {
         match self {
-            Outcome::Made => "made",
-            Outcome::Refused => "refused",
-            Outcome::Wrong => "wrong",
-            Outcome::Unprepared => "unprepared",
+            CallOutcome::Made => "made",
+            CallOutcome::Refused => "refused",
+            CallOutcome::Wrong => "wrong",
+            CallOutcome::Unprepared => "unprepared",
         }
     }
 }
@@ -109,7 +109,7 @@ const NAMES: [&str; 45] = [
 ];
 
 /// Makes the call of this name, if there is one.
-fn make(alloc: Global, name: &str) -> Result<Outcome, AllocError> {
+fn make(alloc: Global, name: &str) -> Result<CallOutcome, AllocError> {
     match name {
         "command" => Ok(texts::command_line(alloc)),
         "FlatMemory::new" => Ok(machines::flat_memory(alloc)),
@@ -152,15 +152,15 @@ fn make(alloc: Global, name: &str) -> Result<Outcome, AllocError> {
         "run_waiting" => waiting::com(alloc),
         "rehearse_session" => waiting::session(alloc),
         "run_asm_listed" => Ok(waiting::listed_source(alloc)),
-        _ => Ok(Outcome::Wrong),
+        _ => Ok(CallOutcome::Wrong),
     }
 }
 
 /// Makes the call of this name, and prints what came of it.
 fn tell(rt: &(impl Print + AllocGlobal), name: &str) -> bool {
-    let outcome = make(rt.alloc(), name).unwrap_or(Outcome::Unprepared);
+    let outcome = make(rt.alloc(), name).unwrap_or(CallOutcome::Unprepared);
     let word = outcome.word();
-    println!(rt; "{name}: {word}").is_ok() && outcome != Outcome::Wrong
+    println!(rt; "{name}: {word}").is_ok() && outcome != CallOutcome::Wrong
 }
 
 /// Makes the call that the command line names, or all.

@@ -1,6 +1,6 @@
 //! The calls of a store in memory.
 
-use crate::Outcome;
+use crate::CallOutcome;
 use cpm_host::{MemoryStore, Store, StoreError};
 use std::alloc::{AllocError, Global};
 
@@ -32,46 +32,46 @@ fn is_as_filled(store: &MemoryStore) -> bool {
         && store.file("new").is_none()
 }
 
-pub fn read(alloc: Global) -> Result<Outcome, AllocError> {
+pub fn read(alloc: Global) -> Result<CallOutcome, AllocError> {
     let mut store = filled(alloc)?;
     Ok(read_old(alloc, &mut store))
 }
 
-fn read_old(alloc: Global, store: &mut MemoryStore) -> Outcome {
+fn read_old(alloc: Global, store: &mut MemoryStore) -> CallOutcome {
     match store.read(alloc, "old") {
-        Ok(bytes) if bytes.as_slice() == b"what it held".as_slice() => Outcome::Made,
+        Ok(bytes) if bytes.as_slice() == b"what it held".as_slice() => CallOutcome::Made,
         Err(StoreError::OutOfMemory) => {
-            Outcome::refused_if(is_as_filled(store) && store.failures() == 0)
+            CallOutcome::refused_if(is_as_filled(store) && store.failures() == 0)
         }
-        _ => Outcome::Wrong,
+        _ => CallOutcome::Wrong,
     }
 }
 
 /// Writes a file that is there, and one that is not.
-pub fn write(alloc: Global) -> Result<Outcome, AllocError> {
+pub fn write(alloc: Global) -> Result<CallOutcome, AllocError> {
     let mut store = filled(alloc)?;
     Ok(match write_old(&mut store) {
-        Outcome::Made => write_new(&mut store),
+        CallOutcome::Made => write_new(&mut store),
         outcome => outcome,
     })
 }
 
-fn write_old(store: &mut MemoryStore) -> Outcome {
+fn write_old(store: &mut MemoryStore) -> CallOutcome {
     match store.write("old", b"what it holds") {
-        Ok(()) => Outcome::Made,
+        Ok(()) => CallOutcome::Made,
         Err(StoreError::OutOfMemory) => {
-            Outcome::refused_if(is_as_filled(store) && store.failures() == 0)
+            CallOutcome::refused_if(is_as_filled(store) && store.failures() == 0)
         }
-        Err(_) => Outcome::Wrong,
+        Err(_) => CallOutcome::Wrong,
     }
 }
 
-fn write_new(store: &mut MemoryStore) -> Outcome {
+fn write_new(store: &mut MemoryStore) -> CallOutcome {
     match store.write("new", b"a new one") {
-        Ok(()) if holds(store, "new", b"a new one") => Outcome::Made,
-        Err(StoreError::OutOfMemory) => Outcome::refused_if(
+        Ok(()) if holds(store, "new", b"a new one") => CallOutcome::Made,
+        Err(StoreError::OutOfMemory) => CallOutcome::refused_if(
             holds(store, "old", b"what it holds") && store.file("new").is_none(),
         ),
-        _ => Outcome::Wrong,
+        _ => CallOutcome::Wrong,
     }
 }

@@ -1,6 +1,6 @@
 //! Command lines, sources, configurations and key scripts.
 
-use crate::Outcome;
+use crate::CallOutcome;
 use cpm_asm::{AsmErrorKind, assemble};
 use cpm_host::{Config, ConfigError, ScriptError, UsageError, command, read_keys};
 use std::alloc::Global;
@@ -37,36 +37,36 @@ console = \"two.txt\"
 /// What is typed at the first session.
 pub const KEYS: &[u8] = b"# a comment\n0 DIR^M\n";
 
-pub fn command_line(alloc: Global) -> Outcome {
+pub fn command_line(alloc: Global) -> CallOutcome {
     let words = [
         "cpmhost", "com", "a.com", "--z80", "--steps", "7", "--keys", "a.keys",
     ];
     match command(alloc, &words) {
-        Ok(_) => Outcome::Made,
-        Err(UsageError::OutOfMemory) => Outcome::Refused,
-        Err(_) => Outcome::Wrong,
+        Ok(_) => CallOutcome::Made,
+        Err(UsageError::OutOfMemory) => CallOutcome::Refused,
+        Err(_) => CallOutcome::Wrong,
     }
 }
 
-pub fn source(alloc: Global) -> Outcome {
+pub fn source(alloc: Global) -> CallOutcome {
     match assemble(alloc, SOURCE) {
-        Ok(_) => Outcome::Made,
-        Err(error) => Outcome::refused_if(error.kind == AsmErrorKind::OutOfMemory),
+        Ok(_) => CallOutcome::Made,
+        Err(error) => CallOutcome::refused_if(error.kind == AsmErrorKind::OutOfMemory),
     }
 }
 
-pub fn configuration(alloc: Global) -> Outcome {
+pub fn configuration(alloc: Global) -> CallOutcome {
     match Config::read(alloc, CONFIG.as_bytes()) {
-        Ok(_) => Outcome::Made,
-        Err(ConfigError::OutOfMemory) => Outcome::Refused,
-        Err(_) => Outcome::Wrong,
+        Ok(_) => CallOutcome::Made,
+        Err(ConfigError::OutOfMemory) => CallOutcome::Refused,
+        Err(_) => CallOutcome::Wrong,
     }
 }
 
-pub fn key_script(alloc: Global) -> Outcome {
+pub fn key_script(alloc: Global) -> CallOutcome {
     match read_keys(alloc, KEYS) {
-        Ok(_) => Outcome::Made,
-        Err(ScriptError::OutOfMemory) => Outcome::Refused,
-        Err(_) => Outcome::Wrong,
+        Ok(_) => CallOutcome::Made,
+        Err(ScriptError::OutOfMemory) => CallOutcome::Refused,
+        Err(_) => CallOutcome::Wrong,
     }
 }

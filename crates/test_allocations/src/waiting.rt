@@ -1,12 +1,12 @@
 //! Scripts that wait, the machines that are played by them, and a source with its listing.
 
-use crate::Outcome;
+use crate::CallOutcome;
 use crate::commands::{Counter, start};
 use crate::texts::{KEYS, SOURCE};
 use cpm_flags::Cpu;
 use cpm_geom::{Format, Image};
 use cpm_host::{
-    Cued, HostError, Opening, Script, SessionStart, Unwatched, cues_of, forked_cues_of,
+    CuedKeys, HostError, Opening, Script, SessionStart, Unwatched, cues_of, forked_cues_of,
     rehearse_session, run_asm_listed, run_waiting,
 };
 use std::alloc::{AllocError, Global};
@@ -23,32 +23,32 @@ const EXPECTS: Script<'static> = Script {
     text: b"expect \"B\" C\n",
 };
 
-pub fn cues(alloc: Global) -> Outcome {
+pub fn cues(alloc: Global) -> CallOutcome {
     match cues_of(alloc, WAITS) {
-        Ok(cues) => Outcome::made_if(cues.len() == 7),
-        Err(HostError::OutOfMemory) => Outcome::Refused,
-        Err(_) => Outcome::Wrong,
+        Ok(cues) => CallOutcome::made_if(cues.len() == 7),
+        Err(HostError::OutOfMemory) => CallOutcome::Refused,
+        Err(_) => CallOutcome::Wrong,
     }
 }
 
-pub fn forked_cues(alloc: Global) -> Outcome {
+pub fn forked_cues(alloc: Global) -> CallOutcome {
     let parent = Script {
         name: "one.keys",
         text: KEYS,
     };
     match forked_cues_of(alloc, parent, 3, WAITS) {
-        Ok(forked) => Outcome::made_if(forked.cues.len() == 11 && forked.before == 4),
-        Err(HostError::OutOfMemory) => Outcome::Refused,
-        Err(_) => Outcome::Wrong,
+        Ok(forked) => CallOutcome::made_if(forked.cues.len() == 11 && forked.before == 4),
+        Err(HostError::OutOfMemory) => CallOutcome::Refused,
+        Err(_) => CallOutcome::Wrong,
     }
 }
 
-pub fn com(alloc: Global) -> Result<Outcome, AllocError> {
+pub fn com(alloc: Global) -> Result<CallOutcome, AllocError> {
     let start = start(alloc)?;
     let Ok(cues) = cues_of(alloc, EXPECTS) else {
         return Err(AllocError);
     };
-    let cued = Cued {
+    let cued = CuedKeys {
         cues: cues.as_slice(),
         waits_from: 0,
         stops_idle: true,
@@ -65,21 +65,21 @@ pub fn com(alloc: Global) -> Result<Outcome, AllocError> {
             &mut record,
             &mut Unwatched,
         ) {
-            Ok(typed) if typed.ran.ending.count == 7 && out.count == 1 => Outcome::Made,
-            Err(HostError::OutOfMemory) => Outcome::refused_if(record.count == 0),
-            _ => Outcome::Wrong,
+            Ok(typed) if typed.ran.ending.count == 7 && out.count == 1 => CallOutcome::Made,
+            Err(HostError::OutOfMemory) => CallOutcome::refused_if(record.count == 0),
+            _ => CallOutcome::Wrong,
         },
     )
 }
 
-pub fn session(alloc: Global) -> Result<Outcome, AllocError> {
+pub fn session(alloc: Global) -> Result<CallOutcome, AllocError> {
     let system = Image::blank(alloc, Format::Ibm3740)?;
     let mut drives = Vec::new(alloc);
     drives.push(Image::blank(alloc, Format::Ibm3740)?)?;
     let Ok(cues) = cues_of(alloc, WAITS) else {
         return Err(AllocError);
     };
-    let cued = Cued {
+    let cued = CuedKeys {
         cues: cues.as_slice(),
         waits_from: 0,
         stops_idle: true,
@@ -95,17 +95,17 @@ pub fn session(alloc: Global) -> Result<Outcome, AllocError> {
     };
     Ok(
         match rehearse_session(alloc, &system, start, cued, &mut Unwatched) {
-            Ok(typed) => Outcome::made_if(typed.keys.len() == 5 && typed.steps < 1000),
-            Err(HostError::OutOfMemory) => Outcome::Refused,
-            Err(_) => Outcome::Wrong,
+            Ok(typed) => CallOutcome::made_if(typed.keys.len() == 5 && typed.steps < 1000),
+            Err(HostError::OutOfMemory) => CallOutcome::Refused,
+            Err(_) => CallOutcome::Wrong,
         },
     )
 }
 
-pub fn listed_source(alloc: Global) -> Outcome {
+pub fn listed_source(alloc: Global) -> CallOutcome {
     match run_asm_listed(alloc, SOURCE) {
-        Ok(_) => Outcome::Made,
-        Err(HostError::OutOfMemory) => Outcome::Refused,
-        Err(_) => Outcome::Wrong,
+        Ok(_) => CallOutcome::Made,
+        Err(HostError::OutOfMemory) => CallOutcome::Refused,
+        Err(_) => CallOutcome::Wrong,
     }
 }

@@ -1,10 +1,10 @@
 //! Rows of a session, step by step.
 
-use crate::session::Session;
+use crate::session::Caller;
 use crate::text::{key_answer, list_echo, middle, press, taken, taken_list};
 use std::alloc::{AllocError, Global};
 use test_images::Images;
-use test_language::{Answer, Fault, Line, Scene, Word, bytes_of};
+use test_language::{RowAnswer, RowFault, RowLine, Scene, Word, bytes_of};
 
 /// The bytes of a record.
 const RECORD: usize = 128;
@@ -13,40 +13,40 @@ const RECORD: usize = 128;
 #[derive(Drop)]
 pub struct Calls {
     images: Images,
-    session: Option<Session>,
+    session: Option<Caller>,
 }
 
 impl Calls {
     /// `session IMAGE..`: a session with these drives, the first as A, and a blank system drive.
-    fn begin(&mut self, alloc: Global, arguments: &[Word<'_>]) -> Result<Answer, Fault> {
+    fn begin(&mut self, alloc: Global, arguments: &[Word<'_>]) -> Result<RowAnswer, RowFault> {
         let images = self.images.copies(alloc, arguments)?;
         let system = self.images.copy(alloc, "blank")?;
-        self.session = Some(Session::new(alloc, images, system)?);
-        Ok(Answer::Done)
+        self.session = Some(Caller::new(alloc, images, system)?);
+        Ok(RowAnswer::Done)
     }
 
     /// `system IMAGE`: the session's system drive.
-    fn system(&mut self, alloc: Global, arguments: &[Word<'_>]) -> Result<Answer, Fault> {
+    fn system(&mut self, alloc: Global, arguments: &[Word<'_>]) -> Result<RowAnswer, RowFault> {
         let [name] = arguments else {
-            return Err(Fault::Words);
+            return Err(RowFault::Words);
         };
         let image = self.images.copy(alloc, name.text)?;
         match &mut self.session {
             Some(session) => session.system = image,
-            None => return Err(Fault::Absent),
+            None => return Err(RowFault::Absent),
         }
-        Ok(Answer::Done)
+        Ok(RowAnswer::Done)
     }
 
     /// `records NAME N COUNT BYTES`: so many records of an image, from record N on, begin so, and else have zeros.
-    fn records(&mut self, alloc: Global, arguments: &[Word<'_>]) -> Result<Answer, Fault> {
+    fn records(&mut self, alloc: Global, arguments: &[Word<'_>]) -> Result<RowAnswer, RowFault> {
         let [name, first, times, bytes @ ..] = arguments else {
-            return Err(Fault::Words);
+            return Err(RowFault::Words);
         };
         let (first, times) = (middle(*first)?, middle(*times)?);
         let bytes = bytes_of(alloc, bytes)?;
         if bytes.len() > RECORD {
-            return Err(Fault::Bytes);
+            return Err(RowFault::Bytes);
         }
         let mut record = [0; RECORD];
         record[..bytes.len()].copy_from_slice(bytes.as_slice());
@@ -56,11 +56,11 @@ impl Calls {
                 .put_record(first.wrapping_add(place), &record)
                 .is_err()
             {
-                return Err(Fault::Absent);
+                return Err(RowFault::Absent);
             }
         }
         self.images.put(alloc, name.text, image)?;
-        Ok(Answer::Done)
+        Ok(RowAnswer::Done)
     }
 }
 
@@ -95,7 +95,7 @@ impl Scene for Calls {
         false
     }
 
-    fn act(&mut self, alloc: Global, line: &Line<'_>) -> Result<Answer, Fault> {
+    fn act(&mut self, alloc: Global, line: &RowLine<'_>) -> Result<RowAnswer, RowFault> {
         match line.verb() {
             "session" => self.begin(alloc, line.arguments()),
             "system" => self.system(alloc, line.arguments()),
@@ -103,15 +103,15 @@ impl Scene for Calls {
             "image" | "entry" | "record" | "sector" => self.images.act(alloc, line),
             verb => match &mut self.session {
                 Some(session) => session.act(alloc, verb, line.arguments()),
-                None => Err(Fault::Absent),
+                None => Err(RowFault::Absent),
             },
         }
     }
 }
 
-impl Session {
+impl Caller {
     /// Does a line that changes a session.
-    fn act(&mut self, alloc: Global, verb: &str, arguments: &[Word<'_>]) -> Result<Answer, Fault> {
+    fn act(&mut self, alloc: Global, verb: &str, arguments: &[Word<'_>]) -> Result<RowAnswer, RowFault> {
         match verb {
             "bdos" => self.bdos(alloc, arguments),
             "bios" => self.bios(alloc, arguments),
@@ -138,26 +138,26 @@ impl Session {
         alloc: Global,
         verb: &str,
         arguments: &[Word<'_>],
-    ) -> Result<Answer, Fault> {
-        let console = &mut self.cpm.console;
+    ) -> Result<RowAnswer, RowFault> {
+        let console = &mut self.session.console;
         match verb {
             "key" => press(alloc, console, bytes_of(alloc, arguments)?.as_slice()),
             "next-key" => key_answer(alloc, console.next_key()),
             "first-key" => key_answer(alloc, console.first_key()),
-            "pending" => Answer::words(alloc, console.pending()),
-            "column" => Answer::words(alloc, console.column()),
+            "pending" => RowAnswer::words(alloc, console.pending()),
+            "column" => RowAnswer::words(alloc, console.column()),
             "list-echo" => list_echo(alloc, console, arguments),
-            "take" => Answer::bytes(alloc, taken(alloc, console)?.as_slice()),
-            "list" => Answer::bytes(alloc, taken_list(alloc, console)?.as_slice()),
+            "take" => RowAnswer::bytes(alloc, taken(alloc, console)?.as_slice()),
+            "list" => RowAnswer::bytes(alloc, taken_list(alloc, console)?.as_slice()),
             _ => self.look(alloc, verb, arguments),
         }
     }
 
     /// Does a line that leaves a session as it is.
-    fn look(&self, alloc: Global, verb: &str, arguments: &[Word<'_>]) -> Result<Answer, Fault> {
+    fn look(&self, alloc: Global, verb: &str, arguments: &[Word<'_>]) -> Result<RowAnswer, RowFault> {
         match verb {
             "returned" => self.returned(alloc),
-            "booted" => Answer::truth(alloc, self.is_booted()),
+            "booted" => RowAnswer::truth(alloc, self.is_booted()),
             "waits" => self.waits(alloc),
             "peek" => self.bytes(alloc, arguments),
             "directory" => self.directory(alloc, arguments),
@@ -165,7 +165,7 @@ impl Session {
             "place" => self.place(alloc, arguments),
             "drives" => self.drives(alloc, arguments),
             "pages" => self.pages(alloc),
-            _ => Err(Fault::Unknown),
+            _ => Err(RowFault::Unknown),
         }
     }
 }

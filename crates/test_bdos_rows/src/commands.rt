@@ -4,7 +4,7 @@ use crate::text::add_quoted;
 use cpm_ccp::{Command, parse_command};
 use cpm_directory::{Extent, Fcb};
 use std::alloc::{AllocError, Global};
-use test_language::{Answer, Fault, Line, Scene, Word, bytes_of};
+use test_language::{RowAnswer, RowFault, RowLine, Scene, Word, bytes_of};
 
 /// Nothing: each line stands by itself.
 #[derive(Drop)]
@@ -23,31 +23,31 @@ impl Scene for Commands {
         false
     }
 
-    fn act(&mut self, alloc: Global, line: &Line<'_>) -> Result<Answer, Fault> {
+    fn act(&mut self, alloc: Global, line: &RowLine<'_>) -> Result<RowAnswer, RowFault> {
         match line.verb() {
             "line" => parse(alloc, line.arguments()),
-            _ => Err(Fault::Unknown),
+            _ => Err(RowFault::Unknown),
         }
     }
 }
 
 /// `line DRIVE BYTES`: what a line is where this drive is the current one.
-fn parse(alloc: Global, arguments: &[Word<'_>]) -> Result<Answer, Fault> {
+fn parse(alloc: Global, arguments: &[Word<'_>]) -> Result<RowAnswer, RowFault> {
     let [drive, text @ ..] = arguments else {
-        return Err(Fault::Words);
+        return Err(RowFault::Words);
     };
     let text = bytes_of(alloc, text)?;
     let command = parse_command(text.as_slice(), drive_of(drive.text)?);
     let mut words = String::new(alloc);
     add_command(alloc, &mut words, command)?;
-    Ok(Answer::Words(words))
+    Ok(RowAnswer::Words(words))
 }
 
 /// The number of a drive by its letter, 0 for A.
-fn drive_of(letter: &str) -> Result<u8, Fault> {
+fn drive_of(letter: &str) -> Result<u8, RowFault> {
     match letter.as_bytes() {
         [letter @ b'A'..=b'P'] => Ok(*letter - b'A'),
-        _ => Err(Fault::Words),
+        _ => Err(RowFault::Words),
     }
 }
 

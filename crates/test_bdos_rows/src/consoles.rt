@@ -3,7 +3,7 @@
 use crate::text::{key_answer, list_echo, press, small, taken};
 use cpm_console::{Console, Device, RING};
 use std::alloc::{AllocError, Global};
-use test_language::{Answer, Fault, Line, Scene, Word, bytes_of, count};
+use test_language::{RowAnswer, RowFault, RowLine, Scene, Word, bytes_of, count};
 
 /// What the bytes are that nothing was moved to.
 const UNTOUCHED: u8 = b'.';
@@ -18,11 +18,11 @@ pub struct Consoles {
 }
 
 /// A console whose cursor stands at a column, and of which all bytes were taken.
-pub fn console_at(alloc: Global, column: u8) -> Result<Console, Fault> {
+pub fn console_at(alloc: Global, column: u8) -> Result<Console, RowFault> {
     let mut console = Console::new(alloc)?;
     for _ in 0..column {
         if console.held() >= RING {
-            return Err(Fault::Unready);
+            return Err(RowFault::Unready);
         }
         console.put(b' ');
     }
@@ -32,18 +32,18 @@ pub fn console_at(alloc: Global, column: u8) -> Result<Console, Fault> {
 
 impl Consoles {
     /// `console COLUMN`: a new console whose cursor stands there.
-    fn begin(&mut self, alloc: Global, arguments: &[Word<'_>]) -> Result<Answer, Fault> {
+    fn begin(&mut self, alloc: Global, arguments: &[Word<'_>]) -> Result<RowAnswer, RowFault> {
         let [column] = arguments else {
-            return Err(Fault::Words);
+            return Err(RowFault::Words);
         };
         self.console = console_at(alloc, small(*column)?)?;
-        Ok(Answer::Done)
+        Ok(RowAnswer::Done)
     }
 
     /// `read COUNT`: so many keys, or as many as are pending.
-    fn read(&mut self, alloc: Global, arguments: &[Word<'_>]) -> Result<Answer, Fault> {
+    fn read(&mut self, alloc: Global, arguments: &[Word<'_>]) -> Result<RowAnswer, RowFault> {
         let [times] = arguments else {
-            return Err(Fault::Words);
+            return Err(RowFault::Words);
         };
         let mut keys = Vec::new(alloc);
         for _ in 0..count(*times)? {
@@ -52,61 +52,61 @@ impl Consoles {
                 None => break,
             }
         }
-        Answer::bytes(alloc, keys.as_slice())
+        RowAnswer::bytes(alloc, keys.as_slice())
     }
 
     /// `put BYTES`: shows bytes one by one as they are.
-    fn put(&mut self, bytes: &[u8]) -> Result<Answer, Fault> {
+    fn put(&mut self, bytes: &[u8]) -> Result<RowAnswer, RowFault> {
         for byte in bytes {
             if self.console.held() >= RING {
-                return Err(Fault::Unready);
+                return Err(RowFault::Unready);
             }
             self.console.put(*byte);
         }
-        Ok(Answer::Done)
+        Ok(RowAnswer::Done)
     }
 
     /// `put-list BYTES`: sends bytes one by one to the list device.
-    fn put_list(&mut self, bytes: &[u8]) -> Result<Answer, Fault> {
+    fn put_list(&mut self, bytes: &[u8]) -> Result<RowAnswer, RowFault> {
         for byte in bytes {
             if self.console.held_list() >= RING {
-                return Err(Fault::Unready);
+                return Err(RowFault::Unready);
             }
             self.console.put_list(*byte);
         }
-        Ok(Answer::Done)
+        Ok(RowAnswer::Done)
     }
 
     /// `say BYTES`: shows bytes one by one, and on the list device too while it echoes.
-    fn say(&mut self, bytes: &[u8]) -> Result<Answer, Fault> {
+    fn say(&mut self, bytes: &[u8]) -> Result<RowAnswer, RowFault> {
         for byte in bytes {
             if self.console.held() >= RING || self.console.held_list() >= RING {
-                return Err(Fault::Unready);
+                return Err(RowFault::Unready);
             }
             self.console.say(*byte);
         }
-        Ok(Answer::Done)
+        Ok(RowAnswer::Done)
     }
 
     /// `say-all BYTES`: the same by one call.
-    fn say_all(&mut self, bytes: &[u8]) -> Result<Answer, Fault> {
+    fn say_all(&mut self, bytes: &[u8]) -> Result<RowAnswer, RowFault> {
         let (held, listed) = (self.console.held(), self.console.held_list());
         if bytes.len() > RING - held || bytes.len() > RING - listed {
-            return Err(Fault::Unready);
+            return Err(RowFault::Unready);
         }
         self.console.say_all(bytes);
-        Ok(Answer::Done)
+        Ok(RowAnswer::Done)
     }
 
     /// `write BYTES`: shows bytes one by one, with a tab as spaces.
-    fn write(&mut self, bytes: &[u8]) -> Result<Answer, Fault> {
+    fn write(&mut self, bytes: &[u8]) -> Result<RowAnswer, RowFault> {
         for byte in bytes {
             if self.console.held() > RING - 8 || self.console.held_list() > RING - 8 {
-                return Err(Fault::Unready);
+                return Err(RowFault::Unready);
             }
             self.console.write(*byte);
         }
-        Ok(Answer::Done)
+        Ok(RowAnswer::Done)
     }
 
     /// `take COUNT`, `take-list COUNT`: moves out so many bytes, or as many as wait.
@@ -115,24 +115,24 @@ impl Consoles {
         alloc: Global,
         device: Device,
         arguments: &[Word<'_>],
-    ) -> Result<Answer, Fault> {
+    ) -> Result<RowAnswer, RowFault> {
         let [most] = arguments else {
-            return Err(Fault::Words);
+            return Err(RowFault::Words);
         };
         let most = count(*most)?;
         if most > MOST_TAKEN {
-            return Err(Fault::Number);
+            return Err(RowFault::Number);
         }
         let mut out = vec![in alloc; UNTOUCHED; most]?;
         let count = self.console.take_from(device, out.as_mut_slice());
         if out[count..].iter().any(|byte| *byte != UNTOUCHED) {
-            return Answer::refused_text(alloc, "more bytes were moved than it says");
+            return RowAnswer::refused_text(alloc, "more bytes were moved than it says");
         }
-        Answer::bytes(alloc, &out[..count])
+        RowAnswer::bytes(alloc, &out[..count])
     }
 
     /// Does a line that has bytes.
-    fn act_on_bytes(&mut self, alloc: Global, verb: &str, bytes: &[u8]) -> Result<Answer, Fault> {
+    fn act_on_bytes(&mut self, alloc: Global, verb: &str, bytes: &[u8]) -> Result<RowAnswer, RowFault> {
         match verb {
             "key" => press(alloc, &mut self.console, bytes),
             "put" => self.put(bytes),
@@ -140,7 +140,7 @@ impl Consoles {
             "say" => self.say(bytes),
             "say-all" => self.say_all(bytes),
             "write" => self.write(bytes),
-            _ => Err(Fault::Unknown),
+            _ => Err(RowFault::Unknown),
         }
     }
 }
@@ -163,7 +163,7 @@ impl Scene for Consoles {
         false
     }
 
-    fn act(&mut self, alloc: Global, line: &Line<'_>) -> Result<Answer, Fault> {
+    fn act(&mut self, alloc: Global, line: &RowLine<'_>) -> Result<RowAnswer, RowFault> {
         match line.verb() {
             "console" => self.begin(alloc, line.arguments()),
             "read" => self.read(alloc, line.arguments()),
@@ -171,11 +171,11 @@ impl Scene for Consoles {
             "list" => self.take(alloc, Device::List, line.arguments()),
             "list-echo" => list_echo(alloc, &mut self.console, line.arguments()),
             "first-key" => key_answer(alloc, self.console.first_key()),
-            "pending" => Answer::words(alloc, self.console.pending()),
-            "held" => Answer::words(alloc, self.console.held()),
-            "held-list" => Answer::words(alloc, self.console.held_list()),
-            "column" => Answer::words(alloc, self.console.column()),
-            "has-room" => Answer::truth(alloc, self.console.has_room()),
+            "pending" => RowAnswer::words(alloc, self.console.pending()),
+            "held" => RowAnswer::words(alloc, self.console.held()),
+            "held-list" => RowAnswer::words(alloc, self.console.held_list()),
+            "column" => RowAnswer::words(alloc, self.console.column()),
+            "has-room" => RowAnswer::truth(alloc, self.console.has_room()),
             verb => self.act_on_bytes(alloc, verb, bytes_of(alloc, line.arguments())?.as_slice()),
         }
     }

@@ -2,43 +2,43 @@
 
 use crate::consoles::console_at;
 use crate::text::{small, taken, taken_list};
-use cpm_console::{Console, Line as Draft, Progress};
+use cpm_console::{Console, Line as Draft, LineState};
 use std::alloc::{AllocError, Global};
-use test_language::{Answer, Fault, Line, Scene, Word, byte};
+use test_language::{RowAnswer, RowFault, RowLine, Scene, Word, byte};
 
 /// A line at a console, and whether it goes on.
 #[derive(Drop)]
 pub struct EditedLines {
     console: Console,
     draft: Draft,
-    progress: Progress,
+    progress: LineState,
 }
 
 impl EditedLines {
     /// `begin COLUMN LIMIT`: a line that begins at a column and has this greatest length, at a console of its own.
-    fn begin(&mut self, alloc: Global, arguments: &[Word<'_>]) -> Result<Answer, Fault> {
+    fn begin(&mut self, alloc: Global, arguments: &[Word<'_>]) -> Result<RowAnswer, RowFault> {
         let [start, limit] = arguments else {
-            return Err(Fault::Words);
+            return Err(RowFault::Words);
         };
         let (start, limit) = (small(*start)?, small(*limit)?);
         self.console = console_at(alloc, start)?;
         self.draft = Draft::new(start, limit);
-        self.progress = Progress::GoesOn;
-        Ok(Answer::Done)
+        self.progress = LineState::GoesOn;
+        Ok(RowAnswer::Done)
     }
 
     /// `key HH`: types a key, and answers what it shows.
-    fn key(&mut self, alloc: Global, arguments: &[Word<'_>]) -> Result<Answer, Fault> {
+    fn key(&mut self, alloc: Global, arguments: &[Word<'_>]) -> Result<RowAnswer, RowFault> {
         let [key] = arguments else {
-            return Err(Fault::Words);
+            return Err(RowFault::Words);
         };
         let key = byte(*key)?;
         let is_open = self.draft.characters().len() < usize::from(self.draft.limit());
-        if !is_open || self.progress != Progress::GoesOn || !self.console.has_room() {
-            return Err(Fault::Unready);
+        if !is_open || self.progress != LineState::GoesOn || !self.console.has_room() {
+            return Err(RowFault::Unready);
         }
         self.progress = self.draft.key_into_line(&mut self.console, key);
-        Answer::bytes(alloc, taken(alloc, &mut self.console)?.as_slice())
+        RowAnswer::bytes(alloc, taken(alloc, &mut self.console)?.as_slice())
     }
 }
 
@@ -47,7 +47,7 @@ impl Scene for EditedLines {
         Ok(EditedLines {
             console: Console::new(alloc)?,
             draft: Draft::new(0, 0),
-            progress: Progress::GoesOn,
+            progress: LineState::GoesOn,
         })
     }
 
@@ -62,17 +62,17 @@ impl Scene for EditedLines {
         false
     }
 
-    fn act(&mut self, alloc: Global, line: &Line<'_>) -> Result<Answer, Fault> {
+    fn act(&mut self, alloc: Global, line: &RowLine<'_>) -> Result<RowAnswer, RowFault> {
         match line.verb() {
             "begin" => self.begin(alloc, line.arguments()),
             "key" => self.key(alloc, line.arguments()),
-            "line" => Answer::bytes(alloc, self.draft.characters()),
-            "start" => Answer::words(alloc, self.draft.start()),
-            "limit" => Answer::words(alloc, self.draft.limit()),
-            "progress" => Answer::name(alloc, self.progress),
-            "column" => Answer::words(alloc, self.console.column()),
-            "list" => Answer::bytes(alloc, taken_list(alloc, &mut self.console)?.as_slice()),
-            _ => Err(Fault::Unknown),
+            "line" => RowAnswer::bytes(alloc, self.draft.characters()),
+            "start" => RowAnswer::words(alloc, self.draft.start()),
+            "limit" => RowAnswer::words(alloc, self.draft.limit()),
+            "progress" => RowAnswer::name(alloc, self.progress),
+            "column" => RowAnswer::words(alloc, self.console.column()),
+            "list" => RowAnswer::bytes(alloc, taken_list(alloc, &mut self.console)?.as_slice()),
+            _ => Err(RowFault::Unknown),
         }
     }
 }

@@ -1,14 +1,14 @@
 //! What a session is asked, and what is put into it as it stands.
 
 use crate::mode::{mode_of, mode_words};
-use crate::session::Session;
+use crate::session::Caller;
 use crate::text::middle;
 use cpm_bdos::waits;
 use cpm_ccp::{Tail, leave_tail};
 use cpm_flags::Regs;
 use cpm_memory::{Memory, get_run, has_room};
 use std::alloc::Global;
-use test_language::{Answer, Fault, Word, address, byte, bytes_of, count};
+use test_language::{RowAnswer, RowFault, Word, address, byte, bytes_of, count};
 
 /// The bytes of a directory entry.
 const ENTRY: usize = 32;
@@ -27,156 +27,156 @@ fn register_of<'a>(regs: &'a mut Regs, name: &str) -> Option<&'a mut u8> {
     }
 }
 
-impl Session {
+impl Caller {
     /// `register NAME`: what a register of 8 bits, PC or SP has. `register NAME HH`, or HHHH for PC: it gets this.
-    pub fn register(&mut self, alloc: Global, arguments: &[Word<'_>]) -> Result<Answer, Fault> {
-        let regs = &mut self.cpm.regs;
+    pub fn register(&mut self, alloc: Global, arguments: &[Word<'_>]) -> Result<RowAnswer, RowFault> {
+        let regs = &mut self.session.regs;
         match arguments {
-            [name] if name.text == "PC" => Answer::address(alloc, regs.pc),
-            [name] if name.text == "SP" => Answer::address(alloc, regs.sp),
+            [name] if name.text == "PC" => RowAnswer::address(alloc, regs.pc),
+            [name] if name.text == "SP" => RowAnswer::address(alloc, regs.sp),
             [name, value] if name.text == "PC" => {
                 regs.pc = address(*value)?;
-                Ok(Answer::Done)
+                Ok(RowAnswer::Done)
             }
             [name] => match register_of(regs, name.text) {
-                Some(register) => Answer::byte(alloc, *register),
-                None => Err(Fault::Words),
+                Some(register) => RowAnswer::byte(alloc, *register),
+                None => Err(RowFault::Words),
             },
             [name, value] => match register_of(regs, name.text) {
                 Some(register) => {
                     *register = byte(*value)?;
-                    Ok(Answer::Done)
+                    Ok(RowAnswer::Done)
                 }
-                None => Err(Fault::Words),
+                None => Err(RowFault::Words),
             },
-            _ => Err(Fault::Words),
+            _ => Err(RowFault::Words),
         }
     }
 
     /// `mode`: the mode in words. With words: it becomes this.
-    pub fn mode(&mut self, alloc: Global, arguments: &[Word<'_>]) -> Result<Answer, Fault> {
+    pub fn mode(&mut self, alloc: Global, arguments: &[Word<'_>]) -> Result<RowAnswer, RowFault> {
         if arguments.is_empty() {
-            return Ok(Answer::Words(mode_words(alloc, self.cpm.mode)?));
+            return Ok(RowAnswer::Words(mode_words(alloc, self.session.mode)?));
         }
-        self.cpm.mode = mode_of(arguments)?;
-        Ok(Answer::Done)
+        self.session.mode = mode_of(arguments)?;
+        Ok(RowAnswer::Done)
     }
 
     /// `buffer`: the address of the buffer of a record. With an address: it becomes this.
-    pub fn buffer(&mut self, alloc: Global, arguments: &[Word<'_>]) -> Result<Answer, Fault> {
+    pub fn buffer(&mut self, alloc: Global, arguments: &[Word<'_>]) -> Result<RowAnswer, RowFault> {
         match arguments {
-            [] => Answer::address(alloc, self.cpm.buffer),
+            [] => RowAnswer::address(alloc, self.session.buffer),
             [at] => {
-                self.cpm.buffer = address(*at)?;
-                Ok(Answer::Done)
+                self.session.buffer = address(*at)?;
+                Ok(RowAnswer::Done)
             }
-            _ => Err(Fault::Words),
+            _ => Err(RowFault::Words),
         }
     }
 
     /// `tail BYTES`: leaves the tail of a command where programs look.
-    pub fn tail(&mut self, alloc: Global, arguments: &[Word<'_>]) -> Result<Answer, Fault> {
+    pub fn tail(&mut self, alloc: Global, arguments: &[Word<'_>]) -> Result<RowAnswer, RowFault> {
         let text = bytes_of(alloc, arguments)?;
         let Some(tail) = Tail::new(text.as_slice()) else {
-            return Answer::refused_text(alloc, "too long");
+            return RowAnswer::refused_text(alloc, "too long");
         };
         if !has_room(&self.memory) {
-            return Err(Fault::Unready);
+            return Err(RowFault::Unready);
         }
         leave_tail(&mut self.memory, &tail);
-        Ok(Answer::Done)
+        Ok(RowAnswer::Done)
     }
 
     /// `bytes HHHH COUNT`: the bytes of memory from an address on.
-    pub fn bytes(&self, alloc: Global, arguments: &[Word<'_>]) -> Result<Answer, Fault> {
+    pub fn bytes(&self, alloc: Global, arguments: &[Word<'_>]) -> Result<RowAnswer, RowFault> {
         let [from, length] = arguments else {
-            return Err(Fault::Words);
+            return Err(RowFault::Words);
         };
         let mut bytes = [0; 256];
         let length = count(*length)?;
         if length > 256 {
-            return Err(Fault::Number);
+            return Err(RowFault::Number);
         }
         get_run(&self.memory, address(*from)?, &mut bytes[..length]);
-        Answer::bytes(alloc, &bytes[..length])
+        RowAnswer::bytes(alloc, &bytes[..length])
     }
 
     /// The bytes of a record of a drive, named by its letter.
-    fn record(&self, drive: &str, number: u16) -> Result<&[u8], Fault> {
+    fn record(&self, drive: &str, number: u16) -> Result<&[u8], RowFault> {
         let place = match drive {
             "A" => 0,
             "B" => 1,
             "C" => 2,
             "D" => 3,
-            _ => return Err(Fault::Words),
+            _ => return Err(RowFault::Words),
         };
-        match self.cpm.disks.drives.get(place) {
-            Some(Some(drive)) => drive.image.record(number).map_err(|_| Fault::Absent),
-            _ => Err(Fault::Absent),
+        match self.session.disks.drives.get(place) {
+            Some(Some(drive)) => drive.image.record(number).map_err(|_| RowFault::Absent),
+            _ => Err(RowFault::Absent),
         }
     }
 
     /// `disk DRIVE N`: record N of the disk in a drive.
-    pub fn disk(&self, alloc: Global, arguments: &[Word<'_>]) -> Result<Answer, Fault> {
+    pub fn disk(&self, alloc: Global, arguments: &[Word<'_>]) -> Result<RowAnswer, RowFault> {
         let [drive, record] = arguments else {
-            return Err(Fault::Words);
+            return Err(RowFault::Words);
         };
-        Answer::bytes(alloc, self.record(drive.text, middle(*record)?)?)
+        RowAnswer::bytes(alloc, self.record(drive.text, middle(*record)?)?)
     }
 
     /// `directory DRIVE N PLACE COUNT`: so many bytes, from this place on, of directory entry N of the disk in a drive.
-    pub fn directory(&self, alloc: Global, arguments: &[Word<'_>]) -> Result<Answer, Fault> {
+    pub fn directory(&self, alloc: Global, arguments: &[Word<'_>]) -> Result<RowAnswer, RowFault> {
         let [drive, entry, place, length] = arguments else {
-            return Err(Fault::Words);
+            return Err(RowFault::Words);
         };
         let (entry, place, length) = (middle(*entry)?, count(*place)?, count(*length)?);
         if place > ENTRY || length > ENTRY - place {
-            return Err(Fault::Number);
+            return Err(RowFault::Number);
         }
         let record = self.record(drive.text, entry / 4)?;
         let from = ENTRY * usize::from(entry % 4) + place;
         match record.get(from..from + length) {
-            Some(bytes) => Answer::bytes(alloc, bytes),
-            None => Err(Fault::Number),
+            Some(bytes) => RowAnswer::bytes(alloc, bytes),
+            None => Err(RowFault::Number),
         }
     }
 
     /// `place WHAT`: the drive, track, sector or buffer that the BIOS keeps.
-    pub fn place(&self, alloc: Global, arguments: &[Word<'_>]) -> Result<Answer, Fault> {
+    pub fn place(&self, alloc: Global, arguments: &[Word<'_>]) -> Result<RowAnswer, RowFault> {
         let [what] = arguments else {
-            return Err(Fault::Words);
+            return Err(RowFault::Words);
         };
-        let place = self.cpm.place;
+        let place = self.session.place;
         match what.text {
-            "drive" => Answer::words(alloc, place.drive),
-            "track" => Answer::words(alloc, place.track),
-            "sector" => Answer::words(alloc, place.sector),
-            "buffer" => Answer::address(alloc, place.buffer),
-            _ => Err(Fault::Words),
+            "drive" => RowAnswer::words(alloc, place.drive),
+            "track" => RowAnswer::words(alloc, place.track),
+            "sector" => RowAnswer::words(alloc, place.sector),
+            "buffer" => RowAnswer::address(alloc, place.buffer),
+            _ => Err(RowFault::Words),
         }
     }
 
     /// `drives WHAT`: the number of the current drive, the user, or the vector of the drives that are logged in.
-    pub fn drives(&self, alloc: Global, arguments: &[Word<'_>]) -> Result<Answer, Fault> {
+    pub fn drives(&self, alloc: Global, arguments: &[Word<'_>]) -> Result<RowAnswer, RowFault> {
         let [what] = arguments else {
-            return Err(Fault::Words);
+            return Err(RowFault::Words);
         };
-        let disks = &self.cpm.disks;
+        let disks = &self.session.disks;
         match what.text {
-            "current" => Answer::words(alloc, disks.current),
-            "user" => Answer::words(alloc, disks.user),
-            "logged-in" => Answer::address(alloc, disks.login_vector()),
-            _ => Err(Fault::Words),
+            "current" => RowAnswer::words(alloc, disks.current),
+            "user" => RowAnswer::words(alloc, disks.user),
+            "logged-in" => RowAnswer::address(alloc, disks.login_vector()),
+            _ => Err(RowFault::Words),
         }
     }
 
     /// `pages`: how many pages of the memory were written.
-    pub fn pages(&self, alloc: Global) -> Result<Answer, Fault> {
-        Answer::words(alloc, self.memory.touched())
+    pub fn pages(&self, alloc: Global) -> Result<RowAnswer, RowFault> {
+        RowAnswer::words(alloc, self.memory.touched())
     }
 
     /// `waits`: whether the session waits for a key.
-    pub fn waits(&self, alloc: Global) -> Result<Answer, Fault> {
-        Answer::truth(alloc, waits(&self.cpm, &self.memory))
+    pub fn waits(&self, alloc: Global) -> Result<RowAnswer, RowFault> {
+        RowAnswer::truth(alloc, waits(&self.session, &self.memory))
     }
 }

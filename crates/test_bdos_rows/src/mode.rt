@@ -1,8 +1,8 @@
 //! The mode of a session in words: `Program`, `Text 8001`, `Hold Call`, `Command Directory 1 1`.
 
-use cpm_bdos::{CommandPart, Held, Mode};
+use cpm_bdos::{CommandPart, HeldOutput, Mode};
 use std::alloc::{AllocError, Global};
-use test_language::{Fault, Word, address};
+use test_language::{RowFault, Word, address};
 
 /// The words of a mode.
 pub fn mode_words(alloc: Global, mode: Mode) -> Result<String, AllocError> {
@@ -15,11 +15,11 @@ pub fn mode_words(alloc: Global, mode: Mode) -> Result<String, AllocError> {
 }
 
 /// The words of what is held.
-fn held_words(alloc: Global, held: Held) -> Result<String, AllocError> {
+fn held_words(alloc: Global, held: HeldOutput) -> Result<String, AllocError> {
     match held {
-        Held::Call => format!(in alloc; "Call"),
-        Held::Text { next } => format!(in alloc; "Text {next:04X}"),
-        Held::Command(part) => part_words(alloc, part),
+        HeldOutput::Call => format!(in alloc; "Call"),
+        HeldOutput::Text { next } => format!(in alloc; "Text {next:04X}"),
+        HeldOutput::Command(part) => part_words(alloc, part),
     }
 }
 
@@ -34,24 +34,24 @@ fn part_words(alloc: Global, part: CommandPart) -> Result<String, AllocError> {
 }
 
 /// The mode of these words, among those that rows set.
-pub fn mode_of(words: &[Word<'_>]) -> Result<Mode, Fault> {
+pub fn mode_of(words: &[Word<'_>]) -> Result<Mode, RowFault> {
     match words {
         [only] if only.text == "Program" => Ok(Mode::Program),
         [kind, next] if kind.text == "Text" => Ok(Mode::Text {
             next: address(*next)?,
         }),
-        [kind, held] if kind.text == "Hold" && held.text == "Call" => Ok(Mode::Hold(Held::Call)),
+        [kind, held] if kind.text == "Hold" && held.text == "Call" => Ok(Mode::Hold(HeldOutput::Call)),
         [kind, part] if kind.text == "Command" => Ok(Mode::Command(part_of(part.text)?)),
-        _ => Err(Fault::Words),
+        _ => Err(RowFault::Words),
     }
 }
 
 /// The part of the command processor of this name.
-fn part_of(name: &str) -> Result<CommandPart, Fault> {
+fn part_of(name: &str) -> Result<CommandPart, RowFault> {
     match name {
         "Line" => Ok(CommandPart::Line),
         "Answer" => Ok(CommandPart::Answer),
         "Show" => Ok(CommandPart::Show),
-        _ => Err(Fault::Words),
+        _ => Err(RowFault::Words),
     }
 }

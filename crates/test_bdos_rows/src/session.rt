@@ -1,12 +1,12 @@
 //! A session with a memory and a system drive by itself, called by a program or by its user.
 
 use crate::text::small;
-use cpm_bdos::Cpm;
+use cpm_bdos::Session;
 use cpm_console::Console;
 use cpm_geom::Image;
 use cpm_memory::{FlatMemory, has_room, set_byte, set_word};
 use std::alloc::{AllocError, Global};
-use test_language::{Answer, Fault, Word, address, bytes_of};
+use test_language::{RowAnswer, RowFault, Word, address, bytes_of};
 
 /// Where the BDOS is called.
 const BDOS: u16 = 0xEC06;
@@ -19,52 +19,52 @@ const STACK: u16 = 0xEBFC;
 
 /// A session, its memory and its system drive.
 #[derive(Drop)]
-pub struct Session {
-    pub cpm: Cpm,
+pub struct Caller {
+    pub session: Session,
     pub memory: FlatMemory,
     pub system: Image,
 }
 
-impl Session {
+impl Caller {
     /// A session with these drives, the first as A, and this system drive.
-    pub fn new(alloc: Global, images: Vec<Image>, system: Image) -> Result<Session, AllocError> {
-        Ok(Session {
-            cpm: Cpm::new(Console::new(alloc)?, images),
+    pub fn new(alloc: Global, images: Vec<Image>, system: Image) -> Result<Caller, AllocError> {
+        Ok(Caller {
+            session: Session::new(Console::new(alloc)?, images),
             memory: FlatMemory::new(alloc)?,
             system,
         })
     }
 
     /// Puts bytes into memory.
-    fn put(&mut self, from: u16, bytes: &[u8]) -> Result<Answer, Fault> {
+    fn put(&mut self, from: u16, bytes: &[u8]) -> Result<RowAnswer, RowFault> {
         let mut at = from;
         for byte in bytes {
             if !has_room(&self.memory) {
-                return Err(Fault::Unready);
+                return Err(RowFault::Unready);
             }
             set_byte(&mut self.memory, at, *byte);
             at = at.wrapping_add(1);
         }
-        Ok(Answer::Done)
+        Ok(RowAnswer::Done)
     }
 
     /// `store HHHH BYTES`: puts bytes into memory.
-    pub fn store(&mut self, alloc: Global, arguments: &[Word<'_>]) -> Result<Answer, Fault> {
+    pub fn store(&mut self, alloc: Global, arguments: &[Word<'_>]) -> Result<RowAnswer, RowFault> {
         let [from, bytes @ ..] = arguments else {
-            return Err(Fault::Words);
+            return Err(RowFault::Words);
         };
         let bytes = bytes_of(alloc, bytes)?;
         self.put(address(*from)?, bytes.as_slice())
     }
 
     /// `fcb HHHH DRIVE NAME`: puts a file control block of a drive and a name, which else has zeros.
-    pub fn file(&mut self, alloc: Global, arguments: &[Word<'_>]) -> Result<Answer, Fault> {
+    pub fn file(&mut self, alloc: Global, arguments: &[Word<'_>]) -> Result<RowAnswer, RowFault> {
         let [from, drive, name @ ..] = arguments else {
-            return Err(Fault::Words);
+            return Err(RowFault::Words);
         };
         let name = bytes_of(alloc, name)?;
         if name.len() != 11 {
-            return Err(Fault::Bytes);
+            return Err(RowFault::Bytes);
         }
         let mut bytes = [0; 36];
         bytes[0] = small(*drive)?;
@@ -73,12 +73,12 @@ impl Session {
     }
 
     /// Comes to an address as a program does by CALL, with all other registers 55h.
-    pub fn come(&mut self, to: u16) -> Result<(), Fault> {
+    pub fn come(&mut self, to: u16) -> Result<(), RowFault> {
         if !has_room(&self.memory) {
-            return Err(Fault::Unready);
+            return Err(RowFault::Unready);
         }
         set_word(&mut self.memory, STACK, BACK);
-        let regs = &mut self.cpm.regs;
+        let regs = &mut self.session.regs;
         regs.pc = to;
         regs.sp = STACK;
         regs.a = 0x55;
@@ -92,25 +92,25 @@ impl Session {
     }
 
     /// `come HHHH`: comes to an address by CALL.
-    pub fn come_to(&mut self, arguments: &[Word<'_>]) -> Result<Answer, Fault> {
+    pub fn come_to(&mut self, arguments: &[Word<'_>]) -> Result<RowAnswer, RowFault> {
         let [to] = arguments else {
-            return Err(Fault::Words);
+            return Err(RowFault::Words);
         };
         self.come(address(*to)?)?;
-        Ok(Answer::Done)
+        Ok(RowAnswer::Done)
     }
 
     /// `call FUNCTION HHHH`: comes to the BDOS with a function and its parameter.
-    pub fn call(&mut self, arguments: &[Word<'_>]) -> Result<Answer, Fault> {
+    pub fn call(&mut self, arguments: &[Word<'_>]) -> Result<RowAnswer, RowFault> {
         let [function, parameter] = arguments else {
-            return Err(Fault::Words);
+            return Err(RowFault::Words);
         };
         let (function, parameter) = (small(*function)?, address(*parameter)?);
         self.come(BDOS)?;
-        let regs = &mut self.cpm.regs;
+        let regs = &mut self.session.regs;
         regs.c = function;
         regs.d = (parameter >> 8) as u8;
         regs.e = (parameter & 0xff) as u8;
-        Ok(Answer::Done)
+        Ok(RowAnswer::Done)
     }
 }

@@ -2,16 +2,16 @@
 
 use cpm_console::Console;
 use std::alloc::{AllocError, Global};
-use test_language::{Answer, Fault, Word};
+use test_language::{RowAnswer, RowFault, Word};
 
 /// A decimal number of 8 bits.
-pub fn small(word: Word<'_>) -> Result<u8, Fault> {
-    word.text.parse::<u8>().map_err(|_| Fault::Number)
+pub fn small(word: Word<'_>) -> Result<u8, RowFault> {
+    word.text.parse::<u8>().map_err(|_| RowFault::Number)
 }
 
 /// A decimal number of 16 bits.
-pub fn middle(word: Word<'_>) -> Result<u16, Fault> {
-    word.text.parse::<u16>().map_err(|_| Fault::Number)
+pub fn middle(word: Word<'_>) -> Result<u16, RowFault> {
+    word.text.parse::<u16>().map_err(|_| RowFault::Number)
 }
 
 /// Adds bytes to a text, between quotes.
@@ -44,20 +44,20 @@ pub fn taken_list(alloc: Global, console: &mut Console) -> Result<Vec<u8>, Alloc
 }
 
 /// Presses keys, until one is refused.
-pub fn press(alloc: Global, console: &mut Console, keys: &[u8]) -> Result<Answer, Fault> {
+pub fn press(alloc: Global, console: &mut Console, keys: &[u8]) -> Result<RowAnswer, RowFault> {
     for key in keys {
         if !console.give(*key) {
-            return Answer::refused_text(alloc, "KeysFull");
+            return RowAnswer::refused_text(alloc, "KeysFull");
         }
     }
-    Ok(Answer::Done)
+    Ok(RowAnswer::Done)
 }
 
 /// A key, if one is there: two digits, or `none`.
-pub fn key_answer(alloc: Global, key: Option<u8>) -> Result<Answer, Fault> {
+pub fn key_answer(alloc: Global, key: Option<u8>) -> Result<RowAnswer, RowFault> {
     match key {
-        Some(key) => Answer::byte(alloc, key),
-        None => Answer::words(alloc, "none"),
+        Some(key) => RowAnswer::byte(alloc, key),
+        None => RowAnswer::words(alloc, "none"),
     }
 }
 
@@ -66,13 +66,13 @@ pub fn list_echo(
     alloc: Global,
     console: &mut Console,
     arguments: &[Word<'_>],
-) -> Result<Answer, Fault> {
+) -> Result<RowAnswer, RowFault> {
     match arguments {
-        [] => Answer::truth(alloc, console.list_echo()),
+        [] => RowAnswer::truth(alloc, console.list_echo()),
         [word] if word.text == "yes" || word.text == "no" => {
             console.set_list_echo(word.text == "yes");
-            Ok(Answer::Done)
+            Ok(RowAnswer::Done)
         }
-        _ => Err(Fault::Words),
+        _ => Err(RowFault::Words),
     }
 }

@@ -177,15 +177,15 @@ const READS: &[u8] = &[
 
 /// A reader and writer that always fails.
 #[derive(Drop)]
-struct Broken;
+struct FailingConsole;
 
-impl Read for Broken {
+impl Read for FailingConsole {
     fn read(&mut self, _buf: &mut [u8]) -> io::Result<usize> {
         Err(io::Error::from(ErrorKind::BrokenPipe))
     }
 }
 
-impl Write for Broken {
+impl Write for FailingConsole {
     fn write(&mut self, _buf: &[u8]) -> io::Result<usize> {
         Err(io::Error::from(ErrorKind::StorageFull))
     }
@@ -231,15 +231,15 @@ fn a_live_session_names_what_failed(rt: HostRuntime) -> Result<(), Fail> {
     let mut text = Vec::new(rt.alloc());
     let mut lines = Vec::new(rt.alloc());
     let mut typed: &[u8] = b"ab";
-    let found = fault(rt.alloc(), &mut Broken, &mut text, &mut lines)?;
+    let found = fault(rt.alloc(), &mut FailingConsole, &mut text, &mut lines)?;
     same(&rt, found, ("unreadable", Some(ErrorKind::BrokenPipe)));
     same(&rt, text.len(), 0);
     same(&rt, lines.len(), 0);
     // The echo of the first key can't be written; the key was recorded.
-    let found = fault(rt.alloc(), &mut typed, &mut Broken, &mut lines)?;
+    let found = fault(rt.alloc(), &mut typed, &mut FailingConsole, &mut lines)?;
     same(&rt, found, ("unwritable", Some(ErrorKind::StorageFull)));
     same(&rt, lines.as_slice(), b"3 a\n".as_slice());
-    let found = fault(rt.alloc(), &mut typed, &mut text, &mut Broken)?;
+    let found = fault(rt.alloc(), &mut typed, &mut text, &mut FailingConsole)?;
     same(&rt, found, ("unrecorded", Some(ErrorKind::StorageFull)));
     same(&rt, text.len(), 0);
     Ok(())

@@ -5,7 +5,7 @@ use cpm_asm::AsmErrorKind;
 use cpm_flags::Cpu;
 use cpm_geom::{Format, Image};
 use cpm_host::{
-    Config, DebugError, Fault, HostError, MOST_FILE, MemoryStore, Origin, Store, Unwatched,
+    Config, DebugError, UsageFault, HostError, MOST_FILE, MemoryStore, Origin, Store, Unwatched,
     UsageError, read_whole, run_debug, run_host, shown,
 };
 use cpm_machine::OpenError;
@@ -61,7 +61,7 @@ fn names_code_and_status(rt: HostRuntime) {
     let reason = io::Error::other("the disk is gone");
     let errors = [
         (
-            HostError::from(UsageError::Usage(Fault::UnknownCommand(shown("x")))),
+            HostError::from(UsageError::Usage(UsageFault::UnknownCommand(shown("x")))),
             1,
             "HO1 unknown command 'x'; try 'cpmhost --help'",
         ),
@@ -135,11 +135,11 @@ fn names_code_and_status(rt: HostRuntime) {
 
 /// Gives two orders and the beginning of a third, and then fails.
 #[derive(Drop)]
-struct Broken {
+struct FailingOrders {
     is_read: bool,
 }
 
-impl Read for Broken {
+impl Read for FailingOrders {
     fn read(&mut self, buf: &mut [u8]) -> io::Result<usize> {
         if self.is_read {
             return Err(io::Error::other("the line is dead"));
@@ -157,7 +157,7 @@ const LETTER: &[u8] = &[0x0E, 0x02, 0x1E, 0x41, 0xCD, 0x05, 0x00, 0xC9];
 
 #[test]
 fn answers_what_was_read_before_a_fault(rt: HostRuntime) {
-    let mut input = BufReader::new(rt.alloc(), Broken { is_read: false }).expect(&rt, "memory");
+    let mut input = BufReader::new(rt.alloc(), FailingOrders { is_read: false }).expect(&rt, "memory");
     let mut out: Vec<u8> = Vec::new(rt.alloc());
     let program = Vec::from_slice(rt.alloc(), LETTER).expect(&rt, "memory");
     match run_debug(rt.alloc(), Cpu::I8080, program, &[], &mut input, &mut out) {

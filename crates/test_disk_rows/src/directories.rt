@@ -2,7 +2,7 @@
 
 use crate::fcb::FcbBytes;
 use crate::one_drive::pattern;
-use crate::runs::Runs;
+use crate::runs::WordCounts;
 use crate::words::{filled, name, number, small, write_name};
 use cpm_directory::{
     DirectoryError, Entry, Fcb, LentImage, Pattern, Reserved, block_at, entry, find, first_free,
@@ -11,7 +11,7 @@ use cpm_directory::{
 use cpm_geom::{Dpb, Format};
 use std::alloc::{AllocError, Global};
 use test_images::Images;
-use test_language::{Answer, Fault, Line, Scene, Word};
+use test_language::{RowAnswer, RowFault, RowLine, Scene, Word};
 
 /// Images, reserved blocks, and a file control block.
 #[derive(Drop)]
@@ -38,7 +38,7 @@ impl Scene for Directories {
         matches!(verb, "parse")
     }
 
-    fn act(&mut self, alloc: Global, line: &Line<'_>) -> Result<Answer, Fault> {
+    fn act(&mut self, alloc: Global, line: &RowLine<'_>) -> Result<RowAnswer, RowFault> {
         let arguments = line.arguments();
         match line.verb() {
             "put-entry" => self.put_entry(alloc, arguments),
@@ -49,10 +49,10 @@ impl Scene for Directories {
             "parse" => parse(alloc, line.given(alloc, arguments)?.as_slice()),
             "image" | "entry" | "record" | "sector" => self.images.act(alloc, line),
             verb => match arguments {
-                [] => Err(Fault::Unknown),
+                [] => Err(RowFault::Unknown),
                 [word] => self.act_one(alloc, verb, *word),
                 [first, second] => self.take_blocks(alloc, verb, *first, *second),
-                _ => Err(Fault::Unknown),
+                _ => Err(RowFault::Unknown),
             },
         }
     }
@@ -60,38 +60,38 @@ impl Scene for Directories {
 
 impl Directories {
     /// `put-entry NAME N BYTES`: directory entry N becomes what these bytes say, and else zeros.
-    fn put_entry(&mut self, alloc: Global, arguments: &[Word<'_>]) -> Result<Answer, Fault> {
+    fn put_entry(&mut self, alloc: Global, arguments: &[Word<'_>]) -> Result<RowAnswer, RowFault> {
         let [image, index, bytes @ ..] = arguments else {
-            return Err(Fault::Words);
+            return Err(RowFault::Words);
         };
         let (index, bytes) = (number(*index)?, filled(alloc, bytes)?);
         let mut changed = self.images.copy(alloc, image.text)?;
         let dpb = changed.format().dpb();
         if index > dpb.last_entry {
-            return Err(Fault::Unready);
+            return Err(RowFault::Unready);
         }
         put_entry(&mut changed, index, &Entry::from_bytes(&dpb, &bytes));
         self.images.put(alloc, image.text, changed)?;
-        Ok(Answer::Done)
+        Ok(RowAnswer::Done)
     }
 
     /// `look NAME N`: what directory entry N says.
-    fn look(&self, alloc: Global, arguments: &[Word<'_>]) -> Result<Answer, Fault> {
+    fn look(&self, alloc: Global, arguments: &[Word<'_>]) -> Result<RowAnswer, RowFault> {
         let [image, index] = arguments else {
-            return Err(Fault::Words);
+            return Err(RowFault::Words);
         };
         let index = number(*index)?;
         let image = self.images.copy(alloc, image.text)?;
         if index > image.format().dpb().last_entry {
-            return Err(Fault::Unready);
+            return Err(RowFault::Unready);
         }
         shown(alloc, &entry(&image, index))
     }
 
     /// `find IMAGE USER NAME FROM GROUP`: the first entry of the name, from an entry on, of a group of extents if it is given.
-    fn find(&self, alloc: Global, arguments: &[Word<'_>]) -> Result<Answer, Fault> {
+    fn find(&self, alloc: Global, arguments: &[Word<'_>]) -> Result<RowAnswer, RowFault> {
         let [image, user, word, from, group @ ..] = arguments else {
-            return Err(Fault::Words);
+            return Err(RowFault::Words);
         };
         let user = small(*user)?;
         let pattern = match group {
@@ -101,7 +101,7 @@ impl Directories {
                 name: name(alloc, *word)?,
                 group: Some(number(*group)?),
             },
-            _ => return Err(Fault::Words),
+            _ => return Err(RowFault::Words),
         };
         let image = self.images.copy(alloc, image.text)?;
         place(
@@ -111,18 +111,18 @@ impl Directories {
     }
 
     /// Does a line of one word behind its first.
-    fn act_one(&mut self, alloc: Global, verb: &str, word: Word<'_>) -> Result<Answer, Fault> {
+    fn act_one(&mut self, alloc: Global, verb: &str, word: Word<'_>) -> Result<RowAnswer, RowFault> {
         match verb {
-            "is-reserved" => Answer::truth(alloc, self.reserved.contains(number(word)?)),
+            "is-reserved" => RowAnswer::truth(alloc, self.reserved.contains(number(word)?)),
             "reserved-to" => self.reserved_to(alloc, number(word)?),
             "take" => place(alloc, self.reserved.take_lowest(number(word)?)),
             "give-back" => {
                 self.reserved.free(number(word)?);
-                Ok(Answer::Done)
+                Ok(RowAnswer::Done)
             }
             "reserve-none" => {
                 self.reserved = Reserved::none(format_of(word)?);
-                Ok(Answer::Done)
+                Ok(RowAnswer::Done)
             }
             "block" => {
                 let dpb = format_of(word)?.dpb();
@@ -137,33 +137,33 @@ impl Directories {
     }
 
     /// Does a line about the directory of an image.
-    fn act_image(&mut self, alloc: Global, verb: &str, word: Word<'_>) -> Result<Answer, Fault> {
+    fn act_image(&mut self, alloc: Global, verb: &str, word: Word<'_>) -> Result<RowAnswer, RowFault> {
         let image = self.images.copy(alloc, word.text)?;
         match verb {
             "check" => match well_formed(&image) {
-                Ok(()) => Answer::words(alloc, "sound"),
-                Err(fault) => Answer::refused(alloc, fault),
+                Ok(()) => RowAnswer::words(alloc, "sound"),
+                Err(fault) => RowAnswer::refused(alloc, fault),
             },
             "free-entry" => place(alloc, first_free(&LentImage::new(&image))),
             "log-in" => {
                 self.reserved = login(&LentImage::new(&image));
-                Ok(Answer::Done)
+                Ok(RowAnswer::Done)
             }
             "users" => {
-                let mut users = Runs::new(alloc);
+                let mut users = WordCounts::new(alloc);
                 for index in 0..=image.format().dpb().last_entry {
                     let user = format!(in alloc; "{:02X}", entry(&image, index).user)?;
                     users.add(alloc, user)?;
                 }
                 users.into_answer(alloc)
             }
-            _ => Err(Fault::Unknown),
+            _ => Err(RowFault::Unknown),
         }
     }
 
     /// `reserved-to N`: which of the blocks 0 to N are reserved.
-    fn reserved_to(&self, alloc: Global, last: u16) -> Result<Answer, Fault> {
-        let mut found = Runs::new(alloc);
+    fn reserved_to(&self, alloc: Global, last: u16) -> Result<RowAnswer, RowFault> {
+        let mut found = WordCounts::new(alloc);
         for block in 0..=last {
             let word = if self.reserved.contains(block) {
                 "yes"
@@ -176,9 +176,9 @@ impl Directories {
     }
 
     /// `fcb-again FORMAT`: the bytes of the file control block, decoded and encoded.
-    fn fcb_again(&self, alloc: Global, dpb: &Dpb) -> Result<Answer, Fault> {
+    fn fcb_again(&self, alloc: Global, dpb: &Dpb) -> Result<RowAnswer, RowFault> {
         let fcb = Fcb::from_bytes(dpb, &self.fcb.bytes);
-        Answer::bytes(alloc, &fcb.to_bytes(dpb))
+        RowAnswer::bytes(alloc, &fcb.to_bytes(dpb))
     }
 
     /// `take-all FIRST LAST`: the lowest free blocks are taken from FIRST to LAST; whether they come in order.
@@ -188,9 +188,9 @@ impl Directories {
         verb: &str,
         first: Word<'_>,
         last: Word<'_>,
-    ) -> Result<Answer, Fault> {
+    ) -> Result<RowAnswer, RowFault> {
         if verb != "take-all" {
-            return Err(Fault::Unknown);
+            return Err(RowFault::Unknown);
         }
         let last = number(last)?;
         for block in number(first)?..=last {
@@ -199,12 +199,12 @@ impl Directories {
                 other => return place(alloc, other),
             }
         }
-        Answer::words(alloc, "in order")
+        RowAnswer::words(alloc, "in order")
     }
 }
 
 /// What an entry says.
-fn shown(alloc: Global, entry: &Entry) -> Result<Answer, Fault> {
+fn shown(alloc: Global, entry: &Entry) -> Result<RowAnswer, RowFault> {
     let extent = &entry.extent;
     let mut text = format!(in alloc; "user {:02X} ", entry.user)?;
     write_name(alloc, &mut text, &extent.name)?;
@@ -217,32 +217,32 @@ fn shown(alloc: Global, entry: &Entry) -> Result<Answer, Fault> {
         let number = format!(in alloc; " {block}")?;
         text.push_str(number.as_str())?;
     }
-    Ok(Answer::Words(text))
+    Ok(RowAnswer::Words(text))
 }
 
 /// The place that a call found, or why it found none.
-fn place(alloc: Global, found: Result<u16, DirectoryError>) -> Result<Answer, Fault> {
+fn place(alloc: Global, found: Result<u16, DirectoryError>) -> Result<RowAnswer, RowFault> {
     match found {
-        Ok(number) => Answer::words(alloc, number),
-        Err(error) => Answer::refused(alloc, error),
+        Ok(number) => RowAnswer::words(alloc, number),
+        Err(error) => RowAnswer::refused(alloc, error),
     }
 }
 
 /// `Ibm3740` or `Large`.
-fn format_of(word: Word<'_>) -> Result<Format, Fault> {
+fn format_of(word: Word<'_>) -> Result<Format, RowFault> {
     match word.text {
         "Ibm3740" => Ok(Format::Ibm3740),
         "Large" => Ok(Format::Large),
-        _ => Err(Fault::Words),
+        _ => Err(RowFault::Words),
     }
 }
 
 /// `parse TEXT`: the drive and the name that a text begins with, and the rest of the text.
-fn parse(alloc: Global, text: &[u8]) -> Result<Answer, Fault> {
+fn parse(alloc: Global, text: &[u8]) -> Result<RowAnswer, RowFault> {
     let (fcb, rest) = parse_fcb(text);
     let mut bytes = Vec::new(alloc);
     bytes.push(fcb.drive)?;
     bytes.extend_from_slice(&fcb.extent.name)?;
     bytes.extend_from_slice(rest)?;
-    Ok(Answer::Bytes(bytes))
+    Ok(RowAnswer::Bytes(bytes))
 }

@@ -1,7 +1,7 @@
 //! Rows of the drives of a session: the functions on files over a file control block and a buffer, and the sectors.
 
 use crate::fcb::FcbBytes;
-use crate::runs::Runs;
+use crate::runs::WordCounts;
 use crate::words::{done, filled, name, number, small};
 use cpm_drives::{Disks, FileFunction};
 use cpm_volume::Fault as DriveError;
@@ -9,14 +9,14 @@ use cpm_geom::{Format, Image};
 use std::alloc::{AllocError, Global};
 use std::mem;
 use test_images::Images;
-use test_language::{Answer, Fault, Line, Scene, Word, address, count};
+use test_language::{RowAnswer, RowFault, RowLine, Scene, Word, address, count};
 
 /// Where the new name of a file stands in a file control block.
 const NEW_NAME: usize = 17;
 
 /// A session: its drives, a file control block, and the buffer of a record.
 #[derive(Drop)]
-struct Session {
+struct DriveCaller {
     disks: Disks,
     fcb: FcbBytes,
     buffer: [u8; 128],
@@ -27,8 +27,8 @@ struct Session {
 pub struct Drives {
     images: Images,
     system: Image,
-    here: Session,
-    other: Session,
+    here: DriveCaller,
+    other: DriveCaller,
 }
 
 impl Scene for Drives {
@@ -36,8 +36,8 @@ impl Scene for Drives {
         Ok(Drives {
             images: Images::new(alloc),
             system: Image::blank(alloc, Format::Ibm3740)?,
-            here: Session::on(Vec::new(alloc)),
-            other: Session::on(Vec::new(alloc)),
+            here: DriveCaller::on(Vec::new(alloc)),
+            other: DriveCaller::on(Vec::new(alloc)),
         })
     }
 
@@ -71,12 +71,12 @@ impl Scene for Drives {
         false
     }
 
-    fn act(&mut self, alloc: Global, line: &Line<'_>) -> Result<Answer, Fault> {
+    fn act(&mut self, alloc: Global, line: &RowLine<'_>) -> Result<RowAnswer, RowFault> {
         let arguments = line.arguments();
         match line.verb() {
             "session" => {
-                self.here = Session::on(self.images.copies(alloc, arguments)?);
-                Ok(Answer::Done)
+                self.here = DriveCaller::on(self.images.copies(alloc, arguments)?);
+                Ok(RowAnswer::Done)
             }
             "other-session" => {
                 mem::swap(&mut self.here, &mut self.other);
@@ -92,29 +92,29 @@ impl Scene for Drives {
 
 impl Drives {
     /// `system NAME`: drive P is a copy of the image.
-    fn lend(&mut self, alloc: Global, arguments: &[Word<'_>]) -> Result<Answer, Fault> {
+    fn lend(&mut self, alloc: Global, arguments: &[Word<'_>]) -> Result<RowAnswer, RowFault> {
         let [name] = arguments else {
-            return Err(Fault::Words);
+            return Err(RowFault::Words);
         };
         self.system = self.images.copy(alloc, name.text)?;
-        Ok(Answer::Done)
+        Ok(RowAnswer::Done)
     }
 
     /// `end NAME..`: the session ends, and its drives leave images of these names.
-    fn end(&mut self, alloc: Global, arguments: &[Word<'_>]) -> Result<Answer, Fault> {
+    fn end(&mut self, alloc: Global, arguments: &[Word<'_>]) -> Result<RowAnswer, RowFault> {
         let ended = mem::replace(&mut self.here.disks, Disks::new(Vec::new(alloc)));
         for (name, image) in arguments.iter().zip(ended.into_images()) {
-            let image = image.ok_or(Fault::Absent)?;
+            let image = image.ok_or(RowFault::Absent)?;
             self.images.put(alloc, name.text, image)?;
         }
-        Ok(Answer::Done)
+        Ok(RowAnswer::Done)
     }
 }
 
-impl Session {
+impl DriveCaller {
     /// A session whose drives A to D are these images.
-    fn on(images: Vec<Image>) -> Session {
-        Session {
+    fn on(images: Vec<Image>) -> DriveCaller {
+        DriveCaller {
             disks: Disks::new(images),
             fcb: FcbBytes::new(),
             buffer: [0; 128],
@@ -128,7 +128,7 @@ impl Session {
         system: &Image,
         verb: &str,
         arguments: &[Word<'_>],
-    ) -> Result<Answer, Fault> {
+    ) -> Result<RowAnswer, RowFault> {
         match verb {
             "fcb" => self.fcb.whole(alloc, arguments),
             "field" => self.fcb.field(alloc, arguments),
@@ -152,7 +152,7 @@ impl Session {
         system: &Image,
         verb: &str,
         arguments: &[Word<'_>],
-    ) -> Result<Answer, Fault> {
+    ) -> Result<RowAnswer, RowFault> {
         match verb {
             "select" => {
                 let drive = one_number(arguments)?;
@@ -160,7 +160,7 @@ impl Session {
             }
             "user" => {
                 self.disks.user = one_number(arguments)?;
-                Ok(Answer::Done)
+                Ok(RowAnswer::Done)
             }
             "protect" => {
                 self.disks.protect(system);
@@ -186,19 +186,19 @@ impl Session {
         system: &Image,
         verb: &str,
         arguments: &[Word<'_>],
-    ) -> Result<Answer, Fault> {
+    ) -> Result<RowAnswer, RowFault> {
         match verb {
-            "current" => Answer::words(alloc, self.disks.current),
-            "login-vector" => Answer::address(alloc, self.disks.login_vector()),
-            "read-only-vector" => Answer::address(alloc, self.disks.read_only_vector()),
+            "current" => RowAnswer::words(alloc, self.disks.current),
+            "login-vector" => RowAnswer::address(alloc, self.disks.login_vector()),
+            "read-only-vector" => RowAnswer::address(alloc, self.disks.read_only_vector()),
             "allocation-vector" => {
                 let blocks = self.disks.allocation_vector(system);
-                Answer::bytes(alloc, blocks.as_slice())
+                RowAnswer::bytes(alloc, blocks.as_slice())
             }
             "drives-there" => self.drives_there(alloc),
             "read-sector" => self.read_sector(alloc, system, arguments),
             "write-sector" => self.write_sector(alloc, arguments),
-            _ => Err(Fault::Unknown),
+            _ => Err(RowFault::Unknown),
         }
     }
 
@@ -208,7 +208,7 @@ impl Session {
         alloc: Global,
         function: FileFunction,
         arguments: &[Word<'_>],
-    ) -> Result<(), Fault> {
+    ) -> Result<(), RowFault> {
         match (function, arguments) {
             (_, []) => Ok(()),
             (FileFunction::RenameFiles, [word]) => {
@@ -224,7 +224,7 @@ impl Session {
                 self.buffer = filled(alloc, bytes)?;
                 Ok(())
             }
-            _ => Err(Fault::Words),
+            _ => Err(RowFault::Words),
         }
     }
 
@@ -240,13 +240,13 @@ impl Session {
         alloc: Global,
         system: &Image,
         arguments: &[Word<'_>],
-    ) -> Result<Answer, Fault> {
+    ) -> Result<RowAnswer, RowFault> {
         let [times, verb, rest @ ..] = arguments else {
-            return Err(Fault::Words);
+            return Err(RowFault::Words);
         };
-        let function = function_of(verb.text).ok_or(Fault::Unknown)?;
+        let function = function_of(verb.text).ok_or(RowFault::Unknown)?;
         self.prepare(alloc, function, rest)?;
-        let mut codes = Runs::new(alloc);
+        let mut codes = WordCounts::new(alloc);
         for _ in 0..count(*times)? {
             add_code(alloc, &mut codes, self.call(system, function))?;
         }
@@ -259,13 +259,13 @@ impl Session {
         alloc: Global,
         system: &Image,
         arguments: &[Word<'_>],
-    ) -> Result<Answer, Fault> {
+    ) -> Result<RowAnswer, RowFault> {
         let [verb] = arguments else {
-            return Err(Fault::Words);
+            return Err(RowFault::Words);
         };
-        let function = function_of(verb.text).ok_or(Fault::Unknown)?;
+        let function = function_of(verb.text).ok_or(RowFault::Unknown)?;
         let bytes = self.fcb.bytes;
-        let mut codes = Runs::new(alloc);
+        let mut codes = WordCounts::new(alloc);
         for drive in 0..=255u8 {
             self.fcb.bytes = bytes;
             self.fcb.bytes[0] = drive;
@@ -275,8 +275,8 @@ impl Session {
     }
 
     /// `drives-there`: which of the drives 0 to 255 are there.
-    fn drives_there(&self, alloc: Global) -> Result<Answer, Fault> {
-        let mut found = Runs::new(alloc);
+    fn drives_there(&self, alloc: Global) -> Result<RowAnswer, RowFault> {
+        let mut found = WordCounts::new(alloc);
         for drive in 0..=255u8 {
             found.add(
                 alloc,
@@ -291,21 +291,21 @@ impl Session {
     }
 
     /// `buffer PLACE`: a byte of the buffer.
-    fn buffer_byte(&self, alloc: Global, arguments: &[Word<'_>]) -> Result<Answer, Fault> {
+    fn buffer_byte(&self, alloc: Global, arguments: &[Word<'_>]) -> Result<RowAnswer, RowFault> {
         let [place] = arguments else {
-            return Err(Fault::Words);
+            return Err(RowFault::Words);
         };
-        let byte = self.buffer.get(count(*place)?).ok_or(Fault::Number)?;
-        Answer::bytes(alloc, [*byte].as_slice())
+        let byte = self.buffer.get(count(*place)?).ok_or(RowFault::Number)?;
+        RowAnswer::bytes(alloc, [*byte].as_slice())
     }
 
     /// `reset-drives VECTOR`: RESET DRIVE.
-    fn reset_drives(&mut self, arguments: &[Word<'_>]) -> Result<Answer, Fault> {
+    fn reset_drives(&mut self, arguments: &[Word<'_>]) -> Result<RowAnswer, RowFault> {
         let [vector] = arguments else {
-            return Err(Fault::Words);
+            return Err(RowFault::Words);
         };
         self.disks.reset_drives(address(*vector)?);
-        Ok(Answer::Done)
+        Ok(RowAnswer::Done)
     }
 
     /// `read-sector DRIVE TRACK SECTOR`: into the buffer; whether the sector is there.
@@ -314,48 +314,48 @@ impl Session {
         alloc: Global,
         system: &Image,
         arguments: &[Word<'_>],
-    ) -> Result<Answer, Fault> {
+    ) -> Result<RowAnswer, RowFault> {
         let [drive, track, sector] = arguments else {
-            return Err(Fault::Words);
+            return Err(RowFault::Words);
         };
         let (drive, track, sector) = (small(*drive)?, number(*track)?, number(*sector)?);
         let buffer = &mut self.buffer;
         let is_there = self.disks.read_sector(system, drive, track, sector, buffer);
-        Answer::truth(alloc, is_there)
+        RowAnswer::truth(alloc, is_there)
     }
 
     /// `write-sector DRIVE TRACK SECTOR BYTES`: a sector that begins so; whether it is there.
-    fn write_sector(&mut self, alloc: Global, arguments: &[Word<'_>]) -> Result<Answer, Fault> {
+    fn write_sector(&mut self, alloc: Global, arguments: &[Word<'_>]) -> Result<RowAnswer, RowFault> {
         let [drive, track, sector, bytes @ ..] = arguments else {
-            return Err(Fault::Words);
+            return Err(RowFault::Words);
         };
         let (drive, track, sector) = (small(*drive)?, number(*track)?, number(*sector)?);
         let bytes = filled(alloc, bytes)?;
         let is_there = self.disks.write_sector(drive, track, sector, &bytes);
-        Answer::truth(alloc, is_there)
+        RowAnswer::truth(alloc, is_there)
     }
 }
 
 /// The one number behind a first word.
-fn one_number(arguments: &[Word<'_>]) -> Result<u8, Fault> {
+fn one_number(arguments: &[Word<'_>]) -> Result<u8, RowFault> {
     let [word] = arguments else {
-        return Err(Fault::Words);
+        return Err(RowFault::Words);
     };
     small(*word)
 }
 
 /// What a function answers: its code, or the fault of the drive.
-fn code(alloc: Global, code: Result<u8, DriveError>) -> Result<Answer, Fault> {
+fn code(alloc: Global, code: Result<u8, DriveError>) -> Result<RowAnswer, RowFault> {
     match code {
-        Ok(code) => Answer::byte(alloc, code),
-        Err(fault) => Answer::refused(alloc, fault),
+        Ok(code) => RowAnswer::byte(alloc, code),
+        Err(fault) => RowAnswer::refused(alloc, fault),
     }
 }
 
 /// Adds it to others.
 fn add_code(
     alloc: Global,
-    codes: &mut Runs,
+    codes: &mut WordCounts,
     code: Result<u8, DriveError>,
 ) -> Result<(), AllocError> {
     let word = match code {

@@ -2,7 +2,7 @@
 
 use crate::words::filled;
 use std::alloc::Global;
-use test_language::{Answer, Fault, Word, bytes_of};
+use test_language::{RowAnswer, RowFault, Word, bytes_of};
 
 /// The bytes of a file control block.
 const SIZE: usize = 36;
@@ -20,40 +20,40 @@ impl FcbBytes {
     }
 
     /// `fcb BYTES`: it begins so, and else has zeros. Without bytes: what it is.
-    pub(crate) fn whole(&mut self, alloc: Global, arguments: &[Word<'_>]) -> Result<Answer, Fault> {
+    pub(crate) fn whole(&mut self, alloc: Global, arguments: &[Word<'_>]) -> Result<RowAnswer, RowFault> {
         if arguments.is_empty() {
-            return Answer::bytes(alloc, &self.bytes);
+            return RowAnswer::bytes(alloc, &self.bytes);
         }
         self.bytes = filled(alloc, arguments)?;
-        Ok(Answer::Done)
+        Ok(RowAnswer::Done)
     }
 
     /// `field NAME BYTES`: the field and what is behind it become so. Without bytes: what the field is.
-    pub(crate) fn field(&mut self, alloc: Global, arguments: &[Word<'_>]) -> Result<Answer, Fault> {
+    pub(crate) fn field(&mut self, alloc: Global, arguments: &[Word<'_>]) -> Result<RowAnswer, RowFault> {
         let [field, bytes @ ..] = arguments else {
-            return Err(Fault::Words);
+            return Err(RowFault::Words);
         };
         let (start, length) = place_of(field.text)?;
         if bytes.is_empty() {
-            return Answer::bytes(alloc, self.part(start, length)?);
+            return RowAnswer::bytes(alloc, self.part(start, length)?);
         }
         let bytes = bytes_of(alloc, bytes)?;
         self.put(start, bytes.as_slice())?;
-        Ok(Answer::Done)
+        Ok(RowAnswer::Done)
     }
 
     /// So many bytes from a place on.
-    fn part(&self, start: usize, length: usize) -> Result<&[u8], Fault> {
+    fn part(&self, start: usize, length: usize) -> Result<&[u8], RowFault> {
         if start > SIZE || length > SIZE - start {
-            return Err(Fault::Bytes);
+            return Err(RowFault::Bytes);
         }
         Ok(&self.bytes[start..start + length])
     }
 
     /// Puts bytes at a place.
-    pub(crate) fn put(&mut self, start: usize, bytes: &[u8]) -> Result<(), Fault> {
+    pub(crate) fn put(&mut self, start: usize, bytes: &[u8]) -> Result<(), RowFault> {
         if start > SIZE || bytes.len() > SIZE - start {
-            return Err(Fault::Bytes);
+            return Err(RowFault::Bytes);
         }
         self.bytes[start..start + bytes.len()].copy_from_slice(bytes);
         Ok(())
@@ -61,7 +61,7 @@ impl FcbBytes {
 }
 
 /// Where a field is that the manual names, and how long it is.
-fn place_of(field: &str) -> Result<(usize, usize), Fault> {
+fn place_of(field: &str) -> Result<(usize, usize), RowFault> {
     match field {
         "dr" => Ok((0, 1)),
         "name" => Ok((1, 11)),
@@ -73,10 +73,10 @@ fn place_of(field: &str) -> Result<(usize, usize), Fault> {
         "cr" => Ok((32, 1)),
         "r0" => Ok((33, 3)),
         _ => {
-            let number = field.strip_prefix('d').ok_or(Fault::Words)?;
+            let number = field.strip_prefix('d').ok_or(RowFault::Words)?;
             match number.parse::<u8>() {
                 Ok(number) if number < 16 => Ok((16 + usize::from(number), 1)),
-                _ => Err(Fault::Words),
+                _ => Err(RowFault::Words),
             }
         }
     }

@@ -4,10 +4,10 @@ use crate::words::{name as name_of, small, write_name};
 use cpm_drive::Drive;
 use cpm_volume::{Answer as RecordAnswer, Extent, Fcb};
 use cpm_geom::Image;
-use cpm_image_files::{FileName, Listed, ShelfError, from_text, get, list, put, remove, rename, to_text};
+use cpm_image_files::{FileName, DiskFile, ShelfError, from_text, get, list, put, remove, rename, to_text};
 use std::alloc::{AllocError, Global};
 use test_images::Images;
-use test_language::{Answer, Fault, Line, Scene, Word, bytes_of};
+use test_language::{RowAnswer, RowFault, RowLine, Scene, Word, bytes_of};
 
 /// The most records that are read of a file.
 const MOST_RECORDS: usize = 20_000;
@@ -33,7 +33,7 @@ impl Scene for ImageFiles {
         matches!(verb, "to-text" | "from-text")
     }
 
-    fn act(&mut self, alloc: Global, line: &Line<'_>) -> Result<Answer, Fault> {
+    fn act(&mut self, alloc: Global, line: &RowLine<'_>) -> Result<RowAnswer, RowFault> {
         let arguments = line.arguments();
         match line.verb() {
             "put" => self.put(alloc, arguments),
@@ -43,11 +43,11 @@ impl Scene for ImageFiles {
             "read" => self.read(alloc, arguments),
             "list" => self.list(alloc, arguments),
             "is-name" => is_name(alloc, arguments),
-            "to-text" => Ok(Answer::Bytes(to_text(
+            "to-text" => Ok(RowAnswer::Bytes(to_text(
                 alloc,
                 line.given(alloc, arguments)?.as_slice(),
             )?)),
-            "from-text" => Ok(Answer::Bytes(from_text(
+            "from-text" => Ok(RowAnswer::Bytes(from_text(
                 alloc,
                 line.given(alloc, arguments)?.as_slice(),
             )?)),
@@ -58,9 +58,9 @@ impl Scene for ImageFiles {
 
 impl ImageFiles {
     /// `put OLD NEW USER NAME BYTES`: NEW is OLD with a file of these bytes.
-    fn put(&mut self, alloc: Global, arguments: &[Word<'_>]) -> Result<Answer, Fault> {
+    fn put(&mut self, alloc: Global, arguments: &[Word<'_>]) -> Result<RowAnswer, RowFault> {
         let [old, new, user, name, bytes @ ..] = arguments else {
-            return Err(Fault::Words);
+            return Err(RowFault::Words);
         };
         let file = file_name(alloc, *user, *name)?;
         let image = self.images.copy(alloc, old.text)?;
@@ -70,9 +70,9 @@ impl ImageFiles {
     }
 
     /// `remove OLD NEW USER NAME`: NEW is OLD without the file.
-    fn remove(&mut self, alloc: Global, arguments: &[Word<'_>]) -> Result<Answer, Fault> {
+    fn remove(&mut self, alloc: Global, arguments: &[Word<'_>]) -> Result<RowAnswer, RowFault> {
         let [old, new, user, name] = arguments else {
-            return Err(Fault::Words);
+            return Err(RowFault::Words);
         };
         let file = file_name(alloc, *user, *name)?;
         let image = self.images.copy(alloc, old.text)?;
@@ -81,14 +81,14 @@ impl ImageFiles {
     }
 
     /// `rename OLD NEW USER NAME OTHER`: NEW is OLD, where the file has the other name.
-    fn rename(&mut self, alloc: Global, arguments: &[Word<'_>]) -> Result<Answer, Fault> {
+    fn rename(&mut self, alloc: Global, arguments: &[Word<'_>]) -> Result<RowAnswer, RowFault> {
         let [old, new, user, name, other] = arguments else {
-            return Err(Fault::Words);
+            return Err(RowFault::Words);
         };
         let file = file_name(alloc, *user, *name)?;
         let other = file_name(alloc, *user, *other)?;
         if file.user() != other.user() {
-            return Err(Fault::Unready);
+            return Err(RowFault::Unready);
         }
         let image = self.images.copy(alloc, old.text)?;
         let now = rename(alloc, &image, &file, &other);
@@ -101,48 +101,48 @@ impl ImageFiles {
         alloc: Global,
         name: Word<'_>,
         image: Result<Image, ShelfError>,
-    ) -> Result<Answer, Fault> {
+    ) -> Result<RowAnswer, RowFault> {
         match image {
             Ok(image) => {
                 self.images.put(alloc, name.text, image)?;
-                Ok(Answer::Done)
+                Ok(RowAnswer::Done)
             }
             Err(error) => refusal(alloc, error),
         }
     }
 
     /// `get IMAGE USER NAME`: the bytes of a file.
-    fn get(&self, alloc: Global, arguments: &[Word<'_>]) -> Result<Answer, Fault> {
+    fn get(&self, alloc: Global, arguments: &[Word<'_>]) -> Result<RowAnswer, RowFault> {
         let [image, user, name] = arguments else {
-            return Err(Fault::Words);
+            return Err(RowFault::Words);
         };
         let file = file_name(alloc, *user, *name)?;
         let image = self.images.copy(alloc, image.text)?;
         match get(alloc, &image, &file) {
-            Ok(bytes) => Ok(Answer::Bytes(bytes)),
+            Ok(bytes) => Ok(RowAnswer::Bytes(bytes)),
             Err(error) => refusal(alloc, error),
         }
     }
 
     /// `read IMAGE USER NAME`: the records of a file as OPEN FILE and READ SEQUENTIAL give them.
-    fn read(&self, alloc: Global, arguments: &[Word<'_>]) -> Result<Answer, Fault> {
+    fn read(&self, alloc: Global, arguments: &[Word<'_>]) -> Result<RowAnswer, RowFault> {
         let [image, user, name] = arguments else {
-            return Err(Fault::Words);
+            return Err(RowFault::Words);
         };
         let user = small(*user)?;
         let mut drive = Drive::new(self.images.copy(alloc, image.text)?);
         drive.log_in();
         let mut fcb = fcb_of(name_of(alloc, *name)?);
         if drive.open_file(user, &mut fcb).is_none() {
-            return Ok(Answer::Refused(String::from_str(alloc, "NoFile")?));
+            return Ok(RowAnswer::Refused(String::from_str(alloc, "NoFile")?));
         }
         read_records(alloc, &mut drive, user, &mut fcb)
     }
 
     /// `list IMAGE`: a line for each file, with its user, its name and its records, and one with the free blocks.
-    fn list(&self, alloc: Global, arguments: &[Word<'_>]) -> Result<Answer, Fault> {
+    fn list(&self, alloc: Global, arguments: &[Word<'_>]) -> Result<RowAnswer, RowFault> {
         let [image] = arguments else {
-            return Err(Fault::Words);
+            return Err(RowFault::Words);
         };
         let image = self.images.copy(alloc, image.text)?;
         let shelf = match list(alloc, &image) {
@@ -155,12 +155,12 @@ impl ImageFiles {
         }
         let free = format!(in alloc; "{} blocks free", shelf.free_blocks)?;
         text.push_str(free.as_str())?;
-        Ok(Answer::Words(text))
+        Ok(RowAnswer::Words(text))
     }
 }
 
 /// Adds the line of a file.
-fn write_listed(alloc: Global, text: &mut String, file: &Listed) -> Result<(), AllocError> {
+fn write_listed(alloc: Global, text: &mut String, file: &DiskFile) -> Result<(), AllocError> {
     let user = format!(in alloc; "{} ", file.user)?;
     text.push_str(user.as_str())?;
     write_name(alloc, text, &file.name)?;
@@ -174,39 +174,39 @@ fn read_records(
     drive: &mut Drive,
     user: u8,
     fcb: &mut Fcb,
-) -> Result<Answer, Fault> {
+) -> Result<RowAnswer, RowFault> {
     let mut bytes = Vec::new(alloc);
     let mut buffer = [0; 128];
     for _ in 0..MOST_RECORDS {
         match drive.read_next(user, fcb, &mut buffer) {
             RecordAnswer::Done => bytes.extend_from_slice(&buffer)?,
-            _ => return Ok(Answer::Bytes(bytes)),
+            _ => return Ok(RowAnswer::Bytes(bytes)),
         }
     }
-    Ok(Answer::Bytes(bytes))
+    Ok(RowAnswer::Bytes(bytes))
 }
 
 /// Why nothing is done, as the code names it.
-fn refusal(alloc: Global, error: ShelfError) -> Result<Answer, Fault> {
+fn refusal(alloc: Global, error: ShelfError) -> Result<RowAnswer, RowFault> {
     match error {
-        ShelfError::Refused(refusal) => Answer::refused(alloc, refusal),
-        ShelfError::Damaged(fault) => Answer::refused(alloc, fault),
-        ShelfError::OutOfMemory => Err(Fault::OutOfMemory),
+        ShelfError::Refused(refusal) => RowAnswer::refused(alloc, refusal),
+        ShelfError::Damaged(fault) => RowAnswer::refused(alloc, fault),
+        ShelfError::OutOfMemory => Err(RowFault::OutOfMemory),
     }
 }
 
 /// The name of a file.
-fn file_name(alloc: Global, user: Word<'_>, word: Word<'_>) -> Result<FileName, Fault> {
-    FileName::new(small(user)?, name_of(alloc, word)?).ok_or(Fault::Unready)
+fn file_name(alloc: Global, user: Word<'_>, word: Word<'_>) -> Result<FileName, RowFault> {
+    FileName::new(small(user)?, name_of(alloc, word)?).ok_or(RowFault::Unready)
 }
 
 /// `is-name USER NAME`: whether a file may have it.
-fn is_name(alloc: Global, arguments: &[Word<'_>]) -> Result<Answer, Fault> {
+fn is_name(alloc: Global, arguments: &[Word<'_>]) -> Result<RowAnswer, RowFault> {
     let [user, word] = arguments else {
-        return Err(Fault::Words);
+        return Err(RowFault::Words);
     };
     let file = FileName::new(small(*user)?, name_of(alloc, *word)?);
-    Answer::truth(alloc, file.is_some())
+    RowAnswer::truth(alloc, file.is_some())
 }
 
 /// The file control block of a name.

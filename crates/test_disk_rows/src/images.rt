@@ -3,7 +3,7 @@
 use cpm_geom::Image;
 use std::alloc::{AllocError, Global};
 use test_images::Images;
-use test_language::{Answer, Fault, Line, Scene, Word, bytes_of};
+use test_language::{RowAnswer, RowFault, RowLine, Scene, Word, bytes_of};
 
 /// Images.
 #[derive(Drop)]
@@ -26,7 +26,7 @@ impl Scene for ImageLines {
         false
     }
 
-    fn act(&mut self, alloc: Global, line: &Line<'_>) -> Result<Answer, Fault> {
+    fn act(&mut self, alloc: Global, line: &RowLine<'_>) -> Result<RowAnswer, RowFault> {
         match line.verb() {
             "from-bytes" => self.from_bytes(alloc, line.arguments()),
             "bytes" => self.bytes(alloc, line.arguments()),
@@ -39,42 +39,42 @@ impl Scene for ImageLines {
 
 impl ImageLines {
     /// `from-bytes NAME BYTES`: the image of these bytes; its format.
-    fn from_bytes(&mut self, alloc: Global, arguments: &[Word<'_>]) -> Result<Answer, Fault> {
+    fn from_bytes(&mut self, alloc: Global, arguments: &[Word<'_>]) -> Result<RowAnswer, RowFault> {
         let [name, bytes @ ..] = arguments else {
-            return Err(Fault::Words);
+            return Err(RowFault::Words);
         };
         match Image::from_bytes(bytes_of(alloc, bytes)?) {
             Ok(image) => {
                 let format = image.format();
                 self.images.put(alloc, name.text, image)?;
-                Answer::name(alloc, format)
+                RowAnswer::name(alloc, format)
             }
-            Err((_, error)) => Answer::refused(alloc, error),
+            Err((_, error)) => RowAnswer::refused(alloc, error),
         }
     }
 
     /// `bytes NAME`: all bytes of an image.
-    fn bytes(&self, alloc: Global, arguments: &[Word<'_>]) -> Result<Answer, Fault> {
+    fn bytes(&self, alloc: Global, arguments: &[Word<'_>]) -> Result<RowAnswer, RowFault> {
         let [name] = arguments else {
-            return Err(Fault::Words);
+            return Err(RowFault::Words);
         };
         let image = self.images.copy(alloc, name.text)?;
-        Ok(Answer::Bytes(image.into_bytes()))
+        Ok(RowAnswer::Bytes(image.into_bytes()))
     }
 
     /// `format NAME`.
-    fn format(&self, alloc: Global, arguments: &[Word<'_>]) -> Result<Answer, Fault> {
+    fn format(&self, alloc: Global, arguments: &[Word<'_>]) -> Result<RowAnswer, RowFault> {
         let [name] = arguments else {
-            return Err(Fault::Words);
+            return Err(RowFault::Words);
         };
         let image = self.images.copy(alloc, name.text)?;
-        Answer::name(alloc, image.format())
+        RowAnswer::name(alloc, image.format())
     }
 
     /// `parameters NAME`: the disk parameter block.
-    fn parameters(&self, alloc: Global, arguments: &[Word<'_>]) -> Result<Answer, Fault> {
+    fn parameters(&self, alloc: Global, arguments: &[Word<'_>]) -> Result<RowAnswer, RowFault> {
         let [name] = arguments else {
-            return Err(Fault::Words);
+            return Err(RowFault::Words);
         };
         let dpb = self.images.copy(alloc, name.text)?.format().dpb();
         let first = format!(in alloc;
@@ -85,6 +85,6 @@ impl ImageLines {
             "{first} DRM {} AL {:04X} CKS {} OFF {}",
             dpb.last_entry, dpb.directory_bits, dpb.checksum_size, dpb.track_offset
         )?;
-        Ok(Answer::Words(last))
+        Ok(RowAnswer::Words(last))
     }
 }

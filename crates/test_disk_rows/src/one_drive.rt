@@ -12,7 +12,7 @@ use cpm_geom::{Format, Image};
 use std::alloc::{AllocError, Global};
 use std::fmt::Display;
 use test_images::Images;
-use test_language::{Answer, Fault, Line, Scene, Word, count};
+use test_language::{RowAnswer, RowFault, RowLine, Scene, Word, count};
 
 /// A drive, a user, a file control block, and the buffer of a record.
 #[derive(Drop)]
@@ -56,7 +56,7 @@ impl Scene for OneDrive {
         false
     }
 
-    fn act(&mut self, alloc: Global, line: &Line<'_>) -> Result<Answer, Fault> {
+    fn act(&mut self, alloc: Global, line: &RowLine<'_>) -> Result<RowAnswer, RowFault> {
         let arguments = line.arguments();
         match line.verb() {
             "drive" => self.begin(alloc, arguments),
@@ -75,55 +75,55 @@ impl Scene for OneDrive {
 
 impl OneDrive {
     /// `drive NAME`: a copy of the image, never logged in. `drive NAME protected`: also protected.
-    fn begin(&mut self, alloc: Global, arguments: &[Word<'_>]) -> Result<Answer, Fault> {
+    fn begin(&mut self, alloc: Global, arguments: &[Word<'_>]) -> Result<RowAnswer, RowFault> {
         let [image, rest @ ..] = arguments else {
-            return Err(Fault::Words);
+            return Err(RowFault::Words);
         };
         let image = self.images.copy(alloc, image.text)?;
         let format = image.format();
         self.drive = Drive::new(image);
         if let [word] = rest {
             if word.text != "protected" {
-                return Err(Fault::Words);
+                return Err(RowFault::Words);
             }
             self.drive.marks = Marks::new(format, true);
-            return Ok(Answer::Done);
+            return Ok(RowAnswer::Done);
         }
         done(rest)
     }
 
     /// `keep NAME`: what is on the drive gets the name of an image.
-    fn keep(&mut self, alloc: Global, arguments: &[Word<'_>]) -> Result<Answer, Fault> {
+    fn keep(&mut self, alloc: Global, arguments: &[Word<'_>]) -> Result<RowAnswer, RowFault> {
         let [name] = arguments else {
-            return Err(Fault::Words);
+            return Err(RowFault::Words);
         };
         let image = self.drive.image.image().copy(alloc)?;
         self.images.put(alloc, name.text, image)?;
-        Ok(Answer::Done)
+        Ok(RowAnswer::Done)
     }
 
     /// `buffer PLACE`: a byte of the buffer.
-    fn buffer_byte(&self, alloc: Global, arguments: &[Word<'_>]) -> Result<Answer, Fault> {
+    fn buffer_byte(&self, alloc: Global, arguments: &[Word<'_>]) -> Result<RowAnswer, RowFault> {
         let [place] = arguments else {
-            return Err(Fault::Words);
+            return Err(RowFault::Words);
         };
-        let byte = self.buffer.get(count(*place)?).ok_or(Fault::Number)?;
-        Answer::bytes(alloc, [*byte].as_slice())
+        let byte = self.buffer.get(count(*place)?).ok_or(RowFault::Number)?;
+        RowAnswer::bytes(alloc, [*byte].as_slice())
     }
 
     /// Does a line of one word.
-    fn act_file(&mut self, alloc: Global, verb: &str) -> Result<Answer, Fault> {
+    fn act_file(&mut self, alloc: Global, verb: &str) -> Result<RowAnswer, RowFault> {
         match verb {
             "log-in" => {
                 self.drive.log_in();
-                Ok(Answer::Done)
+                Ok(RowAnswer::Done)
             }
             "protect" => {
                 self.drive.marks.is_protected = true;
-                Ok(Answer::Done)
+                Ok(RowAnswer::Done)
             }
-            "is-logged-in" => Answer::truth(alloc, self.drive.marks.is_logged_in),
-            "is-protected" => Answer::truth(alloc, self.drive.marks.is_protected),
+            "is-logged-in" => RowAnswer::truth(alloc, self.drive.marks.is_logged_in),
+            "is-protected" => RowAnswer::truth(alloc, self.drive.marks.is_protected),
             _ => {
                 let dpb = self.drive.image.format().dpb();
                 let mut fcb = Fcb::from_bytes(&dpb, &self.fcb.bytes);
@@ -135,7 +135,7 @@ impl OneDrive {
     }
 
     /// A call on the file of a file control block.
-    fn call(&mut self, alloc: Global, verb: &str, fcb: &mut Fcb) -> Result<Answer, Fault> {
+    fn call(&mut self, alloc: Global, verb: &str, fcb: &mut Fcb) -> Result<RowAnswer, RowFault> {
         let user = self.user;
         match verb {
             "open" => code(alloc, Ok(self.drive.open_file(user, fcb))),
@@ -148,14 +148,14 @@ impl OneDrive {
             }
             "close-lent" => code(alloc, close_file_lent(self.drive.image.image(), user, fcb)),
             "read-protected" => self.read_protected(alloc, fcb),
-            _ => Err(Fault::Unknown),
+            _ => Err(RowFault::Unknown),
         }
     }
 
     /// `read-protected`: `read_next_protected`.
-    fn read_protected(&mut self, alloc: Global, fcb: &mut Fcb) -> Result<Answer, Fault> {
+    fn read_protected(&mut self, alloc: Global, fcb: &mut Fcb) -> Result<RowAnswer, RowFault> {
         if !self.drive.marks.is_protected {
-            return Err(Fault::Unready);
+            return Err(RowFault::Unready);
         }
         let (image, marks) = (self.drive.image.image(), &self.drive.marks);
         record(
@@ -170,7 +170,7 @@ impl OneDrive {
         alloc: Global,
         verb: &str,
         arguments: &[Word<'_>],
-    ) -> Result<Answer, Fault> {
+    ) -> Result<RowAnswer, RowFault> {
         match verb {
             "read-random" | "read-random-protected" | "write-random" | "write-cleared" => {
                 self.move_record(alloc, verb, arguments)
@@ -178,7 +178,7 @@ impl OneDrive {
             "search" => self.search(alloc, arguments),
             "user" | "is-reserved" | "is-read-only" => {
                 let [word] = arguments else {
-                    return Err(Fault::Words);
+                    return Err(RowFault::Words);
                 };
                 self.act_number(alloc, verb, number(*word)?)
             }
@@ -187,19 +187,19 @@ impl OneDrive {
     }
 
     /// `user N`, `is-reserved BLOCK`, or `is-read-only ENTRY`.
-    fn act_number(&mut self, alloc: Global, verb: &str, number: u16) -> Result<Answer, Fault> {
+    fn act_number(&mut self, alloc: Global, verb: &str, number: u16) -> Result<RowAnswer, RowFault> {
         match verb {
             "user" => {
-                self.user = u8::try_from(number).map_err(|_| Fault::Number)?;
-                Ok(Answer::Done)
+                self.user = u8::try_from(number).map_err(|_| RowFault::Number)?;
+                Ok(RowAnswer::Done)
             }
-            "is-reserved" => Answer::truth(alloc, self.drive.marks.reserved.contains(number)),
+            "is-reserved" => RowAnswer::truth(alloc, self.drive.marks.reserved.contains(number)),
             _ => {
                 if number > self.drive.image.format().dpb().last_entry {
-                    return Err(Fault::Unready);
+                    return Err(RowFault::Unready);
                 }
                 let extent = self.drive.image.entry(number).extent;
-                Answer::truth(alloc, extent.is_read_only())
+                RowAnswer::truth(alloc, extent.is_read_only())
             }
         }
     }
@@ -210,9 +210,9 @@ impl OneDrive {
         alloc: Global,
         verb: &str,
         arguments: &[Word<'_>],
-    ) -> Result<Answer, Fault> {
+    ) -> Result<RowAnswer, RowFault> {
         let [place, bytes @ ..] = arguments else {
-            return Err(Fault::Words);
+            return Err(RowFault::Words);
         };
         let place = number(*place)?;
         let dpb = self.drive.image.format().dpb();
@@ -223,7 +223,7 @@ impl OneDrive {
                     .read_random(self.user, place, &mut fcb, &mut self.buffer)
             }
             ("read-random-protected", []) => self.read_random_protected(place, &mut fcb)?,
-            (_, []) => return Err(Fault::Words),
+            (_, []) => return Err(RowFault::Words),
             _ => self.write_record(verb, place, &mut fcb, &filled(alloc, bytes)?)?,
         };
         self.fcb.bytes = fcb.to_bytes(&dpb);
@@ -231,9 +231,9 @@ impl OneDrive {
     }
 
     /// `read_random_protected`.
-    fn read_random_protected(&mut self, place: u16, fcb: &mut Fcb) -> Result<RecordAnswer, Fault> {
+    fn read_random_protected(&mut self, place: u16, fcb: &mut Fcb) -> Result<RecordAnswer, RowFault> {
         if !self.drive.marks.is_protected {
-            return Err(Fault::Unready);
+            return Err(RowFault::Unready);
         }
         let (image, marks) = (self.drive.image.image(), &self.drive.marks);
         let buffer = &mut self.buffer;
@@ -247,9 +247,9 @@ impl OneDrive {
         place: u16,
         fcb: &mut Fcb,
         bytes: &[u8; 128],
-    ) -> Result<RecordAnswer, Fault> {
+    ) -> Result<RecordAnswer, RowFault> {
         if self.drive.marks.is_protected {
-            return Err(Fault::Unready);
+            return Err(RowFault::Unready);
         }
         match verb {
             "write-random" => Ok(self.drive.write_random(self.user, place, fcb, bytes)),
@@ -257,7 +257,7 @@ impl OneDrive {
                 self.drive
                     .write_random_cleared(self.user, place, fcb, bytes),
             ),
-            _ => Err(Fault::Words),
+            _ => Err(RowFault::Words),
         }
     }
 
@@ -267,9 +267,9 @@ impl OneDrive {
         alloc: Global,
         verb: &str,
         arguments: &[Word<'_>],
-    ) -> Result<Answer, Fault> {
+    ) -> Result<RowAnswer, RowFault> {
         let [word, rest @ ..] = arguments else {
-            return Err(Fault::Words);
+            return Err(RowFault::Words);
         };
         let name = name(alloc, *word)?;
         match (verb, rest) {
@@ -277,29 +277,29 @@ impl OneDrive {
                 let image = LentImage::new(self.drive.image.image());
                 one_or_none(alloc, compute_size(&image, self.user, &name))
             }
-            _ if self.drive.marks.is_protected => Err(Fault::Unready),
+            _ if self.drive.marks.is_protected => Err(RowFault::Unready),
             ("erase", []) => code(alloc, self.drive.erase_files(self.user, &name)),
             ("set-attributes", []) => {
                 code(alloc, Ok(self.drive.set_attributes(self.user, &name)))
             }
             ("rename", [other]) => self.rename(alloc, &name, *other),
-            _ => Err(Fault::Unknown),
+            _ => Err(RowFault::Unknown),
         }
     }
 
     /// `rename NAME OTHER`.
-    fn rename(&mut self, alloc: Global, old: &[u8; 11], new: Word<'_>) -> Result<Answer, Fault> {
+    fn rename(&mut self, alloc: Global, old: &[u8; 11], new: Word<'_>) -> Result<RowAnswer, RowFault> {
         if self.drive.marks.is_protected {
-            return Err(Fault::Unready);
+            return Err(RowFault::Unready);
         }
         let new = name(alloc, new)?;
         code(alloc, self.drive.rename_files(self.user, old, &new))
     }
 
     /// `search NAME FROM`: the first entry of the name, from an entry on; `search every FROM`: of any.
-    fn search(&mut self, alloc: Global, arguments: &[Word<'_>]) -> Result<Answer, Fault> {
+    fn search(&mut self, alloc: Global, arguments: &[Word<'_>]) -> Result<RowAnswer, RowFault> {
         let [word, from] = arguments else {
-            return Err(Fault::Words);
+            return Err(RowFault::Words);
         };
         let pattern = pattern(alloc, self.user, *word)?;
         let image = LentImage::new(self.drive.image.image());
@@ -309,7 +309,7 @@ impl OneDrive {
 }
 
 /// The entries of a user with a name, or `every` entry.
-pub(crate) fn pattern(alloc: Global, user: u8, word: Word<'_>) -> Result<Pattern, Fault> {
+pub(crate) fn pattern(alloc: Global, user: u8, word: Word<'_>) -> Result<Pattern, RowFault> {
     if word.text == "every" {
         return Ok(Pattern::Every);
     }
@@ -321,26 +321,26 @@ pub(crate) fn pattern(alloc: Global, user: u8, word: Word<'_>) -> Result<Pattern
 }
 
 /// What a call on entries answers: a directory code, `none`, or the fault of the drive.
-fn code(alloc: Global, code: Result<Option<u8>, DriveError>) -> Result<Answer, Fault> {
+fn code(alloc: Global, code: Result<Option<u8>, DriveError>) -> Result<RowAnswer, RowFault> {
     match code {
-        Ok(Some(code)) => Answer::byte(alloc, code),
-        Ok(None) => Answer::words(alloc, "none"),
-        Err(fault) => Answer::refused(alloc, fault),
+        Ok(Some(code)) => RowAnswer::byte(alloc, code),
+        Ok(None) => RowAnswer::words(alloc, "none"),
+        Err(fault) => RowAnswer::refused(alloc, fault),
     }
 }
 
 /// What a call on a record answers.
-fn record(alloc: Global, answer: RecordAnswer) -> Result<Answer, Fault> {
+fn record(alloc: Global, answer: RecordAnswer) -> Result<RowAnswer, RowFault> {
     match answer {
-        RecordAnswer::Done => Answer::name(alloc, answer),
-        _ => Answer::refused(alloc, answer),
+        RecordAnswer::Done => RowAnswer::name(alloc, answer),
+        _ => RowAnswer::refused(alloc, answer),
     }
 }
 
 /// A number, or `none`.
-fn one_or_none(alloc: Global, found: Option<impl Display + Drop>) -> Result<Answer, Fault> {
+fn one_or_none(alloc: Global, found: Option<impl Display + Drop>) -> Result<RowAnswer, RowFault> {
     match found {
-        Some(number) => Answer::words(alloc, number),
-        None => Answer::words(alloc, "none"),
+        Some(number) => RowAnswer::words(alloc, number),
+        None => RowAnswer::words(alloc, "none"),
     }
 }

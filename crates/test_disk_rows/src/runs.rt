@@ -2,20 +2,20 @@
 
 use std::alloc::{AllocError, Global};
 use std::fmt::Display;
-use test_language::{Answer, Fault};
+use test_language::{RowAnswer, RowFault};
 
 /// Words, with how often each stands.
 #[derive(Drop)]
-pub(crate) struct Runs {
+pub(crate) struct WordCounts {
     text: String,
     last: String,
     times: usize,
 }
 
-impl Runs {
+impl WordCounts {
     /// No words.
-    pub(crate) fn new(alloc: Global) -> Runs {
-        Runs {
+    pub(crate) fn new(alloc: Global) -> WordCounts {
+        WordCounts {
             text: String::new(alloc),
             last: String::new(alloc),
             times: 0,
@@ -55,10 +55,10 @@ impl Runs {
     }
 
     /// All words.
-    pub(crate) fn into_answer(self, alloc: Global) -> Result<Answer, Fault> {
+    pub(crate) fn into_answer(self, alloc: Global) -> Result<RowAnswer, RowFault> {
         let mut runs = self;
         runs.end_run(alloc)?;
-        let Runs { text, .. } = runs;
-        Ok(Answer::Words(text))
+        let WordCounts { text, .. } = runs;
+        Ok(RowAnswer::Words(text))
     }
 }

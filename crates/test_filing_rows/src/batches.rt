@@ -8,7 +8,7 @@ use cpm_script::Key;
 use cpm_store::{MemoryStore, Store};
 use std::alloc::{AllocError, Global};
 use test_images::Images;
-use test_language::{Answer, Fault, Line, Scene, Word, bytes_of};
+use test_language::{RowAnswer, RowFault, RowLine, Scene, Word, bytes_of};
 
 /// A configuration, the images and the store that its files are in, and the status of the last refusal.
 #[derive(Drop)]
@@ -40,14 +40,14 @@ impl Scene for Batches {
         matches!(verb, "config")
     }
 
-    fn act(&mut self, alloc: Global, line: &Line<'_>) -> Result<Answer, Fault> {
+    fn act(&mut self, alloc: Global, line: &RowLine<'_>) -> Result<RowAnswer, RowFault> {
         match line.verb() {
             "config" => self.take(alloc, line),
             "drive" => self.put(alloc, line.arguments()),
             "inputs" => self.inputs(alloc),
             "status" => match self.status {
-                Some(status) => Answer::words(alloc, status),
-                None => Answer::words(alloc, "none"),
+                Some(status) => RowAnswer::words(alloc, status),
+                None => RowAnswer::words(alloc, "none"),
             },
             "outputs" => self.outputs(alloc, line.arguments()),
             "image" | "entry" | "record" | "sector" => self.images.act(alloc, line),
@@ -58,54 +58,54 @@ impl Scene for Batches {
 
 impl Batches {
     /// `config`, with a text between marks: the configuration, whose forks must break no rule.
-    fn take(&mut self, alloc: Global, line: &Line<'_>) -> Result<Answer, Fault> {
+    fn take(&mut self, alloc: Global, line: &RowLine<'_>) -> Result<RowAnswer, RowFault> {
         let text = line.given(alloc, line.arguments())?;
         match Config::read(alloc, text.as_slice()) {
             Ok(config) => {
                 self.config = Some(config);
-                Ok(Answer::Done)
+                Ok(RowAnswer::Done)
             }
-            Err(error) => Answer::refused_text(alloc, error),
+            Err(error) => RowAnswer::refused_text(alloc, error),
         }
     }
 
     /// `drive NAME IMAGE`: the file holds an image.
-    fn put(&mut self, alloc: Global, arguments: &[Word<'_>]) -> Result<Answer, Fault> {
+    fn put(&mut self, alloc: Global, arguments: &[Word<'_>]) -> Result<RowAnswer, RowFault> {
         let [name, image] = arguments else {
-            return Err(Fault::Words);
+            return Err(RowFault::Words);
         };
         let bytes = self.images.copy(alloc, image.text)?.into_bytes();
         match self.files.store.write(name.text, bytes.as_slice()) {
-            Ok(()) => Ok(Answer::Done),
-            Err(error) => Answer::refused(alloc, error),
+            Ok(()) => Ok(RowAnswer::Done),
+            Err(error) => RowAnswer::refused(alloc, error),
         }
     }
 
     /// `inputs`: what is read for the configuration, a line for each session.
-    fn inputs(&mut self, alloc: Global) -> Result<Answer, Fault> {
+    fn inputs(&mut self, alloc: Global) -> Result<RowAnswer, RowFault> {
         let Some(config) = &self.config else {
-            return Err(Fault::Absent);
+            return Err(RowFault::Absent);
         };
         match read(alloc, config, &mut self.files.store)? {
-            Ok(lines) => Ok(Answer::Words(lines)),
+            Ok(lines) => Ok(RowAnswer::Words(lines)),
             Err(error) => self.refuse(alloc, error),
         }
     }
 
     /// Answers a refusal, and keeps its status.
-    fn refuse(&mut self, alloc: Global, error: ReadError) -> Result<Answer, Fault> {
+    fn refuse(&mut self, alloc: Global, error: ReadError) -> Result<RowAnswer, RowFault> {
         self.status = Some(error.status());
-        Answer::refused_text(alloc, &error)
+        RowAnswer::refused_text(alloc, &error)
     }
 
     /// `outputs CONSOLE LIST IMAGES`: the files that are written, each with its length, where each session left these texts and
     /// drives.
-    fn outputs(&self, alloc: Global, arguments: &[Word<'_>]) -> Result<Answer, Fault> {
+    fn outputs(&self, alloc: Global, arguments: &[Word<'_>]) -> Result<RowAnswer, RowFault> {
         let [console, list, images @ ..] = arguments else {
-            return Err(Fault::Words);
+            return Err(RowFault::Words);
         };
         let Some(config) = &self.config else {
-            return Err(Fault::Absent);
+            return Err(RowFault::Absent);
         };
         let mut all = Vec::new(alloc);
         for session in &config.sessions {
@@ -121,11 +121,11 @@ impl Batches {
             let (name, length) = (output.name, output.bytes.len());
             add_item(&mut out, format!(in alloc; "{name} {length}")?.as_str())?;
         }
-        Ok(Answer::Words(out))
+        Ok(RowAnswer::Words(out))
     }
 
     /// Copies of images as the drives from A on.
-    fn drives(&self, alloc: Global, names: &[Word<'_>]) -> Result<[Option<Image>; 4], Fault> {
+    fn drives(&self, alloc: Global, names: &[Word<'_>]) -> Result<[Option<Image>; 4], RowFault> {
         let a = self.drive(alloc, names.first())?;
         let b = self.drive(alloc, names.get(1))?;
         let c = self.drive(alloc, names.get(2))?;
@@ -134,7 +134,7 @@ impl Batches {
     }
 
     /// A copy of an image, where one is named.
-    fn drive(&self, alloc: Global, name: Option<&Word<'_>>) -> Result<Option<Image>, Fault> {
+    fn drive(&self, alloc: Global, name: Option<&Word<'_>>) -> Result<Option<Image>, RowFault> {
         match name {
             Some(name) => Ok(Some(self.images.copy(alloc, name.text)?)),
             None => Ok(None),
@@ -147,10 +147,10 @@ fn read(
     alloc: Global,
     config: &Config,
     store: &mut MemoryStore,
-) -> Result<Result<String, ReadError>, Fault> {
+) -> Result<Result<String, ReadError>, RowFault> {
     let inputs = match config.fork_fault() {
         None => read_inputs(alloc, config, store),
-        Some(_) => return Err(Fault::Unready),
+        Some(_) => return Err(RowFault::Unready),
     };
     match inputs {
         Ok(inputs) => Ok(Ok(shown_inputs(alloc, inputs.sessions.as_slice())?)),
@@ -167,7 +167,7 @@ fn add_item(out: &mut String, item: &str) -> Result<(), AllocError> {
 }
 
 /// What was read for sessions, each on a line.
-fn shown_inputs(alloc: Global, inputs: &[Input<'_>]) -> Result<String, Fault> {
+fn shown_inputs(alloc: Global, inputs: &[Input<'_>]) -> Result<String, RowFault> {
     let mut out = String::new(alloc);
     for input in inputs {
         if !out.is_empty() {

@@ -7,10 +7,10 @@ use cpm_disk_commands::{
     new_image, put_file, remove_file, rename_file, text_of_name,
 };
 use cpm_geom::{Format, Image};
-use cpm_image_files::{FileName, Listed, Refusal, Shelf};
+use cpm_image_files::{FileName, DiskFile, FileRefusal, Shelf};
 use std::alloc::{AllocError, Global};
 use test_images::Images;
-use test_language::{Answer, Fault, Line, Scene, Word};
+use test_language::{RowAnswer, RowFault, RowLine, Scene, Word};
 
 /// The images, what the names of files are told with, the files before another one, those of a list, and the status of the last
 /// refusal.
@@ -21,7 +21,7 @@ pub struct DiskCommands {
     is_read_only: bool,
     is_system: bool,
     before: Vec<FileName>,
-    listed: Vec<Listed>,
+    listed: Vec<DiskFile>,
     status: Option<u8>,
 }
 
@@ -46,14 +46,14 @@ impl Scene for DiskCommands {
         matches!(verb, "image-of" | "put" | "put-text")
     }
 
-    fn act(&mut self, alloc: Global, line: &Line<'_>) -> Result<Answer, Fault> {
+    fn act(&mut self, alloc: Global, line: &RowLine<'_>) -> Result<RowAnswer, RowFault> {
         match line.verb() {
             "image" | "entry" | "record" | "sector" => self.images.act(alloc, line),
             "user" => self.set_user(line.arguments()),
             "attributes" => self.set_attributes(line.arguments()),
             "status" => match self.status {
-                Some(status) => Answer::words(alloc, status),
-                None => Answer::words(alloc, "none"),
+                Some(status) => RowAnswer::words(alloc, status),
+                None => RowAnswer::words(alloc, "none"),
             },
             "new" | "image-of" | "put" | "put-text" | "remove" | "rename" => {
                 self.change(alloc, line)
@@ -76,44 +76,44 @@ impl Scene for DiskCommands {
 
 impl DiskCommands {
     /// `user N`: the names of the lines behind it are of this user.
-    fn set_user(&mut self, arguments: &[Word<'_>]) -> Result<Answer, Fault> {
+    fn set_user(&mut self, arguments: &[Word<'_>]) -> Result<RowAnswer, RowFault> {
         let [user] = arguments else {
-            return Err(Fault::Words);
+            return Err(RowFault::Words);
         };
-        self.user = user.text.parse::<u8>().map_err(|_| Fault::Number)?;
-        Ok(Answer::Done)
+        self.user = user.text.parse::<u8>().map_err(|_| RowFault::Number)?;
+        Ok(RowAnswer::Done)
     }
 
     /// `attributes [read-only] [system]`: the files of the lines behind it have these attributes.
-    fn set_attributes(&mut self, arguments: &[Word<'_>]) -> Result<Answer, Fault> {
+    fn set_attributes(&mut self, arguments: &[Word<'_>]) -> Result<RowAnswer, RowFault> {
         self.is_read_only = false;
         self.is_system = false;
         for word in arguments {
             match word.text {
                 "read-only" => self.is_read_only = true,
                 "system" => self.is_system = true,
-                _ => return Err(Fault::Words),
+                _ => return Err(RowFault::Words),
             }
         }
-        Ok(Answer::Done)
+        Ok(RowAnswer::Done)
     }
 
     /// A refusal, whole.
-    fn refused(&mut self, alloc: Global, error: FilingError) -> Result<Answer, Fault> {
+    fn refused(&mut self, alloc: Global, error: FilingError) -> Result<RowAnswer, RowFault> {
         self.status = Some(error.status());
-        Answer::refused_text(alloc, error)
+        RowAnswer::refused_text(alloc, error)
     }
 
     /// Does a line that makes an image or changes one: `new IMAGE [large]`, `image-of IMAGE BYTES`, `put IMAGE NAME BYTES`,
     /// `put-text IMAGE NAME TEXT`, `remove IMAGE NAME` or `rename IMAGE OLD NEW`.
-    fn change(&mut self, alloc: Global, line: &Line<'_>) -> Result<Answer, Fault> {
+    fn change(&mut self, alloc: Global, line: &RowLine<'_>) -> Result<RowAnswer, RowFault> {
         let [image, rest @ ..] = line.arguments() else {
-            return Err(Fault::Words);
+            return Err(RowFault::Words);
         };
         match self.changed(alloc, line, image.text, rest)? {
             Ok(changed) => {
                 self.images.put(alloc, image.text, changed)?;
-                Ok(Answer::Done)
+                Ok(RowAnswer::Done)
             }
             Err(error) => self.refused(alloc, error),
         }
@@ -123,10 +123,10 @@ impl DiskCommands {
     fn changed(
         &self,
         alloc: Global,
-        line: &Line<'_>,
+        line: &RowLine<'_>,
         image: &str,
         rest: &[Word<'_>],
-    ) -> Result<Result<Image, FilingError>, Fault> {
+    ) -> Result<Result<Image, FilingError>, RowFault> {
         match (line.verb(), rest) {
             ("new", []) => Ok(new_image(alloc, false)),
             ("new", [size]) if size.text == "large" => Ok(new_image(alloc, true)),
@@ -139,7 +139,7 @@ impl DiskCommands {
             }
             ("remove", [name]) => self.remove(alloc, image, *name),
             ("rename", [old, new]) => self.rename(alloc, image, *old, *new),
-            _ => Err(Fault::Words),
+            _ => Err(RowFault::Words),
         }
     }
 
@@ -151,7 +151,7 @@ impl DiskCommands {
         name: Word<'_>,
         is_text: bool,
         bytes: Vec<u8>,
-    ) -> Result<Result<Image, FilingError>, Fault> {
+    ) -> Result<Result<Image, FilingError>, RowFault> {
         let before = self.images.get(image)?;
         match self.file(alloc, name)? {
             Ok(file) => Ok(put_file(alloc, before, image, &file, is_text, bytes.as_slice())),
@@ -165,7 +165,7 @@ impl DiskCommands {
         alloc: Global,
         image: &str,
         name: Word<'_>,
-    ) -> Result<Result<Image, FilingError>, Fault> {
+    ) -> Result<Result<Image, FilingError>, RowFault> {
         let before = self.images.get(image)?;
         match self.file(alloc, name)? {
             Ok(file) => Ok(remove_file(alloc, before, image, &file)),
@@ -180,12 +180,12 @@ impl DiskCommands {
         image: &str,
         old: Word<'_>,
         new: Word<'_>,
-    ) -> Result<Result<Image, FilingError>, Fault> {
+    ) -> Result<Result<Image, FilingError>, RowFault> {
         let before = self.images.get(image)?;
         match (self.file(alloc, old)?, self.file(alloc, new)?) {
             (Ok(old), Ok(new)) => {
                 if old.user() != new.user() {
-                    return Err(Fault::Unready);
+                    return Err(RowFault::Unready);
                 }
                 Ok(rename_file(alloc, before, image, &old, &new))
             }
@@ -194,9 +194,9 @@ impl DiskCommands {
     }
 
     /// The file of the user that a text names, with the attributes.
-    fn file(&self, alloc: Global, name: Word<'_>) -> Result<Result<FileName, FilingError>, Fault> {
+    fn file(&self, alloc: Global, name: Word<'_>) -> Result<Result<FileName, FilingError>, RowFault> {
         if self.user >= 16 {
-            return Err(Fault::Unready);
+            return Err(RowFault::Unready);
         }
         let text = text_of(alloc, name)?;
         Ok(file_name(text.as_str(), self.user, self.is_read_only, self.is_system))
@@ -208,9 +208,9 @@ impl DiskCommands {
         alloc: Global,
         arguments: &[Word<'_>],
         is_text: bool,
-    ) -> Result<Answer, Fault> {
+    ) -> Result<RowAnswer, RowFault> {
         let [image, name] = arguments else {
-            return Err(Fault::Words);
+            return Err(RowFault::Words);
         };
         let got = match self.file(alloc, *name)? {
             Ok(file) => {
@@ -220,15 +220,15 @@ impl DiskCommands {
             Err(error) => Err(error),
         };
         match got {
-            Ok(bytes) => Ok(Answer::Bytes(bytes)),
+            Ok(bytes) => Ok(RowAnswer::Bytes(bytes)),
             Err(error) => self.refused(alloc, error),
         }
     }
 
     /// `list IMAGE [USER]`: the lines of its files, or of those of a user.
-    fn list(&mut self, alloc: Global, arguments: &[Word<'_>]) -> Result<Answer, Fault> {
+    fn list(&mut self, alloc: Global, arguments: &[Word<'_>]) -> Result<RowAnswer, RowFault> {
         let [image, user @ ..] = arguments else {
-            return Err(Fault::Words);
+            return Err(RowFault::Words);
         };
         let user = user_of(user)?;
         let from = self.images.get(image.text)?;
@@ -240,13 +240,13 @@ impl DiskCommands {
     }
 
     /// `matching IMAGE PATTERN`: the files of the user that a pattern names.
-    fn matching(&mut self, alloc: Global, arguments: &[Word<'_>]) -> Result<Answer, Fault> {
+    fn matching(&mut self, alloc: Global, arguments: &[Word<'_>]) -> Result<RowAnswer, RowFault> {
         let [image, pattern] = arguments else {
-            return Err(Fault::Words);
+            return Err(RowFault::Words);
         };
         let user = self.user;
         if user >= 16 {
-            return Err(Fault::Unready);
+            return Err(RowFault::Unready);
         }
         let from = self.images.get(image.text)?;
         let found = match list_files(alloc, from, image.text) {
@@ -263,100 +263,100 @@ impl DiskCommands {
     }
 
     /// `host-name IMAGE NAME`: the name on the host of a file of an image.
-    fn host_name(&mut self, alloc: Global, arguments: &[Word<'_>]) -> Result<Answer, Fault> {
+    fn host_name(&mut self, alloc: Global, arguments: &[Word<'_>]) -> Result<RowAnswer, RowFault> {
         let [image, name] = arguments else {
-            return Err(Fault::Words);
+            return Err(RowFault::Words);
         };
         let found = match self.file(alloc, *name)? {
             Ok(file) => host_name(image.text, &file),
             Err(error) => Err(error),
         };
         match found {
-            Ok(text) => Answer::words(alloc, text),
+            Ok(text) => RowAnswer::words(alloc, text),
             Err(error) => self.refused(alloc, error),
         }
     }
 
     /// `spelled NAME`: the name on the host of the file that a text names, with the attributes.
-    fn spelled(&mut self, alloc: Global, arguments: &[Word<'_>]) -> Result<Answer, Fault> {
+    fn spelled(&mut self, alloc: Global, arguments: &[Word<'_>]) -> Result<RowAnswer, RowFault> {
         let [name] = arguments else {
-            return Err(Fault::Words);
+            return Err(RowFault::Words);
         };
         match self.file(alloc, *name)? {
             Ok(file) => match text_of_name(file.name()) {
-                Some(text) => Answer::words(alloc, text),
-                None => Answer::words(alloc, "none"),
+                Some(text) => RowAnswer::words(alloc, text),
+                None => RowAnswer::words(alloc, "none"),
             },
             Err(error) => self.refused(alloc, error),
         }
     }
 
     /// `before NAME`: one more file before those that are checked.
-    fn add_before(&mut self, alloc: Global, arguments: &[Word<'_>]) -> Result<Answer, Fault> {
+    fn add_before(&mut self, alloc: Global, arguments: &[Word<'_>]) -> Result<RowAnswer, RowFault> {
         let [name] = arguments else {
-            return Err(Fault::Words);
+            return Err(RowFault::Words);
         };
         match self.file(alloc, *name)? {
             Ok(file) => {
                 self.before.push(file)?;
-                Ok(Answer::Done)
+                Ok(RowAnswer::Done)
             }
             Err(error) => self.refused(alloc, error),
         }
     }
 
     /// `check NAME WORD`: `new` where a file, which a word of the command line names, is none of those before it.
-    fn check(&mut self, alloc: Global, arguments: &[Word<'_>]) -> Result<Answer, Fault> {
+    fn check(&mut self, alloc: Global, arguments: &[Word<'_>]) -> Result<RowAnswer, RowFault> {
         let [name, word] = arguments else {
-            return Err(Fault::Words);
+            return Err(RowFault::Words);
         };
         let checked = match self.file(alloc, *name)? {
             Ok(file) => check_new(self.before.as_slice(), &file, word.text),
             Err(error) => Err(error),
         };
         match checked {
-            Ok(()) => Answer::words(alloc, "new"),
+            Ok(()) => RowAnswer::words(alloc, "new"),
             Err(error) => self.refused(alloc, error),
         }
     }
 
     /// `listed RECORDS NAME`: a list has a file of the user, of so many records, with the eleven characters of this name.
-    fn add_listed(&mut self, alloc: Global, arguments: &[Word<'_>]) -> Result<Answer, Fault> {
+    fn add_listed(&mut self, alloc: Global, arguments: &[Word<'_>]) -> Result<RowAnswer, RowFault> {
         let [records, name @ ..] = arguments else {
-            return Err(Fault::Words);
+            return Err(RowFault::Words);
         };
-        self.listed.push(Listed {
+        self.listed.push(DiskFile {
             user: self.user,
             name: characters(alloc, name)?,
-            records: records.text.parse::<u32>().map_err(|_| Fault::Number)?,
+            records: records.text.parse::<u32>().map_err(|_| RowFault::Number)?,
         })?;
-        Ok(Answer::Done)
+        Ok(RowAnswer::Done)
     }
 
     /// `write-list FREE`: the lines of this list of a small disk, where so many blocks are free.
-    fn write_listed(&mut self, alloc: Global, arguments: &[Word<'_>]) -> Result<Answer, Fault> {
+    fn write_listed(&mut self, alloc: Global, arguments: &[Word<'_>]) -> Result<RowAnswer, RowFault> {
         let [free] = arguments else {
-            return Err(Fault::Words);
+            return Err(RowFault::Words);
         };
         let shelf = Shelf {
             files: Vec::from_slice(alloc, self.listed.as_slice())?,
-            free_blocks: free.text.parse::<u16>().map_err(|_| Fault::Number)?,
+            free_blocks: free.text.parse::<u16>().map_err(|_| RowFault::Number)?,
         };
         lines_of(alloc, Format::Ibm3740, &shelf, None)
     }
 
     /// `tell IMAGE NAME REASON`: what is said where something isn't done with a file for this reason.
-    fn tell(&mut self, alloc: Global, arguments: &[Word<'_>]) -> Result<Answer, Fault> {
+    fn tell(&mut self, alloc: Global, arguments: &[Word<'_>]) -> Result<RowAnswer, RowFault> {
         let [image, name, reason] = arguments else {
-            return Err(Fault::Words);
+            return Err(RowFault::Words);
         };
         let reason = match reason.text {
-            "ReadOnly" => Refusal::ReadOnly,
-            "DirectoryFull" => Refusal::DirectoryFull,
-            "DiskFull" => Refusal::DiskFull,
-            "NoFile" => Refusal::NoFile,
-            "Exists" => Refusal::Exists,
-            _ => return Err(Fault::Words),
+            "ReadOnly" => FileRefusal::ReadOnly,
+            "DirectoryFull" => FileRefusal::DirectoryFull,
+            "DiskFull" => FileRefusal::DiskFull,
+            "NoFile" => FileRefusal::NoFile,
+            "Exists" => FileRefusal::Exists,
+            _ => return Err(RowFault::Words),
         };
         match self.file(alloc, *name)? {
             Ok(file) => self.refused(

@@ -4,7 +4,7 @@ use cpm_disk_commands::{NamedFile, write_list};
 use cpm_geom::Format;
 use cpm_image_files::{FileName, Shelf};
 use std::alloc::Global;
-use test_language::{Answer, Fault, Word};
+use test_language::{RowAnswer, RowFault, Word};
 
 /// A file as it is named in what is told.
 pub fn named(file: &FileName) -> NamedFile {
@@ -15,14 +15,14 @@ pub fn named(file: &FileName) -> NamedFile {
 }
 
 /// The user that words name, if they name one.
-pub fn user_of(words: &[Word<'_>]) -> Result<Option<u8>, Fault> {
+pub fn user_of(words: &[Word<'_>]) -> Result<Option<u8>, RowFault> {
     match words {
         [] => Ok(None),
         [user] => match user.text.parse::<u8>() {
             Ok(user) => Ok(Some(user)),
-            Err(_) => Err(Fault::Number),
+            Err(_) => Err(RowFault::Number),
         },
-        _ => Err(Fault::Words),
+        _ => Err(RowFault::Words),
     }
 }
 
@@ -32,16 +32,16 @@ pub fn lines_of(
     format: Format,
     shelf: &Shelf,
     user: Option<u8>,
-) -> Result<Answer, Fault> {
+) -> Result<RowAnswer, RowFault> {
     let mut out: Vec<u8> = Vec::new(alloc);
     match write_list(alloc, format, shelf, user, &mut out) {
-        Ok(()) => Ok(Answer::Bytes(out)),
-        Err(error) => Answer::refused_text(alloc, error),
+        Ok(()) => Ok(RowAnswer::Bytes(out)),
+        Err(error) => RowAnswer::refused_text(alloc, error),
     }
 }
 
 /// Files with their users.
-pub fn shown_files(alloc: Global, files: &[FileName]) -> Result<Answer, Fault> {
+pub fn shown_files(alloc: Global, files: &[FileName]) -> Result<RowAnswer, RowFault> {
     let mut out = String::new(alloc);
     for file in files {
         if !out.is_empty() {
@@ -50,5 +50,5 @@ pub fn shown_files(alloc: Global, files: &[FileName]) -> Result<Answer, Fault> {
         let file = named(file);
         out.push_str(format!(in alloc; "{file}")?.as_str())?;
     }
-    Ok(Answer::Words(out))
+    Ok(RowAnswer::Words(out))
 }

@@ -1,15 +1,15 @@
 //! What a line answers, and whether it is what must come.
 
 use crate::bytes::{bytes_of, write_bytes};
-use crate::fault::Fault;
-use crate::line::{Line, Wanted};
+use crate::fault::RowFault;
+use crate::line::{RowLine, Wanted};
 use crate::word::words_of;
 use std::alloc::{AllocError, Global};
 use std::fmt::{Debug, Display};
 
 /// What a line answers.
 #[derive(Drop)]
-pub enum Answer {
+pub enum RowAnswer {
     /// It was done, and there is nothing to compare.
     Done,
     /// Words.
@@ -20,80 +20,80 @@ pub enum Answer {
     Refused(String),
 }
 
-impl Answer {
+impl RowAnswer {
     /// Words, as a value is shown by `{}`.
-    pub fn words(alloc: Global, value: impl Display + Drop) -> Result<Answer, Fault> {
-        Ok(Answer::Words(format!(in alloc; "{value}")?))
+    pub fn words(alloc: Global, value: impl Display + Drop) -> Result<RowAnswer, RowFault> {
+        Ok(RowAnswer::Words(format!(in alloc; "{value}")?))
     }
 
     /// Words, as a value is shown by `{:?}`: the name of a variant.
-    pub fn name(alloc: Global, value: impl Debug + Drop) -> Result<Answer, Fault> {
-        Ok(Answer::Words(format!(in alloc; "{value:?}")?))
+    pub fn name(alloc: Global, value: impl Debug + Drop) -> Result<RowAnswer, RowFault> {
+        Ok(RowAnswer::Words(format!(in alloc; "{value:?}")?))
     }
 
     /// The same of a refusal.
-    pub fn refused(alloc: Global, value: impl Debug + Drop) -> Result<Answer, Fault> {
-        Ok(Answer::Refused(format!(in alloc; "{value:?}")?))
+    pub fn refused(alloc: Global, value: impl Debug + Drop) -> Result<RowAnswer, RowFault> {
+        Ok(RowAnswer::Refused(format!(in alloc; "{value:?}")?))
     }
 
     /// The text of a refusal.
-    pub fn refused_text(alloc: Global, value: impl Display + Drop) -> Result<Answer, Fault> {
-        Ok(Answer::Refused(format!(in alloc; "{value}")?))
+    pub fn refused_text(alloc: Global, value: impl Display + Drop) -> Result<RowAnswer, RowFault> {
+        Ok(RowAnswer::Refused(format!(in alloc; "{value}")?))
     }
 
     /// Bytes.
-    pub fn bytes(alloc: Global, bytes: &[u8]) -> Result<Answer, Fault> {
-        Ok(Answer::Bytes(Vec::from_slice(alloc, bytes)?))
+    pub fn bytes(alloc: Global, bytes: &[u8]) -> Result<RowAnswer, RowFault> {
+        Ok(RowAnswer::Bytes(Vec::from_slice(alloc, bytes)?))
     }
 
     /// An address: four hexadecimal digits.
-    pub fn address(alloc: Global, value: u16) -> Result<Answer, Fault> {
-        Ok(Answer::Words(format!(in alloc; "{value:04X}")?))
+    pub fn address(alloc: Global, value: u16) -> Result<RowAnswer, RowFault> {
+        Ok(RowAnswer::Words(format!(in alloc; "{value:04X}")?))
     }
 
     /// A byte: two hexadecimal digits.
-    pub fn byte(alloc: Global, value: u8) -> Result<Answer, Fault> {
-        Ok(Answer::Words(format!(in alloc; "{value:02X}")?))
+    pub fn byte(alloc: Global, value: u8) -> Result<RowAnswer, RowFault> {
+        Ok(RowAnswer::Words(format!(in alloc; "{value:02X}")?))
     }
 
     /// `yes` or `no`.
-    pub fn truth(alloc: Global, value: bool) -> Result<Answer, Fault> {
-        Answer::words(alloc, if value { "yes" } else { "no" })
+    pub fn truth(alloc: Global, value: bool) -> Result<RowAnswer, RowFault> {
+        RowAnswer::words(alloc, if value { "yes" } else { "no" })
     }
 
     /// Whether it is what must come.
-    pub(crate) fn is(&self, alloc: Global, line: &Line<'_>) -> Result<bool, Fault> {
+    pub(crate) fn is(&self, alloc: Global, line: &RowLine<'_>) -> Result<bool, RowFault> {
         match (self, &line.wanted) {
-            (Answer::Done, wanted) => Ok(matches!(wanted, Wanted::Nothing)),
-            (Answer::Refused(_), Wanted::Nothing) => Ok(false),
+            (RowAnswer::Done, wanted) => Ok(matches!(wanted, Wanted::Nothing)),
+            (RowAnswer::Refused(_), Wanted::Nothing) => Ok(false),
             (_, Wanted::Nothing) => Ok(true),
-            (Answer::Words(words) | Answer::Refused(words), Wanted::Words(wanted)) => {
+            (RowAnswer::Words(words) | RowAnswer::Refused(words), Wanted::Words(wanted)) => {
                 Ok(words.as_str() == *wanted)
             }
-            (Answer::Words(words) | Answer::Refused(words), Wanted::Text) => {
+            (RowAnswer::Words(words) | RowAnswer::Refused(words), Wanted::Text) => {
                 Ok(line.text.as_str().strip_suffix('\n') == Some(words.as_str()))
             }
-            (Answer::Bytes(bytes), Wanted::Words(wanted)) => is_bytes(alloc, bytes, wanted),
-            (Answer::Bytes(bytes), Wanted::Text) => Ok(line.text.as_bytes() == bytes.as_slice()),
+            (RowAnswer::Bytes(bytes), Wanted::Words(wanted)) => is_bytes(alloc, bytes, wanted),
+            (RowAnswer::Bytes(bytes), Wanted::Text) => Ok(line.text.as_bytes() == bytes.as_slice()),
         }
     }
 
     /// Adds it to a text as rows write it.
     pub(crate) fn write(&self, alloc: Global, out: &mut String) -> Result<(), AllocError> {
         match self {
-            Answer::Done => out.push_str("nothing"),
-            Answer::Words(words) => out.push_str(words.as_str()),
-            Answer::Refused(words) => {
+            RowAnswer::Done => out.push_str("nothing"),
+            RowAnswer::Words(words) => out.push_str(words.as_str()),
+            RowAnswer::Refused(words) => {
                 out.push_str("refused: ")?;
                 out.push_str(words.as_str())
             }
-            Answer::Bytes(bytes) => write_bytes(alloc, out, bytes.as_slice()),
+            RowAnswer::Bytes(bytes) => write_bytes(alloc, out, bytes.as_slice()),
         }
     }
 }
 
 /// Whether bytes are those that a text names.
-fn is_bytes(alloc: Global, bytes: &[u8], wanted: &str) -> Result<bool, Fault> {
+fn is_bytes(alloc: Global, bytes: &[u8], wanted: &str) -> Result<bool, RowFault> {
     let words = words_of(alloc, wanted)?;
     let wanted = bytes_of(alloc, words.as_slice())?;
     Ok(wanted.as_slice() == bytes)

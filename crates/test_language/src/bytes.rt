@@ -1,6 +1,6 @@
 //! Bytes as rows write them: `0D 0A "A>"`, `128*E5`, `4*"AB"`, `20000*rising`.
 
-use crate::fault::Fault;
+use crate::fault::RowFault;
 use crate::word::{Word, byte};
 use std::alloc::{AllocError, Global};
 use std::slice::Iter;
@@ -10,7 +10,7 @@ const MOST: usize = 4_210_688;
 
 /// The bytes that words stand for. An item is a byte of two digits, a text in quotes with the escapes `\r`, `\n`, `\t`, `\\` and
 /// `\xHH`, or `rising`, the bytes 0 to 250 over and over. A number and `*` before an item repeat it.
-pub fn bytes_of(alloc: Global, words: &[Word<'_>]) -> Result<Vec<u8>, Fault> {
+pub fn bytes_of(alloc: Global, words: &[Word<'_>]) -> Result<Vec<u8>, RowFault> {
     let mut bytes = Vec::new(alloc);
     let mut times = None;
     for word in words {
@@ -22,13 +22,13 @@ pub fn bytes_of(alloc: Global, words: &[Word<'_>]) -> Result<Vec<u8>, Fault> {
     }
     // (a number that repeats nothing)
     if times.is_some() {
-        return Err(Fault::Bytes);
+        return Err(RowFault::Bytes);
     }
     Ok(bytes)
 }
 
 /// How often an item stands, and the item, where a word begins with a number and `*`.
-fn times_of(word: Word<'_>) -> Result<Option<(usize, Word<'_>)>, Fault> {
+fn times_of(word: Word<'_>) -> Result<Option<(usize, Word<'_>)>, RowFault> {
     if word.is_quoted {
         return Ok(None);
     }
@@ -41,14 +41,14 @@ fn times_of(word: Word<'_>) -> Result<Option<(usize, Word<'_>)>, Fault> {
                     is_quoted: false,
                 },
             ))),
-            _ => Err(Fault::Bytes),
+            _ => Err(RowFault::Bytes),
         },
         None => Ok(None),
     }
 }
 
 /// Adds an item so often.
-fn add_items(bytes: &mut Vec<u8>, times: usize, word: Word<'_>) -> Result<(), Fault> {
+fn add_items(bytes: &mut Vec<u8>, times: usize, word: Word<'_>) -> Result<(), RowFault> {
     if !word.is_quoted && word.text == "rising" {
         return add_rising(bytes, times);
     }
@@ -56,14 +56,14 @@ fn add_items(bytes: &mut Vec<u8>, times: usize, word: Word<'_>) -> Result<(), Fa
         if word.is_quoted {
             add_text(bytes, word.text)?;
         } else {
-            bytes.push(byte(word).map_err(|_| Fault::Bytes)?)?;
+            bytes.push(byte(word).map_err(|_| RowFault::Bytes)?)?;
         }
     }
     Ok(())
 }
 
 /// Adds so many bytes, no two neighbours alike.
-fn add_rising(bytes: &mut Vec<u8>, times: usize) -> Result<(), Fault> {
+fn add_rising(bytes: &mut Vec<u8>, times: usize) -> Result<(), RowFault> {
     for place in 0..times {
         bytes.push((place % 251) as u8)?;
     }
@@ -71,7 +71,7 @@ fn add_rising(bytes: &mut Vec<u8>, times: usize) -> Result<(), Fault> {
 }
 
 /// Adds the bytes of a text in quotes.
-fn add_text(bytes: &mut Vec<u8>, text: &str) -> Result<(), Fault> {
+fn add_text(bytes: &mut Vec<u8>, text: &str) -> Result<(), RowFault> {
     let mut rest = text.as_bytes().iter();
     for _ in 0..text.len() {
         match rest.next() {
@@ -84,7 +84,7 @@ fn add_text(bytes: &mut Vec<u8>, text: &str) -> Result<(), Fault> {
 }
 
 /// The byte that an escape stands for, behind its `\`.
-fn escaped(rest: &mut Iter<'_, u8>) -> Result<u8, Fault> {
+fn escaped(rest: &mut Iter<'_, u8>) -> Result<u8, RowFault> {
     match rest.next() {
         Some(b'r') => Ok(b'\r'),
         Some(b'n') => Ok(b'\n'),
@@ -92,15 +92,15 @@ fn escaped(rest: &mut Iter<'_, u8>) -> Result<u8, Fault> {
         Some(b'\\') => Ok(b'\\'),
         Some(b'x') => {
             let (Some(high), Some(low)) = (rest.next(), rest.next()) else {
-                return Err(Fault::Bytes);
+                return Err(RowFault::Bytes);
             };
             let mut byte = [0];
             match hex::decode_to_slice([*high, *low].as_slice(), &mut byte) {
                 Ok(()) => Ok(byte[0]),
-                Err(_) => Err(Fault::Bytes),
+                Err(_) => Err(RowFault::Bytes),
             }
         }
-        _ => Err(Fault::Bytes),
+        _ => Err(RowFault::Bytes),
     }
 }
 

@@ -5,7 +5,7 @@ use thiserror::Error;
 
 /// Why a line can't be done.
 #[derive(Clone, Copy, Debug, Drop, Error)]
-pub enum Fault {
+pub enum RowFault {
     /// Its first word is none that rows of this kind have.
     #[error("no line of these rows begins so")]
     Unknown,
@@ -41,14 +41,14 @@ pub enum Fault {
     OutOfMemory,
 }
 
-impl From<AllocError> for Fault {
-    fn from(_error: AllocError) -> Fault {
-        Fault::OutOfMemory
+impl From<AllocError> for RowFault {
+    fn from(_error: AllocError) -> RowFault {
+        RowFault::OutOfMemory
     }
 }
 
-impl<T: Drop> From<AllocFailed<T>> for Fault {
-    fn from(_error: AllocFailed<T>) -> Fault {
-        Fault::OutOfMemory
+impl<T: Drop> From<AllocFailed<T>> for RowFault {
+    fn from(_error: AllocFailed<T>) -> RowFault {
+        RowFault::OutOfMemory
     }
 }

@@ -9,10 +9,10 @@ mod runner;
 mod scene;
 mod word;
 
-pub use answer::Answer;
+pub use answer::RowAnswer;
 pub use bytes::{bytes_of, write_bytes};
-pub use fault::Fault;
-pub use line::Line;
+pub use fault::RowFault;
+pub use line::RowLine;
 pub use runner::{Tally, run_rows};
 pub use scene::Scene;
 pub use word::{Word, address, byte, count, number};

@@ -1,7 +1,7 @@
 //! A line of a row.
 
 use crate::bytes::bytes_of;
-use crate::fault::Fault;
+use crate::fault::RowFault;
 use crate::scene::Scene;
 use crate::word::{Word, words_of};
 use std::alloc::Global;
@@ -19,7 +19,7 @@ pub enum Wanted<'a> {
 
 /// A line of a row: its words, and what it must answer.
 #[derive(Drop)]
-pub struct Line<'a> {
+pub struct RowLine<'a> {
     /// Its place in the file, counted from 1.
     pub number: usize,
     /// The words before the equals sign.
@@ -31,21 +31,21 @@ pub struct Line<'a> {
     /// Whether such a text follows.
     pub has_text: bool,
     /// Why it is no line.
-    pub fault: Option<Fault>,
+    pub fault: Option<RowFault>,
 }
 
 /// Why what is wanted can't be compared: nothing stands behind the equals sign.
-fn fault_of(wanted: Wanted<'_>, has_text: bool) -> Option<Fault> {
+fn fault_of(wanted: Wanted<'_>, has_text: bool) -> Option<RowFault> {
     match wanted {
-        Wanted::Words(words) if words.is_empty() => Some(Fault::NoAnswer),
-        Wanted::Text if !has_text => Some(Fault::NoAnswer),
+        Wanted::Words(words) if words.is_empty() => Some(RowFault::NoAnswer),
+        Wanted::Text if !has_text => Some(RowFault::NoAnswer),
         _ => None,
     }
 }
 
-impl<'a> Line<'a> {
+impl<'a> RowLine<'a> {
     /// The line of this text, whose own text between marks is still to be read.
-    pub fn of(alloc: Global, number: usize, text: &'a str) -> Line<'a> {
+    pub fn of(alloc: Global, number: usize, text: &'a str) -> RowLine<'a> {
         let (done, has_text) = match text.strip_suffix(" <<") {
             Some(done) => (done, true),
             None => (text, false),
@@ -61,7 +61,7 @@ impl<'a> Line<'a> {
             Ok(words) => (words, fault_of(wanted, has_text)),
             Err(fault) => (Vec::new(alloc), Some(fault)),
         };
-        Line {
+        RowLine {
             number,
             words,
             wanted,
@@ -72,15 +72,15 @@ impl<'a> Line<'a> {
     }
 
     /// Why it is no line of a scene: it is none at all, has words where there are none, or a text that it doesn't take.
-    pub(crate) fn fault_in<S: Scene>(&self) -> Option<Fault> {
+    pub(crate) fn fault_in<S: Scene>(&self) -> Option<RowFault> {
         if self.fault.is_some() {
             return self.fault;
         }
         if S::is_alone(self.verb()) && !self.arguments().is_empty() {
-            return Some(Fault::Words);
+            return Some(RowFault::Words);
         }
         if self.is_given_text() && !S::takes_text(self.verb()) {
-            return Some(Fault::Text);
+            return Some(RowFault::Text);
         }
         None
     }
@@ -123,10 +123,10 @@ impl<'a> Line<'a> {
     }
 
     /// The bytes of what is given: the text between the marks behind the line, or those that words of it stand for.
-    pub fn given(&self, alloc: Global, words: &[Word<'_>]) -> Result<Vec<u8>, Fault> {
+    pub fn given(&self, alloc: Global, words: &[Word<'_>]) -> Result<Vec<u8>, RowFault> {
         if self.is_given_text() {
             if !words.is_empty() {
-                return Err(Fault::Text);
+                return Err(RowFault::Text);
             }
             return Ok(Vec::from_slice(alloc, self.text.as_bytes())?);
         }

@@ -1,8 +1,8 @@
 //! Runs the rows of a file.
 
-use crate::answer::Answer;
-use crate::fault::Fault;
-use crate::line::{Line, Wanted};
+use crate::answer::RowAnswer;
+use crate::fault::RowFault;
+use crate::line::{RowLine, Wanted};
 use crate::scene::Scene;
 use std::alloc::{AllocError, Global};
 
@@ -38,20 +38,20 @@ impl<S: Scene> Row<'_, S> {
 
 /// The rows of a file, line by line.
 #[derive(Drop)]
-struct Runner<'a, S: Scene> {
+struct RowRunner<'a, S: Scene> {
     alloc: Global,
     file: &'a str,
     /// Whether each row is wrong, and must fail.
     are_wrong: bool,
     row: Option<Row<'a, S>>,
     /// The line whose text is being read.
-    line: Option<Line<'a>>,
+    line: Option<RowLine<'a>>,
     tally: Tally,
     /// What is told of rows that are not as they should be.
     told: String,
 }
 
-impl<'a, S: Scene> Runner<'a, S> {
+impl<'a, S: Scene> RowRunner<'a, S> {
     /// Takes a line of the file.
     fn take(&mut self, number: usize, text: &'a str) -> Result<(), AllocError> {
         match self.line.take() {
@@ -61,7 +61,7 @@ impl<'a, S: Scene> Runner<'a, S> {
     }
 
     /// Takes a line of the text that belongs to a line, or its end.
-    fn take_text(&mut self, line: Line<'a>, text: &str) -> Result<(), AllocError> {
+    fn take_text(&mut self, line: RowLine<'a>, text: &str) -> Result<(), AllocError> {
         if text == ">>" {
             return self.act(&line);
         }
@@ -81,7 +81,7 @@ impl<'a, S: Scene> Runner<'a, S> {
             self.end_row()?;
             return self.begin_row(text);
         }
-        let line = Line::of(self.alloc, number, text);
+        let line = RowLine::of(self.alloc, number, text);
         if line.has_text {
             self.line = Some(line);
             return Ok(());
@@ -102,7 +102,7 @@ impl<'a, S: Scene> Runner<'a, S> {
     }
 
     /// Does a line of the row, unless the row has failed.
-    fn act(&mut self, line: &Line<'_>) -> Result<(), AllocError> {
+    fn act(&mut self, line: &RowLine<'_>) -> Result<(), AllocError> {
         let alloc = self.alloc;
         let Some(row) = &mut self.row else {
             return self.fail_file(line.number, "this line stands before the first row");
@@ -151,7 +151,7 @@ impl<'a, S: Scene> Runner<'a, S> {
     }
 
     /// Tells of a line that didn't answer what it must, where the row should be right.
-    fn fail(&mut self, name: &str, line: &Line<'_>, came: &str) -> Result<(), AllocError> {
+    fn fail(&mut self, name: &str, line: &RowLine<'_>, came: &str) -> Result<(), AllocError> {
         if self.are_wrong {
             return Ok(());
         }
@@ -189,7 +189,7 @@ impl<'a, S: Scene> Runner<'a, S> {
 fn done_wrongly<S: Scene>(
     alloc: Global,
     scene: &mut S,
-    line: &Line<'_>,
+    line: &RowLine<'_>,
 ) -> Result<Option<String>, AllocError> {
     if let Some(fault) = line.fault_in::<S>() {
         return Ok(Some(format!(in alloc; "{fault}")?));
@@ -206,8 +206,8 @@ fn done_wrongly<S: Scene>(
 /// What came of a line, in words, where it is not what must come.
 fn came_wrongly(
     alloc: Global,
-    line: &Line<'_>,
-    answer: Result<Answer, Fault>,
+    line: &RowLine<'_>,
+    answer: Result<RowAnswer, RowFault>,
 ) -> Result<Option<String>, AllocError> {
     match answer {
         Ok(answer) => match answer.is(alloc, line) {
@@ -232,7 +232,7 @@ pub fn run_rows<'a, S: Scene>(
     are_wrong: bool,
     told: &mut String,
 ) -> Result<Tally, AllocError> {
-    let mut runner: Runner<'a, S> = Runner {
+    let mut runner: RowRunner<'a, S> = RowRunner {
         alloc,
         file,
         are_wrong,

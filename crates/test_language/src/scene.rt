@@ -1,8 +1,8 @@
 //! What the rows of a file are about.
 
-use crate::answer::Answer;
-use crate::fault::Fault;
-use crate::line::Line;
+use crate::answer::RowAnswer;
+use crate::fault::RowFault;
+use crate::line::RowLine;
 use std::alloc::{AllocError, Global};
 
 /// What the lines of a row work on: each kind of rows has one, which each row begins with anew.
@@ -17,5 +17,5 @@ pub trait Scene: Drop {
     fn takes_text(verb: &str) -> bool;
 
     /// Does a line, and gives its answer.
-    fn act(&mut self, alloc: Global, line: &Line<'_>) -> Result<Answer, Fault>;
+    fn act(&mut self, alloc: Global, line: &RowLine<'_>) -> Result<RowAnswer, RowFault>;
 }

@@ -1,6 +1,6 @@
 //! Words of a line, and the numbers that they are.
 
-use crate::fault::Fault;
+use crate::fault::RowFault;
 use std::alloc::{AllocError, Global};
 
 /// A word of a line: what stands between spaces, or between quotes.
@@ -13,7 +13,7 @@ pub struct Word<'a> {
 }
 
 /// The words of a text, where every second part between quotes is one word. The last quote must be closed.
-pub fn words_of(alloc: Global, text: &str) -> Result<Vec<Word<'_>>, Fault> {
+pub fn words_of(alloc: Global, text: &str) -> Result<Vec<Word<'_>>, RowFault> {
     let mut words = Vec::new(alloc);
     let mut is_quoted = false;
     for part in text.split('"') {
@@ -31,7 +31,7 @@ pub fn words_of(alloc: Global, text: &str) -> Result<Vec<Word<'_>>, Fault> {
     if is_quoted {
         Ok(words)
     } else {
-        Err(Fault::Quote)
+        Err(RowFault::Quote)
     }
 }
 
@@ -47,32 +47,32 @@ fn add_plain<'a>(words: &mut Vec<Word<'a>>, part: &'a str) -> Result<(), AllocEr
 }
 
 /// A decimal number.
-pub fn number(word: Word<'_>) -> Result<u64, Fault> {
-    word.text.parse::<u64>().map_err(|_| Fault::Number)
+pub fn number(word: Word<'_>) -> Result<u64, RowFault> {
+    word.text.parse::<u64>().map_err(|_| RowFault::Number)
 }
 
 /// A decimal number of things.
-pub fn count(word: Word<'_>) -> Result<usize, Fault> {
-    word.text.parse::<usize>().map_err(|_| Fault::Number)
+pub fn count(word: Word<'_>) -> Result<usize, RowFault> {
+    word.text.parse::<usize>().map_err(|_| RowFault::Number)
 }
 
 /// The bytes that so many pairs of hexadecimal digits are.
-fn digits<const N: usize>(word: Word<'_>) -> Result<[u8; N], Fault> {
+fn digits<const N: usize>(word: Word<'_>) -> Result<[u8; N], RowFault> {
     let mut bytes = [0; N];
     match hex::decode_to_slice(word.text, &mut bytes) {
         Ok(()) => Ok(bytes),
-        Err(_) => Err(Fault::Digits),
+        Err(_) => Err(RowFault::Digits),
     }
 }
 
 /// A byte: two hexadecimal digits.
-pub fn byte(word: Word<'_>) -> Result<u8, Fault> {
+pub fn byte(word: Word<'_>) -> Result<u8, RowFault> {
     let [byte] = digits::<1>(word)?;
     Ok(byte)
 }
 
 /// An address, or any number of 16 bits: four hexadecimal digits.
-pub fn address(word: Word<'_>) -> Result<u16, Fault> {
+pub fn address(word: Word<'_>) -> Result<u16, RowFault> {
     let [high, low] = digits::<2>(word)?;
     Ok(256 * u16::from(high) + u16::from(low))
 }

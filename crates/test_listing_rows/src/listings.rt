@@ -4,7 +4,7 @@ use crate::filled;
 use cpm_flags::{Alternate, Cpu, Flags, Regs, unpack};
 use cpm_listing::{dump_line, length_z80, list_line, list_line_z80, regs_line};
 use std::alloc::{AllocError, Global};
-use test_language::{Answer, Fault, Line, Scene, Word, address, byte, bytes_of, number};
+use test_language::{RowAnswer, RowFault, RowLine, Scene, Word, address, byte, bytes_of, number};
 
 /// No flag is set.
 const CLEAR: Flags = Flags {
@@ -71,7 +71,7 @@ impl Scene for Listings {
         false
     }
 
-    fn act(&mut self, alloc: Global, line: &Line<'_>) -> Result<Answer, Fault> {
+    fn act(&mut self, alloc: Global, line: &RowLine<'_>) -> Result<RowAnswer, RowFault> {
         match line.verb() {
             "at" => self.at(line.arguments()),
             "8080" => self.list(alloc, line.arguments()),
@@ -80,43 +80,43 @@ impl Scene for Listings {
             "dump" => self.dump(alloc, line.arguments()),
             "set" => self.set(line.arguments()),
             "registers" => self.show(alloc, line.arguments()),
-            _ => Err(Fault::Unknown),
+            _ => Err(RowFault::Unknown),
         }
     }
 }
 
 impl Listings {
     /// `at ADDRESS`: what is listed stands there.
-    fn at(&mut self, arguments: &[Word<'_>]) -> Result<Answer, Fault> {
+    fn at(&mut self, arguments: &[Word<'_>]) -> Result<RowAnswer, RowFault> {
         let [place] = arguments else {
-            return Err(Fault::Words);
+            return Err(RowFault::Words);
         };
         self.address = address(*place)?;
-        Ok(Answer::Done)
+        Ok(RowAnswer::Done)
     }
 
     /// `8080 BYTES`: the line of the 8080's instruction that begins these bytes.
-    fn list(&self, alloc: Global, arguments: &[Word<'_>]) -> Result<Answer, Fault> {
+    fn list(&self, alloc: Global, arguments: &[Word<'_>]) -> Result<RowAnswer, RowFault> {
         let bytes = few_bytes::<3>(alloc, arguments)?;
-        Answer::words(alloc, list_line(self.address, bytes))
+        RowAnswer::words(alloc, list_line(self.address, bytes))
     }
 
     /// `z80 BYTES`: the line of the Z80's instruction that begins these bytes.
-    fn list_z80(&self, alloc: Global, arguments: &[Word<'_>]) -> Result<Answer, Fault> {
+    fn list_z80(&self, alloc: Global, arguments: &[Word<'_>]) -> Result<RowAnswer, RowFault> {
         let bytes = few_bytes::<4>(alloc, arguments)?;
-        Answer::words(alloc, list_line_z80(self.address, bytes))
+        RowAnswer::words(alloc, list_line_z80(self.address, bytes))
     }
 
     /// `dump BYTES`: the line of these sixteen bytes.
-    fn dump(&self, alloc: Global, arguments: &[Word<'_>]) -> Result<Answer, Fault> {
+    fn dump(&self, alloc: Global, arguments: &[Word<'_>]) -> Result<RowAnswer, RowFault> {
         let bytes = few_bytes::<16>(alloc, arguments)?;
-        Answer::words(alloc, dump_line(self.address, &bytes))
+        RowAnswer::words(alloc, dump_line(self.address, &bytes))
     }
 
     /// `set REGISTER VALUE`: A or F has this byte, or BC, DE, HL, SP or PC this word.
-    fn set(&mut self, arguments: &[Word<'_>]) -> Result<Answer, Fault> {
+    fn set(&mut self, arguments: &[Word<'_>]) -> Result<RowAnswer, RowFault> {
         let [name, value] = arguments else {
-            return Err(Fault::Words);
+            return Err(RowFault::Words);
         };
         let registers = &mut self.registers;
         match name.text {
@@ -127,40 +127,40 @@ impl Listings {
             "HL" => [registers.h, registers.l] = address(*value)?.to_be_bytes(),
             "SP" => registers.sp = address(*value)?,
             "PC" => registers.pc = address(*value)?,
-            _ => return Err(Fault::Words),
+            _ => return Err(RowFault::Words),
         }
-        Ok(Answer::Done)
+        Ok(RowAnswer::Done)
     }
 
     /// `registers 8080 COUNT`, `registers z80 COUNT`: the line of the registers after so many steps.
-    fn show(&self, alloc: Global, arguments: &[Word<'_>]) -> Result<Answer, Fault> {
+    fn show(&self, alloc: Global, arguments: &[Word<'_>]) -> Result<RowAnswer, RowFault> {
         let [cpu, steps] = arguments else {
-            return Err(Fault::Words);
+            return Err(RowFault::Words);
         };
         let cpu = match cpu.text {
             "8080" => Cpu::I8080,
             "z80" => Cpu::Z80,
-            _ => return Err(Fault::Words),
+            _ => return Err(RowFault::Words),
         };
-        Answer::words(alloc, regs_line(cpu, &self.registers, number(*steps)?))
+        RowAnswer::words(alloc, regs_line(cpu, &self.registers, number(*steps)?))
     }
 }
 
 /// `length z80 BYTES`: how many bytes the Z80's instruction has that begins these.
-fn length(alloc: Global, arguments: &[Word<'_>]) -> Result<Answer, Fault> {
+fn length(alloc: Global, arguments: &[Word<'_>]) -> Result<RowAnswer, RowFault> {
     match arguments {
         [cpu, bytes @ ..] if cpu.text == "z80" => {
-            Answer::words(alloc, length_z80(few_bytes::<4>(alloc, bytes)?))
+            RowAnswer::words(alloc, length_z80(few_bytes::<4>(alloc, bytes)?))
         }
-        _ => Err(Fault::Words),
+        _ => Err(RowFault::Words),
     }
 }
 
 /// At most so many bytes that words stand for, with zeros behind them.
-fn few_bytes<const N: usize>(alloc: Global, words: &[Word<'_>]) -> Result<[u8; N], Fault> {
+fn few_bytes<const N: usize>(alloc: Global, words: &[Word<'_>]) -> Result<[u8; N], RowFault> {
     let bytes = bytes_of(alloc, words)?;
     if bytes.is_empty() || bytes.len() > N {
-        return Err(Fault::Bytes);
+        return Err(RowFault::Bytes);
     }
     Ok(filled(bytes.as_slice()))
 }

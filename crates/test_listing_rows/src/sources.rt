@@ -1,13 +1,13 @@
 //! Sources in assembly language: their images, where their statements stand, and their parts.
 
 use crate::filled;
-use cpm_asm::{AsmError, Placed, assemble, assemble_placed};
-use cpm_asm_expression::{LONGEST_NAME, Names, Valued, keyword_of, letters_of, name_of, value_of};
+use cpm_asm::{AsmError, Placement, assemble, assemble_placed};
+use cpm_asm_expression::{LONGEST_NAME, Names, CheckedValue, keyword_of, letters_of, name_of, value_of};
 use cpm_flags::Cpu;
 use cpm_listing::{instruction_length, list_line};
 use std::alloc::{AllocError, Global};
 use std::collections::BTreeMap;
-use test_language::{Answer, Fault, Line, Scene, Word, address, bytes_of};
+use test_language::{RowAnswer, RowFault, RowLine, Scene, Word, address, bytes_of};
 
 /// Where the statement begins in a line of a listing.
 const STATEMENT: usize = 14;
@@ -37,7 +37,7 @@ impl Scene for Sources {
         matches!(verb, "source")
     }
 
-    fn act(&mut self, alloc: Global, line: &Line<'_>) -> Result<Answer, Fault> {
+    fn act(&mut self, alloc: Global, line: &RowLine<'_>) -> Result<RowAnswer, RowFault> {
         match line.verb() {
             "source" => self.take_source(alloc, line),
             "listing" => self.take_listing(alloc, line.arguments()),
@@ -48,20 +48,20 @@ impl Scene for Sources {
             "value" => self.value(alloc, line.arguments()),
             "keyword" => keyword(alloc, line.arguments()),
             "letters" => letters(alloc, line.arguments()),
-            _ => Err(Fault::Unknown),
+            _ => Err(RowFault::Unknown),
         }
     }
 }
 
 impl Sources {
     /// `source TEXT`: what is assembled.
-    fn take_source(&mut self, alloc: Global, line: &Line<'_>) -> Result<Answer, Fault> {
+    fn take_source(&mut self, alloc: Global, line: &RowLine<'_>) -> Result<RowAnswer, RowFault> {
         self.source = line.given(alloc, line.arguments())?;
-        Ok(Answer::Done)
+        Ok(RowAnswer::Done)
     }
 
     /// `listing BYTES`: what is assembled are the statements of the lines that list these bytes.
-    fn take_listing(&mut self, alloc: Global, arguments: &[Word<'_>]) -> Result<Answer, Fault> {
+    fn take_listing(&mut self, alloc: Global, arguments: &[Word<'_>]) -> Result<RowAnswer, RowFault> {
         let bytes = bytes_of(alloc, arguments)?;
         let mut source = Vec::new(alloc);
         let mut rest = bytes.as_slice();
@@ -77,24 +77,24 @@ impl Sources {
             rest = rest.get(length..).unwrap_or(&[]);
         }
         self.source = source;
-        Ok(Answer::Done)
+        Ok(RowAnswer::Done)
     }
 
     /// `assemble`: the image of the source. `assemble TEXT`: of this one.
-    fn image(&mut self, alloc: Global, arguments: &[Word<'_>]) -> Result<Answer, Fault> {
+    fn image(&mut self, alloc: Global, arguments: &[Word<'_>]) -> Result<RowAnswer, RowFault> {
         if !arguments.is_empty() {
             self.source = bytes_of(alloc, arguments)?;
         }
         match assemble(alloc, self.source.as_slice()) {
-            Ok(image) => Ok(Answer::Bytes(image)),
+            Ok(image) => Ok(RowAnswer::Bytes(image)),
             Err(error) => refused(alloc, error),
         }
     }
 
     /// `places`: a line for each statement that has a place.
-    fn places(&self, alloc: Global, arguments: &[Word<'_>]) -> Result<Answer, Fault> {
+    fn places(&self, alloc: Global, arguments: &[Word<'_>]) -> Result<RowAnswer, RowFault> {
         if !arguments.is_empty() {
-            return Err(Fault::Words);
+            return Err(RowFault::Words);
         }
         match assemble_placed(alloc, self.source.as_slice()) {
             Ok(assembly) => shown_places(alloc, assembly.places.as_slice()),
@@ -103,60 +103,60 @@ impl Sources {
     }
 
     /// `at ADDRESS`: the statement of an expression stands there.
-    fn at(&mut self, arguments: &[Word<'_>]) -> Result<Answer, Fault> {
+    fn at(&mut self, arguments: &[Word<'_>]) -> Result<RowAnswer, RowFault> {
         let [place] = arguments else {
-            return Err(Fault::Words);
+            return Err(RowFault::Words);
         };
         self.address = address(*place)?;
-        Ok(Answer::Done)
+        Ok(RowAnswer::Done)
     }
 
     /// `name NAME NUMBER`: the name stands for the number in expressions.
-    fn name(&mut self, arguments: &[Word<'_>]) -> Result<Answer, Fault> {
+    fn name(&mut self, arguments: &[Word<'_>]) -> Result<RowAnswer, RowFault> {
         let [name, number] = arguments else {
-            return Err(Fault::Words);
+            return Err(RowFault::Words);
         };
         let letters = name.text.as_bytes();
         if letters.len() > LONGEST_NAME {
-            return Err(Fault::Unready);
+            return Err(RowFault::Unready);
         }
-        let number = number.text.parse::<u16>().map_err(|_| Fault::Number)?;
+        let number = number.text.parse::<u16>().map_err(|_| RowFault::Number)?;
         self.names.insert(name_of(letters), number)?;
-        Ok(Answer::Done)
+        Ok(RowAnswer::Done)
     }
 
     /// `value TEXT`: the value of an expression, and what is wrong with it; `none` where the text is no expression.
-    fn value(&self, alloc: Global, arguments: &[Word<'_>]) -> Result<Answer, Fault> {
+    fn value(&self, alloc: Global, arguments: &[Word<'_>]) -> Result<RowAnswer, RowFault> {
         let text = bytes_of(alloc, arguments)?;
         let here = usize::from(self.address);
         match value_of(alloc, &self.names, here, text.as_slice())? {
             Some(value) => shown_value(alloc, value),
-            None => Answer::words(alloc, "none"),
+            None => RowAnswer::words(alloc, "none"),
         }
     }
 }
 
 /// A value with what is wrong with it.
-fn shown_value(alloc: Global, value: Valued) -> Result<Answer, Fault> {
+fn shown_value(alloc: Global, value: CheckedValue) -> Result<RowAnswer, RowFault> {
     let unknown = if value.is_unknown { " unknown" } else { "" };
     let outside = if value.is_outside { " outside" } else { "" };
-    Ok(Answer::Words(format!(in alloc; "{}{unknown}{outside}", value.number)?))
+    Ok(RowAnswer::Words(format!(in alloc; "{}{unknown}{outside}", value.number)?))
 }
 
 /// A refusal by its line and its kind.
-fn refused(alloc: Global, error: AsmError) -> Result<Answer, Fault> {
+fn refused(alloc: Global, error: AsmError) -> Result<RowAnswer, RowFault> {
     let AsmError { line, kind } = error;
-    Ok(Answer::Refused(format!(in alloc; "line {line}: {kind:?}")?))
+    Ok(RowAnswer::Refused(format!(in alloc; "line {line}: {kind:?}")?))
 }
 
 /// Places, each on a line: `line 2: 0103 1`. `none` where there are none.
-fn shown_places(alloc: Global, places: &[Placed]) -> Result<Answer, Fault> {
+fn shown_places(alloc: Global, places: &[Placement]) -> Result<RowAnswer, RowFault> {
     let mut text = String::new(alloc);
     for placed in places {
         if !text.is_empty() {
             text.push('\n')?;
         }
-        let Placed {
+        let Placement {
             line,
             address,
             length,
@@ -166,27 +166,27 @@ fn shown_places(alloc: Global, places: &[Placed]) -> Result<Answer, Fault> {
     if text.is_empty() {
         text.push_str("none")?;
     }
-    Ok(Answer::Words(text))
+    Ok(RowAnswer::Words(text))
 }
 
 /// `keyword WORD`: what a word in capital letters means, or `none`.
-fn keyword(alloc: Global, arguments: &[Word<'_>]) -> Result<Answer, Fault> {
+fn keyword(alloc: Global, arguments: &[Word<'_>]) -> Result<RowAnswer, RowFault> {
     let [word] = arguments else {
-        return Err(Fault::Words);
+        return Err(RowFault::Words);
     };
     match keyword_of(word.text.as_bytes()) {
-        Some(keyword) => Answer::name(alloc, keyword),
-        None => Answer::words(alloc, "none"),
+        Some(keyword) => RowAnswer::name(alloc, keyword),
+        None => RowAnswer::words(alloc, "none"),
     }
 }
 
 /// `letters WORD`: its letters, or `none` where they are more than 16.
-fn letters(alloc: Global, arguments: &[Word<'_>]) -> Result<Answer, Fault> {
+fn letters(alloc: Global, arguments: &[Word<'_>]) -> Result<RowAnswer, RowFault> {
     let [word] = arguments else {
-        return Err(Fault::Words);
+        return Err(RowFault::Words);
     };
     match letters_of(word.text.as_bytes()) {
-        Some(letters) => Answer::bytes(alloc, letters.as_slice()),
-        None => Answer::words(alloc, "none"),
+        Some(letters) => RowAnswer::bytes(alloc, letters.as_slice()),
+        None => RowAnswer::words(alloc, "none"),
     }
 }

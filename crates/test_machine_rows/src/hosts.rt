@@ -2,14 +2,14 @@
 
 use crate::look::{field, granted};
 use crate::machines::cpu_of;
-use crate::shown::{Shown, room};
+use crate::shown::{TakenBytes, room};
 use cpm_geom::{Format, Image};
 use cpm_slots::{Event, Host, Reply, Request, SlotId};
 use cpm_machine::{Look, Opening};
 use std::alloc::{AllocError, Global};
 use test_images::Images;
 use test_language::{
-    Answer, Fault, Line, Scene, Word, address, byte, bytes_of, number, write_bytes,
+    RowAnswer, RowFault, RowLine, Scene, Word, address, byte, bytes_of, number, write_bytes,
 };
 
 /// The byte of the reply that is no event's.
@@ -21,7 +21,7 @@ pub struct Hosts {
     images: Images,
     host: Option<Host>,
     events: Vec<Event>,
-    shown: Shown,
+    shown: TakenBytes,
 }
 
 impl Scene for Hosts {
@@ -30,7 +30,7 @@ impl Scene for Hosts {
             images: Images::new(alloc),
             host: None,
             events: Vec::new(alloc),
-            shown: Shown::new(alloc),
+            shown: TakenBytes::new(alloc),
         })
     }
 
@@ -42,7 +42,7 @@ impl Scene for Hosts {
         false
     }
 
-    fn act(&mut self, alloc: Global, line: &Line<'_>) -> Result<Answer, Fault> {
+    fn act(&mut self, alloc: Global, line: &RowLine<'_>) -> Result<RowAnswer, RowFault> {
         let arguments = line.arguments();
         match line.verb() {
             "image" | "entry" | "record" | "sector" => self.images.act(alloc, line),
@@ -56,34 +56,34 @@ impl Scene for Hosts {
 
 impl Hosts {
     /// `host FRAMES`.
-    fn begin(&mut self, alloc: Global, arguments: &[Word<'_>]) -> Result<Answer, Fault> {
+    fn begin(&mut self, alloc: Global, arguments: &[Word<'_>]) -> Result<RowAnswer, RowFault> {
         let [frames] = arguments else {
-            return Err(Fault::Words);
+            return Err(RowFault::Words);
         };
         let frames = number(*frames)?;
         if frames < 16 || frames > 16_384 {
-            return Err(Fault::Unready);
+            return Err(RowFault::Unready);
         }
         let system = Image::blank(alloc, Format::Ibm3740)?;
         match Host::new(alloc, system, frames as u16) {
             Ok(host) => {
                 self.host = Some(host);
-                Ok(Answer::Done)
+                Ok(RowAnswer::Done)
             }
-            Err((_, error)) => Answer::refused(alloc, error),
+            Err((_, error)) => RowAnswer::refused(alloc, error),
         }
     }
 
     /// `event SLOT REQUEST`.
-    fn event(&mut self, arguments: &[Word<'_>]) -> Result<Answer, Fault> {
+    fn event(&mut self, arguments: &[Word<'_>]) -> Result<RowAnswer, RowFault> {
         let [slot, request @ ..] = arguments else {
-            return Err(Fault::Words);
+            return Err(RowFault::Words);
         };
         self.events.push(Event {
             slot: slot_of(*slot)?,
             request: request_of(request)?,
         })?;
-        Ok(Answer::Done)
+        Ok(RowAnswer::Done)
     }
 
     /// A line to the host.
@@ -92,16 +92,16 @@ impl Hosts {
         alloc: Global,
         verb: &str,
         arguments: &[Word<'_>],
-    ) -> Result<Answer, Fault> {
+    ) -> Result<RowAnswer, RowFault> {
         let Some(host) = &mut self.host else {
-            return Err(Fault::Absent);
+            return Err(RowFault::Absent);
         };
         match (verb, arguments) {
             ("open", [cpu, quota, names @ ..]) => {
                 let drives = self.images.copies(alloc, names)?;
                 open(alloc, host, *cpu, *quota, drives)
             }
-            ("used", []) => Answer::words(alloc, host.store().used()),
+            ("used", []) => RowAnswer::words(alloc, host.store().used()),
             ("run", []) => run(alloc, host, self.events.as_slice()),
             ("alike", [one, other]) => alike(alloc, host, slot_of(*one)?, slot_of(*other)?),
             ("take", [slot, room @ ..]) => {
@@ -111,20 +111,20 @@ impl Hosts {
                 take_list(alloc, host, &mut self.shown, slot_of(*slot)?, room)
             }
             (_, [slot, rest @ ..]) => act_slot(alloc, host, verb, slot_of(*slot)?, rest),
-            _ => Err(Fault::Unknown),
+            _ => Err(RowFault::Unknown),
         }
     }
 }
 
 /// The slot of a number.
-fn slot_of(word: Word<'_>) -> Result<SlotId, Fault> {
+fn slot_of(word: Word<'_>) -> Result<SlotId, RowFault> {
     Ok(SlotId(number(word)?))
 }
 
 /// What the words behind a slot ask of it.
-fn request_of(words: &[Word<'_>]) -> Result<Request, Fault> {
+fn request_of(words: &[Word<'_>]) -> Result<Request, RowFault> {
     let [verb, rest @ ..] = words else {
-        return Err(Fault::Words);
+        return Err(RowFault::Words);
     };
     match (verb.text, rest) {
         ("key", [key]) => Ok(Request::Key(byte(*key)?)),
@@ -138,7 +138,7 @@ fn request_of(words: &[Word<'_>]) -> Result<Request, Fault> {
         ("look", []) => Ok(Request::Look),
         ("peek", [at]) => Ok(Request::Peek(address(*at)?)),
         ("close", []) => Ok(Request::Close),
-        _ => Err(Fault::Words),
+        _ => Err(RowFault::Words),
     }
 }
 
@@ -149,9 +149,9 @@ fn open(
     cpu: Word<'_>,
     quota: Word<'_>,
     drives: Vec<Image>,
-) -> Result<Answer, Fault> {
+) -> Result<RowAnswer, RowFault> {
     let Ok(quota) = u16::try_from(number(quota)?) else {
-        return Err(Fault::Number);
+        return Err(RowFault::Number);
     };
     let opening = Opening {
         cpu: cpu_of(cpu)?,
@@ -159,8 +159,8 @@ fn open(
         drives,
     };
     match host.open(alloc, opening) {
-        Ok(id) => Answer::words(alloc, id.0),
-        Err((_, error)) => Answer::refused(alloc, error),
+        Ok(id) => RowAnswer::words(alloc, id.0),
+        Err((_, error)) => RowAnswer::refused(alloc, error),
     }
 }
 
@@ -171,63 +171,63 @@ fn act_slot(
     verb: &str,
     id: SlotId,
     arguments: &[Word<'_>],
-) -> Result<Answer, Fault> {
+) -> Result<RowAnswer, RowFault> {
     match (verb, arguments) {
         ("key", keys) => press(alloc, host, id, keys),
         ("grant", [steps]) => match host.grant(id, number(*steps)?) {
             Ok(found) => granted(alloc, found),
-            Err(refusal) => Answer::refused(alloc, refusal),
+            Err(refusal) => RowAnswer::refused(alloc, refusal),
         },
         ("until", [steps, pc]) => match host.grant_until(id, number(*steps)?, address(*pc)?) {
             Ok(found) => granted(alloc, found),
-            Err(refusal) => Answer::refused(alloc, refusal),
+            Err(refusal) => RowAnswer::refused(alloc, refusal),
         },
         ("look", [name]) => match host.look(id) {
             Ok(look) => field(alloc, &look, *name),
-            Err(refusal) => Answer::refused(alloc, refusal),
+            Err(refusal) => RowAnswer::refused(alloc, refusal),
         },
         ("peek", [at]) => match host.peek(id, address(*at)?) {
-            Ok(byte) => Answer::byte(alloc, byte),
-            Err(refusal) => Answer::refused(alloc, refusal),
+            Ok(byte) => RowAnswer::byte(alloc, byte),
+            Err(refusal) => RowAnswer::refused(alloc, refusal),
         },
         ("place", [page]) => place(alloc, host, id, *page),
         ("fork", []) => match host.fork(alloc, id) {
-            Ok(id) => Answer::words(alloc, id.0),
-            Err(error) => Answer::refused(alloc, error),
+            Ok(id) => RowAnswer::words(alloc, id.0),
+            Err(error) => RowAnswer::refused(alloc, error),
         },
         ("close", []) => close(alloc, host, id),
-        _ => Err(Fault::Unknown),
+        _ => Err(RowFault::Unknown),
     }
 }
 
 /// `key SLOT BYTES`.
-fn press(alloc: Global, host: &mut Host, id: SlotId, keys: &[Word<'_>]) -> Result<Answer, Fault> {
+fn press(alloc: Global, host: &mut Host, id: SlotId, keys: &[Word<'_>]) -> Result<RowAnswer, RowFault> {
     for key in &bytes_of(alloc, keys)? {
         if let Err(refusal) = host.key(id, *key) {
-            return Answer::refused(alloc, refusal);
+            return RowAnswer::refused(alloc, refusal);
         }
     }
-    Ok(Answer::Done)
+    Ok(RowAnswer::Done)
 }
 
 /// `place SLOT PAGE`: the frame that the page is made of.
-fn place(alloc: Global, host: &Host, id: SlotId, page: Word<'_>) -> Result<Answer, Fault> {
+fn place(alloc: Global, host: &Host, id: SlotId, page: Word<'_>) -> Result<RowAnswer, RowFault> {
     let table = match host.table(id) {
         Ok(table) => table,
-        Err(refusal) => return Answer::refused(alloc, refusal),
+        Err(refusal) => return RowAnswer::refused(alloc, refusal),
     };
     let store = host.store();
     if !store.is_taken(table) {
-        return Err(Fault::Unready);
+        return Err(RowFault::Unready);
     }
-    Answer::words(alloc, store.place(table, byte(page)?))
+    RowAnswer::words(alloc, store.place(table, byte(page)?))
 }
 
 /// `close SLOT`: its steps, and the drives that it had.
-fn close(alloc: Global, host: &mut Host, id: SlotId) -> Result<Answer, Fault> {
+fn close(alloc: Global, host: &mut Host, id: SlotId) -> Result<RowAnswer, RowFault> {
     let closed = match host.close(id) {
         Ok(closed) => closed,
-        Err(refusal) => return Answer::refused(alloc, refusal),
+        Err(refusal) => return RowAnswer::refused(alloc, refusal),
     };
     let mut answer = format!(in alloc; "{}", closed.look.count)?;
     for (name, drive) in [" A", " B", " C", " D"].into_iter().zip(closed.drives) {
@@ -235,21 +235,21 @@ fn close(alloc: Global, host: &mut Host, id: SlotId) -> Result<Answer, Fault> {
             answer.push_str(name)?;
         }
     }
-    Ok(Answer::Words(answer))
+    Ok(RowAnswer::Words(answer))
 }
 
 /// `take SLOT`, or `take SLOT N`.
 fn take(
     alloc: Global,
     host: &mut Host,
-    shown: &mut Shown,
+    shown: &mut TakenBytes,
     id: SlotId,
     arguments: &[Word<'_>],
-) -> Result<Answer, Fault> {
+) -> Result<RowAnswer, RowFault> {
     let mut out = room(alloc, arguments)?;
     match host.take(id, &mut out) {
         Ok(count) => shown.keep(alloc, out, count),
-        Err(refusal) => Answer::refused(alloc, refusal),
+        Err(refusal) => RowAnswer::refused(alloc, refusal),
     }
 }
 
@@ -257,33 +257,33 @@ fn take(
 fn take_list(
     alloc: Global,
     host: &mut Host,
-    shown: &mut Shown,
+    shown: &mut TakenBytes,
     id: SlotId,
     arguments: &[Word<'_>],
-) -> Result<Answer, Fault> {
+) -> Result<RowAnswer, RowFault> {
     let mut out = room(alloc, arguments)?;
     match host.take_list(id, &mut out) {
         Ok(count) => shown.keep(alloc, out, count),
-        Err(refusal) => Answer::refused(alloc, refusal),
+        Err(refusal) => RowAnswer::refused(alloc, refusal),
     }
 }
 
 /// `alike SLOT SLOT`: whether two slots are in the same state, and have the same console bytes, which are taken.
-fn alike(alloc: Global, host: &mut Host, one: SlotId, other: SlotId) -> Result<Answer, Fault> {
+fn alike(alloc: Global, host: &mut Host, one: SlotId, other: SlotId) -> Result<RowAnswer, RowFault> {
     let (Ok(look), Ok(other_look)) = (host.look(one), host.look(other)) else {
-        return Err(Fault::Absent);
+        return Err(RowFault::Absent);
     };
     let (mut bytes, mut other_bytes) = (room(alloc, &[])?, room(alloc, &[])?);
     let taken = host.take(one, &mut bytes);
     let other_taken = host.take(other, &mut other_bytes);
-    Answer::truth(
+    RowAnswer::truth(
         alloc,
         look == other_look && taken == other_taken && bytes.as_slice() == other_bytes.as_slice(),
     )
 }
 
 /// `run`: serves the events, and gives the reply to each in a line, and one that is no event's and is 07 before.
-fn run(alloc: Global, host: &mut Host, events: &[Event]) -> Result<Answer, Fault> {
+fn run(alloc: Global, host: &mut Host, events: &[Event]) -> Result<RowAnswer, RowFault> {
     let mut replies = Vec::new(alloc);
     for _ in events {
         replies.push(Reply::Done)?;
@@ -291,7 +291,7 @@ fn run(alloc: Global, host: &mut Host, events: &[Event]) -> Result<Answer, Fault
     replies.push(Reply::Peeked(REST))?;
     let places = replies.as_mut_slice();
     if places.len() < events.len() {
-        return Err(Fault::Unready);
+        return Err(RowFault::Unready);
     }
     host.run(events, places);
     let mut answer = String::new(alloc);
@@ -301,7 +301,7 @@ fn run(alloc: Global, host: &mut Host, events: &[Event]) -> Result<Answer, Fault
         }
         add_reply(alloc, &mut answer, reply)?;
     }
-    Ok(Answer::Words(answer))
+    Ok(RowAnswer::Words(answer))
 }
 
 /// Adds a reply in words.

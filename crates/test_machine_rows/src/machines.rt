@@ -4,17 +4,17 @@ ghost use Rattle.std.specs.Prelude.{IfOk};
 ghost use Rattle.cpm_play.specs.Playing.{IsFresh};
 
 use crate::look::{field, granted};
-use crate::shown::{Shown, room};
+use crate::shown::{TakenBytes, room};
 use cpm_flags::Cpu;
 use cpm_geom::{Format, Image};
 use cpm_machine::{Machine, OpenError, Opening, Tail};
 use std::alloc::{AllocError, Global};
 use test_images::Images;
-use test_language::{Answer, Fault, Line, Scene, Word, address, bytes_of, count, number};
+use test_language::{RowAnswer, RowFault, RowLine, Scene, Word, address, bytes_of, count, number};
 
 /// What a machine is made of.
 #[derive(Drop)]
-pub struct Start {
+pub struct MachineParts {
     cpu: Cpu,
     quota: u16,
     drives: Vec<Image>,
@@ -28,11 +28,11 @@ pub struct Machines {
     images: Images,
     program: Option<Vec<u8>>,
     tail: Option<Tail>,
-    pub start: Option<Start>,
+    pub start: Option<MachineParts>,
     pub machine: Option<Machine>,
     /// The one that was made before it.
     pub earlier: Option<Machine>,
-    pub shown: Shown,
+    pub shown: TakenBytes,
     pub play: Play,
 }
 
@@ -61,9 +61,9 @@ impl Play {
     }
 }
 
-impl Start {
+impl MachineParts {
     /// A machine of this, with no key pending and no byte to be taken.
-    pub fn machine(&self, alloc: Global) -> Result<Result<Machine, OpenError>, Fault>
+    pub fn machine(&self, alloc: Global) -> Result<Result<Machine, OpenError>, RowFault>
         ensures { IfOk result (λ made. IfOk made IsFresh) }
     {
         let opening = self.opening(alloc)?;
@@ -81,7 +81,7 @@ impl Start {
     }
 
     /// The opening, with copies of the drives.
-    fn opening(&self, alloc: Global) -> Result<Opening, Fault> {
+    fn opening(&self, alloc: Global) -> Result<Opening, RowFault> {
         let mut drives = Vec::new(alloc);
         for image in &self.drives {
             drives.push(image.copy(alloc)?)?;
@@ -104,7 +104,7 @@ impl Scene for Machines {
             start: None,
             machine: None,
             earlier: None,
-            shown: Shown::new(alloc),
+            shown: TakenBytes::new(alloc),
             play: Play::new(alloc),
         })
     }
@@ -120,7 +120,7 @@ impl Scene for Machines {
         matches!(verb, "live" | "play")
     }
 
-    fn act(&mut self, alloc: Global, line: &Line<'_>) -> Result<Answer, Fault> {
+    fn act(&mut self, alloc: Global, line: &RowLine<'_>) -> Result<RowAnswer, RowFault> {
         let arguments = line.arguments();
         match line.verb() {
             "8080" => self.begin(alloc, Cpu::I8080, arguments),
@@ -141,7 +141,7 @@ impl Scene for Machines {
 
 impl Machines {
     /// `8080 BYTES`, or `z80 BYTES`.
-    fn begin(&mut self, alloc: Global, cpu: Cpu, bytes: &[Word<'_>]) -> Result<Answer, Fault> {
+    fn begin(&mut self, alloc: Global, cpu: Cpu, bytes: &[Word<'_>]) -> Result<RowAnswer, RowFault> {
         self.program(alloc, bytes)?;
         let mut drives = Vec::new(alloc);
         drives.push(Image::blank(alloc, Format::Ibm3740)?)?;
@@ -149,26 +149,26 @@ impl Machines {
     }
 
     /// `program BYTES`.
-    fn program(&mut self, alloc: Global, bytes: &[Word<'_>]) -> Result<Answer, Fault> {
+    fn program(&mut self, alloc: Global, bytes: &[Word<'_>]) -> Result<RowAnswer, RowFault> {
         self.program = Some(bytes_of(alloc, bytes)?);
-        Ok(Answer::Done)
+        Ok(RowAnswer::Done)
     }
 
     /// `tail BYTES`.
-    fn tail(&mut self, alloc: Global, bytes: &[Word<'_>]) -> Result<Answer, Fault> {
+    fn tail(&mut self, alloc: Global, bytes: &[Word<'_>]) -> Result<RowAnswer, RowFault> {
         let bytes = bytes_of(alloc, bytes)?;
         self.tail = Tail::new(bytes.as_slice());
-        Answer::truth(alloc, self.tail.is_some())
+        RowAnswer::truth(alloc, self.tail.is_some())
     }
 
     /// `open CPU PAGES IMAGE..`.
-    fn open(&mut self, alloc: Global, arguments: &[Word<'_>]) -> Result<Answer, Fault> {
+    fn open(&mut self, alloc: Global, arguments: &[Word<'_>]) -> Result<RowAnswer, RowFault> {
         let [cpu, quota, names @ ..] = arguments else {
-            return Err(Fault::Words);
+            return Err(RowFault::Words);
         };
         let cpu = cpu_of(*cpu)?;
         let Ok(quota) = u16::try_from(number(*quota)?) else {
-            return Err(Fault::Number);
+            return Err(RowFault::Number);
         };
         let drives = self.images.copies(alloc, names)?;
         self.make(alloc, cpu, quota, drives)
@@ -181,12 +181,12 @@ impl Machines {
         cpu: Cpu,
         quota: u16,
         drives: Vec<Image>,
-    ) -> Result<Answer, Fault> {
+    ) -> Result<RowAnswer, RowFault> {
         let program = match &self.program {
             Some(program) => Some(Vec::from_slice(alloc, program.as_slice())?),
             None => None,
         };
-        let start = Start {
+        let start = MachineParts {
             cpu,
             quota,
             drives,
@@ -200,9 +200,9 @@ impl Machines {
         match made {
             Ok(machine) => {
                 self.put(machine);
-                Ok(Answer::Done)
+                Ok(RowAnswer::Done)
             }
-            Err(error) => Answer::refused(alloc, error),
+            Err(error) => RowAnswer::refused(alloc, error),
         }
     }
 
@@ -213,9 +213,9 @@ impl Machines {
     }
 
     /// `finish`: ends the machine. Its steps, and its drives, which are images from now on.
-    fn finish(&mut self, alloc: Global) -> Result<Answer, Fault> {
+    fn finish(&mut self, alloc: Global) -> Result<RowAnswer, RowFault> {
         let Some(machine) = self.machine.take() else {
-            return Err(Fault::Absent);
+            return Err(RowFault::Absent);
         };
         let closed = machine.finish();
         let mut answer = format!(in alloc; "{}", closed.look.count)?;
@@ -226,28 +226,28 @@ impl Machines {
                 answer.push_str(name)?;
             }
         }
-        Ok(Answer::Words(answer))
+        Ok(RowAnswer::Words(answer))
     }
 
     /// `alike`: whether the machine and the one before it show the same and have the same memory.
-    fn alike(&self, alloc: Global) -> Result<Answer, Fault> {
+    fn alike(&self, alloc: Global) -> Result<RowAnswer, RowFault> {
         let (Some(one), Some(other)) = (&self.machine, &self.earlier) else {
-            return Err(Fault::Absent);
+            return Err(RowFault::Absent);
         };
-        Answer::truth(
+        RowAnswer::truth(
             alloc,
             one.look() == other.look() && (0..=0xFFFFu16).all(|at| one.peek(at) == other.peek(at)),
         )
     }
 
     /// `same-image NAME OTHER`.
-    fn same_image(&self, alloc: Global, arguments: &[Word<'_>]) -> Result<Answer, Fault> {
+    fn same_image(&self, alloc: Global, arguments: &[Word<'_>]) -> Result<RowAnswer, RowFault> {
         let [name, other] = arguments else {
-            return Err(Fault::Words);
+            return Err(RowFault::Words);
         };
         let one = self.images.copy(alloc, name.text)?.into_bytes();
         let other = self.images.copy(alloc, other.text)?.into_bytes();
-        Answer::truth(alloc, one.as_slice() == other.as_slice())
+        RowAnswer::truth(alloc, one.as_slice() == other.as_slice())
     }
 
     /// A line to the machine itself.
@@ -256,9 +256,9 @@ impl Machines {
         alloc: Global,
         verb: &str,
         arguments: &[Word<'_>],
-    ) -> Result<Answer, Fault> {
+    ) -> Result<RowAnswer, RowFault> {
         let Some(machine) = &mut self.machine else {
-            return Err(Fault::Absent);
+            return Err(RowFault::Absent);
         };
         let system = &self.system;
         match (verb, arguments) {
@@ -269,68 +269,68 @@ impl Machines {
                 machine.grant_until(system, number(*steps)?, address(*pc)?),
             ),
             ("to-wait", [steps]) => {
-                Answer::words(alloc, machine.grant_to_wait(system, number(*steps)?))
+                RowAnswer::words(alloc, machine.grant_to_wait(system, number(*steps)?))
             }
-            ("step", []) => Answer::truth(alloc, machine.step(system)),
+            ("step", []) => RowAnswer::truth(alloc, machine.step(system)),
             ("look", [name]) => field(alloc, &machine.look(), *name),
-            ("peek", [at]) => Answer::byte(alloc, machine.peek(address(*at)?)),
+            ("peek", [at]) => RowAnswer::byte(alloc, machine.peek(address(*at)?)),
             ("peek", [at, length]) => peek(alloc, machine, address(*at)?, count(*length)?),
             ("take", _) => take(alloc, machine, &mut self.shown, arguments),
             ("list", _) => take_list(alloc, machine, &mut self.shown, arguments),
-            _ => Err(Fault::Unknown),
+            _ => Err(RowFault::Unknown),
         }
     }
 }
 
 /// The processor of a name.
-pub fn cpu_of(word: Word<'_>) -> Result<Cpu, Fault> {
+pub fn cpu_of(word: Word<'_>) -> Result<Cpu, RowFault> {
     match word.text {
         "8080" => Ok(Cpu::I8080),
         "z80" => Ok(Cpu::Z80),
-        _ => Err(Fault::Words),
+        _ => Err(RowFault::Words),
     }
 }
 
 /// A machine with the tail of a command.
 fn with_tail(
     alloc: Global,
-    start: &Start,
+    start: &MachineParts,
     program: &[u8],
     tail: &Tail,
-) -> Result<Result<Machine, OpenError>, Fault> {
+) -> Result<Result<Machine, OpenError>, RowFault> {
     let opening = start.opening(alloc)?;
     let program = Vec::from_slice(alloc, program)?;
     Ok(Machine::with_command(alloc, opening, program, tail).map_err(|(_, _, error)| error))
 }
 
 /// `key BYTES`.
-fn press(alloc: Global, machine: &mut Machine, keys: &[Word<'_>]) -> Result<Answer, Fault> {
+fn press(alloc: Global, machine: &mut Machine, keys: &[Word<'_>]) -> Result<RowAnswer, RowFault> {
     for key in &bytes_of(alloc, keys)? {
         if let Err(error) = machine.key(*key) {
-            return Answer::refused(alloc, error);
+            return RowAnswer::refused(alloc, error);
         }
     }
-    Ok(Answer::Done)
+    Ok(RowAnswer::Done)
 }
 
 /// So many bytes of the machine's memory.
-fn peek(alloc: Global, machine: &Machine, at: u16, length: usize) -> Result<Answer, Fault> {
+fn peek(alloc: Global, machine: &Machine, at: u16, length: usize) -> Result<RowAnswer, RowFault> {
     let mut bytes = Vec::new(alloc);
     let mut at = at;
     for _ in 0..length {
         bytes.push(machine.peek(at))?;
         at = at.wrapping_add(1);
     }
-    Ok(Answer::Bytes(bytes))
+    Ok(RowAnswer::Bytes(bytes))
 }
 
 /// `take`, or `take N`.
 fn take(
     alloc: Global,
     machine: &mut Machine,
-    shown: &mut Shown,
+    shown: &mut TakenBytes,
     arguments: &[Word<'_>],
-) -> Result<Answer, Fault> {
+) -> Result<RowAnswer, RowFault> {
     let mut out = room(alloc, arguments)?;
     let count = machine.take(&mut out);
     shown.keep(alloc, out, count)
@@ -340,9 +340,9 @@ fn take(
 fn take_list(
     alloc: Global,
     machine: &mut Machine,
-    shown: &mut Shown,
+    shown: &mut TakenBytes,
     arguments: &[Word<'_>],
-) -> Result<Answer, Fault> {
+) -> Result<RowAnswer, RowFault> {
     let mut out = room(alloc, arguments)?;
     let count = machine.take_list(&mut out);
     shown.keep(alloc, out, count)

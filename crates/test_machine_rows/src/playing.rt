@@ -1,18 +1,18 @@
 //! Machines that are played: by keys that are typed, by a script that may wait, and by what was recorded.
 
-use crate::machines::{Machines, Start};
+use crate::machines::{Machines, MachineParts};
 use cpm_geom::Image;
 use cpm_script::laws::cues_in_order;
 use cpm_script::{read_cues, read_keys};
 use cpm_machine::Machine;
 use cpm_play::laws::scripts_in_order;
-use cpm_play::{Cued, Live, Unwatched, play_cues, play_live, play_machine};
+use cpm_play::{CuedKeys, Live, Unwatched, play_cues, play_live, play_machine};
 use std::alloc::Global;
-use test_language::{Answer, Fault, Line, Word, count, number};
+use test_language::{RowAnswer, RowFault, RowLine, Word, count, number};
 
 /// A machine that was played, what it showed and the record of its keys.
 #[derive(Drop)]
-struct Played {
+struct PlayedMachine {
     machine: Machine,
     text: Vec<u8>,
     record: Vec<u8>,
@@ -29,15 +29,15 @@ impl Machines {
     }
 
     /// A line about playing.
-    pub fn act_play(&mut self, alloc: Global, line: &Line<'_>) -> Result<Answer, Fault> {
+    pub fn act_play(&mut self, alloc: Global, line: &RowLine<'_>) -> Result<RowAnswer, RowFault> {
         match (line.verb(), line.arguments()) {
             ("waits-from", [steps]) => {
                 self.play.waits_from = number(*steps)?;
-                Ok(Answer::Done)
+                Ok(RowAnswer::Done)
             }
             ("stops-idle", []) => {
                 self.play.stops_idle = true;
-                Ok(Answer::Done)
+                Ok(RowAnswer::Done)
             }
             ("play", [steps, script @ ..]) => {
                 let script = line.given(alloc, script)?;
@@ -45,16 +45,16 @@ impl Machines {
             }
             ("live", arguments) => self.live(alloc, line, arguments),
             ("replay", []) => self.replay(alloc),
-            ("shown", []) => Answer::bytes(alloc, self.play.text.as_slice()),
-            ("recorded", []) => Answer::bytes(alloc, self.play.record.as_slice()),
-            ("left", []) => Answer::bytes(alloc, self.play.left.as_slice()),
-            _ => Err(Fault::Words),
+            ("shown", []) => RowAnswer::bytes(alloc, self.play.text.as_slice()),
+            ("recorded", []) => RowAnswer::bytes(alloc, self.play.record.as_slice()),
+            ("left", []) => RowAnswer::bytes(alloc, self.play.left.as_slice()),
+            _ => Err(RowFault::Words),
         }
     }
 
     /// Keeps what was played, and answers its steps.
-    fn keep(&mut self, alloc: Global, played: Played) -> Result<Answer, Fault> {
-        let Played {
+    fn keep(&mut self, alloc: Global, played: PlayedMachine) -> Result<RowAnswer, RowFault> {
+        let PlayedMachine {
             machine,
             text,
             record,
@@ -64,13 +64,13 @@ impl Machines {
         self.play.text = text;
         self.play.record = record;
         self.play.steps = steps;
-        Answer::words(alloc, steps)
+        RowAnswer::words(alloc, steps)
     }
 
     /// `play STEPS SCRIPT`.
-    fn play(&mut self, alloc: Global, steps: u64, script: &[u8]) -> Result<Answer, Fault> {
+    fn play(&mut self, alloc: Global, steps: u64, script: &[u8]) -> Result<RowAnswer, RowFault> {
         let Some(start) = &self.start else {
-            return Err(Fault::Absent);
+            return Err(RowFault::Absent);
         };
         let (waits_from, stops_idle) = (self.play.waits_from, self.play.stops_idle);
         let played = by_script(
@@ -88,14 +88,14 @@ impl Machines {
     fn live(
         &mut self,
         alloc: Global,
-        line: &Line<'_>,
+        line: &RowLine<'_>,
         arguments: &[Word<'_>],
-    ) -> Result<Answer, Fault> {
+    ) -> Result<RowAnswer, RowFault> {
         let [steps, keys, typed @ ..] = arguments else {
-            return Err(Fault::Words);
+            return Err(RowFault::Words);
         };
         let Some(start) = &self.start else {
-            return Err(Fault::Absent);
+            return Err(RowFault::Absent);
         };
         let typed = line.given(alloc, typed)?;
         let mut input = typed.as_slice();
@@ -112,14 +112,14 @@ impl Machines {
     }
 
     /// `replay`: the machine from its beginning by what was recorded. What it shows.
-    fn replay(&mut self, alloc: Global) -> Result<Answer, Fault> {
+    fn replay(&mut self, alloc: Global) -> Result<RowAnswer, RowFault> {
         let Some(start) = &self.start else {
-            return Err(Fault::Absent);
+            return Err(RowFault::Absent);
         };
         let record = self.play.record.as_slice();
         let (machine, text) = by_record(alloc, &self.system, start, record, self.play.steps)?;
         self.put(machine);
-        Ok(Answer::Bytes(text))
+        Ok(RowAnswer::Bytes(text))
     }
 }
 
@@ -127,19 +127,19 @@ impl Machines {
 fn by_script(
     alloc: Global,
     system: &Image,
-    start: &Start,
+    start: &MachineParts,
     steps: u64,
     script: &[u8],
     (waits_from, stops_idle): (u64, bool),
-) -> Result<Played, Fault> {
+) -> Result<PlayedMachine, RowFault> {
     let Ok(cues) = read_cues(alloc, script) else {
-        return Err(Fault::Unready);
+        return Err(RowFault::Unready);
     };
     let Ok(mut machine) = start.machine(alloc)? else {
-        return Err(Fault::Unready);
+        return Err(RowFault::Unready);
     };
     cues_in_order();
-    let cued = Cued {
+    let cued = CuedKeys {
         cues: cues.as_slice(),
         waits_from,
         stops_idle,
@@ -155,13 +155,13 @@ fn by_script(
         &mut record,
         &mut Unwatched,
     ) {
-        Ok(Live { steps, .. }) => Ok(Played {
+        Ok(Live { steps, .. }) => Ok(PlayedMachine {
             machine,
             text,
             record,
             steps,
         }),
-        Err(_) => Err(Fault::OutOfMemory),
+        Err(_) => Err(RowFault::OutOfMemory),
     }
 }
 
@@ -169,13 +169,13 @@ fn by_script(
 fn by_keys(
     alloc: Global,
     system: &Image,
-    start: &Start,
+    start: &MachineParts,
     steps: u64,
     most_keys: usize,
     input: &mut &[u8],
-) -> Result<Played, Fault> {
+) -> Result<PlayedMachine, RowFault> {
     let Ok(mut machine) = start.machine(alloc)? else {
-        return Err(Fault::Unready);
+        return Err(RowFault::Unready);
     };
     let (mut text, mut record) = (Vec::new(alloc), Vec::new(alloc));
     match play_live(
@@ -188,13 +188,13 @@ fn by_keys(
         &mut text,
         &mut record,
     ) {
-        Ok(Live { steps, .. }) => Ok(Played {
+        Ok(Live { steps, .. }) => Ok(PlayedMachine {
             machine,
             text,
             record,
             steps,
         }),
-        Err(_) => Err(Fault::OutOfMemory),
+        Err(_) => Err(RowFault::OutOfMemory),
     }
 }
 
@@ -202,15 +202,15 @@ fn by_keys(
 fn by_record(
     alloc: Global,
     system: &Image,
-    start: &Start,
+    start: &MachineParts,
     record: &[u8],
     steps: u64,
-) -> Result<(Machine, Vec<u8>), Fault> {
+) -> Result<(Machine, Vec<u8>), RowFault> {
     let Ok(keys) = read_keys(alloc, record) else {
-        return Err(Fault::Unready);
+        return Err(RowFault::Unready);
     };
     let Ok(mut machine) = start.machine(alloc)? else {
-        return Err(Fault::Unready);
+        return Err(RowFault::Unready);
     };
     scripts_in_order();
     let mut text = Vec::new(alloc);
@@ -223,6 +223,6 @@ fn by_record(
         &mut Unwatched,
     ) {
         Ok(()) => Ok((machine, text)),
-        Err(_) => Err(Fault::OutOfMemory),
+        Err(_) => Err(RowFault::OutOfMemory),
     }
 }

@@ -7,7 +7,7 @@ use cpm_execz80::stepz80;
 use cpm_flags::{Alternate, Cpu, Flags, Regs, pack, unpack};
 use cpm_memory::{FlatMemory, Memory, has_room, set_byte};
 use std::alloc::{AllocError, Global};
-use test_language::{Answer, Fault, Line, Scene, Word, address, byte, bytes_of, count, number};
+use test_language::{RowAnswer, RowFault, RowLine, Scene, Word, address, byte, bytes_of, count, number};
 
 /// No flag set.
 const CLEAR: Flags = Flags {
@@ -80,32 +80,32 @@ impl Scene for Instructions {
         false
     }
 
-    fn act(&mut self, alloc: Global, line: &Line<'_>) -> Result<Answer, Fault> {
+    fn act(&mut self, alloc: Global, line: &RowLine<'_>) -> Result<RowAnswer, RowFault> {
         let arguments = line.arguments();
         if line.verb() == "z80" {
             return self.begin(alloc, arguments);
         }
         let Some(trial) = &mut self.trial else {
-            return Err(Fault::Absent);
+            return Err(RowFault::Absent);
         };
         match line.verb() {
             "store" => trial.store(alloc, arguments),
             "set" => trial.set(arguments),
             "run" => trial.run(alloc, arguments),
             "register" => trial.register(alloc, arguments),
-            "unchanged" => Answer::truth(alloc, trial.regs == START),
+            "unchanged" => RowAnswer::truth(alloc, trial.regs == START),
             "pairs" => trial.pairs(alloc),
             "peek" => trial.peek(alloc, arguments),
             "changed" => trial.changed(alloc),
-            "pages" => Answer::words(alloc, trial.memory.touched()),
-            _ => Err(Fault::Unknown),
+            "pages" => RowAnswer::words(alloc, trial.memory.touched()),
+            _ => Err(RowFault::Unknown),
         }
     }
 }
 
 impl Instructions {
     /// `z80 BYTES`.
-    fn begin(&mut self, alloc: Global, arguments: &[Word<'_>]) -> Result<Answer, Fault> {
+    fn begin(&mut self, alloc: Global, arguments: &[Word<'_>]) -> Result<RowAnswer, RowFault> {
         let program = bytes_of(alloc, arguments)?;
         let mut trial = Trial {
             memory: FlatMemory::new(alloc)?,
@@ -116,7 +116,7 @@ impl Instructions {
         };
         trial.put(0x0100, program.as_slice());
         self.trial = Some(trial);
-        Ok(Answer::Done)
+        Ok(RowAnswer::Done)
     }
 }
 
@@ -134,32 +134,32 @@ impl Trial {
     }
 
     /// `store ADDRESS BYTES`.
-    fn store(&mut self, alloc: Global, arguments: &[Word<'_>]) -> Result<Answer, Fault> {
+    fn store(&mut self, alloc: Global, arguments: &[Word<'_>]) -> Result<RowAnswer, RowFault> {
         let [at, bytes @ ..] = arguments else {
-            return Err(Fault::Words);
+            return Err(RowFault::Words);
         };
         let bytes = bytes_of(alloc, bytes)?;
         self.put(address(*at)?, bytes.as_slice());
-        Ok(Answer::Done)
+        Ok(RowAnswer::Done)
     }
 
     /// `set F BYTE`, or `set IFF2 yes`.
-    fn set(&mut self, arguments: &[Word<'_>]) -> Result<Answer, Fault> {
+    fn set(&mut self, arguments: &[Word<'_>]) -> Result<RowAnswer, RowFault> {
         let [name, value] = arguments else {
-            return Err(Fault::Words);
+            return Err(RowFault::Words);
         };
         match name.text {
             "F" => self.regs.flags = unpack(Cpu::Z80, self.regs.flags, byte(*value)?),
             "IFF2" => self.regs.iff2 = value.text == "yes",
-            _ => return Err(Fault::Words),
+            _ => return Err(RowFault::Words),
         }
-        Ok(Answer::Done)
+        Ok(RowAnswer::Done)
     }
 
     /// `run STEPS`.
-    fn run(&mut self, alloc: Global, arguments: &[Word<'_>]) -> Result<Answer, Fault> {
+    fn run(&mut self, alloc: Global, arguments: &[Word<'_>]) -> Result<RowAnswer, RowFault> {
         let [limit] = arguments else {
-            return Err(Fault::Words);
+            return Err(RowFault::Words);
         };
         for _ in 0..number(*limit)? {
             if self.ran == Ran::Done && has_room(&self.memory) {
@@ -168,43 +168,43 @@ impl Trial {
             }
         }
         let (steps, ran) = (self.steps, self.ran);
-        Answer::words(alloc, format!(in alloc; "{steps} {ran:?}")?)
+        RowAnswer::words(alloc, format!(in alloc; "{steps} {ran:?}")?)
     }
 
     /// `register NAME`.
-    fn register(&self, alloc: Global, arguments: &[Word<'_>]) -> Result<Answer, Fault> {
+    fn register(&self, alloc: Global, arguments: &[Word<'_>]) -> Result<RowAnswer, RowFault> {
         match arguments {
             [name] => register(alloc, &self.regs, *name),
-            _ => Err(Fault::Words),
+            _ => Err(RowFault::Words),
         }
     }
 
     /// AF, BC, DE and HL.
-    fn pairs(&self, alloc: Global) -> Result<Answer, Fault> {
+    fn pairs(&self, alloc: Global) -> Result<RowAnswer, RowFault> {
         let regs = self.regs;
         let af = pair(regs.a, pack(Cpu::Z80, regs.flags));
         let bc = pair(regs.b, regs.c);
         let de = pair(regs.d, regs.e);
         let hl = pair(regs.h, regs.l);
-        Answer::words(
+        RowAnswer::words(
             alloc,
             format!(in alloc; "{af:04X} {bc:04X} {de:04X} {hl:04X}")?,
         )
     }
 
     /// `peek ADDRESS`, or `peek ADDRESS N`.
-    fn peek(&self, alloc: Global, arguments: &[Word<'_>]) -> Result<Answer, Fault> {
+    fn peek(&self, alloc: Global, arguments: &[Word<'_>]) -> Result<RowAnswer, RowFault> {
         let (at, length) = match arguments {
             [at] => (address(*at)?, 1),
             [at, length] => (address(*at)?, count(*length)?),
-            _ => return Err(Fault::Words),
+            _ => return Err(RowFault::Words),
         };
         let bytes = run_of(alloc, &self.memory, at, length)?;
-        Answer::bytes(alloc, bytes.as_slice())
+        RowAnswer::bytes(alloc, bytes.as_slice())
     }
 
     /// The addresses whose bytes are others than before the first step.
-    fn changed(&self, alloc: Global) -> Result<Answer, Fault> {
+    fn changed(&self, alloc: Global) -> Result<RowAnswer, RowFault> {
         let mut changed = String::new(alloc);
         for at in 0..=0xFFFFu16 {
             if self.memory.get(at) != self.before.get(at) {
@@ -217,6 +217,6 @@ impl Trial {
         if changed.is_empty() {
             changed.push_str("none")?;
         }
-        Ok(Answer::Words(changed))
+        Ok(RowAnswer::Words(changed))
     }
 }

@@ -2,9 +2,9 @@
 
 ghost use Rattle.std.specs.Prelude.{IfOk, ◌≤◌};
 
-use cpm_memory::{FlatMemory, FrameStore, Memory, MemoryError, TableId};
+use cpm_memory::{FlatMemory, FrameStore, Memory, MemError, TableId};
 use std::alloc::{AllocError, Global};
-use test_language::{Answer, Fault, Line, Scene, Word, address, byte, count, number};
+use test_language::{RowAnswer, RowFault, RowLine, Scene, Word, address, byte, count, number};
 
 /// A flat memory, and a store with the tables that were taken of it, in order.
 #[derive(Drop)]
@@ -31,7 +31,7 @@ impl Scene for Memories {
         false
     }
 
-    fn act(&mut self, alloc: Global, line: &Line<'_>) -> Result<Answer, Fault> {
+    fn act(&mut self, alloc: Global, line: &RowLine<'_>) -> Result<RowAnswer, RowFault> {
         let arguments = line.arguments();
         match line.verb() {
             "flat" => self.flat(alloc, arguments),
@@ -50,95 +50,95 @@ impl Scene for Memories {
 
 impl Memories {
     /// `flat`, or `flat PAGES`.
-    fn flat(&mut self, alloc: Global, arguments: &[Word<'_>]) -> Result<Answer, Fault> {
+    fn flat(&mut self, alloc: Global, arguments: &[Word<'_>]) -> Result<RowAnswer, RowFault> {
         self.flat = Some(match arguments {
             [] => FlatMemory::new(alloc)?,
             [pages] => FlatMemory::with_limit(alloc, page_count(*pages)?)?,
-            _ => return Err(Fault::Words),
+            _ => return Err(RowFault::Words),
         });
-        Ok(Answer::Done)
+        Ok(RowAnswer::Done)
     }
 
     /// `frames N`.
-    fn frames(&mut self, alloc: Global, arguments: &[Word<'_>]) -> Result<Answer, Fault> {
+    fn frames(&mut self, alloc: Global, arguments: &[Word<'_>]) -> Result<RowAnswer, RowFault> {
         let [frames] = arguments else {
-            return Err(Fault::Words);
+            return Err(RowFault::Words);
         };
         let frames = number(*frames)?;
         if frames > 16_384 {
-            return Err(Fault::Unready);
+            return Err(RowFault::Unready);
         }
         self.store = Some(FrameStore::new(alloc, frames as u16)?);
-        Ok(Answer::Done)
+        Ok(RowAnswer::Done)
     }
 
     /// The table of a number.
-    fn table(&self, word: Word<'_>) -> Result<TableId, Fault> {
-        self.tables.get(count(word)?).copied().ok_or(Fault::Absent)
+    fn table(&self, word: Word<'_>) -> Result<TableId, RowFault> {
+        self.tables.get(count(word)?).copied().ok_or(RowFault::Absent)
     }
 
     /// Keeps a table that was taken, and answers its number.
     fn keep(
         &mut self,
         alloc: Global,
-        table: Result<TableId, MemoryError>,
-    ) -> Result<Answer, Fault> {
+        table: Result<TableId, MemError>,
+    ) -> Result<RowAnswer, RowFault> {
         match table {
             Ok(table) => {
                 let place = self.tables.len();
                 self.tables.push(table)?;
-                Answer::words(alloc, place)
+                RowAnswer::words(alloc, place)
             }
-            Err(error) => Answer::refused(alloc, error),
+            Err(error) => RowAnswer::refused(alloc, error),
         }
     }
 
     /// `reserve PAGES`.
-    fn reserve(&mut self, alloc: Global, arguments: &[Word<'_>]) -> Result<Answer, Fault> {
+    fn reserve(&mut self, alloc: Global, arguments: &[Word<'_>]) -> Result<RowAnswer, RowFault> {
         let [pages] = arguments else {
-            return Err(Fault::Words);
+            return Err(RowFault::Words);
         };
         let pages = page_count(*pages)?;
         let Some(store) = &mut self.store else {
-            return Err(Fault::Absent);
+            return Err(RowFault::Absent);
         };
         if store.taken() >= 64 {
-            return Err(Fault::Unready);
+            return Err(RowFault::Unready);
         }
         let table = store.reserve(pages);
         self.keep(alloc, table)
     }
 
     /// `share TABLE`.
-    fn share(&mut self, alloc: Global, arguments: &[Word<'_>]) -> Result<Answer, Fault> {
+    fn share(&mut self, alloc: Global, arguments: &[Word<'_>]) -> Result<RowAnswer, RowFault> {
         let [table] = arguments else {
-            return Err(Fault::Words);
+            return Err(RowFault::Words);
         };
         let table = self.table(*table)?;
         let Some(store) = &mut self.store else {
-            return Err(Fault::Absent);
+            return Err(RowFault::Absent);
         };
         if store.taken() >= 64 || !store.is_taken(table) {
-            return Err(Fault::Unready);
+            return Err(RowFault::Unready);
         }
         let shared = store.share(table);
         self.keep(alloc, shared)
     }
 
     /// `release TABLE`.
-    fn release(&mut self, arguments: &[Word<'_>]) -> Result<Answer, Fault> {
+    fn release(&mut self, arguments: &[Word<'_>]) -> Result<RowAnswer, RowFault> {
         let [table] = arguments else {
-            return Err(Fault::Words);
+            return Err(RowFault::Words);
         };
         let table = self.table(*table)?;
         let Some(store) = &mut self.store else {
-            return Err(Fault::Absent);
+            return Err(RowFault::Absent);
         };
         if !store.is_taken(table) {
-            return Err(Fault::Unready);
+            return Err(RowFault::Unready);
         }
         store.release(table);
-        Ok(Answer::Done)
+        Ok(RowAnswer::Done)
     }
 
     /// A line about the flat memory or that of a table, which its first word names.
@@ -147,14 +147,14 @@ impl Memories {
         alloc: Global,
         verb: &str,
         arguments: &[Word<'_>],
-    ) -> Result<Answer, Fault> {
+    ) -> Result<RowAnswer, RowFault> {
         let [name, rest @ ..] = arguments else {
-            return Err(Fault::Words);
+            return Err(RowFault::Words);
         };
         if name.text == "flat" {
             return match &mut self.flat {
                 Some(flat) => use_memory(alloc, flat, verb, rest),
-                None => Err(Fault::Absent),
+                None => Err(RowFault::Absent),
             };
         }
         let table = self.table(*name)?;
@@ -162,7 +162,7 @@ impl Memories {
             Some(store) if store.is_taken(table) => {
                 use_memory(alloc, &mut store.view(table), verb, rest)
             }
-            _ => Err(Fault::Absent),
+            _ => Err(RowFault::Absent),
         }
     }
 
@@ -172,98 +172,98 @@ impl Memories {
         alloc: Global,
         verb: &str,
         arguments: &[Word<'_>],
-    ) -> Result<Answer, Fault> {
+    ) -> Result<RowAnswer, RowFault> {
         let [table, page, offset @ ..] = arguments else {
-            return Err(Fault::Words);
+            return Err(RowFault::Words);
         };
         let table = self.table(*table)?;
         let Some(store) = &self.store else {
-            return Err(Fault::Absent);
+            return Err(RowFault::Absent);
         };
         if !store.is_taken(table) {
-            return Err(Fault::Absent);
+            return Err(RowFault::Absent);
         }
         let place = store.place(table, byte(*page)?);
         match offset {
-            [] if verb == "place" => Answer::words(alloc, place),
+            [] if verb == "place" => RowAnswer::words(alloc, place),
             [offset] if verb == "frame" => {
                 match store.frame(place).get(usize::from(byte(*offset)?)) {
-                    Some(byte) => Answer::byte(alloc, *byte),
-                    None => Err(Fault::Unready),
+                    Some(byte) => RowAnswer::byte(alloc, *byte),
+                    None => Err(RowFault::Unready),
                 }
             }
-            _ => Err(Fault::Words),
+            _ => Err(RowFault::Words),
         }
     }
 
     /// `reflect TABLE`.
-    fn reflect(&mut self, arguments: &[Word<'_>]) -> Result<Answer, Fault> {
+    fn reflect(&mut self, arguments: &[Word<'_>]) -> Result<RowAnswer, RowFault> {
         let [table] = arguments else {
-            return Err(Fault::Words);
+            return Err(RowFault::Words);
         };
         let table = self.table(*table)?;
         let (Some(flat), Some(store)) = (&mut self.flat, &self.store) else {
-            return Err(Fault::Absent);
+            return Err(RowFault::Absent);
         };
         if !store.is_taken(table) {
-            return Err(Fault::Absent);
+            return Err(RowFault::Absent);
         }
         flat.reflect(store, table);
-        Ok(Answer::Done)
+        Ok(RowAnswer::Done)
     }
 
     /// `put-back TABLE ADDRESS BYTE`.
-    fn put_back(&mut self, arguments: &[Word<'_>]) -> Result<Answer, Fault> {
+    fn put_back(&mut self, arguments: &[Word<'_>]) -> Result<RowAnswer, RowFault> {
         let [table, at, value] = arguments else {
-            return Err(Fault::Words);
+            return Err(RowFault::Words);
         };
         let (at, value) = (address(*at)?, byte(*value)?);
         let table = self.table(*table)?;
         let (Some(flat), Some(store)) = (&mut self.flat, &mut self.store) else {
-            return Err(Fault::Absent);
+            return Err(RowFault::Absent);
         };
         if !store.is_taken(table) {
-            return Err(Fault::Absent);
+            return Err(RowFault::Absent);
         }
         flat.reflect(store, table);
         if flat.room() == 0 {
-            return Err(Fault::Unready);
+            return Err(RowFault::Unready);
         }
         flat.set(at, value);
         store.put_back(table, flat);
-        Ok(Answer::Done)
+        Ok(RowAnswer::Done)
     }
 
     /// A line that asks the store.
-    fn ask(&self, alloc: Global, verb: &str, arguments: &[Word<'_>]) -> Result<Answer, Fault> {
+    fn ask(&self, alloc: Global, verb: &str, arguments: &[Word<'_>]) -> Result<RowAnswer, RowFault> {
         let Some(store) = &self.store else {
-            return Err(Fault::Unknown);
+            return Err(RowFault::Unknown);
         };
         match (verb, arguments) {
-            ("used", []) => Answer::words(alloc, store.used()),
-            ("taken", []) => Answer::words(alloc, store.taken()),
+            ("used", []) => RowAnswer::words(alloc, store.used()),
+            ("taken", []) => RowAnswer::words(alloc, store.taken()),
             ("pages-written", [table]) => {
-                Answer::words(alloc, store.pages_written(self.table(*table)?))
+                RowAnswer::words(alloc, store.pages_written(self.table(*table)?))
             }
             ("pages-reserved", [table]) => {
-                Answer::words(alloc, store.pages_reserved(self.table(*table)?))
+                RowAnswer::words(alloc, store.pages_reserved(self.table(*table)?))
             }
             ("page-stamp", [table, page]) => {
                 let table = self.table(*table)?;
-                Answer::words(alloc, store.page_stamp(table, byte(*page)?))
+                RowAnswer::words(alloc, store.page_stamp(table, byte(*page)?))
             }
-            _ => Err(Fault::Unknown),
+            _ => Err(RowFault::Unknown),
         }
     }
 }
 
 /// A number of pages, up to 256.
-fn page_count(word: Word<'_>) -> Result<u16, Fault>
+fn page_count(word: Word<'_>) -> Result<u16, RowFault>
     ensures { IfOk result (λ pages. pages ≤ 256) }
 {
     let pages = number(word)?;
     if pages > 256 {
-        return Err(Fault::Unready);
+        return Err(RowFault::Unready);
     }
     Ok(pages as u16)
 }
@@ -274,37 +274,37 @@ fn use_memory<M: Memory>(
     memory: &mut M,
     verb: &str,
     arguments: &[Word<'_>],
-) -> Result<Answer, Fault> {
+) -> Result<RowAnswer, RowFault> {
     match (verb, arguments) {
         ("set", [at, value]) => set(memory, address(*at)?, byte(*value)?, 1),
         ("set", [at, value, pages]) => {
             set(memory, address(*at)?, byte(*value)?, page_count(*pages)?)
         }
-        ("get", [at]) => Answer::byte(alloc, memory.get(address(*at)?)),
+        ("get", [at]) => RowAnswer::byte(alloc, memory.get(address(*at)?)),
         ("get", [at, length]) => {
             let bytes = run_of(alloc, memory, address(*at)?, count(*length)?)?;
-            Answer::bytes(alloc, bytes.as_slice())
+            RowAnswer::bytes(alloc, bytes.as_slice())
         }
         ("pages", []) => {
             let (written, room) = (memory.touched(), memory.room());
-            Answer::words(alloc, format!(in alloc; "{written} {room}")?)
+            RowAnswer::words(alloc, format!(in alloc; "{written} {room}")?)
         }
-        ("stamp", [page]) => Answer::words(alloc, memory.stamp(byte(*page)?)),
-        _ => Err(Fault::Words),
+        ("stamp", [page]) => RowAnswer::words(alloc, memory.stamp(byte(*page)?)),
+        _ => Err(RowFault::Words),
     }
 }
 
 /// Stores a byte at an address, and at the same place of the pages behind, so many in all.
-fn set<M: Memory>(memory: &mut M, at: u16, value: u8, pages: u16) -> Result<Answer, Fault> {
+fn set<M: Memory>(memory: &mut M, at: u16, value: u8, pages: u16) -> Result<RowAnswer, RowFault> {
     let mut at = at;
     for _ in 0..pages {
         if memory.room() == 0 {
-            return Err(Fault::Unready);
+            return Err(RowFault::Unready);
         }
         memory.set(at, value);
         at = at.wrapping_add(256);
     }
-    Ok(Answer::Done)
+    Ok(RowAnswer::Done)
 }
 
 /// So many bytes of a memory from an address on.

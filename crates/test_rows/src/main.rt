@@ -21,7 +21,7 @@ use test_text_rows::{CommandLines, Configurations, Scripts};
 
 /// What came of a file: its rows, and what is told of those that are not as they should be.
 #[derive(Drop)]
-struct Outcome {
+struct FileOutcome {
     tally: Tally,
     told: String,
 }
@@ -65,7 +65,7 @@ fn run_subject(
 }
 
 /// Runs the rows of a file, of which there must be as many as its first line says.
-fn run_text(alloc: Global, file: &str, text: &str) -> Result<Outcome, AllocError> {
+fn run_text(alloc: Global, file: &str, text: &str) -> Result<FileOutcome, AllocError> {
     let mut told = String::new(alloc);
     let mut failed = 1;
     let mut tally = Tally::default();
@@ -92,14 +92,14 @@ fn run_text(alloc: Global, file: &str, text: &str) -> Result<Outcome, AllocError
         },
     }
     tally.failed = failed;
-    Ok(Outcome { tally, told })
+    Ok(FileOutcome { tally, told })
 }
 
 /// Runs the rows of a file of this name.
-fn run_file(rt: &(impl Files + AllocGlobal), file: &str) -> Result<Outcome, AllocError> {
+fn run_file(rt: &(impl Files + AllocGlobal), file: &str) -> Result<FileOutcome, AllocError> {
     match fs::read_to_string(rt, file) {
         Ok(text) => run_text(rt.alloc(), file, text.as_str()),
-        Err(error) => Ok(Outcome {
+        Err(error) => Ok(FileOutcome {
             tally: Tally {
                 failed: 1,
                 ..Tally::default()

@@ -2,10 +2,10 @@
 
 use cpm_host::{Cue, ForkedCues};
 use std::alloc::Global;
-use test_language::{Fault, write_bytes};
+use test_language::{RowFault, write_bytes};
 
 /// How many keys the parent had, and then a line for each cue: a count and a key, `wait` with the text that must be shown, or a key at once.
-pub(crate) fn cue_lines(alloc: Global, forked: &ForkedCues) -> Result<String, Fault> {
+pub(crate) fn cue_lines(alloc: Global, forked: &ForkedCues) -> Result<String, RowFault> {
     let mut text = format!(in alloc; "{} before", forked.before)?;
     for cue in &forked.cues {
         text.push('\n')?;
@@ -15,7 +15,7 @@ pub(crate) fn cue_lines(alloc: Global, forked: &ForkedCues) -> Result<String, Fa
 }
 
 /// Adds a cue to a text.
-fn add_cue(alloc: Global, text: &mut String, cue: &Cue) -> Result<(), Fault> {
+fn add_cue(alloc: Global, text: &mut String, cue: &Cue) -> Result<(), RowFault> {
     match cue {
         Cue::Key(key) => {
             text.push_str(format!(in alloc; "{} ", key.count)?.as_str())?;

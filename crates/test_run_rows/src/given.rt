@@ -5,15 +5,15 @@ use cpm_flags::Cpu;
 use cpm_host::tail_of;
 use std::alloc::Global;
 use test_images::Images;
-use test_language::{Answer, Fault, Line, Word, bytes_of, count, number};
+use test_language::{RowAnswer, RowFault, RowLine, Word, bytes_of, count, number};
 
 /// The bytes that words stand for, or the text behind the line, or with `image NAME` the bytes of an image.
 pub(crate) fn bytes_given(
     alloc: Global,
     images: &Images,
-    line: &Line<'_>,
+    line: &RowLine<'_>,
     words: &[Word<'_>],
-) -> Result<Vec<u8>, Fault> {
+) -> Result<Vec<u8>, RowFault> {
     match words {
         [kind, name] if kind.text == "image" && !kind.is_quoted => {
             Ok(images.copy(alloc, name.text)?.into_bytes())
@@ -23,57 +23,57 @@ pub(crate) fn bytes_given(
 }
 
 /// The processor of this name.
-pub(crate) fn cpu_of(arguments: &[Word<'_>]) -> Result<Cpu, Fault> {
+pub(crate) fn cpu_of(arguments: &[Word<'_>]) -> Result<Cpu, RowFault> {
     match arguments {
         [word] if word.text == "8080" => Ok(Cpu::I8080),
         [word] if word.text == "z80" => Ok(Cpu::Z80),
-        _ => Err(Fault::Words),
+        _ => Err(RowFault::Words),
     }
 }
 
 /// The one word, which is a decimal number.
-pub(crate) fn count_of(arguments: &[Word<'_>]) -> Result<usize, Fault> {
+pub(crate) fn count_of(arguments: &[Word<'_>]) -> Result<usize, RowFault> {
     match arguments {
         [word] => count(*word),
-        _ => Err(Fault::Words),
+        _ => Err(RowFault::Words),
     }
 }
 
 /// The text that a word in quotes stands for.
-fn text_of(alloc: Global, word: Word<'_>) -> Result<String, Fault> {
+fn text_of(alloc: Global, word: Word<'_>) -> Result<String, RowFault> {
     let bytes = bytes_of(alloc, [word].as_slice())?;
     match String::from_utf8(bytes) {
         Ok(text) => Ok(text),
-        Err(_) => Err(Fault::Bytes),
+        Err(_) => Err(RowFault::Bytes),
     }
 }
 
 impl Programs {
     /// `listing BYTES`: the listing of the program. Without bytes: what it is.
-    pub(crate) fn listing(&mut self, alloc: Global, line: &Line<'_>) -> Result<Answer, Fault> {
+    pub(crate) fn listing(&mut self, alloc: Global, line: &RowLine<'_>) -> Result<RowAnswer, RowFault> {
         let arguments = line.arguments();
         let given = line.given(alloc, arguments)?;
         if arguments.is_empty() && given.is_empty() {
-            return Answer::bytes(alloc, self.listing.as_slice());
+            return RowAnswer::bytes(alloc, self.listing.as_slice());
         }
         self.listing = given;
-        Ok(Answer::Done)
+        Ok(RowAnswer::Done)
     }
 
     /// `steps N`: at most so many steps are made. Without a number: how many the last program took.
-    pub(crate) fn steps(&mut self, alloc: Global, arguments: &[Word<'_>]) -> Result<Answer, Fault> {
+    pub(crate) fn steps(&mut self, alloc: Global, arguments: &[Word<'_>]) -> Result<RowAnswer, RowFault> {
         match arguments {
-            [] => Answer::words(alloc, self.played()?.steps),
+            [] => RowAnswer::words(alloc, self.played()?.steps),
             [word] => {
                 self.steps = number(*word)?;
-                Ok(Answer::Done)
+                Ok(RowAnswer::Done)
             }
-            _ => Err(Fault::Words),
+            _ => Err(RowFault::Words),
         }
     }
 
     /// `tail "WORD" ..`: the words behind the program's name. Its text.
-    pub(crate) fn tail(&mut self, alloc: Global, arguments: &[Word<'_>]) -> Result<Answer, Fault> {
+    pub(crate) fn tail(&mut self, alloc: Global, arguments: &[Word<'_>]) -> Result<RowAnswer, RowFault> {
         let mut texts = Vec::new(alloc);
         for word in arguments {
             texts.push(text_of(alloc, *word)?)?;
@@ -84,7 +84,7 @@ impl Programs {
         }
         match tail_of(alloc, words.as_slice()) {
             Ok(tail) => {
-                let answer = Answer::bytes(alloc, tail.text())?;
+                let answer = RowAnswer::bytes(alloc, tail.text())?;
                 self.tail = Some(tail);
                 Ok(answer)
             }

@@ -3,10 +3,10 @@
 use crate::programs::Programs;
 use cpm_geom::Image;
 use cpm_host::{
-    Cued, HostError, Script, Start, Typed, Unwatched, cues_of, run_com, run_live, run_waiting,
+    CuedKeys, HostError, Script, ProgramStart, LiveResult, Unwatched, cues_of, run_com, run_live, run_waiting,
 };
 use std::alloc::Global;
-use test_language::{Answer, Fault, Line, Word};
+use test_language::{RowAnswer, RowFault, RowLine, Word};
 
 /// The most keys that are typed.
 const MOST_KEYS: usize = 4096;
@@ -21,7 +21,7 @@ pub(crate) fn script_of<'a>(name: &'a str, text: &'a [u8]) -> Script<'a> {
 
 impl Programs {
     /// Does a line that plays a program or a session, or reads the script of a fork.
-    pub(crate) fn play(&mut self, alloc: Global, line: &Line<'_>) -> Result<Answer, Fault> {
+    pub(crate) fn play(&mut self, alloc: Global, line: &RowLine<'_>) -> Result<RowAnswer, RowFault> {
         match line.verb() {
             "com" => self.com(alloc, line.arguments()),
             "type" => self.type_keys(alloc, line),
@@ -33,7 +33,7 @@ impl Programs {
     }
 
     /// Copies of the drives.
-    pub(crate) fn drives(&self, alloc: Global) -> Result<Vec<Image>, Fault> {
+    pub(crate) fn drives(&self, alloc: Global) -> Result<Vec<Image>, RowFault> {
         let mut drives = Vec::new(alloc);
         for drive in &self.drives {
             drives.push(drive.copy(alloc)?)?;
@@ -42,8 +42,8 @@ impl Programs {
     }
 
     /// What a program runs with.
-    fn start(&self, alloc: Global) -> Result<Start, Fault> {
-        Ok(Start {
+    fn start(&self, alloc: Global) -> Result<ProgramStart, RowFault> {
+        Ok(ProgramStart {
             cpu: self.cpu,
             program: Vec::from_slice(alloc, self.program.as_slice())?,
             tail: self.tail.clone()?,
@@ -55,14 +55,14 @@ impl Programs {
     pub(crate) fn keep(
         &mut self,
         alloc: Global,
-        outcome: Result<Typed, HostError>,
-    ) -> Result<Answer, Fault> {
+        outcome: Result<LiveResult, HostError>,
+    ) -> Result<RowAnswer, RowFault> {
         match outcome {
             Ok(typed) => {
                 let ending = typed.ran.ending;
                 self.played = Some(typed);
                 self.status = 0;
-                Answer::words(alloc, ending)
+                RowAnswer::words(alloc, ending)
             }
             Err(error) => self.refuse(alloc, error),
         }
@@ -70,7 +70,7 @@ impl Programs {
 
     /// `com`: runs the program by the keys of the script. `com waiting`: the script may wait. `com stop-idle`: and the program stops where it waits for a
     /// key and none will come. How it ended.
-    fn com(&mut self, alloc: Global, arguments: &[Word<'_>]) -> Result<Answer, Fault> {
+    fn com(&mut self, alloc: Global, arguments: &[Word<'_>]) -> Result<RowAnswer, RowFault> {
         let start = self.start(alloc)?;
         self.out.bytes.clear();
         self.record.clear();
@@ -78,13 +78,13 @@ impl Programs {
             [] => self.run(alloc, start),
             [word] if word.text == "waiting" => self.run_waiting(alloc, start, false),
             [word] if word.text == "stop-idle" => self.run_waiting(alloc, start, true),
-            _ => return Err(Fault::Words),
+            _ => return Err(RowFault::Words),
         };
         self.keep(alloc, outcome)
     }
 
     /// Runs the program by the keys of the script.
-    fn run(&mut self, alloc: Global, start: Start) -> Result<Typed, HostError> {
+    fn run(&mut self, alloc: Global, start: ProgramStart) -> Result<LiveResult, HostError> {
         let script = script_in(&self.keys);
         let ran = run_com(
             alloc,
@@ -94,7 +94,7 @@ impl Programs {
             &mut self.out,
             &mut Unwatched,
         )?;
-        Ok(Typed {
+        Ok(LiveResult {
             steps: ran.ending.count,
             ran,
             keys: Vec::new(alloc),
@@ -106,11 +106,11 @@ impl Programs {
     fn run_waiting(
         &mut self,
         alloc: Global,
-        start: Start,
+        start: ProgramStart,
         stops_idle: bool,
-    ) -> Result<Typed, HostError> {
+    ) -> Result<LiveResult, HostError> {
         let cues = cues_of(alloc, script_of(KEYS, &self.keys))?;
-        let cued = Cued {
+        let cued = CuedKeys {
             cues: cues.as_slice(),
             waits_from: 0,
             stops_idle,
@@ -120,7 +120,7 @@ impl Programs {
     }
 
     /// `type BYTES`: these keys are typed at the program. How it ended.
-    fn type_keys(&mut self, alloc: Global, line: &Line<'_>) -> Result<Answer, Fault> {
+    fn type_keys(&mut self, alloc: Global, line: &RowLine<'_>) -> Result<RowAnswer, RowFault> {
         let keys = line.given(alloc, line.arguments())?;
         let start = self.start(alloc)?;
         self.out.bytes.clear();
@@ -132,7 +132,7 @@ impl Programs {
     }
 
     /// `replay`: whether the record of the keys, as a script, gives the same end and the same text.
-    fn replay(&mut self, alloc: Global) -> Result<Answer, Fault> {
+    fn replay(&mut self, alloc: Global) -> Result<RowAnswer, RowFault> {
         let start = self.start(alloc)?;
         let script = script_of("record", &self.record);
         let typed = self.played()?;
@@ -148,7 +148,7 @@ impl Programs {
             Ok(ran) => {
                 let is_same = ran.ending == typed.ran.ending
                     && again.as_slice() == self.out.bytes.as_slice();
-                Answer::truth(alloc, is_same)
+                RowAnswer::truth(alloc, is_same)
             }
             Err(error) => self.refuse(alloc, error),
         }

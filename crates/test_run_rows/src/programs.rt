@@ -4,10 +4,10 @@ use crate::given::{count_of, cpu_of};
 use crate::recorder::Recorder;
 use cpm_flags::Cpu;
 use cpm_geom::Image;
-use cpm_host::{HostError, Tail, Typed};
+use cpm_host::{HostError, Tail, LiveResult};
 use std::alloc::{AllocError, Global};
 use test_images::Images;
-use test_language::{Answer, Fault, Line, Scene};
+use test_language::{RowAnswer, RowFault, RowLine, Scene};
 
 /// How many steps a program has where no line says it.
 const STEPS: u64 = 1_000_000;
@@ -30,7 +30,7 @@ pub struct Programs {
     pub(crate) out: Recorder,
     /// The record of the keys.
     pub(crate) record: Vec<u8>,
-    pub(crate) played: Option<Typed>,
+    pub(crate) played: Option<LiveResult>,
     /// The exit status of the last command.
     pub(crate) status: u8,
 }
@@ -88,7 +88,7 @@ impl Scene for Programs {
         )
     }
 
-    fn act(&mut self, alloc: Global, line: &Line<'_>) -> Result<Answer, Fault> {
+    fn act(&mut self, alloc: Global, line: &RowLine<'_>) -> Result<RowAnswer, RowFault> {
         match line.verb() {
             "cpu"
             | "program"
@@ -117,7 +117,7 @@ impl Scene for Programs {
 
 impl Programs {
     /// Does a line that gives something to the commands.
-    fn give(&mut self, alloc: Global, line: &Line<'_>) -> Result<Answer, Fault> {
+    fn give(&mut self, alloc: Global, line: &RowLine<'_>) -> Result<RowAnswer, RowFault> {
         let arguments = line.arguments();
         match line.verb() {
             "cpu" => self.cpu = cpu_of(arguments)?,
@@ -133,12 +133,12 @@ impl Programs {
             "room" => self.out.fails_at = Some(count_of(arguments)?),
             _ => self.out.most = count_of(arguments)?,
         }
-        Ok(Answer::Done)
+        Ok(RowAnswer::Done)
     }
 
     /// Keeps the status of a refusal, and answers its text.
-    pub(crate) fn refuse(&mut self, alloc: Global, error: HostError) -> Result<Answer, Fault> {
+    pub(crate) fn refuse(&mut self, alloc: Global, error: HostError) -> Result<RowAnswer, RowFault> {
         self.status = error.status();
-        Answer::refused_text(alloc, &error)
+        RowAnswer::refused_text(alloc, &error)
     }
 }

@@ -6,7 +6,7 @@ use cpm_geom::Image;
 use cpm_host::{Config, HostError, MemoryStore, Report, Store, Unwatched, judge_host, run_host};
 use std::alloc::{AllocError, Global};
 use test_images::Images;
-use test_language::{Answer, Fault, Line, Scene, Word, number};
+use test_language::{RowAnswer, RowFault, RowLine, Scene, Word, number};
 
 /// The exit status of a configuration that is refused.
 const CONFIG_REFUSED: u8 = 2;
@@ -40,7 +40,7 @@ impl Scene for Runs {
         matches!(verb, "config" | "file")
     }
 
-    fn act(&mut self, alloc: Global, line: &Line<'_>) -> Result<Answer, Fault> {
+    fn act(&mut self, alloc: Global, line: &RowLine<'_>) -> Result<RowAnswer, RowFault> {
         let arguments = line.arguments();
         match line.verb() {
             "config" => self.add(line),
@@ -54,7 +54,7 @@ impl Scene for Runs {
             "judge" => self.judge(alloc),
             "cuts" => self.cuts(alloc),
             "illegal" => self.illegal(alloc, arguments),
-            "status" => Answer::words(alloc, self.status),
+            "status" => RowAnswer::words(alloc, self.status),
             _ => self.images.act(alloc, line),
         }
     }
@@ -75,7 +75,7 @@ fn status_of(outcome: &Result<Report, HostError>) -> u8 {
 }
 
 /// The lines of a report.
-fn report_lines(alloc: Global, report: &Report) -> Result<String, Fault> {
+fn report_lines(alloc: Global, report: &Report) -> Result<String, RowFault> {
     let mut lines = String::new(alloc);
     for session in report {
         if !lines.as_str().is_empty() {
@@ -88,113 +88,113 @@ fn report_lines(alloc: Global, report: &Report) -> Result<String, Fault> {
 
 impl Runs {
     /// `config`, with lines behind it: adds them to the configuration.
-    fn add(&mut self, line: &Line<'_>) -> Result<Answer, Fault> {
+    fn add(&mut self, line: &RowLine<'_>) -> Result<RowAnswer, RowFault> {
         self.config.push_str(line.text.as_str())?;
-        Ok(Answer::Done)
+        Ok(RowAnswer::Done)
     }
 
     /// `set KEY VALUE`: the first line of the configuration with this key gives it this value.
-    fn set(&mut self, alloc: Global, arguments: &[Word<'_>]) -> Result<Answer, Fault> {
+    fn set(&mut self, alloc: Global, arguments: &[Word<'_>]) -> Result<RowAnswer, RowFault> {
         let [key, value @ ..] = arguments else {
-            return Err(Fault::Words);
+            return Err(RowFault::Words);
         };
         match changed(alloc, self.config.as_str(), key.text, value)? {
             Some(config) => {
                 self.config = config;
-                Ok(Answer::Done)
+                Ok(RowAnswer::Done)
             }
-            None => Err(Fault::Absent),
+            None => Err(RowFault::Absent),
         }
     }
 
     /// `file NAME BYTES`, or `file NAME image IMAGE`: the file of this name. Without bytes: what it holds, or `none`.
-    fn file(&mut self, alloc: Global, line: &Line<'_>) -> Result<Answer, Fault> {
+    fn file(&mut self, alloc: Global, line: &RowLine<'_>) -> Result<RowAnswer, RowFault> {
         let [name, words @ ..] = line.arguments() else {
-            return Err(Fault::Words);
+            return Err(RowFault::Words);
         };
         let given = bytes_given(alloc, &self.images, line, words)?;
         if words.is_empty() && given.is_empty() {
             return match self.store.file(name.text) {
-                Some(bytes) => Answer::bytes(alloc, bytes),
-                None => Answer::words(alloc, "none"),
+                Some(bytes) => RowAnswer::bytes(alloc, bytes),
+                None => RowAnswer::words(alloc, "none"),
             };
         }
         match self.store.write(name.text, given.as_slice()) {
-            Ok(()) => Ok(Answer::Done),
-            Err(error) => Answer::refused(alloc, error),
+            Ok(()) => Ok(RowAnswer::Done),
+            Err(error) => RowAnswer::refused(alloc, error),
         }
     }
 
     /// The bytes of a file.
-    fn bytes_of(&self, name: Word<'_>) -> Result<&[u8], Fault> {
+    fn bytes_of(&self, name: Word<'_>) -> Result<&[u8], RowFault> {
         match self.store.file(name.text) {
             Some(bytes) => Ok(bytes),
-            None => Err(Fault::Absent),
+            None => Err(RowFault::Absent),
         }
     }
 
     /// `length NAME`: how many bytes a file has.
-    fn length(&self, alloc: Global, arguments: &[Word<'_>]) -> Result<Answer, Fault> {
+    fn length(&self, alloc: Global, arguments: &[Word<'_>]) -> Result<RowAnswer, RowFault> {
         let [name] = arguments else {
-            return Err(Fault::Words);
+            return Err(RowFault::Words);
         };
-        Answer::words(alloc, self.bytes_of(*name)?.len())
+        RowAnswer::words(alloc, self.bytes_of(*name)?.len())
     }
 
     /// `same NAME OTHER`: whether two files hold the same bytes.
-    fn same(&self, alloc: Global, arguments: &[Word<'_>]) -> Result<Answer, Fault> {
+    fn same(&self, alloc: Global, arguments: &[Word<'_>]) -> Result<RowAnswer, RowFault> {
         let [name, other] = arguments else {
-            return Err(Fault::Words);
+            return Err(RowFault::Words);
         };
-        Answer::truth(alloc, self.bytes_of(*name)? == self.bytes_of(*other)?)
+        RowAnswer::truth(alloc, self.bytes_of(*name)? == self.bytes_of(*other)?)
     }
 
     /// `load IMAGE NAME`: the image is the one that the file holds.
-    fn load(&mut self, alloc: Global, arguments: &[Word<'_>]) -> Result<Answer, Fault> {
+    fn load(&mut self, alloc: Global, arguments: &[Word<'_>]) -> Result<RowAnswer, RowFault> {
         let [image, name] = arguments else {
-            return Err(Fault::Words);
+            return Err(RowFault::Words);
         };
         let bytes = Vec::from_slice(alloc, self.bytes_of(*name)?)?;
         match Image::from_bytes(bytes) {
             Ok(loaded) => self.images.put(alloc, image.text, loaded)?,
-            Err(_) => return Err(Fault::Absent),
+            Err(_) => return Err(RowFault::Absent),
         }
-        Ok(Answer::Done)
+        Ok(RowAnswer::Done)
     }
 
     /// `fail-call N`: the Nth call of the store from here on fails.
-    fn fail_call(&mut self, arguments: &[Word<'_>]) -> Result<Answer, Fault> {
+    fn fail_call(&mut self, arguments: &[Word<'_>]) -> Result<RowAnswer, RowFault> {
         let [call] = arguments else {
-            return Err(Fault::Words);
+            return Err(RowFault::Words);
         };
         let call = number(*call)?;
         if call == 0 {
-            return Err(Fault::Unready);
+            return Err(RowFault::Unready);
         }
         self.store.fail_call(call);
-        Ok(Answer::Done)
+        Ok(RowAnswer::Done)
     }
 
     /// Keeps the status of a refusal, and answers its text.
-    fn refuse(&mut self, alloc: Global, error: HostError) -> Result<Answer, Fault> {
+    fn refuse(&mut self, alloc: Global, error: HostError) -> Result<RowAnswer, RowFault> {
         self.status = error.status();
-        Answer::refused_text(alloc, &error)
+        RowAnswer::refused_text(alloc, &error)
     }
 
     /// `run`: runs the sessions. The line that reports each.
-    fn run(&mut self, alloc: Global) -> Result<Answer, Fault> {
+    fn run(&mut self, alloc: Global) -> Result<RowAnswer, RowFault> {
         match run(alloc, self.config.as_bytes(), &mut self.store) {
             Ok(report) => {
                 self.report = report;
                 self.status = 0;
-                Ok(Answer::Words(report_lines(alloc, &self.report)?))
+                Ok(RowAnswer::Words(report_lines(alloc, &self.report)?))
             }
             Err(error) => self.refuse(alloc, error),
         }
     }
 
     /// `judge`: judges the configuration, and plays nothing: `judged`.
-    fn judge(&mut self, alloc: Global) -> Result<Answer, Fault> {
+    fn judge(&mut self, alloc: Global) -> Result<RowAnswer, RowFault> {
         match Config::read(alloc, self.config.as_bytes()) {
             Ok(config) => self.judge_config(alloc, &config),
             Err(error) => self.refuse(alloc, HostError::from(error)),
@@ -202,21 +202,21 @@ impl Runs {
     }
 
     /// Judges a configuration that was read.
-    fn judge_config(&mut self, alloc: Global, config: &Config) -> Result<Answer, Fault> {
+    fn judge_config(&mut self, alloc: Global, config: &Config) -> Result<RowAnswer, RowFault> {
         match judge_host(alloc, config, &mut self.store) {
             Ok(()) => {
                 self.status = 0;
-                Answer::words(alloc, "judged")
+                RowAnswer::words(alloc, "judged")
             }
             Err(error) => {
                 self.status = error.status();
-                Answer::refused_text(alloc, &error)
+                RowAnswer::refused_text(alloc, &error)
             }
         }
     }
 
     /// `cuts`: runs each beginning of the configuration, from no byte up to all. How many were run, and how many refused as configurations.
-    fn cuts(&mut self, alloc: Global) -> Result<Answer, Fault> {
+    fn cuts(&mut self, alloc: Global) -> Result<RowAnswer, RowFault> {
         let (mut runs, mut refusals) = (0u64, 0u64);
         let bytes = self.config.as_bytes();
         for end in 0..=bytes.len() {
@@ -224,21 +224,21 @@ impl Runs {
             match status_of(&outcome) {
                 0 => runs = runs.saturating_add(1),
                 CONFIG_REFUSED => refusals = refusals.saturating_add(1),
-                _ => return Answer::refused_text(alloc, "a beginning is refused otherwise"),
+                _ => return RowAnswer::refused_text(alloc, "a beginning is refused otherwise"),
             }
         }
-        Ok(Answer::Words(format!(in alloc; "{runs} run, {refusals} refused")?))
+        Ok(RowAnswer::Words(format!(in alloc; "{runs} run, {refusals} refused")?))
     }
 
     /// `illegal N`: the bytes that are no instruction at which the Nth session ended, or `none`.
-    fn illegal(&self, alloc: Global, arguments: &[Word<'_>]) -> Result<Answer, Fault> {
+    fn illegal(&self, alloc: Global, arguments: &[Word<'_>]) -> Result<RowAnswer, RowFault> {
         let place = count_of(arguments)?.saturating_sub(1);
         match self.report.get(place) {
             Some(session) => match session.illegal() {
-                Some(bytes) => Answer::words(alloc, bytes),
-                None => Answer::words(alloc, "none"),
+                Some(bytes) => RowAnswer::words(alloc, bytes),
+                None => RowAnswer::words(alloc, "none"),
             },
-            None => Err(Fault::Absent),
+            None => Err(RowFault::Absent),
         }
     }
 }

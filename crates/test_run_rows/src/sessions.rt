@@ -5,18 +5,18 @@ use crate::played::{KEYS, script_of};
 use crate::programs::Programs;
 use cpm_geom::{Format, Image};
 use cpm_host::{
-    Cued, HostError, Opening, SessionStart, Typed, Unwatched, cues_of, forked_cues_of,
+    CuedKeys, HostError, Opening, SessionStart, LiveResult, Unwatched, cues_of, forked_cues_of,
     rehearse_session, type_session,
 };
 use std::alloc::Global;
-use test_language::{Answer, Fault, Line, Word, number};
+use test_language::{RowAnswer, RowFault, RowLine, Word, number};
 
 /// The pages of a session's quota.
 const QUOTA: u16 = 16;
 
 impl Programs {
     /// The session `one` with these drives.
-    fn session_start(&self, alloc: Global) -> Result<SessionStart<'static>, Fault> {
+    fn session_start(&self, alloc: Global) -> Result<SessionStart<'static>, RowFault> {
         Ok(SessionStart {
             name: "one",
             opening: Opening {
@@ -29,7 +29,7 @@ impl Programs {
     }
 
     /// `session BYTES`: these keys are typed at a session of 16 pages with the drives. How it stands.
-    pub(crate) fn session(&mut self, alloc: Global, line: &Line<'_>) -> Result<Answer, Fault> {
+    pub(crate) fn session(&mut self, alloc: Global, line: &RowLine<'_>) -> Result<RowAnswer, RowFault> {
         let keys = line.given(alloc, line.arguments())?;
         let start = self.session_start(alloc)?;
         let system = Image::blank(alloc, Format::Ibm3740)?;
@@ -46,9 +46,9 @@ impl Programs {
         &mut self,
         alloc: Global,
         arguments: &[Word<'_>],
-    ) -> Result<Answer, Fault> {
+    ) -> Result<RowAnswer, RowFault> {
         let [waits_from] = arguments else {
-            return Err(Fault::Words);
+            return Err(RowFault::Words);
         };
         let waits_from = number(*waits_from)?;
         let start = self.session_start(alloc)?;
@@ -62,9 +62,9 @@ impl Programs {
         alloc: Global,
         start: SessionStart<'_>,
         waits_from: u64,
-    ) -> Result<Typed, HostError> {
+    ) -> Result<LiveResult, HostError> {
         let cues = cues_of(alloc, script_of(KEYS, &self.keys))?;
-        let cued = Cued {
+        let cued = CuedKeys {
             cues: cues.as_slice(),
             waits_from,
             stops_idle: true,
@@ -78,14 +78,14 @@ impl Programs {
         &mut self,
         alloc: Global,
         arguments: &[Word<'_>],
-    ) -> Result<Answer, Fault> {
+    ) -> Result<RowAnswer, RowFault> {
         let [at] = arguments else {
-            return Err(Fault::Words);
+            return Err(RowFault::Words);
         };
         let parent = script_of("one.keys", &self.parent);
         let own = script_of("own.keys", &self.keys);
         match forked_cues_of(alloc, parent, number(*at)?, own) {
-            Ok(forked) => Ok(Answer::Words(cue_lines(alloc, &forked)?)),
+            Ok(forked) => Ok(RowAnswer::Words(cue_lines(alloc, &forked)?)),
             Err(error) => self.refuse(alloc, error),
         }
     }

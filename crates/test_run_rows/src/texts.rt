@@ -4,11 +4,11 @@ use crate::given::bytes_given;
 use crate::programs::Programs;
 use cpm_host::{HostError, run_asm, run_asm_listed, run_check, run_debug, run_list};
 use std::alloc::Global;
-use test_language::{Answer, Fault, Line};
+use test_language::{RowAnswer, RowFault, RowLine};
 
 impl Programs {
     /// Does a line that runs such a command.
-    pub(crate) fn write(&mut self, alloc: Global, line: &Line<'_>) -> Result<Answer, Fault> {
+    pub(crate) fn write(&mut self, alloc: Global, line: &RowLine<'_>) -> Result<RowAnswer, RowFault> {
         self.out.bytes.clear();
         match line.verb() {
             "asm" => self.asm(alloc),
@@ -20,7 +20,7 @@ impl Programs {
     }
 
     /// `asm`: assembles the source. The program's bytes.
-    fn asm(&mut self, alloc: Global) -> Result<Answer, Fault> {
+    fn asm(&mut self, alloc: Global) -> Result<RowAnswer, RowFault> {
         match run_asm(alloc, self.source.as_slice()) {
             Ok(image) => {
                 self.program = image;
@@ -31,7 +31,7 @@ impl Programs {
     }
 
     /// `asm-listed`: the same, and `listing` is the listing of the source.
-    fn asm_listed(&mut self, alloc: Global) -> Result<Answer, Fault> {
+    fn asm_listed(&mut self, alloc: Global) -> Result<RowAnswer, RowFault> {
         match run_asm_listed(alloc, self.source.as_slice()) {
             Ok(listed) => {
                 self.program = listed.image;
@@ -43,42 +43,42 @@ impl Programs {
     }
 
     /// The program's bytes.
-    fn assembled(&mut self, alloc: Global) -> Result<Answer, Fault> {
+    fn assembled(&mut self, alloc: Global) -> Result<RowAnswer, RowFault> {
         self.status = 0;
-        Answer::bytes(alloc, self.program.as_slice())
+        RowAnswer::bytes(alloc, self.program.as_slice())
     }
 
     /// What the command wrote, if it wasn't refused.
-    fn wrote(&mut self, alloc: Global, outcome: Result<(), HostError>) -> Result<Answer, Fault> {
+    fn wrote(&mut self, alloc: Global, outcome: Result<(), HostError>) -> Result<RowAnswer, RowFault> {
         match outcome {
             Ok(()) => {
                 self.status = 0;
-                Answer::bytes(alloc, self.out.bytes.as_slice())
+                RowAnswer::bytes(alloc, self.out.bytes.as_slice())
             }
             Err(error) => self.refuse(alloc, error),
         }
     }
 
     /// `list`: the program's instructions.
-    fn list(&mut self, alloc: Global) -> Result<Answer, Fault> {
+    fn list(&mut self, alloc: Global) -> Result<RowAnswer, RowFault> {
         let outcome = run_list(self.cpu, self.program.as_slice(), &mut self.out);
         self.wrote(alloc, outcome)
     }
 
     /// `check BYTES`, or `check image NAME`: checks an image in the file `d.img`.
-    fn check(&mut self, alloc: Global, line: &Line<'_>) -> Result<Answer, Fault> {
+    fn check(&mut self, alloc: Global, line: &RowLine<'_>) -> Result<RowAnswer, RowFault> {
         let bytes = bytes_given(alloc, &self.images, line, line.arguments())?;
         match run_check("d.img", bytes, &mut self.out) {
             Ok(()) => self.wrote(alloc, Ok(())),
             Err(error) => {
                 self.status = error.status();
-                Answer::refused_text(alloc, &error)
+                RowAnswer::refused_text(alloc, &error)
             }
         }
     }
 
     /// `debug BYTES`: what the debugger answers to these orders, with the program and its listing. Without bytes: to those given by `orders`.
-    fn debug(&mut self, alloc: Global, line: &Line<'_>) -> Result<Answer, Fault> {
+    fn debug(&mut self, alloc: Global, line: &RowLine<'_>) -> Result<RowAnswer, RowFault> {
         let arguments = line.arguments();
         if !arguments.is_empty() {
             self.orders = line.given(alloc, arguments)?;
@@ -89,7 +89,7 @@ impl Programs {
         match run_debug(alloc, self.cpu, program, listing, &mut input, &mut self.out) {
             Ok(()) => self.wrote(alloc, Ok(())),
             Err(error) => {
-                let answer = Answer::refused_text(alloc, &error);
+                let answer = RowAnswer::refused_text(alloc, &error);
                 let error = HostError::from(error);
                 self.status = error.status();
                 answer

@@ -3,7 +3,7 @@
 use crate::tasks::shown_task;
 use cpm_command_line::{HELP_TEXT, command, help};
 use std::alloc::{AllocError, Global};
-use test_language::{Answer, Fault, Line, Scene, Word, bytes_of};
+use test_language::{RowAnswer, RowFault, RowLine, Scene, Word, bytes_of};
 
 /// Command lines have nothing behind them that they work on.
 #[derive(Drop)]
@@ -22,39 +22,39 @@ impl Scene for CommandLines {
         false
     }
 
-    fn act(&mut self, alloc: Global, line: &Line<'_>) -> Result<Answer, Fault> {
+    fn act(&mut self, alloc: Global, line: &RowLine<'_>) -> Result<RowAnswer, RowFault> {
         match line.verb() {
             "cpmhost" => named(alloc, line.words.as_slice()),
             "line" => named(alloc, line.arguments()),
             "help" => asked(alloc, line.arguments()),
-            _ => Err(Fault::Unknown),
+            _ => Err(RowFault::Unknown),
         }
     }
 }
 
 /// `cpmhost WORDS`, and `line WORDS` with another name of the program or without one: the task, or what is said of the words.
-fn named(alloc: Global, words: &[Word<'_>]) -> Result<Answer, Fault> {
+fn named(alloc: Global, words: &[Word<'_>]) -> Result<RowAnswer, RowFault> {
     let texts = texts_of(alloc, words)?;
     let words = borrowed(alloc, texts.as_slice())?;
     match command(alloc, words.as_slice()) {
-        Ok(task) => Ok(Answer::Words(shown_task(alloc, &task)?)),
-        Err(error) => Answer::refused_text(alloc, error),
+        Ok(task) => Ok(RowAnswer::Words(shown_task(alloc, &task)?)),
+        Err(error) => RowAnswer::refused_text(alloc, error),
     }
 }
 
 /// `help WORDS`: whether the words ask for the help.
-fn asked(alloc: Global, words: &[Word<'_>]) -> Result<Answer, Fault> {
+fn asked(alloc: Global, words: &[Word<'_>]) -> Result<RowAnswer, RowFault> {
     let texts = texts_of(alloc, words)?;
     let words = borrowed(alloc, texts.as_slice())?;
     match help(words.as_slice()) {
-        Some(text) if text == HELP_TEXT => Answer::truth(alloc, true),
-        Some(_) => Answer::words(alloc, "another text"),
-        None => Answer::truth(alloc, false),
+        Some(text) if text == HELP_TEXT => RowAnswer::truth(alloc, true),
+        Some(_) => RowAnswer::words(alloc, "another text"),
+        None => RowAnswer::truth(alloc, false),
     }
 }
 
 /// The texts that words stand for: as they are, or in quotes with escapes.
-fn texts_of(alloc: Global, words: &[Word<'_>]) -> Result<Vec<String>, Fault> {
+fn texts_of(alloc: Global, words: &[Word<'_>]) -> Result<Vec<String>, RowFault> {
     let mut texts = Vec::new(alloc);
     for word in words {
         let bytes = if word.is_quoted {
@@ -64,14 +64,14 @@ fn texts_of(alloc: Global, words: &[Word<'_>]) -> Result<Vec<String>, Fault> {
         };
         match String::from_utf8(bytes) {
             Ok(text) => texts.push(text)?,
-            Err(_) => return Err(Fault::Bytes),
+            Err(_) => return Err(RowFault::Bytes),
         }
     }
     Ok(texts)
 }
 
 /// The same texts, borrowed.
-fn borrowed(alloc: Global, texts: &[String]) -> Result<Vec<&str>, Fault> {
+fn borrowed(alloc: Global, texts: &[String]) -> Result<Vec<&str>, RowFault> {
     let mut words = Vec::new(alloc);
     for text in texts {
         words.push(text.as_str())?;

@@ -1,9 +1,9 @@
 //! Configurations: what is read of them, and why others are refused.
 
 use crate::sessions::{shown_config, shown_refusal};
-use cpm_config::{Config, ConfigError, Origin, Session, place_of};
+use cpm_config::{Config, ConfigError, Origin, SessionConfig, place_of};
 use std::alloc::{AllocError, Global};
-use test_language::{Answer, Fault, Line, Scene, Word, count, number};
+use test_language::{RowAnswer, RowFault, RowLine, Scene, Word, count, number};
 
 /// The most copies of a text that are added.
 const MOST_COPIES: usize = 100;
@@ -36,16 +36,16 @@ impl Scene for Configurations {
         matches!(verb, "text" | "add" | "change" | "changed" | "copies")
     }
 
-    fn act(&mut self, alloc: Global, line: &Line<'_>) -> Result<Answer, Fault> {
+    fn act(&mut self, alloc: Global, line: &RowLine<'_>) -> Result<RowAnswer, RowFault> {
         match line.verb() {
             "text" => {
                 self.text = line.given(alloc, line.arguments())?;
-                Ok(Answer::Done)
+                Ok(RowAnswer::Done)
             }
             "add" => self.add(alloc, line),
             "change" => {
                 self.text = changed(alloc, self.text.as_slice(), line.text.as_str())?;
-                Ok(Answer::Done)
+                Ok(RowAnswer::Done)
             }
             "changed" => self.read_changed(alloc, line.text.as_str()),
             "copies" => self.add_copies(alloc, line.text.as_str()),
@@ -55,22 +55,22 @@ impl Scene for Configurations {
             "fork" => self.fork(alloc, line.arguments()),
             "rename" => self.rename(alloc, line.arguments()),
             "place" => self.place(alloc, line.arguments()),
-            "told" => Answer::words(alloc, self.told.as_str()),
-            _ => Err(Fault::Unknown),
+            "told" => RowAnswer::words(alloc, self.told.as_str()),
+            _ => Err(RowFault::Unknown),
         }
     }
 }
 
 impl Configurations {
     /// `add TEXT`: adds it to the text.
-    fn add(&mut self, alloc: Global, line: &Line<'_>) -> Result<Answer, Fault> {
+    fn add(&mut self, alloc: Global, line: &RowLine<'_>) -> Result<RowAnswer, RowFault> {
         let more = line.given(alloc, line.arguments())?;
         self.text.extend_from_slice(more.as_slice())?;
-        Ok(Answer::Done)
+        Ok(RowAnswer::Done)
     }
 
     /// `read`: what the text says.
-    fn read(&mut self, alloc: Global) -> Result<Answer, Fault> {
+    fn read(&mut self, alloc: Global) -> Result<RowAnswer, RowFault> {
         match Config::read(alloc, self.text.as_slice()) {
             Ok(config) => {
                 let answer = shown_config(alloc, &config)?;
@@ -82,37 +82,37 @@ impl Configurations {
     }
 
     /// `sessions`: how many sessions the text has.
-    fn count_sessions(&mut self, alloc: Global) -> Result<Answer, Fault> {
+    fn count_sessions(&mut self, alloc: Global) -> Result<RowAnswer, RowFault> {
         match Config::read(alloc, self.text.as_slice()) {
-            Ok(config) => Answer::words(alloc, config.sessions.len()),
+            Ok(config) => RowAnswer::words(alloc, config.sessions.len()),
             Err(error) => self.refused(alloc, error),
         }
     }
 
     /// `changed`, with a change between marks: `taken` where the text is read with it. The text stays as it is.
-    fn read_changed(&mut self, alloc: Global, change: &str) -> Result<Answer, Fault> {
+    fn read_changed(&mut self, alloc: Global, change: &str) -> Result<RowAnswer, RowFault> {
         let text = changed(alloc, self.text.as_slice(), change)?;
         match Config::read(alloc, text.as_slice()) {
-            Ok(_) => Answer::words(alloc, "taken"),
+            Ok(_) => RowAnswer::words(alloc, "taken"),
             Err(error) => self.refused(alloc, error),
         }
     }
 
     /// `copies`, with a text between marks: adds copies of it, with their numbers in place of `%`, until the whole is refused.
-    fn add_copies(&mut self, alloc: Global, copy: &str) -> Result<Answer, Fault> {
+    fn add_copies(&mut self, alloc: Global, copy: &str) -> Result<RowAnswer, RowFault> {
         for number in 1..=MOST_COPIES {
             add_copy(alloc, &mut self.text, copy, number)?;
             if let Err(error) = Config::read(alloc, self.text.as_slice()) {
                 let (taken, refusal) = (number.saturating_sub(1), shown_refusal(alloc, error)?);
-                return Answer::words(alloc, format!(in alloc; "{taken} taken, then {refusal}")?);
+                return RowAnswer::words(alloc, format!(in alloc; "{taken} taken, then {refusal}")?);
             }
         }
-        Answer::words(alloc, "all taken")
+        RowAnswer::words(alloc, "all taken")
     }
 
     /// `prefixes`: the fewest and the most sessions of the beginnings of the text that are read; the others are refused, and not
     /// for want of memory.
-    fn read_prefixes(&self, alloc: Global) -> Result<Answer, Fault> {
+    fn read_prefixes(&self, alloc: Global) -> Result<RowAnswer, RowFault> {
         let (mut least, mut most, mut refused) = (usize::MAX, 0, 0);
         let bytes = self.text.as_slice();
         for end in 0..=bytes.len() {
@@ -121,12 +121,12 @@ impl Configurations {
                     least = least.min(config.sessions.len());
                     most = most.max(config.sessions.len());
                 }
-                Err(ConfigError::OutOfMemory) => return Err(Fault::OutOfMemory),
+                Err(ConfigError::OutOfMemory) => return Err(RowFault::OutOfMemory),
                 Err(_) => refused = 1,
             }
         }
         let others = if refused == 0 { "" } else { " or refused" };
-        Answer::words(
+        RowAnswer::words(
             alloc,
             format!(in alloc; "{least} to {most} sessions{others}")?,
         )
@@ -134,9 +134,9 @@ impl Configurations {
 
     /// `fork SESSION PARENT AT STEPS`: the session of this number, from 1, is forked so, and the place at which a fork of the
     /// configuration breaks a rule then, or `none`.
-    fn fork(&mut self, alloc: Global, arguments: &[Word<'_>]) -> Result<Answer, Fault> {
+    fn fork(&mut self, alloc: Global, arguments: &[Word<'_>]) -> Result<RowAnswer, RowFault> {
         let [place, parent, at, steps] = arguments else {
-            return Err(Fault::Words);
+            return Err(RowFault::Words);
         };
         let (at, steps) = (number(*at)?, number(*steps)?);
         let parent = String::from_str(alloc, parent.text)?;
@@ -144,70 +144,70 @@ impl Configurations {
         session.origin = Origin::Forked { parent, at };
         session.steps = steps;
         let Some(config) = &self.config else {
-            return Err(Fault::Absent);
+            return Err(RowFault::Absent);
         };
         match config.fork_fault() {
-            Some(place) => Answer::words(alloc, place),
-            None => Answer::words(alloc, "none"),
+            Some(place) => RowAnswer::words(alloc, place),
+            None => RowAnswer::words(alloc, "none"),
         }
     }
 
     /// `rename SESSION NAME`: the session of this number, from 1, has another name.
-    fn rename(&mut self, alloc: Global, arguments: &[Word<'_>]) -> Result<Answer, Fault> {
+    fn rename(&mut self, alloc: Global, arguments: &[Word<'_>]) -> Result<RowAnswer, RowFault> {
         let [place, name] = arguments else {
-            return Err(Fault::Words);
+            return Err(RowFault::Words);
         };
         let name = String::from_str(alloc, name.text)?;
         self.session(*place)?.name = name;
-        Ok(Answer::Done)
+        Ok(RowAnswer::Done)
     }
 
     /// `place NAME`: the place of a session, from 0, or `none`. Before anything was read there are no sessions.
-    fn place(&self, alloc: Global, arguments: &[Word<'_>]) -> Result<Answer, Fault> {
+    fn place(&self, alloc: Global, arguments: &[Word<'_>]) -> Result<RowAnswer, RowFault> {
         let [name] = arguments else {
-            return Err(Fault::Words);
+            return Err(RowFault::Words);
         };
         let sessions = match &self.config {
             Some(config) => config.sessions.as_slice(),
             None => &[],
         };
         match place_of(sessions, name.text) {
-            Some(place) => Answer::words(alloc, place),
-            None => Answer::words(alloc, "none"),
+            Some(place) => RowAnswer::words(alloc, place),
+            None => RowAnswer::words(alloc, "none"),
         }
     }
 
     /// The session of this number, from 1, of what was read last.
-    fn session(&mut self, word: Word<'_>) -> Result<&mut Session, Fault> {
+    fn session(&mut self, word: Word<'_>) -> Result<&mut SessionConfig, RowFault> {
         let place = count(word)?.saturating_sub(1);
         let Some(config) = &mut self.config else {
-            return Err(Fault::Absent);
+            return Err(RowFault::Absent);
         };
-        config.sessions.get_mut(place).ok_or(Fault::Absent)
+        config.sessions.get_mut(place).ok_or(RowFault::Absent)
     }
 
     /// A refusal by its kind and its place.
-    fn refused(&mut self, alloc: Global, error: ConfigError) -> Result<Answer, Fault> {
+    fn refused(&mut self, alloc: Global, error: ConfigError) -> Result<RowAnswer, RowFault> {
         self.told = error.to_string(alloc)?;
-        Ok(Answer::Refused(shown_refusal(alloc, error)?))
+        Ok(RowAnswer::Refused(shown_refusal(alloc, error)?))
     }
 }
 
 /// A text with a change: in place of its lines that begin with `-` stand those that begin with `+`.
-fn changed(alloc: Global, text: &[u8], change: &str) -> Result<Vec<u8>, Fault> {
+fn changed(alloc: Global, text: &[u8], change: &str) -> Result<Vec<u8>, RowFault> {
     let (mut old, mut new) = (String::new(alloc), String::new(alloc));
     for line in change.lines() {
         match (line.strip_prefix('-'), line.strip_prefix('+')) {
             (Some(line), _) => add_line(&mut old, line)?,
             (None, Some(line)) => add_line(&mut new, line)?,
-            (None, None) => return Err(Fault::Words),
+            (None, None) => return Err(RowFault::Words),
         }
     }
     let Ok(text) = str::from_utf8(text) else {
-        return Err(Fault::Unready);
+        return Err(RowFault::Unready);
     };
     let Some((front, back)) = text.split_once(old.as_str()) else {
-        return Err(Fault::Absent);
+        return Err(RowFault::Absent);
     };
     let mut whole = Vec::from_slice(alloc, front.as_bytes())?;
     whole.extend_from_slice(new.as_str().as_bytes())?;
@@ -222,7 +222,7 @@ fn add_line(out: &mut String, line: &str) -> Result<(), AllocError> {
 }
 
 /// Adds a text with a number in place of each `%`.
-fn add_copy(alloc: Global, out: &mut Vec<u8>, copy: &str, number: usize) -> Result<(), Fault> {
+fn add_copy(alloc: Global, out: &mut Vec<u8>, copy: &str, number: usize) -> Result<(), RowFault> {
     let digits = format!(in alloc; "{number}")?;
     let mut is_first = true;
     for part in copy.split('%') {

@@ -11,10 +11,10 @@ pub use command_lines::CommandLines;
 pub use configurations::Configurations;
 pub use scripts::Scripts;
 use std::alloc::Global;
-use test_language::Fault;
+use test_language::RowFault;
 
 /// Adds values in quotes behind what they are, where there are some.
-fn add_texts(alloc: Global, out: &mut String, name: &str, values: &[&str]) -> Result<(), Fault> {
+fn add_texts(alloc: Global, out: &mut String, name: &str, values: &[&str]) -> Result<(), RowFault> {
     if values.is_empty() {
         return Ok(());
     }
@@ -26,7 +26,7 @@ fn add_texts(alloc: Global, out: &mut String, name: &str, values: &[&str]) -> Re
 }
 
 /// Adds a value in quotes behind what it is, where there is one.
-fn add_text(alloc: Global, out: &mut String, name: &str, value: Option<&str>) -> Result<(), Fault> {
+fn add_text(alloc: Global, out: &mut String, name: &str, value: Option<&str>) -> Result<(), RowFault> {
     match value {
         Some(value) => add_texts(alloc, out, name, &[value]),
         None => Ok(()),

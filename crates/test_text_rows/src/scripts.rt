@@ -5,7 +5,7 @@ use cpm_script::{
     read_forked_cues, read_forked_keys, read_keys,
 };
 use std::alloc::{AllocError, Global};
-use test_language::{Answer, Fault, Line, Scene, Word, byte, count, number};
+use test_language::{RowAnswer, RowFault, RowLine, Scene, Word, byte, count, number};
 
 /// The most keys of a script.
 const MOST_KEYS: usize = 4096;
@@ -38,15 +38,15 @@ impl Scene for Scripts {
         matches!(verb, "script" | "parent")
     }
 
-    fn act(&mut self, alloc: Global, line: &Line<'_>) -> Result<Answer, Fault> {
+    fn act(&mut self, alloc: Global, line: &RowLine<'_>) -> Result<RowAnswer, RowFault> {
         match line.verb() {
             "script" => {
                 self.script = line.given(alloc, line.arguments())?;
-                Ok(Answer::Done)
+                Ok(RowAnswer::Done)
             }
             "parent" => {
                 self.parent = line.given(alloc, line.arguments())?;
-                Ok(Answer::Done)
+                Ok(RowAnswer::Done)
             }
             "first" => self.cut(line.arguments()),
             "record" => self.record(alloc, line.arguments()),
@@ -57,26 +57,26 @@ impl Scene for Scripts {
             "is-plain" => self.is_plain(alloc),
             "plain-keys" => self.plain_keys(alloc),
             "forked-cues" => self.forked_cues(alloc, line.arguments()),
-            "told" => Answer::words(alloc, self.told.as_str()),
-            _ => Err(Fault::Unknown),
+            "told" => RowAnswer::words(alloc, self.told.as_str()),
+            _ => Err(RowFault::Unknown),
         }
     }
 }
 
 impl Scripts {
     /// `first N`: the script ends behind so many bytes.
-    fn cut(&mut self, arguments: &[Word<'_>]) -> Result<Answer, Fault> {
+    fn cut(&mut self, arguments: &[Word<'_>]) -> Result<RowAnswer, RowFault> {
         let [bytes] = arguments else {
-            return Err(Fault::Words);
+            return Err(RowFault::Words);
         };
         self.script.truncate(count(*bytes)?);
-        Ok(Answer::Done)
+        Ok(RowAnswer::Done)
     }
 
     /// `record COUNT KEY`: the line of a key, which is added to the script; `none` where the byte is no key.
-    fn record(&mut self, alloc: Global, arguments: &[Word<'_>]) -> Result<Answer, Fault> {
+    fn record(&mut self, alloc: Global, arguments: &[Word<'_>]) -> Result<RowAnswer, RowFault> {
         let [steps, key] = arguments else {
-            return Err(Fault::Words);
+            return Err(RowFault::Words);
         };
         let key = Key {
             count: number(*steps)?,
@@ -85,14 +85,14 @@ impl Scripts {
         match key_line(key) {
             Some(line) => {
                 self.script.extend_from_slice(line.as_str().as_bytes())?;
-                Answer::bytes(alloc, line.as_str().as_bytes())
+                RowAnswer::bytes(alloc, line.as_str().as_bytes())
             }
-            None => Answer::words(alloc, "none"),
+            None => RowAnswer::words(alloc, "none"),
         }
     }
 
     /// `keys`: the keys of the script.
-    fn keys(&mut self, alloc: Global) -> Result<Answer, Fault> {
+    fn keys(&mut self, alloc: Global) -> Result<RowAnswer, RowFault> {
         match read_keys(alloc, self.script.as_slice()) {
             Ok(keys) => shown_keys(alloc, keys.as_slice()),
             Err(error) => self.refused(alloc, error),
@@ -100,9 +100,9 @@ impl Scripts {
     }
 
     /// `keys-before COUNT`: those of them that come before this count.
-    fn keys_before(&mut self, alloc: Global, arguments: &[Word<'_>]) -> Result<Answer, Fault> {
+    fn keys_before(&mut self, alloc: Global, arguments: &[Word<'_>]) -> Result<RowAnswer, RowFault> {
         let [at] = arguments else {
-            return Err(Fault::Words);
+            return Err(RowFault::Words);
         };
         let at = number(*at)?;
         match read_keys(alloc, self.script.as_slice()) {
@@ -113,16 +113,16 @@ impl Scripts {
 
     /// `forked-keys COUNT`: the keys of a session with this script that is forked at this count, where those of the parent's
     /// script come before.
-    fn forked_keys(&mut self, alloc: Global, arguments: &[Word<'_>]) -> Result<Answer, Fault> {
+    fn forked_keys(&mut self, alloc: Global, arguments: &[Word<'_>]) -> Result<RowAnswer, RowFault> {
         let [at] = arguments else {
-            return Err(Fault::Words);
+            return Err(RowFault::Words);
         };
         let at = number(*at)?;
         let Ok(before) = read_keys(alloc, self.parent.as_slice()) else {
-            return Err(Fault::Unready);
+            return Err(RowFault::Unready);
         };
         if before.len() > MOST_KEYS {
-            return Err(Fault::Unready);
+            return Err(RowFault::Unready);
         }
         match read_forked_keys(alloc, self.script.as_slice(), at, before) {
             Ok(keys) => shown_keys(alloc, keys.as_slice()),
@@ -131,7 +131,7 @@ impl Scripts {
     }
 
     /// `cues`: what the script says, where some of its lines wait.
-    fn cues(&mut self, alloc: Global) -> Result<Answer, Fault> {
+    fn cues(&mut self, alloc: Global) -> Result<RowAnswer, RowFault> {
         match read_cues(alloc, self.script.as_slice()) {
             Ok(cues) => shown_cues(alloc, cues.as_slice()),
             Err(error) => self.refused(alloc, error),
@@ -139,15 +139,15 @@ impl Scripts {
     }
 
     /// `is-plain`: whether none of it waits.
-    fn is_plain(&mut self, alloc: Global) -> Result<Answer, Fault> {
+    fn is_plain(&mut self, alloc: Global) -> Result<RowAnswer, RowFault> {
         match read_cues(alloc, self.script.as_slice()) {
-            Ok(cues) => Answer::truth(alloc, is_plain(cues.as_slice())),
+            Ok(cues) => RowAnswer::truth(alloc, is_plain(cues.as_slice())),
             Err(error) => self.refused(alloc, error),
         }
     }
 
     /// `plain-keys`: the keys of its lines that have a count.
-    fn plain_keys(&mut self, alloc: Global) -> Result<Answer, Fault> {
+    fn plain_keys(&mut self, alloc: Global) -> Result<RowAnswer, RowFault> {
         match read_cues(alloc, self.script.as_slice()) {
             Ok(cues) => shown_keys(alloc, plain_keys(alloc, cues.as_slice())?.as_slice()),
             Err(error) => self.refused(alloc, error),
@@ -156,13 +156,13 @@ impl Scripts {
 
     /// `forked-cues COUNT KEYS`: what the script says of a session that is forked at this count, where its parent had so many
     /// keys before.
-    fn forked_cues(&mut self, alloc: Global, arguments: &[Word<'_>]) -> Result<Answer, Fault> {
+    fn forked_cues(&mut self, alloc: Global, arguments: &[Word<'_>]) -> Result<RowAnswer, RowFault> {
         let [at, before] = arguments else {
-            return Err(Fault::Words);
+            return Err(RowFault::Words);
         };
         let (at, before) = (number(*at)?, count(*before)?);
         if before > MOST_KEYS {
-            return Err(Fault::Unready);
+            return Err(RowFault::Unready);
         }
         match read_forked_cues(alloc, self.script.as_slice(), at, before) {
             Ok(cues) => shown_cues(alloc, cues.as_slice()),
@@ -171,13 +171,13 @@ impl Scripts {
     }
 
     /// A refusal by its line and its fault.
-    fn refused(&mut self, alloc: Global, error: ScriptError) -> Result<Answer, Fault> {
+    fn refused(&mut self, alloc: Global, error: ScriptError) -> Result<RowAnswer, RowFault> {
         self.told = error.to_string(alloc)?;
         match error {
-            ScriptError::Line { number, fault } => Ok(Answer::Refused(format!(in alloc;
+            ScriptError::Line { number, fault } => Ok(RowAnswer::Refused(format!(in alloc;
                 "line {number}: {fault:?}"
             )?)),
-            ScriptError::OutOfMemory => Err(Fault::OutOfMemory),
+            ScriptError::OutOfMemory => Err(RowFault::OutOfMemory),
         }
     }
 }
@@ -197,23 +197,23 @@ fn add_item(out: &mut String, item: &str) -> Result<(), AllocError> {
 }
 
 /// Keys, or how many there are with the last one; `none` where there are none.
-fn shown_keys(alloc: Global, keys: &[Key]) -> Result<Answer, Fault> {
+fn shown_keys(alloc: Global, keys: &[Key]) -> Result<RowAnswer, RowFault> {
     let Some(last) = keys.last() else {
-        return Answer::words(alloc, "none");
+        return RowAnswer::words(alloc, "none");
     };
     let mut out = String::new(alloc);
     if keys.len() > MOST_SHOWN {
         let (length, last) = (keys.len(), shown_key(alloc, *last)?);
-        return Answer::words(alloc, format!(in alloc; "{length} keys, the last {last}")?);
+        return RowAnswer::words(alloc, format!(in alloc; "{length} keys, the last {last}")?);
     }
     for key in keys {
         add_item(&mut out, shown_key(alloc, *key)?.as_str())?;
     }
-    Ok(Answer::Words(out))
+    Ok(RowAnswer::Words(out))
 }
 
 /// A cue: `key COUNT BYTE`, `wait TEXT` or `press BYTE`.
-fn shown_cue(alloc: Global, cue: &Cue) -> Result<String, Fault> {
+fn shown_cue(alloc: Global, cue: &Cue) -> Result<String, RowFault> {
     match cue {
         Cue::Key(key) => {
             let key = shown_key(alloc, *key)?;
@@ -221,24 +221,24 @@ fn shown_cue(alloc: Global, cue: &Cue) -> Result<String, Fault> {
         }
         Cue::Wait(text) => match str::from_utf8(text.as_slice()) {
             Ok(text) => Ok(format!(in alloc; "wait {text:?}")?),
-            Err(_) => Err(Fault::Unready),
+            Err(_) => Err(RowFault::Unready),
         },
         Cue::Press(byte) => Ok(format!(in alloc; "press {byte:02X}")?),
     }
 }
 
 /// Cues, or how many there are with the last one; `none` where there are none.
-fn shown_cues(alloc: Global, cues: &[Cue]) -> Result<Answer, Fault> {
+fn shown_cues(alloc: Global, cues: &[Cue]) -> Result<RowAnswer, RowFault> {
     let Some(last) = cues.last() else {
-        return Answer::words(alloc, "none");
+        return RowAnswer::words(alloc, "none");
     };
     let mut out = String::new(alloc);
     if cues.len() > MOST_SHOWN {
         let (length, last) = (cues.len(), shown_cue(alloc, last)?);
-        return Answer::words(alloc, format!(in alloc; "{length} cues, the last {last}")?);
+        return RowAnswer::words(alloc, format!(in alloc; "{length} cues, the last {last}")?);
     }
     for cue in cues {
         add_item(&mut out, shown_cue(alloc, cue)?.as_str())?;
     }
-    Ok(Answer::Words(out))
+    Ok(RowAnswer::Words(out))
 }

@@ -1,12 +1,12 @@
 //! Configurations and their refusals in words.
 
 use crate::{add_text, add_texts};
-use cpm_config::{Config, ConfigError, KeyFault, Origin, Session};
+use cpm_config::{Config, ConfigError, KeyFault, Origin, SessionConfig};
 use std::alloc::Global;
-use test_language::{Answer, Fault};
+use test_language::{RowAnswer, RowFault};
 
 /// What a configuration says: a line for the whole, and one for each session.
-pub fn shown_config(alloc: Global, config: &Config) -> Result<Answer, Fault> {
+pub fn shown_config(alloc: Global, config: &Config) -> Result<RowAnswer, RowFault> {
     let Config {
         frames,
         quantum,
@@ -18,11 +18,11 @@ pub fn shown_config(alloc: Global, config: &Config) -> Result<Answer, Fault> {
         out.push('\n')?;
         add_session(alloc, &mut out, session)?;
     }
-    Ok(Answer::Words(out))
+    Ok(RowAnswer::Words(out))
 }
 
 /// Adds what is said of a session.
-fn add_session(alloc: Global, out: &mut String, session: &Session) -> Result<(), Fault> {
+fn add_session(alloc: Global, out: &mut String, session: &SessionConfig) -> Result<(), RowFault> {
     out.push_str(session.name.as_str())?;
     add_origin(alloc, out, &session.origin)?;
     out.push_str(format!(in alloc; ", steps {}", session.steps)?.as_str())?;
@@ -36,7 +36,7 @@ fn add_session(alloc: Global, out: &mut String, session: &Session) -> Result<(),
 }
 
 /// Adds how a session begins.
-fn add_origin(alloc: Global, out: &mut String, origin: &Origin) -> Result<(), Fault> {
+fn add_origin(alloc: Global, out: &mut String, origin: &Origin) -> Result<(), RowFault> {
     match origin {
         Origin::Opened { cpu, quota, drives } => {
             out.push_str(format!(in alloc; ": cpu {cpu:?}, quota {quota}")?.as_str())?;
@@ -50,7 +50,7 @@ fn add_origin(alloc: Global, out: &mut String, origin: &Origin) -> Result<(), Fa
 }
 
 /// Adds names in quotes behind what they are.
-fn add_names(alloc: Global, out: &mut String, what: &str, names: &[String]) -> Result<(), Fault> {
+fn add_names(alloc: Global, out: &mut String, what: &str, names: &[String]) -> Result<(), RowFault> {
     let mut values = Vec::new(alloc);
     for name in names {
         values.push(name.as_str())?;
@@ -59,18 +59,18 @@ fn add_names(alloc: Global, out: &mut String, what: &str, names: &[String]) -> R
 }
 
 /// A refusal by its kind and its place.
-pub fn shown_refusal(alloc: Global, error: ConfigError) -> Result<String, Fault> {
+pub fn shown_refusal(alloc: Global, error: ConfigError) -> Result<String, RowFault> {
     match error {
         ConfigError::Text { line, .. } => Ok(format!(in alloc; "Text in line {line}")?),
         ConfigError::Key(refusal) => shown_key_fault(alloc, refusal.fault),
         ConfigError::Range(place) => Ok(format!(in alloc; "Range {place}")?),
         ConfigError::Twice(place) => Ok(format!(in alloc; "Twice {place}")?),
-        ConfigError::OutOfMemory => Err(Fault::OutOfMemory),
+        ConfigError::OutOfMemory => Err(RowFault::OutOfMemory),
     }
 }
 
 /// What is wrong with a key, by its kind and its place.
-fn shown_key_fault(alloc: Global, fault: KeyFault) -> Result<String, Fault> {
+fn shown_key_fault(alloc: Global, fault: KeyFault) -> Result<String, RowFault> {
     match fault {
         KeyFault::UnknownAtTop => Ok(String::from_str(alloc, "UnknownAtTop")?),
         KeyFault::UnknownInSession(session) => {

@@ -4,10 +4,10 @@ use crate::{add_text, add_texts};
 use cpm_command_line::{ComTask, DiskTask, RunTask, Task};
 use cpm_flags::Cpu;
 use std::alloc::Global;
-use test_language::Fault;
+use test_language::RowFault;
 
 /// A task in words.
-pub fn shown_task(alloc: Global, task: &Task<'_>) -> Result<String, Fault> {
+pub fn shown_task(alloc: Global, task: &Task<'_>) -> Result<String, RowFault> {
     let mut out = String::new(alloc);
     match task {
         Task::Com(task) => add_com(alloc, &mut out, task)?,
@@ -37,7 +37,7 @@ pub fn shown_task(alloc: Global, task: &Task<'_>) -> Result<String, Fault> {
 }
 
 /// Adds a processor.
-fn add_cpu(out: &mut String, cpu: Cpu) -> Result<(), Fault> {
+fn add_cpu(out: &mut String, cpu: Cpu) -> Result<(), RowFault> {
     out.push_str(match cpu {
         Cpu::I8080 => " cpu I8080",
         Cpu::Z80 => " cpu Z80",
@@ -46,7 +46,7 @@ fn add_cpu(out: &mut String, cpu: Cpu) -> Result<(), Fault> {
 }
 
 /// Adds a name where it holds.
-fn add_flag(out: &mut String, name: &str, holds: bool) -> Result<(), Fault> {
+fn add_flag(out: &mut String, name: &str, holds: bool) -> Result<(), RowFault> {
     if holds {
         out.push_str(name)?;
     }
@@ -54,13 +54,13 @@ fn add_flag(out: &mut String, name: &str, holds: bool) -> Result<(), Fault> {
 }
 
 /// Adds a user.
-fn add_user(alloc: Global, out: &mut String, user: u8) -> Result<(), Fault> {
+fn add_user(alloc: Global, out: &mut String, user: u8) -> Result<(), RowFault> {
     out.push_str(format!(in alloc; " user {user}")?.as_str())?;
     Ok(())
 }
 
 /// Adds a program with its words, its keys and its drives.
-fn add_com(alloc: Global, out: &mut String, task: &ComTask<'_>) -> Result<(), Fault> {
+fn add_com(alloc: Global, out: &mut String, task: &ComTask<'_>) -> Result<(), RowFault> {
     add_text(alloc, out, "com file", Some(task.file))?;
     add_texts(alloc, out, " tail", task.tail.as_slice())?;
     add_cpu(out, task.cpu)?;
@@ -77,7 +77,7 @@ fn add_com(alloc: Global, out: &mut String, task: &ComTask<'_>) -> Result<(), Fa
 }
 
 /// Adds a configuration that is run.
-fn add_run(alloc: Global, out: &mut String, task: &RunTask<'_>) -> Result<(), Fault> {
+fn add_run(alloc: Global, out: &mut String, task: &RunTask<'_>) -> Result<(), RowFault> {
     add_text(alloc, out, "run config", Some(task.config))?;
     add_text(alloc, out, " keyboard", task.keyboard)?;
     add_text(alloc, out, " record", task.record)?;
@@ -87,7 +87,7 @@ fn add_run(alloc: Global, out: &mut String, task: &RunTask<'_>) -> Result<(), Fa
 }
 
 /// Adds a command of `disk`.
-fn add_disk(alloc: Global, out: &mut String, task: &DiskTask<'_>) -> Result<(), Fault> {
+fn add_disk(alloc: Global, out: &mut String, task: &DiskTask<'_>) -> Result<(), RowFault> {
     match task {
         DiskTask::New { image, is_large } => {
             add_text(alloc, out, "disk new image", Some(image))?;
@@ -120,7 +120,7 @@ fn add_disk(alloc: Global, out: &mut String, task: &DiskTask<'_>) -> Result<(), 
 }
 
 /// Adds files that are put on a disk.
-fn add_put(alloc: Global, out: &mut String, task: &DiskTask<'_>) -> Result<(), Fault> {
+fn add_put(alloc: Global, out: &mut String, task: &DiskTask<'_>) -> Result<(), RowFault> {
     let DiskTask::Put {
         image,
         files,
@@ -141,7 +141,7 @@ fn add_put(alloc: Global, out: &mut String, task: &DiskTask<'_>) -> Result<(), F
 }
 
 /// Adds files that are taken off a disk.
-fn add_get(alloc: Global, out: &mut String, task: &DiskTask<'_>) -> Result<(), Fault> {
+fn add_get(alloc: Global, out: &mut String, task: &DiskTask<'_>) -> Result<(), RowFault> {
     let DiskTask::Get {
         image,
         names,

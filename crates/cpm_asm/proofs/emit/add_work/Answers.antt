@@ -1,6 +1,6 @@
 use Rattle.std.proofs.Common.{ap, sym, ◌∙◌, ◌++◌, ◌%◌}
 use Rattle.cpm_asm_expression.specs.Names.{in_table}
-use Rattle.cpm_asm_expression.specs.declared.values.Valued.{Valued}
+use Rattle.cpm_asm_expression.specs.declared.values.CheckedValue.{CheckedValue}
 use Rattle.cpm_decode.specs.declared.operation.Op.{Op}
 use Rattle.cpm_asm.specs.Data.{byte_doubt}
 use Rattle.cpm_asm.specs.Emitting.{emitted}
@@ -14,7 +14,7 @@ unfolding emitted
 returns-in_ok-add_op-in-Byte-clause-bytes c =
     let image = c.args.image.now.items in
     c.in_ok-add_op-in-Byte.ensures ∙ ap (λ (o : Op). image ++ encoded o) c.with_byte.ensures
-    ∙ ap (λ (v : Valued). image ++ encoded (with_byte c.in-Byte.form (v.number % 256))) c.in_ok-found-in-Byte.ensures
+    ∙ ap (λ (v : CheckedValue). image ++ encoded (with_byte c.in-Byte.form (v.number % 256))) c.in_ok-found-in-Byte.ensures
     ∙ ap (λ (w : Work). image ++ (emitted (in_table c.args.names.now) c.args.here c.args.next (seen_work w)).bytes) (sym c.in-Byte.is)
 
 pub returns-in_ok-add_op-in-Byte-clause-doubt : goal.returns-in_ok-add_op-in-Byte-clause-doubt
@@ -28,5 +28,5 @@ unfolding emitted
 returns-in_ok-add_op-in-Word-clause-bytes c =
     let image = c.args.image.now.items in
     c.in_ok-add_op-in-Word.ensures ∙ ap (λ (o : Op). image ++ encoded o) c.with_word.ensures
-    ∙ ap (λ (v : Valued). image ++ encoded (with_word c.in-Word.form v.number)) c.in_ok-found-in-Word.ensures
+    ∙ ap (λ (v : CheckedValue). image ++ encoded (with_word c.in-Word.form v.number)) c.in_ok-found-in-Word.ensures
     ∙ ap (λ (w : Work). image ++ (emitted (in_table c.args.names.now) c.args.here c.args.next (seen_work w)).bytes) (sym c.in-Word.is)

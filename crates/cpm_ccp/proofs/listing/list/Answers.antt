@@ -5,9 +5,9 @@ use Rattle.cpm_ccp.proofs.listing.list.Goals as goal
 
 pub entry-requires : goal.entry-requires
 entry-requires c =
-    let image = (drive_at c.args.cpm.now.disks c.args.system.now (drive_of c.args.cpm.now)).image in
+    let image = (drive_at c.args.session.now.disks c.args.system.now (drive_of c.args.session.now)).image in
     rw (c.lent_at-image.ensures, c.drive_named-drive.ensures) (index_within image c.in-Some.index c.in-Some.ensures.1)
 
 pub show_file-requires-clause-index : goal.show_file-requires-clause-index
 show_file-requires-clause-index c =
-    index_small (drive_at c.args.cpm.now.disks c.args.system.now (drive_of c.args.cpm.now)).image c.in-Some.index c.in-Some.ensures.1
+    index_small (drive_at c.args.session.now.disks c.args.system.now (drive_of c.args.session.now)).image c.in-Some.index c.in-Some.ensures.1

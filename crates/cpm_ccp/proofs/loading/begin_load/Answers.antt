@@ -7,4 +7,4 @@ use Rattle.cpm_ccp.proofs.loading.begin_load.Goals as goal
 pub returns-in-Err : goal.returns-in-Err
 unfolding load_begun
 returns-in-Err c =
-    c.fail.ensures ∙ ap (λ (k : FileCall). after_load_open k.answer (with_call c.args.cpm.now k)) (c.in-Err.ensures own_record)
+    c.fail.ensures ∙ ap (λ (k : FileCall). after_load_open k.answer (with_call c.args.session.now k)) (c.in-Err.ensures own_record)

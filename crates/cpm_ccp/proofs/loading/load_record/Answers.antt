@@ -2,8 +2,8 @@ use Rattle.std.proofs.Common.{◌≡◌, List, ℕ, Ok, ap, sym, ◌∙◌, arit
 use Rattle.std.proofs.lemmas.List.{take_all}
 use Rattle.cpm_drives.specs.Calls.{FileCall}
 use Rattle.cpm_bdos.specs.Did.{did}
-use Rattle.cpm_bdos.specs.declared.cpm.Cpm.{Cpm}
-use Rattle.cpm_bdos.specs.declared.cpm.Went.TheVariants.{GoesOn}
+use Rattle.cpm_bdos.specs.declared.session.Session.{Session}
+use Rattle.cpm_bdos.specs.declared.session.Went.TheVariants.{GoesOn}
 use Rattle.cpm_ccp.specs.Parts.{record_of, with_call}
 use Rattle.cpm_ccp.specs.Loading.{load_record, after_load_read, loaded}
 use Rattle.cpm_ccp.proofs.loading.load_record.Goals as goal
@@ -12,7 +12,7 @@ pub returns-in-Ok-eq0-clause-step : goal.returns-in-Ok-eq0-clause-step
 unfolding load_record
 returns-in-Ok-eq0-clause-step g c =
     let m = g.M.Memory.contents c.args.memory.now in
-    let s = c.args.cpm.now in
+    let s = c.args.session.now in
     let bytes = c.read_next.new.buffer in
     let is : c.read_next.result ≡ Ok 0 = cc in
     let call = rw is at c.read_next.ensures in
@@ -24,4 +24,4 @@ pub returns-in-Err-clause-step : goal.returns-in-Err-clause-step
 unfolding load_record
 returns-in-Err-clause-step g c =
     let m = g.M.Memory.contents c.args.memory.now in
-    ap (λ (s : Cpm). did s m GoesOn) c.fail.ensures ∙ ap (λ (k : FileCall). after_load_read k.answer c.args.next (record_of k) (with_call c.args.cpm.now k) m) c.in-Err.ensures
+    ap (λ (s : Session). did s m GoesOn) c.fail.ensures ∙ ap (λ (k : FileCall). after_load_read k.answer c.args.next (record_of k) (with_call c.args.session.now k) m) c.in-Err.ensures

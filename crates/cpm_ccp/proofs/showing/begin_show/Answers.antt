@@ -7,4 +7,4 @@ use Rattle.cpm_ccp.proofs.showing.begin_show.Goals as goal
 pub returns-in-Err : goal.returns-in-Err
 unfolding show_begun
 returns-in-Err c =
-    c.fail.ensures ∙ ap (λ (k : FileCall). after_type_open k.answer (with_call c.args.cpm.now k)) (c.in-Err.ensures own_record)
+    c.fail.ensures ∙ ap (λ (k : FileCall). after_type_open k.answer (with_call c.args.session.now k)) (c.in-Err.ensures own_record)

@@ -8,7 +8,7 @@ use Rattle.cpm_ccp.proofs.showing.show_next.Goals as goal
 pub returns-in-Ok-eq0 : goal.returns-in-Ok-eq0
 unfolding next_shown
 returns-in-Ok-eq0 c =
-    let s = c.args.cpm.now in
+    let s = c.args.session.now in
     let bytes = c.read_next.new.buffer in
     let is : c.read_next.result ≡ Ok 0 = cc in
     let call = rw is at c.read_next.ensures in
@@ -19,4 +19,4 @@ returns-in-Ok-eq0 c =
 pub returns-in-Err : goal.returns-in-Err
 unfolding next_shown
 returns-in-Err c =
-    c.fail.ensures ∙ ap (λ (k : FileCall). after_type_read k.answer (record_of k) (with_call c.args.cpm.now k)) c.in-Err.ensures
+    c.fail.ensures ∙ ap (λ (k : FileCall). after_type_read k.answer (record_of k) (with_call c.args.session.now k)) c.in-Err.ensures

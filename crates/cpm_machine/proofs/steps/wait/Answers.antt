@@ -13,4 +13,4 @@ returns-clause-run g c system =
 pub returns-clause-still : goal.returns-clause-still
 returns-clause-still g c system i below =
     let old = state_of c.args.runner.now (g.M.Memory.contents c.args.memory.now) in
-    ap (λ (s : MachineState). s.cpm) (after-waits system i old c.requires.sound (runs old c.requires.can) c.requires.waits (omega arith))
+    ap (λ (s : MachineState). s.session) (after-waits system i old c.requires.sound (runs old c.requires.can) c.requires.waits (omega arith))

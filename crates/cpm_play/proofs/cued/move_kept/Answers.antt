@@ -10,7 +10,7 @@ loop-chunk-preserved g c =
     let l = c.loop-chunk in
     kept_more c.args.machine.now l.machine c.take-count.new.self (g.W.Write.contents c.args.out.now) (g.W.Write.contents l.out)
     (g.W.Write.contents c.write_all.new.self) (g.W.Write.contents c.flush.new.self) _ _ c.args.kept.now.items l.kept.items c.keep-whole.new.kept.items l.whole c.keep-whole.result l.invariant
-    (chunk_taken l.machine.cpm.console.screen l.chunk c.take-count.new.out c.take-count.result (length l.chunk) c.take-count.ensures.count c.take-count.ensures.bytes)
+    (chunk_taken l.machine.session.console.screen l.chunk c.take-count.new.out c.take-count.result (length l.chunk) c.take-count.ensures.count c.take-count.ensures.bytes)
     c.take-count.ensures.state c.in_ok-write_all.ensures.bytes c.in_ok-flush.ensures.bytes c.keep-whole.ensures.whole c.keep-whole.ensures.kept
 
 pub returns-in_err-write_all-clause-refused : goal.returns-in_err-write_all-clause-refused

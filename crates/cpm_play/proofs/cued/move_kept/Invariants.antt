@@ -6,4 +6,4 @@ abbrev pub invariant-loop-chunk : goal.invariant-loop-chunk
 invariant-loop-chunk g l = IsMovedKept l.fn.machine l.machine (g.W.Write.contents l.fn.out) (g.W.Write.contents l.out) l.fn.kept.items l.kept.items l.whole
 
 abbrev pub decreases-loop-chunk : goal.decreases-loop-chunk
-decreases-loop-chunk g l = length l.machine.cpm.console.screen
+decreases-loop-chunk g l = length l.machine.session.console.screen

@@ -10,7 +10,7 @@ invariant-loop-executed g l = record {
   run : HasRun l.system l.executed l.fn.machine l.machine (g.W.Write.contents l.fn.out) (g.W.Write.contents l.out);
   quiet : IsQuiet l.machine;
   busy : l.to_wait ≡ true → IsBusyFor l.system l.executed l.fn.machine;
-  kept : l.keeps ≡ true → l.kept.items ≡ l.fn.kept.items ++ (after l.system l.executed l.fn.machine).cpm.console.screen;
+  kept : l.keeps ≡ true → l.kept.items ≡ l.fn.kept.items ++ (after l.system l.executed l.fn.machine).session.console.screen;
 }
 
 abbrev pub decreases-loop-executed : goal.decreases-loop-executed

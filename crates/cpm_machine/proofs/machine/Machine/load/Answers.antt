@@ -13,7 +13,7 @@ use Rattle.cpm_machine.proofs.machine.Machine.load.Goals.{After-set_word}
 -- a machine with this memory, which begins at 0100h
 abbrev begun : MachineState → Contents → MachineState
 begun s m =
-    record s { cpm = record s.cpm { regs = record s.cpm.regs { pc = 256 } }; memory = m; with_program = true }
+    record s { session = record s.session { regs = record s.session.regs { pc = 256 } }; memory = m; with_program = true }
 
 pub set_word-requires : goal.set_word-requires
 set_word-requires c =

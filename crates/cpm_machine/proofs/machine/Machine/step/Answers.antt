@@ -14,4 +14,4 @@ returns-clause-state c =
 
 pub returns-clause-bounds : goal.returns-clause-bounds
 returns-clause-bounds c =
-    rw (c.grant.ensures.state, (one_step c.args.system.now c.grant.result.executed c.args.self.now c.grant.ensures.executed).1) (IsBounded-once c.args.system.now (c.grant.result.executed == 1) c.args.self.now (subst (λ (s : MachineState). IsFit s.cpm) c.self.view_is c.numbers_fit.ensures))
+    rw (c.grant.ensures.state, (one_step c.args.system.now c.grant.result.executed c.args.self.now c.grant.ensures.executed).1) (IsBounded-once c.args.system.now (c.grant.result.executed == 1) c.args.self.now (subst (λ (s : MachineState). IsFit s.session) c.self.view_is c.numbers_fit.ensures))

@@ -1,6 +1,6 @@
 use Rattle.cpm_bdos.proofs.Bounded.{within_fault}
 use Rattle.cpm_bdos.proofs.Showing.{shown-shown}
-use Rattle.cpm_bdos.proofs.cpm.Cpm.fault.Goals as goal
+use Rattle.cpm_bdos.proofs.session.Session.fault.Goals as goal
 
 pub returns-clause-output : goal.returns-clause-output
 returns-clause-output c =

@@ -3,7 +3,7 @@ use Rattle.cpm_bdos.specs.Did.{Did}
 use Rattle.cpm_bdos.specs.Behind.{did_behind}
 use Rattle.cpm_bdos.proofs.Bounded.{IsBounded-bios}
 use Rattle.cpm_bdos.proofs.Waiting.{bios-behind}
-use Rattle.cpm_bdos.proofs.cpm.Cpm.bios_step.Goals as goal
+use Rattle.cpm_bdos.proofs.session.Session.bios_step.Goals as goal
 
 pub returns-clause-bounds : goal.returns-clause-bounds
 returns-clause-bounds g c = rw c.bios_call.ensures.step (IsBounded-bios c.args.number c.args.system.now c.args.self.now (g.M.Memory.contents c.args.memory.now) c.numbers_fit.ensures)

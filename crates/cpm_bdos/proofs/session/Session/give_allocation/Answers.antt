@@ -7,7 +7,7 @@ use Rattle.cpm_drives.specs.Vectors.{allocation_of}
 use Rattle.cpm_bdos.specs.Did.{answered}
 use Rattle.cpm_bdos.specs.Disks.{with_disks, give_allocation}
 use Rattle.cpm_bdos.proofs.Marks.{current-used}
-use Rattle.cpm_bdos.proofs.cpm.Cpm.give_allocation.Goals as goal
+use Rattle.cpm_bdos.proofs.session.Session.give_allocation.Goals as goal
 
 pub returns-clause-step : goal.returns-clause-step
 unfolding give_allocation

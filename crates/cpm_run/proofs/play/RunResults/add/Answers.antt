@@ -1,4 +1,4 @@
-use Rattle.cpm_run.proofs.play.Played.add.Goals as goal
+use Rattle.cpm_run.proofs.play.RunResults.add.Goals as goal
 
 pub returns : goal.returns
 returns c = record {

@@ -27,7 +27,7 @@ pub enum Went {
 
 /// Output that ^S stopped, and that begins anew after a key.
 #[derive(Clone, Copy, Debug, PartialEq, Eq)]
-pub enum Held {
+pub enum HeldOutput {
     /// A call that showed nothing yet.
     Call,
     /// A text, from the character at an address on.
@@ -69,7 +69,7 @@ pub enum Mode {
     /// A key of the session's line, in a call that reads a line.
     Line,
     /// The key that ends a hold of output.
-    Hold(Held),
+    Hold(HeldOutput),
     /// The key that ends the message of a fault.
     Fault,
     /// A part of the command processor.
@@ -89,7 +89,7 @@ pub struct SectorPlace {
 
 /// A session without its memory.
 #[derive(Drop)]
-pub struct Cpm {
+pub struct Session {
     pub regs: Regs,
     pub console: Console,
     /// The line that is being read, in mode `Line`.
@@ -123,12 +123,12 @@ fn no_file() -> Fcb
     }
 }
 
-impl Cpm {
+impl Session {
     /// A session at its opening, with this console and drives of these images, the first as A. It takes no memory.
     pub fn new(console: Console, images: Vec<Image>) -> Self
         ensures { result ≡ opened console images.items }
     {
-        Cpm {
+        Session {
             regs: at_opening(),
             console,
             line: Line::new(0, 0),
@@ -146,10 +146,10 @@ impl Cpm {
     }
 
     /// An equal session; refused for want of memory.
-    pub fn copy(&self, alloc: Global) -> Result<Cpm, AllocError>
-        ensures { IfOk result (λ cpm. cpm ≡ self.now) }
+    pub fn copy(&self, alloc: Global) -> Result<Session, AllocError>
+        ensures { IfOk result (λ session. session ≡ self.now) }
     {
-        Ok(Cpm {
+        Ok(Session {
             regs: self.regs,
             console: self.console.copy(alloc)?,
             line: self.line.copied(),

@@ -3,7 +3,7 @@ use Rattle.cpm_bdos.specs.Did.{Did}
 use Rattle.cpm_bdos.specs.Behind.{did_behind}
 use Rattle.cpm_bdos.proofs.Bounded.{IsBounded-bdos}
 use Rattle.cpm_bdos.proofs.Waiting.{bdos-behind}
-use Rattle.cpm_bdos.proofs.cpm.Cpm.bdos_step.Goals as goal
+use Rattle.cpm_bdos.proofs.session.Session.bdos_step.Goals as goal
 
 pub returns-clause-bounds : goal.returns-clause-bounds
 returns-clause-bounds g c = rw c.call_step.ensures.step (IsBounded-bdos c.args.system.now c.args.self.now (g.M.Memory.contents c.args.memory.now) c.numbers_fit.ensures)

@@ -1,7 +1,7 @@
 use Rattle.std.proofs.Common.{arith, ◌+◌, ◌%◌, length}
 use Rattle.cpm_memory.specs.Room.{room-less}
 use Rattle.cpm_bdos.proofs.Pages.{pages-le}
-use Rattle.cpm_bdos.proofs.cpm.Cpm.end_line.Goals as goal
+use Rattle.cpm_bdos.proofs.session.Session.end_line.Goals as goal
 
 pub change_run-requires-2-clause-room : goal.change_run-requires-2-clause-room
 change_run-requires-2-clause-room g c =
