@@ -4,7 +4,7 @@ use Rattle.std.specs.Prelude.{Option, None, Some, ◌||◌, not, nat_lt, is_some
 use Rattle.std.proofs.lemmas.List.{length-replicate}
 use Rattle.std.proofs.lemmas.Bool.{true≢false}
 use Rattle.std.proofs.lemmas.Bool.Decides.{nat_tests}
-use Rattle.cpm_asm_expression.specs.Names.{Table}
+use Rattle.cpm_asm_expression.specs.Names.{NameTable}
 use Rattle.cpm_asm_expression.specs.declared.words.ByteForm.{ByteForm}
 use Rattle.cpm_asm_expression.specs.declared.words.ByteForm.TheVariants as b
 use Rattle.cpm_asm_expression.specs.declared.words.WordForm.{WordForm}
@@ -12,8 +12,8 @@ use Rattle.cpm_asm_expression.specs.declared.words.WordForm.TheVariants as w
 use Rattle.cpm_decode.specs.declared.operation.Op.TheVariants as op
 use Rattle.cpm_asm.specs.Lines.{parts}
 use Rattle.cpm_asm.specs.Operands.{comma}
-use Rattle.cpm_asm.specs.Data.{all_bytes, byte_item, byte_size, is_expression, list_bytes, list_size, low_byte, operand_bytes, operand_size, plus, sizes, text_in, value}
-use Rattle.cpm_asm.specs.Encoding.{encoded, with_byte, with_word}
+use Rattle.cpm_asm.specs.Data.{all_bytes, byte_item, byte_size, is_expression, list_bytes, list_size, low_byte, operand_bytes, operand_size, plus, sizes, text_in, expression_value}
+use Rattle.cpm_asm.specs.Encoding.{encoded, op_with_byte, op_with_word}
 use Rattle.cpm_asm.specs.Emitting.{emitted}
 use Rattle.cpm_asm.specs.Measures.{is_wrong, known_size, measured, sized}
 use Rattle.cpm_asm.specs.Statements.{Deed, Wrong, Nothing, End, Origin, Equate, If, EndIf, Nest, Unnest, Space, Bytes, Words, Plain, Byte, Word, Restart}
@@ -29,12 +29,12 @@ unfolding some_number
 if_some true k n h = ap some_number h
 if_some false k n h = absurd (true≢false (sym (ap is_some h)))
 
-byte_length : (t : Table) (a : ℕ) (x : List ℕ) (n : ℕ) (text : Option (List ℕ)) → byte_size x text ≡ Some n → length (byte_item t a x text).bytes ≡ n
+byte_length : (t : NameTable) (a : ℕ) (x : List ℕ) (n : ℕ) (text : Option (List ℕ)) → byte_size x text ≡ Some n → length (byte_item t a x text).bytes ≡ n
 unfolding some_number
 byte_length t a x n None h = if_some (is_expression x) 1 n h
 byte_length t a x n (Some cs) h = ap some_number h
 
-item_length : (words : Bool) (t : Table) (a : ℕ) (x : List ℕ) (n : ℕ) → operand_size words x ≡ Some n → length (operand_bytes words t a x).bytes ≡ n
+item_length : (words : Bool) (t : NameTable) (a : ℕ) (x : List ℕ) (n : ℕ) → operand_size words x ≡ Some n → length (operand_bytes words t a x).bytes ≡ n
 item_length true t a x n h = if_some (is_expression x) 2 n h
 item_length false t a x n h = byte_length t a x n (text_in x) h
 
@@ -44,7 +44,7 @@ both None r n h = absurd (true≢false (sym (ap is_some h)))
 both (Some i) None n h = absurd (true≢false (sym (ap is_some h)))
 both (Some i) (Some k) n h = (i, k, refl, refl, ap some_number h)
 
-all_length : (words : Bool) (t : Table) (a : ℕ) (xs : List (List ℕ)) (n : ℕ) → sizes words xs ≡ Some n → length (all_bytes words t a xs) ≡ n
+all_length : (words : Bool) (t : NameTable) (a : ℕ) (xs : List (List ℕ)) (n : ℕ) → sizes words xs ≡ Some n → length (all_bytes words t a xs) ≡ n
 unfolding some_number
 all_length words t a [] n h = ap some_number h
 all_length words t a (x ∷ xs) n h =
@@ -52,24 +52,24 @@ all_length words t a (x ∷ xs) n h =
     length-append (operand_bytes words t a x).bytes (all_bytes words t a xs)
     ∙ ap₂ (λ (i k : ℕ). i + k) (item_length words t a x p.0 p.2) (all_length words t a xs p.1 p.3) ∙ p.4
 
-known_length : (words : Bool) (t : Table) (a : ℕ) (xs : List (List ℕ)) (o : Option ℕ) → sizes words xs ≡ o → not (is_some o) ≡ false → length (all_bytes words t a xs) ≡ unwrap_or o 0
+known_length : (words : Bool) (t : NameTable) (a : ℕ) (xs : List (List ℕ)) (o : Option ℕ) → sizes words xs ≡ o → not (is_some o) ≡ false → length (all_bytes words t a xs) ≡ unwrap_or o 0
 known_length words t a xs None is h = absurd (true≢false h)
 known_length words t a xs (Some n) is h = all_length words t a xs n is
 
-list_length : (words : Bool) (t : Table) (a : ℕ) (list : List ℕ) → not (is_some (list_size words list)) ≡ false → length (list_bytes words t a list).bytes ≡ unwrap_or (list_size words list) 0
+list_length : (words : Bool) (t : NameTable) (a : ℕ) (list : List ℕ) → not (is_some (list_size words list)) ≡ false → length (list_bytes words t a list).bytes ≡ unwrap_or (list_size words list) 0
 unfolding list_size list_bytes
 list_length words t a list h = known_length words t a (parts comma false list) (sizes words (parts comma false list)) refl h
 
 -- ---- instructions
 
-byte_form : (f : ByteForm) (n : ℕ) → length (encoded (with_byte f n)) ≡ 2
+byte_form : (f : ByteForm) (n : ℕ) → length (encoded (op_with_byte f n)) ≡ 2
 unfolding encoded
 byte_form (b.MoveImmediate p) n = refl
 byte_form (b.Arithmetic a) n = refl
 byte_form b.Input n = refl
 byte_form b.Output n = refl
 
-word_form : (f : WordForm) (n : ℕ) → length (encoded (with_word f n)) ≡ 3
+word_form : (f : WordForm) (n : ℕ) → length (encoded (op_with_word f n)) ≡ 3
 unfolding encoded
 word_form (w.LoadPair p) n = refl
 word_form w.StoreHl n = refl
@@ -104,22 +104,22 @@ restart_length : (n : ℕ) → length (encoded (op.Restart n)) ≡ 1
 unfolding encoded
 restart_length n = refl
 
-pub fits : (t : Table) (a : ℕ) (d : Deed) → is_wrong d ≡ false → (measured t a d).is_outside ≡ false → (measured t a d).is_below ≡ false
+pub fits : (t : NameTable) (a : ℕ) (d : Deed) → is_wrong d ≡ false → (measured t a d).is_outside ≡ false → (measured t a d).is_below ≡ false
     → a + length (emitted t a (measured t a d).next d).bytes ≤ (measured t a d).next
 unfolding is_wrong measured emitted
 fits t a Wrong w o h = absurd (true≢false w)
 fits t a Nothing w o h = sized_fits a 0 [] o refl
 fits t a End w o h = sized_fits a 0 [] o refl
-fits t a (Origin e) w o h = omega (arith, above (value t a e).number a h)
+fits t a (Origin e) w o h = omega (arith, above (expression_value t a e).number a h)
 fits t a (Equate e) w o h = omega arith
 fits t a (If e) w o h = omega arith
 fits t a EndIf w o h = sized_fits a 0 [] o refl
 fits t a Nest w o h = sized_fits a 0 [] o refl
 fits t a Unnest w o h = sized_fits a 0 [] o refl
-fits t a (Space e) w o h = space_fits a (known_size (value t a e)) (second_of (value t a e).is_outside (sized a (known_size (value t a e))).is_outside o)
+fits t a (Space e) w o h = space_fits a (known_size (expression_value t a e)) (second_of (expression_value t a e).is_outside (sized a (known_size (expression_value t a e))).is_outside o)
 fits t a (Bytes list) w o h = sized_fits a (unwrap_or (list_size false list) 0) (list_bytes false t a list).bytes o (list_length false t a list w)
 fits t a (Words list) w o h = sized_fits a (unwrap_or (list_size true list) 0) (list_bytes true t a list).bytes o (list_length true t a list w)
 fits t a (Plain i) w o h = sized_fits a (length (encoded i)) (encoded i) o refl
-fits t a (Byte f e) w o h = sized_fits a 2 (encoded (with_byte f (low_byte (value t a e).number))) o (byte_form f (low_byte (value t a e).number))
-fits t a (Word f e) w o h = sized_fits a 3 (encoded (with_word f (value t a e).number)) o (word_form f (value t a e).number)
-fits t a (Restart e) w o h = sized_fits a 1 (encoded (op.Restart (8 * ((value t a e).number % 8)))) o (restart_length (8 * ((value t a e).number % 8)))
+fits t a (Byte f e) w o h = sized_fits a 2 (encoded (op_with_byte f (low_byte (expression_value t a e).number))) o (byte_form f (low_byte (expression_value t a e).number))
+fits t a (Word f e) w o h = sized_fits a 3 (encoded (op_with_word f (expression_value t a e).number)) o (word_form f (expression_value t a e).number)
+fits t a (Restart e) w o h = sized_fits a 1 (encoded (op.Restart (8 * ((expression_value t a e).number % 8)))) o (restart_length (8 * ((expression_value t a e).number % 8)))

@@ -2,19 +2,19 @@
 use Rattle.std.proofs.Common.{◌≡◌, ◌≤◌, ℕ, ◌+◌, ◌-◌, Bool, true, false, List, [], ◌∷◌, ◌++◌, length, take, drop, ap, sym, ◌∙◌, refl, arith, append_assoc, append-nil, length-append, subst}
 use Rattle.std.specs.Prelude.{if◌then◌else◌, nat_le, replicate}
 use Rattle.std.proofs.lemmas.List.{drop_at, length-replicate, take_at}
-use Rattle.cpm_asm_expression.specs.Names.{Table}
+use Rattle.cpm_asm_expression.specs.Names.{NameTable}
 use Rattle.cpm_asm.specs.Pieces.{Numbered}
 use Rattle.cpm_asm.specs.Statements.{Deed, Wrong, Nothing, End, Origin, Equate, If, EndIf, Nest, Unnest, Space, Bytes, Words, Plain, Byte, Word, Restart}
-use Rattle.cpm_asm.specs.Places.{at_address, depth, first_open, in_if, moved}
-use Rattle.cpm_asm.specs.Passes.{behind, given, is_last, laid, last_or, said, taken, with_bytes}
+use Rattle.cpm_asm.specs.Places.{position_at, depth, first_open, in_if, position_after}
+use Rattle.cpm_asm.specs.Passes.{position_behind, bytes_given, is_end_statement, laid, last_or, statement_of, measure_of, with_statement_bytes}
 use Rattle.cpm_asm.specs.Assembled.{EachLies, LiesAt, UnlessLast, image_from}
 use Rattle.cpm_asm.specs.declared.measure.Measure.{Measure}
 use Rattle.cpm_asm.specs.declared.place.Position.{Position}
 
 -- each statement has room for its bytes before the next
-abbrev pub AllFit : Table → Position → List Numbered → Type 0
+abbrev pub AllFit : NameTable → Position → List Numbered → Type 0
 AllFit t p [] = Unit {0}
-AllFit t p (x ∷ xs) = (p.address + length (given t p x).bytes ≤ (taken t p x).next) × UnlessLast (is_last (said p x).deed) (AllFit t (behind t p x) xs)
+AllFit t p (x ∷ xs) = (p.address + length (bytes_given t p x).bytes ≤ (measure_of t p x).next) × UnlessLast (is_end_statement (statement_of p x).deed) (AllFit t (position_behind t p x) xs)
 
 -- ---- the address behind a statement
 
@@ -29,15 +29,15 @@ in_if_address p line holds =
     (record { address = p.address; held = p.held + 1; skipped = p.skipped; outermost = first_open p line })
     (record { address = p.address; held = p.held; skipped = p.skipped + 1; outermost = first_open p line }) p.address refl refl refl
 
-moved_address : (p : Position) (line : ℕ) (d : Deed) (k : Measure) → (moved p line d k).address ≡ k.next
+moved_address : (p : Position) (line : ℕ) (d : Deed) (k : Measure) → (position_after p line d k).address ≡ k.next
 moved_address p line Wrong k = refl
 moved_address p line Nothing k = refl
 moved_address p line End k = refl
 moved_address p line (Origin e) k = refl
 moved_address p line (Equate e) k = refl
-moved_address p line (If e) k = in_if_address (at_address p k.next) line k.holds
+moved_address p line (If e) k = in_if_address (position_at p k.next) line k.holds
 moved_address p line EndIf k = refl
-moved_address p line Nest k = in_if_address (at_address p k.next) line false
+moved_address p line Nest k = in_if_address (position_at p k.next) line false
 moved_address p line Unnest k = refl
 moved_address p line (Space e) k = refl
 moved_address p line (Bytes list) k = refl
@@ -82,32 +82,32 @@ last_adds : (last : Bool) (image rest : List ℕ) → Adds image rest → Adds i
 last_adds true image rest h = ([], sym (append-nil image))
 last_adds false image rest h = h
 
-from_adds : (t : Table) (xs : List Numbered) (image : List ℕ) (p : Position) → Adds image (image_from t image p xs)
+from_adds : (t : NameTable) (xs : List Numbered) (image : List ℕ) (p : Position) → Adds image (image_from t image p xs)
 from_adds t [] image p = ([], sym (append-nil image))
 from_adds t (x ∷ xs) image p =
-    let wider = with_bytes t image p x in
-    adds_on image wider _ (laid_adds image p.address (given t p x).bytes)
-    (last_adds (is_last (said p x).deed) wider (image_from t wider (behind t p x) xs) (from_adds t xs wider (behind t p x)))
+    let wider = with_statement_bytes t image p x in
+    adds_on image wider _ (laid_adds image p.address (bytes_given t p x).bytes)
+    (last_adds (is_end_statement (statement_of p x).deed) wider (image_from t wider (position_behind t p x) xs) (from_adds t xs wider (position_behind t p x)))
 
 -- ---- all statements
 
-lies_behind : (last : Bool) (t : Table) (wider final : List ℕ) (p : Position) (xs : List Numbered) → final ≡ last_or last wider (image_from t wider p xs)
+lies_behind : (last : Bool) (t : NameTable) (wider final : List ℕ) (p : Position) (xs : List Numbered) → final ≡ last_or last wider (image_from t wider p xs)
     → UnlessLast last (AllFit t p xs) → (final ≡ image_from t wider p xs → AllFit t p xs → EachLies t final p xs) → UnlessLast last (EachLies t final p xs)
 lies_behind true t wider final p xs is fit later = tt
 lies_behind false t wider final p xs is fit later = later is fit
 
-pub lies : (t : Table) (xs : List Numbered) (image final : List ℕ) (p : Position) → final ≡ image_from t image p xs → AllFit t p xs → 256 ≤ p.address → length image ≤ p.address - 256
+pub lies : (t : NameTable) (xs : List Numbered) (image final : List ℕ) (p : Position) → final ≡ image_from t image p xs → AllFit t p xs → 256 ≤ p.address → length image ≤ p.address - 256
     → EachLies t final p xs
 lies t [] image final p is fit low short = tt
 lies t (x ∷ xs) image final p is fit low short =
-    let wider = with_bytes t image p x in
-    let bytes = (given t p x).bytes in
-    let next = (taken t p x).next in
-    let q = behind t p x in
-    let there : q.address ≡ next = moved_address p x.line (said p x).deed (taken t p x) in
+    let wider = with_statement_bytes t image p x in
+    let bytes = (bytes_given t p x).bytes in
+    let next = (measure_of t p x).next in
+    let q = position_behind t p x in
+    let there : q.address ≡ next = moved_address p x.line (statement_of p x).deed (measure_of t p x) in
     let size = laid_length image p.address next bytes low short fit.0 in
-    let adds = last_adds (is_last (said p x).deed) wider (image_from t wider q xs) (from_adds t xs wider q) in (
+    let adds = last_adds (is_end_statement (statement_of p x).deed) wider (image_from t wider q xs) (from_adds t xs wider q) in (
       subst (λ (xs : List ℕ). LiesAt xs p.address bytes) (sym (is ∙ adds.1)) (lies_at image p.address bytes adds.0 short),
-      lies_behind (is_last (said p x).deed) t wider final q xs is fit.1
+      lies_behind (is_end_statement (statement_of p x).deed) t wider final q xs is fit.1
           (λ e f. lies t xs wider final q e f (omega (arith, there, fit.0, low)) (omega (arith, there, size))),
     )

@@ -8,14 +8,14 @@ use Rattle.std.specs.BTreeMap.{is_at}
 use Rattle.std.proofs.lemmas.Bool.{true≢false}
 use Rattle.std.proofs.lemmas.Cmp.{nat_list_cmp_total, tied_itself}
 use Rattle.std.proofs.lemmas.Map.Lookups.{exact_bytes}
-use Rattle.cpm_asm_expression.specs.Names.{Extends, Table, empty_table, name_cmp}
+use Rattle.cpm_asm_expression.specs.Names.{Extends, NameTable, no_names, name_cmp}
 use Rattle.cpm_asm_expression.specs.declared.names.Name.{Name}
 use Rattle.cpm_asm.specs.Pieces.{Numbered, pieces}
-use Rattle.cpm_asm.specs.Statements.{Said}
+use Rattle.cpm_asm.specs.Statements.{StatementParts}
 use Rattle.cpm_asm.specs.Measures.{is_wrong}
-use Rattle.cpm_asm.specs.Places.{depth, first_fault, is_defined, is_misplaced, is_nameless, moved, placed_over, start}
-use Rattle.cpm_asm.specs.Passes.{at_end, behind, both_passes, first_pass, is_last, last_or, named, said, second_behind, second_pass, table_after, taken, unless_first, unless_second, with_bytes}
-use Rattle.cpm_asm.specs.Assembled.{Assembled, HasLabel, IsNamed, IsTableOf, OrLater, UnlessLast, image_from}
+use Rattle.cpm_asm.specs.Places.{depth, lowest_fault, is_defined, is_misplaced, is_nameless, position_after, placed_over, start}
+use Rattle.cpm_asm.specs.Passes.{at_end, position_behind, both_passes, first_pass, is_end_statement, last_or, with_label, statement_of, second_behind, second_pass, table_after, measure_of, unless_first, unless_second, with_statement_bytes}
+use Rattle.cpm_asm.specs.Assembled.{Assembled, HasLabel, IsLabelled, IsTableOf, OrLater, UnlessLast, image_from}
 use Rattle.cpm_asm.specs.declared.measure.Measure.{Measure}
 use Rattle.cpm_asm.specs.declared.place.Position.{Position}
 use Rattle.cpm_asm.specs.declared.error.AsmError.{AsmError}
@@ -38,23 +38,23 @@ one_name a b h = ap (λ (letters : List ℕ). record { letters = letters }) (exa
 itself : (n : Name) → is_at (name_cmp n) n ≡ true
 itself n = ap is_eq (tied_itself nat_list_cmp_total n.letters)
 
-keeps_by : (m : Table) (name : Name) (v : ℕ) → is_some (m name) ≡ false → (n : Name) (w : ℕ) (b : Bool) → is_at (name_cmp name) n ≡ b → m n ≡ Some w → (if b then Some v else m n) ≡ Some w
+keeps_by : (m : NameTable) (name : Name) (v : ℕ) → is_some (m name) ≡ false → (n : Name) (w : ℕ) (b : Bool) → is_at (name_cmp name) n ≡ b → m n ≡ Some w → (if b then Some v else m n) ≡ Some w
 keeps_by m name v free n w true at h = absurd (true≢false (sym (ap is_some (ap m (one_name name n at) ∙ h)) ∙ free))
 keeps_by m name v free n w false at h = h
 
-extends_defined : (m : Table) (label : Option Name) (v : ℕ) → is_defined m label ≡ false → Extends m (table_after m label v)
+extends_defined : (m : NameTable) (label : Option Name) (v : ℕ) → is_defined m label ≡ false → Extends m (table_after m label v)
 extends_defined m None v free n w h = h
 extends_defined m (Some name) v free n w h = keeps_by m name v free n w (is_at (name_cmp name) n) refl h
 
-label_there : (m : Table) (label : Option Name) (v : ℕ) (t : Table) → Extends (table_after m label v) t → HasLabel t label v
+label_there : (m : NameTable) (label : Option Name) (v : ℕ) (t : NameTable) → Extends (table_after m label v) t → HasLabel t label v
 label_there m None v t e = tt
 label_there m (Some name) v t e = e name v (ap (λ b. if b then Some v else m name) (itself name))
 
-by_name : (m : Table) (name : Name) (k : ℕ) (n : Name) (v : ℕ) (b : Bool) → is_at (name_cmp name) n ≡ b → (if b then Some k else m n) ≡ Some v → (m n ≡ Some v) ⊎ (Some name ≡ Some n)
+by_name : (m : NameTable) (name : Name) (k : ℕ) (n : Name) (v : ℕ) (b : Bool) → is_at (name_cmp name) n ≡ b → (if b then Some k else m n) ≡ Some v → (m n ≡ Some v) ⊎ (Some name ≡ Some n)
 by_name m name k n v true at h = inr (ap (λ x. Some x) (one_name name n at))
 by_name m name k n v false at h = inl h
 
-earlier_or_here : (m : Table) (label : Option Name) (k : ℕ) (n : Name) (v : ℕ) → table_after m label k n ≡ Some v → (m n ≡ Some v) ⊎ (label ≡ Some n)
+earlier_or_here : (m : NameTable) (label : Option Name) (k : ℕ) (n : Name) (v : ℕ) → table_after m label k n ≡ Some v → (m n ≡ Some v) ⊎ (label ≡ Some n)
 earlier_or_here m None k n v h = inl h
 earlier_or_here m (Some name) k n v h = by_name m name k n v (is_at (name_cmp name) n) refl h
 
@@ -78,85 +78,85 @@ chain_none false false false true b5 f1 f2 f3 f4 f5 h = absurd (true≢false (ap
 chain_none false false false false true f1 f2 f3 f4 f5 h = absurd (true≢false (ap is_some h))
 chain_none false false false false false f1 f2 f3 f4 f5 h = (refl, refl, refl, refl, refl)
 
-nothing_found : (m : Table) (p : Position) (s : Said) (k : Measure) → first_fault m p s k ≡ None → (is_wrong s.deed ≡ false) × (is_defined m s.label ≡ false) × (k.is_unknown ≡ false) × (k.is_outside ≡ false) × (k.is_below ≡ false)
-unfolding first_fault
+nothing_found : (m : NameTable) (p : Position) (s : StatementParts) (k : Measure) → lowest_fault m p s k ≡ None → (is_wrong s.deed ≡ false) × (is_defined m s.label ≡ false) × (k.is_unknown ≡ false) × (k.is_outside ≡ false) × (k.is_below ≡ false)
+unfolding lowest_fault
 nothing_found m p s k h =
     let none = chain_none (is_wrong s.deed || is_misplaced p s.deed || is_nameless s) (is_defined m s.label) (k.is_outside || placed_over p.address s) k.is_unknown k.is_below _ _ _ _ _ h in
     (first_of_three (is_wrong s.deed) (is_misplaced p s.deed) (is_nameless s) none.0, none.1, none.2, first_of_two k.is_outside (placed_over p.address s) none.3, none.4)
 
-unless_ok : (p : Position) (x : Numbered) (xs : List Numbered) (o : Option AsmErrorKind) (r : Result Table AsmError) (t : Table) → unless_first p x xs o r ≡ Ok t → (o ≡ None) × (r ≡ Ok t)
+unless_ok : (p : Position) (x : Numbered) (xs : List Numbered) (o : Option AsmErrorKind) (r : Result NameTable AsmError) (t : NameTable) → unless_first p x xs o r ≡ Ok t → (o ≡ None) × (r ≡ Ok t)
 unless_ok p x xs None r t h = (refl, h)
 unless_ok p x xs (Some kind) r t h = absurd (true≢false (ap is_ok (sym h)))
 
-ok_or : Result Table AsmError → Table
+ok_or : Result NameTable AsmError → NameTable
 ok_or (Ok t) = t
-ok_or (Err e) = empty_table
+ok_or (Err e) = no_names
 
-end_by : (b : Bool) (e : AsmError) (m t : Table) → (if b then Ok m else Err e) ≡ Ok t → m ≡ t
+end_by : (b : Bool) (e : AsmError) (m t : NameTable) → (if b then Ok m else Err e) ≡ Ok t → m ≡ t
 unfolding ok_or
 end_by true e m t h = ap ok_or h
 end_by false e m t h = absurd (true≢false (ap is_ok (sym h)))
 
-at_end_ok : (p : Position) (m t : Table) → at_end p m ≡ Ok t → m ≡ t
+at_end_ok : (p : Position) (m t : NameTable) → at_end p m ≡ Ok t → m ≡ t
 at_end_ok p m t h = end_by (depth p == 0) _ m t h
 
 -- ---- the table
 
 -- a table behind another, of the statements between, and of no others
-pub record Behind (m t : Table) (p : Position) (xs : List Numbered) : Type 0 where
+pub record Behind (m t : NameTable) (p : Position) (xs : List Numbered) : Type 0 where
   pub extends : Extends m t
   pub table : IsTableOf t p xs
-  pub only : (n : Name) (v : ℕ) → t n ≡ Some v → (m n ≡ Some v) ⊎ IsNamed t n p xs
+  pub only : (n : Name) (v : ℕ) → t n ≡ Some v → (m n ≡ Some v) ⊎ IsLabelled t n p xs
   pub fit : AllFit t p xs
 
 -- the same, where the source may have ended
-record BehindLast (last : Bool) (m t : Table) (p : Position) (xs : List Numbered) : Type 0 where
+record BehindLast (last : Bool) (m t : NameTable) (p : Position) (xs : List Numbered) : Type 0 where
   extends : Extends m t
   table : UnlessLast last (IsTableOf t p xs)
-  only : (n : Name) (v : ℕ) → t n ≡ Some v → (m n ≡ Some v) ⊎ OrLater last (IsNamed t n p xs)
+  only : (n : Name) (v : ℕ) → t n ≡ Some v → (m n ≡ Some v) ⊎ OrLater last (IsLabelled t n p xs)
   fit : UnlessLast last (AllFit t p xs)
 
-after_last : (last : Bool) (m t : Table) (q p : Position) (xs : List Numbered) → last_or last (at_end q m) (first_pass m p xs) ≡ Ok t
+after_last : (last : Bool) (m t : NameTable) (q p : Position) (xs : List Numbered) → last_or last (at_end q m) (first_pass m p xs) ≡ Ok t
     → (first_pass m p xs ≡ Ok t → Behind m t p xs) → BehindLast last m t p xs
 after_last true m t q p xs h later =
     let same = at_end_ok q m t h in
-    record { extends = λ n v k. ap (λ (r : Table). r n) (sym same) ∙ k; table = tt; only = λ n v k. inl (ap (λ (r : Table). r n) same ∙ k); fit = tt }
+    record { extends = λ n v k. ap (λ (r : NameTable). r n) (sym same) ∙ k; table = tt; only = λ n v k. inl (ap (λ (r : NameTable). r n) same ∙ k); fit = tt }
 after_last false m t q p xs h later = let b = later h in record { extends = b.extends; table = b.table; only = b.only; fit = b.fit }
 
-combine : (m t : Table) (label : Option Name) (k : ℕ) (n : Name) (v : ℕ) (Later : Type 0)
+combine : (m t : NameTable) (label : Option Name) (k : ℕ) (n : Name) (v : ℕ) (Later : Type 0)
     → (table_after m label k n ≡ Some v) ⊎ Later → (m n ≡ Some v) ⊎ ((label ≡ Some n) ⊎ Later)
 combine m t label k n v Later (inl h) = elim (earlier_or_here m label k n v h) [ inl old ↦ inl old | inr here ↦ inr (inl here) ]
 combine m t label k n v Later (inr later) = inr (inr later)
 
-step : (m t : Table) (p : Position) (x : Numbered) (xs : List Numbered) → (is_wrong (said p x).deed ≡ false) × (is_defined m (said p x).label ≡ false) × ((taken m p x).is_unknown ≡ false) × ((taken m p x).is_outside ≡ false) × ((taken m p x).is_below ≡ false)
-    → BehindLast (is_last (said p x).deed) (named m p x) t (behind m p x) xs → Behind m t p (x ∷ xs)
+step : (m t : NameTable) (p : Position) (x : Numbered) (xs : List Numbered) → (is_wrong (statement_of p x).deed ≡ false) × (is_defined m (statement_of p x).label ≡ false) × ((measure_of m p x).is_unknown ≡ false) × ((measure_of m p x).is_outside ≡ false) × ((measure_of m p x).is_below ≡ false)
+    → BehindLast (is_end_statement (statement_of p x).deed) (with_label m p x) t (position_behind m p x) xs → Behind m t p (x ∷ xs)
 step m t p x xs quiet rest =
-    let s = said p x in
-    let k = taken m p x in
+    let s = statement_of p x in
+    let k = measure_of m p x in
     let extends : Extends m t = λ n v h. rest.extends n v (extends_defined m s.label k.label quiet.1 n v h) in
-    let same : k ≡ taken t p x = sym (measured_stable m t p.address s.deed extends quiet.0 quiet.2) in
+    let same : k ≡ measure_of t p x = sym (measured_stable m t p.address s.deed extends quiet.0 quiet.2) in
     record {
       extends = extends;
-      table = subst (λ (j : Measure). HasLabel t s.label j.label × UnlessLast (is_last s.deed) (IsTableOf t (moved p x.line s.deed j) xs)) same
+      table = subst (λ (j : Measure). HasLabel t s.label j.label × UnlessLast (is_end_statement s.deed) (IsTableOf t (position_after p x.line s.deed j) xs)) same
           (label_there m s.label k.label t rest.extends, rest.table);
-      only = λ n v h. subst (λ (j : Measure). (m n ≡ Some v) ⊎ ((s.label ≡ Some n) ⊎ OrLater (is_last s.deed) (IsNamed t n (moved p x.line s.deed j) xs))) same
-          (combine m t s.label k.label n v (OrLater (is_last s.deed) (IsNamed t n (behind m p x) xs)) (rest.only n v h));
+      only = λ n v h. subst (λ (j : Measure). (m n ≡ Some v) ⊎ ((s.label ≡ Some n) ⊎ OrLater (is_end_statement s.deed) (IsLabelled t n (position_after p x.line s.deed j) xs))) same
+          (combine m t s.label k.label n v (OrLater (is_end_statement s.deed) (IsLabelled t n (position_behind m p x) xs)) (rest.only n v h));
       fit = (
         fits t p.address s.deed quiet.0 (ap (λ (j : Measure). j.is_outside) (sym same) ∙ quiet.3) (ap (λ (j : Measure). j.is_below) (sym same) ∙ quiet.4),
-        subst (λ (j : Measure). UnlessLast (is_last s.deed) (AllFit t (moved p x.line s.deed j) xs)) same rest.fit,
+        subst (λ (j : Measure). UnlessLast (is_end_statement s.deed) (AllFit t (position_after p x.line s.deed j) xs)) same rest.fit,
       );
     }
 
-pub one_table : (m t : Table) (p : Position) (xs : List Numbered) → first_pass m p xs ≡ Ok t → Behind m t p xs
+pub one_table : (m t : NameTable) (p : Position) (xs : List Numbered) → first_pass m p xs ≡ Ok t → Behind m t p xs
 one_table m t p [] h =
     let same = at_end_ok p m t h in
-    record { extends = λ n v k. ap (λ (r : Table). r n) (sym same) ∙ k; table = tt; only = λ n v k. inl (ap (λ (r : Table). r n) same ∙ k); fit = tt }
+    record { extends = λ n v k. ap (λ (r : NameTable). r n) (sym same) ∙ k; table = tt; only = λ n v k. inl (ap (λ (r : NameTable). r n) same ∙ k); fit = tt }
 one_table m t p (x ∷ xs) h =
-    let s = said p x in
-    let k = taken m p x in
-    let parts = unless_ok p x xs (first_fault m p s k) _ t h in
+    let s = statement_of p x in
+    let k = measure_of m p x in
+    let parts = unless_ok p x xs (lowest_fault m p s k) _ t h in
     let quiet = nothing_found m p s k parts.0 in
-    let rest = after_last (is_last s.deed) (named m p x) t p (behind m p x) xs parts.1 (λ e. one_table (named m p x) t (behind m p x) xs e) in
+    let rest = after_last (is_end_statement s.deed) (with_label m p x) t p (position_behind m p x) xs parts.1 (λ e. one_table (with_label m p x) t (position_behind m p x) xs e) in
     step m t p x xs quiet rest
 
 -- ---- the image
@@ -174,20 +174,20 @@ unfolding image_or
 image_last true image final rest r h later = sym (ap image_or h)
 image_last false image final rest r h later = later h
 
-pub laid_image : (names : Table) (xs : List Numbered) (image final : List ℕ) (p : Position) → second_pass names image p xs ≡ Ok final → final ≡ image_from names image p xs
+pub laid_image : (names : NameTable) (xs : List Numbered) (image final : List ℕ) (p : Position) → second_pass names image p xs ≡ Ok final → final ≡ image_from names image p xs
 unfolding image_or
 laid_image names [] image final p h = sym (ap image_or h)
 laid_image names (x ∷ xs) image final p h =
-    image_last (is_last (said p x).deed) (with_bytes names image p x) final (image_from names (with_bytes names image p x) (behind names p x) xs) _
-    (unless_image x.line _ _ final h) (λ e. laid_image names xs (with_bytes names image p x) final (behind names p x) e)
+    image_last (is_end_statement (statement_of p x).deed) (with_statement_bytes names image p x) final (image_from names (with_statement_bytes names image p x) (position_behind names p x) xs) _
+    (unless_image x.line _ _ final h) (λ e. laid_image names xs (with_statement_bytes names image p x) final (position_behind names p x) e)
 
-pub no_name : (names : Table) (n : Name) (v : ℕ) (xs : List Numbered) → (empty_table n ≡ Some v) ⊎ IsNamed names n start xs → IsNamed names n start xs
+pub no_name : (names : NameTable) (n : Name) (v : ℕ) (xs : List Numbered) → (no_names n ≡ Some v) ⊎ IsLabelled names n start xs → IsLabelled names n start xs
 no_name names n v xs (inl h) = absurd (true≢false (sym (ap is_some h)))
 no_name names n v xs (inr h) = h
 
-unfoldable pub from_passes : (source image : List ℕ) (first : Result Table AsmError) → first_pass empty_table start (pieces source) ≡ first → second_behind (pieces source) first ≡ Ok image → Assembled source image
+unfoldable pub from_passes : (source image : List ℕ) (first : Result NameTable AsmError) → first_pass no_names start (pieces source) ≡ first → second_behind (pieces source) first ≡ Ok image → Assembled source image
 from_passes source image (Ok names) p h =
-    let b = one_table empty_table names start (pieces source) p in
+    let b = one_table no_names names start (pieces source) p in
     let bytes = laid_image names (pieces source) [] image start h in
     record {
       names = names;
@@ -200,4 +200,4 @@ from_passes source image (Err e) p h = absurd (true≢false (ap is_ok (sym h)))
 
 pub assembled : (source image : List ℕ) → both_passes source ≡ Ok image → Assembled source image
 unfolding both_passes
-assembled source image h = from_passes source image (first_pass empty_table start (pieces source)) refl h
+assembled source image h = from_passes source image (first_pass no_names start (pieces source)) refl h

@@ -2,7 +2,7 @@
 -- CP/M 2.2 Operating System Manual, "CP/M Assembler", "The DB Directive" and "The DW Directive"
 use Rattle.std.specs.Prelude.{ℕ, ◌+◌, ◌/◌, ◌%◌, Bool, false, not, ◌||◌, nat_lt, nat_le, if◌then◌else◌, List, [], ◌∷◌, ◌++◌, length, Option, None, Some, is_some, unwrap_or, option_map, option_and_then}
 use Rattle.cpm_asm_expression.specs.Letters.{after_blanks}
-use Rattle.cpm_asm_expression.specs.Names.{Table, empty_table}
+use Rattle.cpm_asm_expression.specs.Names.{NameTable, no_names}
 use Rattle.cpm_asm_expression.specs.Quotes.{is_quote, quoted_text}
 use Rattle.cpm_asm_expression.specs.Reading.{value_at}
 use Rattle.cpm_asm_expression.specs.Values.{exactly}
@@ -13,12 +13,12 @@ use Rattle.cpm_asm.specs.Operands.{comma}
 use Rattle.cpm_asm.specs.declared.emit.Doubt.{Doubt}
 
 -- the value of an expression in a statement at an address; 0 for a text that is none
-unfoldable pub value : Table → ℕ → List ℕ → CheckedValue
-value names here text = unwrap_or (value_at names here text) (exactly 0)
+unfoldable pub expression_value : NameTable → ℕ → List ℕ → CheckedValue
+expression_value names here text = unwrap_or (value_at names here text) (exactly 0)
 
 -- whether a text is an expression depends on no names
 unfoldable pub is_expression : List ℕ → Bool
-is_expression text = is_some (value_at empty_table 0 text)
+is_expression text = is_some (value_at no_names 0 text)
 
 -- ---- texts
 
@@ -86,33 +86,33 @@ word_doubt v = record { is_unknown = v.is_unknown; is_outside = v.is_outside }
 abbrev pub low_byte : ℕ → ℕ
 low_byte n = n % 256
 
-abbrev pub byte_of : CheckedValue → Emitted
-byte_of v = record { bytes = low_byte v.number ∷ []; doubt = byte_doubt v }
+abbrev pub emitted_byte : CheckedValue → Emitted
+emitted_byte v = record { bytes = low_byte v.number ∷ []; doubt = byte_doubt v }
 
 -- the low byte first
 abbrev pub word_of_value : CheckedValue → Emitted
 word_of_value v = record { bytes = low_byte v.number ∷ v.number / 256 ∷ []; doubt = word_doubt v }
 
-abbrev pub byte_item : Table → ℕ → List ℕ → Option (List ℕ) → Emitted
-byte_item names here operand None = byte_of (value names here operand)
+abbrev pub byte_item : NameTable → ℕ → List ℕ → Option (List ℕ) → Emitted
+byte_item names here operand None = emitted_byte (expression_value names here operand)
 byte_item names here operand (Some characters) = certain characters
 
 -- the bytes of an operand of DB, or of one of DW
-abbrev pub operand_bytes : Bool → Table → ℕ → List ℕ → Emitted
+abbrev pub operand_bytes : Bool → NameTable → ℕ → List ℕ → Emitted
 operand_bytes is_words names here operand =
-    if is_words then word_of_value (value names here operand) else byte_item names here operand (text_in operand)
+    if is_words then word_of_value (expression_value names here operand) else byte_item names here operand (text_in operand)
 
-abbrev pub all_bytes : Bool → Table → ℕ → List (List ℕ) → List ℕ
+abbrev pub all_bytes : Bool → NameTable → ℕ → List (List ℕ) → List ℕ
 all_bytes is_words names here [] = []
 all_bytes is_words names here (x ∷ xs) = (operand_bytes is_words names here x).bytes ++ all_bytes is_words names here xs
 
 -- what is wrong with any of them, or was before
-abbrev pub all_doubts : Bool → Table → ℕ → Doubt → List (List ℕ) → Doubt
+abbrev pub all_doubts : Bool → NameTable → ℕ → Doubt → List (List ℕ) → Doubt
 all_doubts is_words names here d [] = d
 all_doubts is_words names here d (x ∷ xs) = all_doubts is_words names here (either d (operand_bytes is_words names here x).doubt) xs
 
 -- the bytes of a list of operands
-unfoldable pub list_bytes : Bool → Table → ℕ → List ℕ → Emitted
+unfoldable pub list_bytes : Bool → NameTable → ℕ → List ℕ → Emitted
 list_bytes is_words names here list = record {
   bytes = all_bytes is_words names here (parts comma false list);
   doubt = all_doubts is_words names here no_doubt (parts comma false list);

@@ -127,23 +127,23 @@ encoded op.DisableInterrupts = one 0xF3
 encoded op.EnableInterrupts = one 0xFB
 
 -- an instruction with its last byte
-abbrev pub with_byte : ByteForm → ℕ → Op
-with_byte (b.MoveImmediate place) byte = op.MoveImmediate place byte
-with_byte (b.Arithmetic operation) byte = op.ArithmeticImmediate operation byte
-with_byte b.Input byte = op.Input byte
-with_byte b.Output byte = op.Output byte
+abbrev pub op_with_byte : ByteForm → ℕ → Op
+op_with_byte (b.MoveImmediate place) byte = op.MoveImmediate place byte
+op_with_byte (b.Arithmetic operation) byte = op.ArithmeticImmediate operation byte
+op_with_byte b.Input byte = op.Input byte
+op_with_byte b.Output byte = op.Output byte
 
 -- an instruction with its last two bytes
-abbrev pub with_word : WordForm → ℕ → Op
-with_word (w.LoadPair pair) word = op.LoadPair pair word
-with_word w.StoreHl word = op.StoreHl word
-with_word w.LoadHl word = op.LoadHl word
-with_word w.StoreA word = op.StoreA word
-with_word w.LoadA word = op.LoadA word
-with_word w.Jump word = op.Jump word
-with_word (w.JumpIf condition) word = op.JumpIf condition word
-with_word w.Call word = op.Call word
-with_word (w.CallIf condition) word = op.CallIf condition word
+abbrev pub op_with_word : WordForm → ℕ → Op
+op_with_word (w.LoadPair pair) word = op.LoadPair pair word
+op_with_word w.StoreHl word = op.StoreHl word
+op_with_word w.LoadHl word = op.LoadHl word
+op_with_word w.StoreA word = op.StoreA word
+op_with_word w.LoadA word = op.LoadA word
+op_with_word w.Jump word = op.Jump word
+op_with_word (w.JumpIf condition) word = op.JumpIf condition word
+op_with_word w.Call word = op.Call word
+op_with_word (w.CallIf condition) word = op.CallIf condition word
 
 -- ---- the law of encodings
 

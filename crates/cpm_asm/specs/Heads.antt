@@ -31,8 +31,8 @@ abbrev pub front_of : List ℕ → Front
 front_of [] = Nothing
 front_of (b ∷ rest) = if begins_name b then as_word (short_letters (split_word (b ∷ rest)).0) (split_word (b ∷ rest)).1 else Other
 
-abbrev pub word_of : List ℕ → Front
-word_of text = front_of (after_blanks text)
+abbrev pub word_front : List ℕ → Front
+word_front text = front_of (after_blanks text)
 
 abbrev pub is_blank_text : List ℕ → Bool
 is_blank_text text = length (after_blanks text) == 0
@@ -65,7 +65,7 @@ behind_label_front label Other = None
 
 -- behind a label stands an operation or nothing
 abbrev pub behind_label : Name → List ℕ → Option Fronted
-behind_label label text = behind_label_front label (word_of text)
+behind_label label text = behind_label_front label (word_front text)
 
 -- a first word that is no operation is a label; a register isn't one
 abbrev pub by_keyword : List ℕ → Option Keyword → List ℕ → Option Fronted
@@ -81,5 +81,5 @@ head_front (Word letters after) = by_keyword letters (keyword_of letters) after
 head_front Other = None
 
 -- the front of a statement; None where a text does not begin as one
-abbrev pub head_of : List ℕ → Option Fronted
-head_of text = head_front (word_of text)
+abbrev pub statement_front : List ℕ → Option Fronted
+statement_front text = head_front (word_front text)

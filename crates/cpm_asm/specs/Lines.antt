@@ -6,11 +6,11 @@ use Rattle.std.specs.List.{before_first, onto_first}
 use Rattle.cpm_asm_expression.specs.Quotes.{is_quote}
 
 -- 1Ah ends a source
-abbrev pub is_end : ℕ → Bool
-is_end b = b == 0x1A
+abbrev pub ends_source : ℕ → Bool
+ends_source b = b == 0x1A
 
 abbrev pub source_text : List ℕ → List ℕ
-source_text source = before_first is_end source
+source_text source = before_first ends_source source
 
 -- in a quoted text after a byte
 abbrev pub quoted_after : Bool → ℕ → Bool
@@ -32,6 +32,6 @@ parts_behind sign None = []
 parts_behind sign (Some rest) = parts sign false rest.now
 
 -- A line without its comment: `*` as its first character makes it one, and so does `;` outside quotes what follows.
-abbrev pub code_of : List ℕ → List ℕ
-code_of [] = []
-code_of (b ∷ bs) = if b == 0x2A then [] else take (outside 0x3B false (b ∷ bs)) (b ∷ bs)
+abbrev pub line_code : List ℕ → List ℕ
+line_code [] = []
+line_code (b ∷ bs) = if b == 0x2A then [] else take (outside 0x3B false (b ∷ bs)) (b ∷ bs)

@@ -1,11 +1,11 @@
 -- What a statement at an address takes, and what the first pass finds in it.
 -- CP/M 2.2 Operating System Manual, "CP/M Assembler", "Assembler Directives". The order of faults is own.
 use Rattle.std.specs.Prelude.{ℕ, List, length, ◌+◌, ◌-◌, ◌%◌, Bool, true, false, not, ◌==◌, nat_lt, if◌then◌else◌, ◌||◌, is_some, unwrap_or}
-use Rattle.cpm_asm_expression.specs.Names.{Table}
+use Rattle.cpm_asm_expression.specs.Names.{NameTable}
 use Rattle.cpm_asm_expression.specs.declared.values.CheckedValue.{CheckedValue}
 use Rattle.cpm_asm.specs.Statements.{Deed, Wrong, Nothing, End, Origin, Equate, If, EndIf, Nest, Unnest, Space, Bytes, Words, Plain, Byte, Word, Restart}
 use Rattle.cpm_asm.specs.Encoding.{encoded}
-use Rattle.cpm_asm.specs.Data.{is_expression, list_size, value}
+use Rattle.cpm_asm.specs.Data.{is_expression, list_size, expression_value}
 use Rattle.cpm_asm.specs.declared.measure.Measure.{Measure}
 
 -- so many bytes, which have to end at the last address at most
@@ -32,8 +32,8 @@ tested a condition = record { label = a % 65536; next = a; is_unknown = conditio
 abbrev pub known_size : CheckedValue → ℕ
 known_size size = if size.is_unknown then 0 else size.number
 
-abbrev pub spaced : ℕ → CheckedValue → Measure
-spaced a size = record {
+abbrev pub space_measure : ℕ → CheckedValue → Measure
+space_measure a size = record {
   label = a % 65536;
   next = (sized a (known_size size)).next;
   is_unknown = size.is_unknown;
@@ -45,17 +45,17 @@ spaced a size = record {
 abbrev pub list_measure : Bool → ℕ → List ℕ → Measure
 list_measure is_words a list = sized a (unwrap_or (list_size is_words list) 0)
 
-unfoldable pub measured : Table → ℕ → Deed → Measure
+unfoldable pub measured : NameTable → ℕ → Deed → Measure
 measured names a Wrong = sized a 0
 measured names a Nothing = sized a 0
 measured names a End = sized a 0
 measured names a EndIf = sized a 0
 measured names a Nest = sized a 0
 measured names a Unnest = sized a 0
-measured names a (Origin target) = origin a (value names a target)
-measured names a (Equate own) = equated a (value names a own)
-measured names a (If condition) = tested a (value names a condition)
-measured names a (Space size) = spaced a (value names a size)
+measured names a (Origin target) = origin a (expression_value names a target)
+measured names a (Equate own) = equated a (expression_value names a own)
+measured names a (If condition) = tested a (expression_value names a condition)
+measured names a (Space size) = space_measure a (expression_value names a size)
 measured names a (Bytes list) = list_measure false a list
 measured names a (Words list) = list_measure true a list
 measured names a (Plain instruction) = sized a (length (encoded instruction))

@@ -14,7 +14,7 @@ use Rattle.cpm_decode.specs.declared.operation.WordOperand.TheVariants as r
 use Rattle.cpm_decode.specs.declared.operation.StackPair.{StackPair}
 use Rattle.cpm_decode.specs.declared.operation.StackPair.TheVariants as t
 use Rattle.cpm_asm.specs.Lines.{parts}
-use Rattle.cpm_asm.specs.Heads.{Front, Nothing, Word, Other, is_blank_text, word_of}
+use Rattle.cpm_asm.specs.Heads.{Front, Nothing, Word, Other, is_blank_text, word_front}
 
 -- a comma ends an operand
 abbrev pub comma : ℕ
@@ -45,7 +45,7 @@ register_front Other = None
 
 -- the register that an operand is
 abbrev pub register_in : List ℕ → Option Register
-register_in operand = register_front (word_of operand)
+register_in operand = register_front (word_front operand)
 
 -- B C D E H L A, and M for the byte at HL
 abbrev pub place_named : Register → Option ByteOperand
@@ -81,8 +81,8 @@ stack_pair_named s.H = Some t.Hl
 stack_pair_named s.StatusWord = Some t.Psw
 stack_pair_named _ = None
 
-abbrev pub place_in : List ℕ → Option ByteOperand
-place_in operand = option_and_then place_named (register_in operand)
+abbrev pub byte_operand_in : List ℕ → Option ByteOperand
+byte_operand_in operand = option_and_then place_named (register_in operand)
 
 abbrev pub pair_in : List ℕ → Option WordOperand
 pair_in operand = option_and_then pair_named (register_in operand)

@@ -1,14 +1,14 @@
 -- The two passes: the first fault of the first, else the first fault of the second, else the image. All of it is own.
 use Rattle.std.specs.Prelude.{◌≡◌, ◌⊎◌, ℕ, List, [], ◌∷◌, ◌++◌, ◌-◌, ◌==◌, Bool, true, false, if◌then◌else◌, length, replicate, Option, None, Some, Result, Ok, Err, Vec}
 use Rattle.std.specs.declared.alloc.Global.{Global}
-use Rattle.cpm_asm_expression.specs.Names.{Table, empty_table, with_name}
+use Rattle.cpm_asm_expression.specs.Names.{NameTable, no_names, with_name}
 use Rattle.cpm_asm_expression.specs.declared.names.Name.{Name}
 use Rattle.cpm_asm.specs.Pieces.{Numbered, pieces}
-use Rattle.cpm_asm.specs.Statements.{Deed, End, Said, statement_at}
+use Rattle.cpm_asm.specs.Statements.{Deed, End, StatementParts, statement_at}
 use Rattle.cpm_asm.specs.Measures.{measured}
 use Rattle.cpm_asm.specs.Data.{Emitted}
 use Rattle.cpm_asm.specs.Emitting.{emitted, second_fault}
-use Rattle.cpm_asm.specs.Places.{blamed, depth, first_fault, is_skipping, moved, start}
+use Rattle.cpm_asm.specs.Places.{blamed, depth, lowest_fault, is_skipping, position_after, start}
 use Rattle.cpm_asm.specs.declared.measure.Measure.{Measure}
 use Rattle.cpm_asm.specs.declared.place.Position.{Position}
 use Rattle.cpm_asm.specs.declared.pass.PassStop.{PassStop}
@@ -19,33 +19,33 @@ use Rattle.cpm_asm.specs.declared.error.AsmErrorKind.TheVariants as kinds
 
 -- ---- a statement at a place
 
-abbrev pub said : Position → Numbered → Said
-said p x = statement_at (is_skipping p) x.text
+abbrev pub statement_of : Position → Numbered → StatementParts
+statement_of p x = statement_at (is_skipping p) x.text
 
 -- what a statement takes
-abbrev pub taken : Table → Position → Numbered → Measure
-taken names p x = measured names p.address (said p x).deed
+abbrev pub measure_of : NameTable → Position → Numbered → Measure
+measure_of names p x = measured names p.address (statement_of p x).deed
 
 -- the place behind a statement
-abbrev pub behind : Table → Position → Numbered → Position
-behind names p x = moved p x.line (said p x).deed (taken names p x)
+abbrev pub position_behind : NameTable → Position → Numbered → Position
+position_behind names p x = position_after p x.line (statement_of p x).deed (measure_of names p x)
 
-abbrev pub table_after : Table → Option Name → ℕ → Table
+abbrev pub table_after : NameTable → Option Name → ℕ → NameTable
 table_after names None v = names
 table_after names (Some name) v = with_name names name v
 
 -- the names with that of a statement
-abbrev pub named : Table → Position → Numbered → Table
-named names p x = table_after names (said p x).label (taken names p x).label
+abbrev pub with_label : NameTable → Position → Numbered → NameTable
+with_label names p x = table_after names (statement_of p x).label (measure_of names p x).label
 
 -- the bytes of a statement
-abbrev pub given : Table → Position → Numbered → Emitted
-given names p x = emitted names p.address (taken names p x).next (said p x).deed
+abbrev pub bytes_given : NameTable → Position → Numbered → Emitted
+bytes_given names p x = emitted names p.address (measure_of names p x).next (statement_of p x).deed
 
 -- END ends the source
-abbrev pub is_last : Deed → Bool
-is_last End = true
-is_last _ = false
+abbrev pub is_end_statement : Deed → Bool
+is_end_statement End = true
+is_end_statement _ = false
 
 abbrev pub last_or : {X : Type 0} → Bool → X → X → X
 last_or true last more = last
@@ -62,10 +62,10 @@ unless_first p x xs None r = r
 unless_first p x xs (Some kind) r = Err (blamed p x.line kind (x ∷ xs))
 
 -- the names of the statements
-abbrev pub first_pass : Table → Position → List Numbered → Result Table AsmError
+abbrev pub first_pass : NameTable → Position → List Numbered → Result NameTable AsmError
 first_pass names p [] = at_end p names
-first_pass names p (x ∷ xs) = unless_first p x xs (first_fault names p (said p x) (taken names p x))
-    (last_or (is_last (said p x).deed) (at_end p (named names p x)) (first_pass (named names p x) (behind names p x) xs))
+first_pass names p (x ∷ xs) = unless_first p x xs (lowest_fault names p (statement_of p x) (measure_of names p x))
+    (last_or (is_end_statement (statement_of p x).deed) (at_end p (with_label names p x)) (first_pass (with_label names p x) (position_behind names p x) xs))
 
 -- ---- the second pass
 
@@ -75,27 +75,27 @@ laid image a [] = image
 laid image a (b ∷ bs) = image ++ replicate (a - 256 - length image) 0 ++ b ∷ bs
 
 -- with the bytes of a statement
-abbrev pub with_bytes : Table → List ℕ → Position → Numbered → List ℕ
-with_bytes names image p x = laid image p.address (given names p x).bytes
+abbrev pub with_statement_bytes : NameTable → List ℕ → Position → Numbered → List ℕ
+with_statement_bytes names image p x = laid image p.address (bytes_given names p x).bytes
 
 abbrev pub unless_second : {X : Type 0} → ℕ → Option AsmErrorKind → Result X AsmError → Result X AsmError
 unless_second line None r = r
 unless_second line (Some kind) r = Err (record { line = line; kind = kind })
 
-abbrev pub second_pass : Table → List ℕ → Position → List Numbered → Result (List ℕ) AsmError
+abbrev pub second_pass : NameTable → List ℕ → Position → List Numbered → Result (List ℕ) AsmError
 second_pass names image p [] = Ok image
-second_pass names image p (x ∷ xs) = unless_second x.line (second_fault (given names p x).doubt)
-    (last_or (is_last (said p x).deed) (Ok (with_bytes names image p x)) (second_pass names (with_bytes names image p x) (behind names p x) xs))
+second_pass names image p (x ∷ xs) = unless_second x.line (second_fault (bytes_given names p x).doubt)
+    (last_or (is_end_statement (statement_of p x).deed) (Ok (with_statement_bytes names image p x)) (second_pass names (with_statement_bytes names image p x) (position_behind names p x) xs))
 
 -- ---- both
 
-abbrev pub second_behind : List Numbered → Result Table AsmError → Result (List ℕ) AsmError
+abbrev pub second_behind : List Numbered → Result NameTable AsmError → Result (List ℕ) AsmError
 second_behind xs (Ok names) = second_pass names [] start xs
 second_behind xs (Err refusal) = Err refusal
 
 -- the image of a source, or the answered fault
 unfoldable pub both_passes : List ℕ → Result (List ℕ) AsmError
-both_passes source = second_behind (pieces source) (first_pass empty_table start (pieces source))
+both_passes source = second_behind (pieces source) (first_pass no_names start (pieces source))
 
 -- What a function returned, seen by view, is what a pass gives, unless memory ran out.
 abbrev pub Fails : {Y : Type 0} → PassStop → Result Y AsmError → Type 0

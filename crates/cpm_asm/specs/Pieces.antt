@@ -3,7 +3,7 @@
 use Rattle.std.specs.Prelude.{ℕ, ◌+◌, ◌*◌, false, List, [], ◌∷◌, ◌++◌, length, map, Option, None, Some}
 use Rattle.std.specs.Borrow.{Bor}
 use Rattle.std.specs.Str.Lines.{lines}
-use Rattle.cpm_asm.specs.Lines.{code_of, parts, parts_behind, source_text}
+use Rattle.cpm_asm.specs.Lines.{line_code, parts, parts_behind, source_text}
 use Rattle.cpm_asm.specs.declared.pieces.Piece.{Piece}
 use Rattle.cpm_asm.specs.declared.pieces.Pieces.{Pieces}
 
@@ -12,31 +12,31 @@ pub record Numbered : Type 0 where
   pub line : ℕ
   pub text : List ℕ
 
-abbrev pub numbered : ℕ → List ℕ → Numbered
-numbered line text = record { line = line; text = text }
+abbrev pub numbered_statement : ℕ → List ℕ → Numbered
+numbered_statement line text = record { line = line; text = text }
 
 -- ! outside quotes separates statements
 abbrev pub bang : ℕ
 bang = 0x21
 
 abbrev pub in_line : ℕ → List (List ℕ) → List Numbered
-in_line line texts = map (numbered line) texts
+in_line line texts = map (numbered_statement line) texts
 
 -- the statements of lines, of which the first has the number after this one
 abbrev pub pieces_after : ℕ → List (List ℕ) → List Numbered
 pieces_after line [] = []
-pieces_after line (l ∷ ls) = in_line (line + 1) (parts bang false (code_of l)) ++ pieces_after (line + 1) ls
+pieces_after line (l ∷ ls) = in_line (line + 1) (parts bang false (line_code l)) ++ pieces_after (line + 1) ls
 
 -- the statements of a source
 unfoldable pub pieces : List ℕ → List Numbered
 pieces source = pieces_after 0 (lines (source_text source))
 
 abbrev pub seen_piece : Piece → Numbered
-seen_piece p = numbered p.line p.text.now
+seen_piece p = numbered_statement p.line p.text.now
 
 -- what is left: statements of the line that was begun, and of the lines behind it
-abbrev pub left : Pieces → List Numbered
-left p = in_line p.line (parts_behind bang p.behind) ++ pieces_after p.line (lines p.rest.now)
+abbrev pub statements_left : Pieces → List Numbered
+statements_left p = in_line p.line (parts_behind bang p.behind) ++ pieces_after p.line (lines p.rest.now)
 
 abbrev pub bytes_behind : Option (Bor (List ℕ)) → ℕ
 bytes_behind None = 0

@@ -2,16 +2,16 @@
 -- CP/M 2.2 Operating System Manual, "CP/M Assembler", "The IF and ENDIF Directives". The depth of 8 and the order
 -- of faults are own.
 use Rattle.std.specs.Prelude.{ℕ, ◌+◌, ◌-◌, ◌≤◌, List, [], ◌∷◌, Option, None, Some, Bool, true, false, not, ◌==◌, nat_lt, nat_le, if◌then◌else◌, ◌||◌, ◌&&◌, is_some}
-use Rattle.cpm_asm_expression.specs.Names.{Table}
+use Rattle.cpm_asm_expression.specs.Names.{NameTable}
 use Rattle.cpm_asm_expression.specs.declared.names.Name.{Name}
 use Rattle.cpm_asm_expression.specs.declared.words.Operation.{Operation}
 use Rattle.cpm_asm_expression.specs.declared.words.Operation.TheVariants as o
-use Rattle.cpm_asm.specs.Heads.{Fronted, head_of}
+use Rattle.cpm_asm.specs.Heads.{Fronted, statement_front}
 use Rattle.cpm_asm.specs.declared.nesting.Depth.{Depth}
 use Rattle.cpm_asm.specs.declared.nesting.NestingChange.{NestingChange}
 use Rattle.cpm_asm.specs.declared.nesting.NestingChange.TheVariants as turning
 use Rattle.cpm_asm.specs.Pieces.{Numbered}
-use Rattle.cpm_asm.specs.Statements.{Deed, Equate, If, EndIf, Nest, Unnest, Said}
+use Rattle.cpm_asm.specs.Statements.{Deed, Equate, If, EndIf, Nest, Unnest, StatementParts}
 use Rattle.cpm_asm.specs.Measures.{is_wrong}
 use Rattle.cpm_asm.specs.declared.measure.Measure.{Measure}
 use Rattle.cpm_asm.specs.declared.place.Position.{Position}
@@ -29,8 +29,8 @@ depth p = p.held + p.skipped
 abbrev pub IsPlace : Position → Type 0
 IsPlace p = (p.address ≤ 65536) × (depth p ≤ 8)
 
-abbrev pub at_address : Position → ℕ → Position
-at_address p a = record { address = a; held = p.held; skipped = p.skipped; outermost = p.outermost }
+abbrev pub position_at : Position → ℕ → Position
+position_at p a = record { address = a; held = p.held; skipped = p.skipped; outermost = p.outermost }
 
 abbrev pub first_open : Position → ℕ → ℕ
 first_open p line = if depth p == 0 then line else p.outermost
@@ -43,12 +43,12 @@ in_if p line holds =
     else record { address = p.address; held = p.held; skipped = p.skipped + 1; outermost = first_open p line }
 
 -- the place behind a statement
-abbrev pub moved : Position → ℕ → Deed → Measure → Position
-moved p line (If e) k = in_if (at_address p k.next) line k.holds
-moved p line Nest k = in_if (at_address p k.next) line false
-moved p line EndIf k = record { address = k.next; held = p.held - 1; skipped = p.skipped; outermost = p.outermost }
-moved p line Unnest k = record { address = k.next; held = p.held; skipped = p.skipped - 1; outermost = p.outermost }
-moved p line _ k = at_address p k.next
+abbrev pub position_after : Position → ℕ → Deed → Measure → Position
+position_after p line (If e) k = in_if (position_at p k.next) line k.holds
+position_after p line Nest k = in_if (position_at p k.next) line false
+position_after p line EndIf k = record { address = k.next; held = p.held - 1; skipped = p.skipped; outermost = p.outermost }
+position_after p line Unnest k = record { address = k.next; held = p.held; skipped = p.skipped - 1; outermost = p.outermost }
+position_after p line _ k = position_at p k.next
 
 -- under an IF that doesn't hold
 abbrev pub is_skipping : Position → Bool
@@ -66,20 +66,20 @@ is_equate (Equate e) = true
 is_equate _ = false
 
 -- EQU without a label
-abbrev pub is_nameless : Said → Bool
+abbrev pub is_nameless : StatementParts → Bool
 is_nameless s = not (is_some s.label) && is_equate s.deed
 
-abbrev pub is_defined : Table → Option Name → Bool
+abbrev pub is_defined : NameTable → Option Name → Bool
 is_defined names None = false
 is_defined names (Some name) = is_some (names name)
 
 -- a label behind the last address, and not one of EQU
-abbrev pub placed_over : ℕ → Said → Bool
+abbrev pub placed_over : ℕ → StatementParts → Bool
 placed_over a s = nat_le 65536 a && is_some s.label && not (is_equate s.deed)
 
 -- of several faults the one of the lowest number
-unfoldable pub first_fault : Table → Position → Said → Measure → Option AsmErrorKind
-first_fault names p s m =
+unfoldable pub lowest_fault : NameTable → Position → StatementParts → Measure → Option AsmErrorKind
+lowest_fault names p s m =
     if is_wrong s.deed || is_misplaced p s.deed || is_nameless s then Some kinds.Syntax
     else if is_defined names s.label then Some kinds.DefinedTwice
     else if m.is_outside || placed_over p.address s then Some kinds.OutOfRange
@@ -112,31 +112,31 @@ abbrev pub turn_front : Option Fronted → Turn
 turn_front None = Stays
 turn_front (Some head) = turn_by head.operation
 
-unfoldable pub turn_of : List ℕ → Turn
-turn_of text = turn_front (head_of text)
+unfoldable pub nesting_change_of : List ℕ → Turn
+nesting_change_of text = turn_front (statement_front text)
 
 -- how many IFs are open: those that are read, and those that are only counted
 abbrev pub depth_of : Depth → ℕ
 depth_of d = d.held + d.skipped
 
-abbrev pub one_less : Depth → Depth
-one_less d = if d.skipped == 0 then record { held = d.held - 1; skipped = 0 } else record { held = d.held; skipped = d.skipped - 1 }
+abbrev pub shallower : Depth → Depth
+shallower d = if d.skipped == 0 then record { held = d.held - 1; skipped = 0 } else record { held = d.held; skipped = d.skipped - 1 }
 
-abbrev pub one_more : Depth → Depth
-one_more d = record { held = d.held; skipped = d.skipped + 1 }
+abbrev pub deeper : Depth → Depth
+deeper d = record { held = d.held; skipped = d.skipped + 1 }
 
 -- what is known behind a statement: whether all IFs are closed, or how many are open
 abbrev pub sought : Depth → Turn → (Depth → Bool) → Bool
 sought d Stays next = next d
-sought d Opens next = next (one_more d)
+sought d Opens next = next (deeper d)
 sought d Ends next = if d.skipped == 0 then false else next d
-sought d Closes next = if depth_of (one_less d) == 0 then true else next (one_less d)
+sought d Closes next = if depth_of (shallower d) == 0 then true else next (shallower d)
 
 -- Whether the IFs that are open are closed by what follows. IFs are counted, as under one that doesn't hold; END ends
 -- the source where it is read (own).
 abbrev pub closes : Depth → List Numbered → Bool
 closes d [] = false
-closes d (x ∷ xs) = sought d (turn_of x.text) (λ e. closes e xs)
+closes d (x ∷ xs) = sought d (nesting_change_of x.text) (λ e. closes e xs)
 
 -- A fault of a statement, or that of the first IF that is open where it is left open.
 unfoldable pub blamed : Position → ℕ → AsmErrorKind → List Numbered → AsmError

@@ -13,8 +13,8 @@ use Rattle.cpm_decode.specs.declared.operation.Op.{Op}
 use Rattle.cpm_decode.specs.declared.operation.Op.TheVariants as op
 use Rattle.cpm_decode.specs.declared.operation.ByteOperand.{ByteOperand}
 use Rattle.cpm_decode.specs.declared.operation.ByteOperand.TheVariants as p
-use Rattle.cpm_asm.specs.Heads.{Fronted, head_of, is_blank_text}
-use Rattle.cpm_asm.specs.Operands.{direct_pair_in, one_operand, pair_in, place_in, stack_pair_in, two_operands}
+use Rattle.cpm_asm.specs.Heads.{Fronted, statement_front, is_blank_text}
+use Rattle.cpm_asm.specs.Operands.{direct_pair_in, one_operand, pair_in, byte_operand_in, stack_pair_in, two_operands}
 use Rattle.cpm_asm.specs.declared.statement.Work.{Work}
 use Rattle.cpm_asm.specs.declared.statement.Work.TheVariants as works
 use Rattle.cpm_asm.specs.declared.statement.Statement.{Statement}
@@ -70,9 +70,9 @@ with_expression _ e = Wrong
 
 -- operations with one register: B C D E H L M A, or a pair by B D H SP, B D, or B D H PSW
 abbrev pub with_register : Operation → List ℕ → Option Op
-with_register o.Increment operand = option_map op.Increment (place_in operand)
-with_register o.Decrement operand = option_map op.Decrement (place_in operand)
-with_register (o.Arithmetic a) operand = option_map (op.Arithmetic a) (place_in operand)
+with_register o.Increment operand = option_map op.Increment (byte_operand_in operand)
+with_register o.Decrement operand = option_map op.Decrement (byte_operand_in operand)
+with_register (o.Arithmetic a) operand = option_map (op.Arithmetic a) (byte_operand_in operand)
 with_register o.IncrementPair operand = option_map op.IncrementPair (pair_in operand)
 with_register o.DecrementPair operand = option_map op.DecrementPair (pair_in operand)
 with_register o.AddPair operand = option_map op.AddPair (pair_in operand)
@@ -94,8 +94,8 @@ or_wrong (Some deed) = deed
 
 -- operations with two operands
 abbrev pub with_two : Operation → List ℕ → List ℕ → Deed
-with_two o.Move first second = move_deed (place_in first) (place_in second)
-with_two o.MoveImmediate first second = or_wrong (option_map (λ place. Byte (b.MoveImmediate place) second) (place_in first))
+with_two o.Move first second = move_deed (byte_operand_in first) (byte_operand_in second)
+with_two o.MoveImmediate first second = or_wrong (option_map (λ place. Byte (b.MoveImmediate place) second) (byte_operand_in first))
 with_two o.LoadPair first second = or_wrong (option_map (λ pair. Word (w.LoadPair pair) second) (pair_in first))
 with_two _ first second = Wrong
 
@@ -128,11 +128,11 @@ deed_of o.LoadPair operands = from_two o.LoadPair operands
 deed_of operation operands = or_wrong (option_map Plain (with_register operation operands))
 
 -- a label, and what the statement does
-pub record Said : Type 0 where
+pub record StatementParts : Type 0 where
   pub label : Option Name
   pub deed : Deed
 
-abbrev pub seen_statement : Statement → Said
+abbrev pub seen_statement : Statement → StatementParts
 seen_statement s = record { label = s.label; deed = seen_work s.work }
 
 abbrev pub operated : Option Operation → List ℕ → Deed
@@ -145,14 +145,14 @@ skipped_deed (Some o.If) = Nest
 skipped_deed (Some o.EndIf) = Unnest
 skipped_deed _ = Nothing
 
-abbrev pub read_head : Option Fronted → Said
+abbrev pub read_head : Option Fronted → StatementParts
 read_head None = record { label = None; deed = Wrong }
 read_head (Some head) = record { label = head.label; deed = operated head.operation head.operands }
 
-abbrev pub skipped_head : Option Fronted → Said
+abbrev pub skipped_head : Option Fronted → StatementParts
 skipped_head None = record { label = None; deed = Nothing }
 skipped_head (Some head) = record { label = None; deed = skipped_deed head.operation }
 
 -- the statement that a text is, where statements are read or skipped
-unfoldable pub statement_at : Bool → List ℕ → Said
-statement_at is_skipped text = if is_skipped then skipped_head (head_of text) else read_head (head_of text)
+unfoldable pub statement_at : Bool → List ℕ → StatementParts
+statement_at is_skipped text = if is_skipped then skipped_head (statement_front text) else read_head (statement_front text)

@@ -6,11 +6,11 @@ ghost use Rattle.cpm_asm.specs.Encoding.{encoded};
 ghost use Rattle.cpm_asm.specs.Statements.{seen_work};
 ghost use Rattle.cpm_asm.specs.Emitting.{emitted, restart_doubt, second_fault};
 
-use crate::encode::{encoded, with_byte, with_word};
+use crate::encode::{encoded, op_with_byte, op_with_word};
 use crate::error::AsmErrorKind;
 use crate::lines::first_part;
 use crate::statement::Work;
-use crate::values::{text_in, value};
+use crate::values::{text_in, expression_value};
 use cpm_decode::Op;
 use cpm_asm_expression::{Names, CheckedValue};
 use std::alloc::{AllocError, Global};
@@ -82,7 +82,7 @@ fn add_operand(
     ensures doubt { IfOk result (λ doubt. doubt ≡ (operand_bytes is_words (in_table names.now) here operand.now).doubt) }
 {
     if is_words {
-        let found = value(alloc, names, here, operand)?;
+        let found = expression_value(alloc, names, here, operand)?;
         add_bytes(
             image,
             &[(found.number % 256) as u8, (found.number / 256) as u8],
@@ -101,7 +101,7 @@ fn add_operand(
             })
         }
         None => {
-            let found = value(alloc, names, here, operand)?;
+            let found = expression_value(alloc, names, here, operand)?;
             add_bytes(image, &[(found.number % 256) as u8])?;
             Ok(byte_doubt(found))
         }
@@ -182,20 +182,20 @@ pub(crate) fn add_work(
             Ok(sure)
         }
         Work::Byte(form, operand) => {
-            let found = value(alloc, names, here, operand)?;
-            add_op(image, with_byte(form, (found.number % 256) as u8))?;
+            let found = expression_value(alloc, names, here, operand)?;
+            add_op(image, op_with_byte(form, (found.number % 256) as u8))?;
             Ok(byte_doubt(found))
         }
         Work::Word(form, operand) => {
-            let found = value(alloc, names, here, operand)?;
-            add_op(image, with_word(form, found.number))?;
+            let found = expression_value(alloc, names, here, operand)?;
+            add_op(image, op_with_word(form, found.number))?;
             Ok(Doubt {
                 is_unknown: found.is_unknown,
                 is_outside: found.is_outside,
             })
         }
         Work::Restart(operand) => {
-            let found = value(alloc, names, here, operand)?;
+            let found = expression_value(alloc, names, here, operand)?;
             add_op(image, Op::Restart(8 * (found.number % 8)))?;
             Ok(restart_doubt(found))
         }

@@ -1,6 +1,6 @@
 //! The bytes of an instruction.
 ghost use Rattle.std.specs.Prelude.{◌≡◌, ◌<◌, ◌≤◌, ◌∷◌, [], ◌/◌, ◌%◌};
-ghost use Rattle.cpm_asm.specs.Encoding.{arithmetic_code, condition_code, encoded, pair_code, place_code, rotation_code, stack_pair_code, with_byte, with_word};
+ghost use Rattle.cpm_asm.specs.Encoding.{arithmetic_code, condition_code, encoded, pair_code, place_code, rotation_code, stack_pair_code, op_with_byte, op_with_word};
 
 use arrayvec::ArrayVec;
 use cpm_decode::{Arithmetic, Condition, Op, WordOperand, ByteOperand, Rotation, StackPair};
@@ -175,8 +175,8 @@ pub fn encoded(op: Op) -> Encoding
 }
 
 /// An instruction with its last byte.
-pub(crate) fn with_byte(form: ByteForm, byte: u8) -> Op
-    ensures { result ≡ with_byte form byte }
+pub(crate) fn op_with_byte(form: ByteForm, byte: u8) -> Op
+    ensures { result ≡ op_with_byte form byte }
 {
     match form {
         ByteForm::MoveImmediate(place) => Op::MoveImmediate(place, byte),
@@ -187,8 +187,8 @@ pub(crate) fn with_byte(form: ByteForm, byte: u8) -> Op
 }
 
 /// An instruction with its last two bytes.
-pub(crate) fn with_word(form: WordForm, word: u16) -> Op
-    ensures { result ≡ with_word form word }
+pub(crate) fn op_with_word(form: WordForm, word: u16) -> Op
+    ensures { result ≡ op_with_word form word }
 {
     match form {
         WordForm::LoadPair(pair) => Op::LoadPair(pair, word),

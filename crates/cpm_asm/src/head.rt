@@ -1,8 +1,8 @@
 //! The label and the operation of a statement.
 ghost use Rattle.std.specs.Prelude.{◌≡◌, option_map};
-ghost use Rattle.cpm_asm.specs.Heads.{behind_label, head_of, seen_head};
+ghost use Rattle.cpm_asm.specs.Heads.{behind_label, statement_front, seen_head};
 
-use crate::word::{First, after_colon, word_of};
+use crate::word::{First, after_colon, word_front};
 use cpm_asm_expression::{Keyword, Name, Operation, keyword_of, name_of};
 
 /// The front of a statement.
@@ -18,7 +18,7 @@ pub struct Head<'a> {
 fn behind_label(label: Name, text: &[u8]) -> Option<Head<'_>>
     ensures { option_map seen_head result ≡ behind_label label text.now }
 {
-    match word_of(text) {
+    match word_front(text) {
         First::Nothing => Some(Head {
             label: Some(label),
             operation: None,
@@ -41,10 +41,10 @@ fn behind_label(label: Name, text: &[u8]) -> Option<Head<'_>>
 /// The label, the operation and the operands of a text, if it begins as a statement does.
 ///
 /// A first word that is no operation is a label, with or without a colon behind it; a register isn't one.
-pub(crate) fn head_of(text: &[u8]) -> Option<Head<'_>>
-    ensures { option_map seen_head result ≡ head_of text.now }
+pub(crate) fn statement_front(text: &[u8]) -> Option<Head<'_>>
+    ensures { option_map seen_head result ≡ statement_front text.now }
 {
-    match word_of(text) {
+    match word_front(text) {
         First::Nothing => Some(Head {
             label: None,
             operation: None,

@@ -1,7 +1,7 @@
 //! Lines, and the statements in a line.
 ghost use Rattle.std.specs.Prelude.{◌≡◌, ◌∷◌, ◌+◌, ◌<◌, ◌≤◌, IfSome, false, length};
 ghost use Rattle.std.specs.Str.Lines.{lines, strip_carriage_return};
-ghost use Rattle.cpm_asm.specs.Lines.{code_of, outside, parts, parts_behind, source_text};
+ghost use Rattle.cpm_asm.specs.Lines.{line_code, outside, parts, parts_behind, source_text};
 
 use memchr::memchr;
 
@@ -72,8 +72,8 @@ pub(crate) fn first_part(text: &[u8], sign: u8) -> (&[u8], Option<&[u8]>)
 }
 
 /// A line without its comment.
-pub(crate) fn code_of(line: &[u8]) -> &[u8]
-    ensures code { result.now ≡ code_of line.now }
+pub(crate) fn line_code(line: &[u8]) -> &[u8]
+    ensures code { result.now ≡ line_code line.now }
     ensures shorter { length result.now ≤ length line.now }
 {
     match line.first() {

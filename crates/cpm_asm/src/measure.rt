@@ -3,12 +3,12 @@ ghost use Rattle.std.specs.Prelude.{◌≡◌, ◌<◌, ◌≤◌, IfOk, IfSome,
 ghost use Rattle.cpm_asm_expression.specs.Names.{in_table};
 ghost use Rattle.cpm_asm.specs.Data.{list_size, operand_size};
 ghost use Rattle.cpm_asm.specs.Statements.{seen_statement, seen_work};
-ghost use Rattle.cpm_asm.specs.Measures.{equated, is_wrong, list_measure, measured, origin, sized, spaced, tested};
+ghost use Rattle.cpm_asm.specs.Measures.{equated, is_wrong, list_measure, measured, origin, sized, space_measure, tested};
 
 use crate::encode::encoded;
 use crate::lines::first_part;
 use crate::statement::Work;
-use crate::values::{is_expression, text_in, value};
+use crate::values::{is_expression, text_in, expression_value};
 use cpm_asm_expression::{Names, CheckedValue};
 use std::alloc::{AllocError, Global};
 
@@ -128,9 +128,9 @@ fn tested(address: usize, condition: CheckedValue) -> Measure
 }
 
 /// A space whose size isn't known takes nothing.
-fn spaced(address: usize, size: CheckedValue) -> Measure
+fn space_measure(address: usize, size: CheckedValue) -> Measure
     requires { address ≤ 65536 }
-    ensures measure { result ≡ spaced address size }
+    ensures measure { result ≡ space_measure address size }
     ensures within { result.next ≤ 65536 }
 {
     let bytes = if size.is_unknown {
@@ -176,10 +176,10 @@ pub(crate) fn measured(
         Work::Wrong | Work::Nothing | Work::End | Work::EndIf | Work::Nest | Work::Unnest => Ok(
             sized(address, 0),
         ),
-        Work::Origin(target) => Ok(origin(address, value(alloc, names, address, target)?)),
-        Work::Equate(own) => Ok(equated(address, value(alloc, names, address, own)?)),
-        Work::If(condition) => Ok(tested(address, value(alloc, names, address, condition)?)),
-        Work::Space(size) => Ok(spaced(address, value(alloc, names, address, size)?)),
+        Work::Origin(target) => Ok(origin(address, expression_value(alloc, names, address, target)?)),
+        Work::Equate(own) => Ok(equated(address, expression_value(alloc, names, address, own)?)),
+        Work::If(condition) => Ok(tested(address, expression_value(alloc, names, address, condition)?)),
+        Work::Space(size) => Ok(space_measure(address, expression_value(alloc, names, address, size)?)),
         Work::Bytes(list) => list_measure(alloc, false, address, list),
         Work::Words(list) => list_measure(alloc, true, address, list),
         Work::Plain(op) => Ok(sized(address, encoded(op).len())),

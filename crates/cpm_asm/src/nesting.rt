@@ -1,10 +1,10 @@
 //! IFs that are left open.
 ghost use Rattle.std.specs.Prelude.{◌≡◌, ◌+◌, ◌<◌, ◌^◌, length};
-ghost use Rattle.cpm_asm.specs.Pieces.{bytes_left, left};
-ghost use Rattle.cpm_asm.specs.Places.{IsPlace, blamed, closes, one_less, seen_turn, turn_of};
+ghost use Rattle.cpm_asm.specs.Pieces.{bytes_left, statements_left};
+ghost use Rattle.cpm_asm.specs.Places.{IsPlace, blamed, closes, shallower, seen_turn, nesting_change_of};
 
 use crate::error::{AsmError, AsmErrorKind};
-use crate::head::head_of;
+use crate::head::statement_front;
 use crate::pieces::{Pieces, next_piece};
 use crate::place::Position;
 use cpm_asm_expression::Operation;
@@ -26,10 +26,10 @@ pub struct Depth {
 }
 
 #[tactic(auto, unfolding(crate::specs::Places::turn_of))]
-fn turn_of(text: &[u8]) -> NestingChange
-    ensures { seen_turn result ≡ turn_of text.now }
+fn nesting_change_of(text: &[u8]) -> NestingChange
+    ensures { seen_turn result ≡ nesting_change_of text.now }
 {
-    match head_of(text) {
+    match statement_front(text) {
         Some(head) => match head.operation {
             Some(Operation::If) => NestingChange::Opens,
             Some(Operation::EndIf) => NestingChange::Closes,
@@ -40,8 +40,8 @@ fn turn_of(text: &[u8]) -> NestingChange
     }
 }
 
-fn one_less(depth: Depth) -> Depth
-    ensures { result ≡ one_less depth }
+fn shallower(depth: Depth) -> Depth
+    ensures { result ≡ shallower depth }
 {
     if depth.skipped == 0 {
         Depth {
@@ -60,12 +60,12 @@ fn one_less(depth: Depth) -> Depth
 fn closes(from: Depth, start: &Pieces) -> bool
     requires lines { start.now.line + length start.now.rest.now < 2 ^ 64 }
     requires small { from.skipped + bytes_left start.now < 2 ^ 100 }
-    ensures { result ≡ closes from (left start.now) }
+    ensures { result ≡ closes from (statements_left start.now) }
 {
     let mut depth = from;
     let mut pieces = *start;
     while let Some((piece, behind)) = next_piece(&pieces) {
-        match turn_of(piece.text) {
+        match nesting_change_of(piece.text) {
             NestingChange::Stays => {}
             NestingChange::Opens => depth = Depth {
                 held: depth.held,
@@ -77,7 +77,7 @@ fn closes(from: Depth, start: &Pieces) -> bool
                 }
             }
             NestingChange::Closes => {
-                depth = one_less(depth);
+                depth = shallower(depth);
                 if depth.held == 0 && depth.skipped == 0 {
                     return true;
                 }
@@ -94,7 +94,7 @@ pub(crate) fn blamed(place: Position, line: u64, kind: AsmErrorKind, pieces: &Pi
     requires place { IsPlace place }
     requires lines { pieces.now.line + length pieces.now.rest.now < 2 ^ 64 }
     requires small { bytes_left pieces.now < 2 ^ 99 }
-    ensures { result ≡ blamed place line kind (left pieces.now) }
+    ensures { result ≡ blamed place line kind (statements_left pieces.now) }
 {
     let depth = Depth {
         held: place.held,

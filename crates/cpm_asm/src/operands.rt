@@ -1,9 +1,9 @@
 //! The operands of a statement.
 ghost use Rattle.std.specs.Prelude.{◌≡◌, option_map};
-ghost use Rattle.cpm_asm.specs.Operands.{direct_pair_in, one_operand, pair_in, pair_named, place_in, place_named, register_in, stack_pair_in, stack_pair_named, two_operands};
+ghost use Rattle.cpm_asm.specs.Operands.{direct_pair_in, one_operand, pair_in, pair_named, byte_operand_in, place_named, register_in, stack_pair_in, stack_pair_named, two_operands};
 
 use crate::lines::first_part;
-use crate::word::{First, is_blank_text, word_of};
+use crate::word::{First, is_blank_text, word_front};
 use cpm_decode::{WordOperand, ByteOperand, StackPair};
 use cpm_asm_expression::{Keyword, Register, keyword_of};
 
@@ -34,7 +34,7 @@ pub(crate) fn two_operands(list: &[u8]) -> Option<(&[u8], &[u8])>
 fn register_in(operand: &[u8]) -> Option<Register>
     ensures { result ≡ register_in operand.now }
 {
-    match word_of(operand) {
+    match word_front(operand) {
         First::Word(letters, after) => {
             if !is_blank_text(after) {
                 return None;
@@ -92,8 +92,8 @@ fn stack_pair_named(register: Register) -> Option<StackPair>
 }
 
 /// The place that an operand is.
-pub(crate) fn place_in(operand: &[u8]) -> Option<ByteOperand>
-    ensures { result ≡ place_in operand.now }
+pub(crate) fn byte_operand_in(operand: &[u8]) -> Option<ByteOperand>
+    ensures { result ≡ byte_operand_in operand.now }
 {
     place_named(register_in(operand)?)
 }

@@ -1,21 +1,21 @@
 //! The two passes.
 ghost use Rattle.std.specs.Prelude.{◌≡◌, ◌+◌, ◌++◌, ◌<◌, ◌≤◌, ◌^◌, [], IfOk, OnOk, length};
-ghost use Rattle.cpm_asm_expression.specs.Names.{empty_table, in_table};
+ghost use Rattle.cpm_asm_expression.specs.Names.{no_names, in_table};
 ghost use Rattle.cpm_asm.specs.Assembled.{Assembled};
 ghost use Rattle.cpm_asm.specs.Emitting.{emitted};
 ghost use Rattle.cpm_asm.specs.Measures.{measured};
-ghost use Rattle.cpm_asm.specs.Pieces.{bytes_left, left, pieces};
-ghost use Rattle.cpm_asm.specs.Places.{IsPlace, first_fault, start};
-ghost use Rattle.cpm_asm.specs.Placing.{ArePlaces, Assembles, image_of, place_of, placed, places, places_from};
+ghost use Rattle.cpm_asm.specs.Pieces.{bytes_left, statements_left, pieces};
+ghost use Rattle.cpm_asm.specs.Places.{IsPlace, lowest_fault, start};
+ghost use Rattle.cpm_asm.specs.Placing.{ArePlaces, Assembles, program_image, placement_of, placement, places, places_from};
 ghost use Rattle.cpm_asm.specs.Statements.{seen_statement, seen_work};
-ghost use Rattle.cpm_asm.specs.Passes.{Answers, Gives, at_end, both_passes, first_pass, is_last, laid, second_pass, table_after};
+ghost use Rattle.cpm_asm.specs.Passes.{Answers, Gives, at_end, both_passes, first_pass, is_end_statement, laid, second_pass, table_after};
 
 use crate::emit::{Doubt, add_work, add_zeros, second_fault};
 use crate::error::{AsmError, AsmErrorKind};
 use crate::measure::{Measure, measured};
 use crate::nesting::blamed;
 use crate::pieces::{next_piece, pieces_of};
-use crate::place::{Position, first_fault, moved, start};
+use crate::place::{Position, lowest_fault, position_after, start};
 use crate::placed::{Assembly, Placement, add_place};
 use crate::statement::{Statement, Work, statement_at};
 use cpm_asm_expression::{Name, Names};
@@ -41,8 +41,8 @@ fn define(names: &mut Names, label: Option<Name>, value: u16) -> Result<(), Allo
 }
 
 /// END ends the source.
-fn is_last(work: &Work) -> bool
-    ensures { result ≡ is_last (seen_work work.now) }
+fn is_end_statement(work: &Work) -> bool
+    ensures { result ≡ is_end_statement (seen_work work.now) }
 {
     matches!(*work, Work::End)
 }
@@ -56,11 +56,11 @@ fn examined(
 ) -> Result<(Measure, Option<AsmErrorKind>), AllocError>
     requires { IsPlace place }
     ensures measure { IfOk result (λ p. p.0 ≡ measured (in_table names.now) place.address (seen_work statement.now.work)) }
-    ensures fault { IfOk result (λ p. p.1 ≡ first_fault (in_table names.now) place (seen_statement statement.now) p.0) }
+    ensures fault { IfOk result (λ p. p.1 ≡ lowest_fault (in_table names.now) place (seen_statement statement.now) p.0) }
     ensures within { IfOk result (λ p. p.0.next ≤ 65536) }
 {
     let measure = measured(alloc, names, place.address, &statement.work)?;
-    let fault = first_fault(alloc, names, place, statement, measure)?;
+    let fault = lowest_fault(alloc, names, place, statement, measure)?;
     Ok((measure, fault))
 }
 
@@ -81,7 +81,7 @@ fn at_end(place: Position, names: Names) -> Result<Names, PassStop>
 
 /// The values of all names.
 fn first_pass(alloc: Global, source: &[u8]) -> Result<Names, PassStop>
-    ensures { Gives in_table result (first_pass empty_table start (pieces source.now)) }
+    ensures { Gives in_table result (first_pass no_names start (pieces source.now)) }
 {
     let mut names = BTreeMap::new(alloc);
     let mut place = start();
@@ -97,10 +97,10 @@ fn first_pass(alloc: Global, source: &[u8]) -> Result<Names, PassStop>
         let Ok(()) = define(&mut names, statement.label, measure.label) else {
             return Err(PassStop::OutOfMemory(piece.line));
         };
-        if is_last(&statement.work) {
+        if is_end_statement(&statement.work) {
             return at_end(place, names);
         }
-        place = moved(place, piece.line, &statement.work, measure);
+        place = position_after(place, piece.line, &statement.work, measure);
         pieces = behind;
     }
     at_end(place, names)
@@ -152,7 +152,7 @@ fn lay_statement(
     ensures measure { IfOk result (λ p. p.0 ≡ measured (in_table names.now) place.address (seen_work statement.now.work)) }
     ensures within { IfOk result (λ p. p.0.next ≤ 65536) }
     ensures bytes { IfOk result (λ p. assembly.new.image.items ≡ laid assembly.old.image.items place.address (emitted (in_table names.now) place.address p.0.next (seen_work statement.now.work)).bytes) }
-    ensures placed { IfOk result (λ p. assembly.new.places.items ≡ assembly.old.places.items ++ place_of (placed line place.address (emitted (in_table names.now) place.address p.0.next (seen_work statement.now.work)).bytes) (seen_statement statement.now)) }
+    ensures placement { IfOk result (λ p. assembly.new.places.items ≡ assembly.old.places.items ++ placement_of (placement line place.address (emitted (in_table names.now) place.address p.0.next (seen_work statement.now.work)).bytes) (seen_statement statement.now)) }
     ensures doubt { IfOk result (λ p. p.1 ≡ (emitted (in_table names.now) place.address p.0.next (seen_work statement.now.work)).doubt) }
 {
     let measure = measured(alloc, names, place.address, &statement.work)?;
@@ -175,7 +175,7 @@ fn lay_statement(
 
 /// The image and the places.
 fn second_pass(alloc: Global, names: &Names, source: &[u8]) -> Result<Assembly, PassStop>
-    ensures image { Gives image_of result (second_pass (in_table names.now) [] start (pieces source.now)) }
+    ensures image { Gives program_image result (second_pass (in_table names.now) [] start (pieces source.now)) }
     ensures places { IfOk result (λ a. a.places.items ≡ places_from (in_table names.now) start (pieces source.now)) }
 {
     let mut assembly = Assembly {
@@ -202,10 +202,10 @@ fn second_pass(alloc: Global, names: &Names, source: &[u8]) -> Result<Assembly, 
                 kind,
             }));
         }
-        if is_last(&statement.work) {
+        if is_end_statement(&statement.work) {
             return Ok(assembly);
         }
-        place = moved(place, piece.line, &statement.work, measure);
+        place = position_after(place, piece.line, &statement.work, measure);
         pieces = behind;
     }
     Ok(assembly)
@@ -214,7 +214,7 @@ fn second_pass(alloc: Global, names: &Names, source: &[u8]) -> Result<Assembly, 
 /// The image and the places, or why there are none.
 #[tactic(auto, unfolding(crate::specs::Passes::both_passes, crate::specs::Placing::places))]
 fn both_passes(alloc: Global, source: &[u8]) -> Result<Assembly, PassStop>
-    ensures image { Gives image_of result (both_passes source.now) }
+    ensures image { Gives program_image result (both_passes source.now) }
     ensures places { IfOk result (λ a. a.places.items ≡ places source.now) }
 {
     match first_pass(alloc, source) {

@@ -1,8 +1,8 @@
 //! The statements of a source, one after another.
 ghost use Rattle.std.specs.Prelude.{◌≡◌, ◌∷◌, ◌+◌, ◌<◌, ◌≤◌, ◌^◌, [], IfSome, MatchOption, length};
-ghost use Rattle.cpm_asm.specs.Pieces.{bytes_left, left, pieces, seen_piece};
+ghost use Rattle.cpm_asm.specs.Pieces.{bytes_left, statements_left, pieces, seen_piece};
 
-use crate::lines::{code_of, first_line, first_part, source_text};
+use crate::lines::{line_code, first_line, first_part, source_text};
 
 /// A statement's text, and its line.
 #[derive(Clone, Copy)]
@@ -25,7 +25,7 @@ pub(crate) struct Pieces<'a> {
 /// The statements of a source.
 #[tactic(auto, unfolding(crate::specs::Pieces::pieces))]
 pub(crate) fn pieces_of(source: &[u8]) -> Pieces<'_>
-    ensures pieces { left result ≡ pieces source.now }
+    ensures pieces { statements_left result ≡ pieces source.now }
     ensures lines { result.line + length result.rest.now < 2 ^ 64 }
 {
     Pieces {
@@ -38,7 +38,7 @@ pub(crate) fn pieces_of(source: &[u8]) -> Pieces<'_>
 /// The next statement, and those behind it.
 pub(crate) fn next_piece<'a>(pieces: &Pieces<'a>) -> Option<(Piece<'a>, Pieces<'a>)>
     requires { pieces.now.line + length pieces.now.rest.now < 2 ^ 64 }
-    ensures pieces { MatchOption result (left pieces.now ≡ []) (λ p. left pieces.now ≡ seen_piece p.0 ∷ left p.1) }
+    ensures pieces { MatchOption result (statements_left pieces.now ≡ []) (λ p. statements_left pieces.now ≡ seen_piece p.0 ∷ statements_left p.1) }
     ensures smaller { IfSome result (λ p. bytes_left p.1 < bytes_left pieces.now) }
     ensures lines { IfSome result (λ p. p.1.line + length p.1.rest.now < 2 ^ 64) }
 {
@@ -62,7 +62,7 @@ pub(crate) fn next_piece<'a>(pieces: &Pieces<'a>) -> Option<(Piece<'a>, Pieces<'
                 return None;
             }
             let (line, rest) = first_line(pieces.rest);
-            let (text, behind) = first_part(code_of(line), b'!');
+            let (text, behind) = first_part(line_code(line), b'!');
             let number = pieces.line + 1;
             Some((
                 Piece { line: number, text },

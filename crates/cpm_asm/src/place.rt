@@ -2,7 +2,7 @@
 ghost use Rattle.std.specs.Prelude.{◌≡◌, ◌≤◌, IfOk};
 ghost use Rattle.cpm_asm_expression.specs.Names.{in_table};
 ghost use Rattle.cpm_asm.specs.Statements.{seen_statement, seen_work};
-ghost use Rattle.cpm_asm.specs.Places.{IsPlace, first_fault, in_if, is_defined, is_misplaced, is_nameless, moved, placed_over, start};
+ghost use Rattle.cpm_asm.specs.Places.{IsPlace, lowest_fault, in_if, is_defined, is_misplaced, is_nameless, position_after, placed_over, start};
 
 use crate::error::AsmErrorKind;
 use crate::measure::{Measure, is_wrong};
@@ -64,10 +64,10 @@ fn in_if(place: Position, line: u64, holds: bool) -> Position
 }
 
 /// The place behind a statement.
-pub(crate) fn moved(place: Position, line: u64, work: &Work, measure: Measure) -> Position
+pub(crate) fn position_after(place: Position, line: u64, work: &Work, measure: Measure) -> Position
     requires place { IsPlace place }
     requires measure { measure.next ≤ 65536 }
-    ensures place { result ≡ moved place line (seen_work work.now) measure }
+    ensures place { result ≡ position_after place line (seen_work work.now) measure }
     ensures within { IsPlace result }
 {
     let behind = Position {
@@ -127,7 +127,7 @@ fn placed_over(address: usize, statement: &Statement) -> bool
 
 /// What the first pass finds in a statement.
 #[tactic(auto, unfolding(crate::specs::Places::first_fault))]
-pub(crate) fn first_fault(
+pub(crate) fn lowest_fault(
     alloc: Global,
     names: &Names,
     place: Position,
@@ -135,7 +135,7 @@ pub(crate) fn first_fault(
     measure: Measure,
 ) -> Result<Option<AsmErrorKind>, AllocError>
     requires { IsPlace place }
-    ensures { IfOk result (λ fault. fault ≡ first_fault (in_table names.now) place (seen_statement statement.now) measure) }
+    ensures { IfOk result (λ fault. fault ≡ lowest_fault (in_table names.now) place (seen_statement statement.now) measure) }
 {
     let found = if is_wrong(alloc, &statement.work)?
         || is_misplaced(place, &statement.work)

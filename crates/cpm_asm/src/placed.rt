@@ -1,6 +1,6 @@
 //! Where the bytes of statements stand.
 ghost use Rattle.std.specs.Prelude.{◌≡◌, ◌++◌, OnOk};
-ghost use Rattle.cpm_asm.specs.Placing.{has_place, place_of, takes_place};
+ghost use Rattle.cpm_asm.specs.Placing.{has_place, placement_of, takes_place};
 ghost use Rattle.cpm_asm.specs.Statements.{seen_statement, seen_work};
 
 use crate::statement::{Statement, Work};
@@ -53,7 +53,7 @@ pub(crate) fn add_place(
     placed: Placement,
     statement: &Statement,
 ) -> Result<(), AllocError>
-    ensures { OnOk result (places.new.items ≡ places.old.items ++ place_of placed (seen_statement statement.now)) }
+    ensures { OnOk result (places.new.items ≡ places.old.items ++ placement_of placed (seen_statement statement.now)) }
 {
     if has_place(statement) {
         places.push(placed)?;

@@ -3,9 +3,9 @@ ghost use Rattle.std.specs.Prelude.{◌≡◌, option_map};
 ghost use Rattle.cpm_asm.specs.Heads.{seen_head};
 ghost use Rattle.cpm_asm.specs.Statements.{deed_of, move_deed, read_head, seen_statement, seen_work, skipped_deed, skipped_head, statement_at, with_expression, with_register, with_two};
 
-use crate::head::{Head, head_of};
+use crate::head::{Head, statement_front};
 use crate::operands::{
-    direct_pair_in, one_operand, pair_in, place_in, stack_pair_in, two_operands,
+    direct_pair_in, one_operand, pair_in, byte_operand_in, stack_pair_in, two_operands,
 };
 use crate::word::is_blank_text;
 use cpm_decode::{Op, ByteOperand};
@@ -63,9 +63,9 @@ fn with_register(operation: Operation, operand: &[u8]) -> Option<Op>
     ensures { result ≡ with_register operation operand.now }
 {
     match operation {
-        Operation::Increment => Some(Op::Increment(place_in(operand)?)),
-        Operation::Decrement => Some(Op::Decrement(place_in(operand)?)),
-        Operation::Arithmetic(arithmetic) => Some(Op::Arithmetic(arithmetic, place_in(operand)?)),
+        Operation::Increment => Some(Op::Increment(byte_operand_in(operand)?)),
+        Operation::Decrement => Some(Op::Decrement(byte_operand_in(operand)?)),
+        Operation::Arithmetic(arithmetic) => Some(Op::Arithmetic(arithmetic, byte_operand_in(operand)?)),
         Operation::IncrementPair => Some(Op::IncrementPair(pair_in(operand)?)),
         Operation::DecrementPair => Some(Op::DecrementPair(pair_in(operand)?)),
         Operation::AddPair => Some(Op::AddPair(pair_in(operand)?)),
@@ -93,8 +93,8 @@ fn with_two<'a>(operation: Operation, first: &[u8], second: &'a [u8]) -> Work<'a
     ensures { seen_work result ≡ with_two operation first.now second.now }
 {
     match operation {
-        Operation::Move => move_work(place_in(first), place_in(second)),
-        Operation::MoveImmediate => match place_in(first) {
+        Operation::Move => move_work(byte_operand_in(first), byte_operand_in(second)),
+        Operation::MoveImmediate => match byte_operand_in(first) {
             Some(place) => Work::Byte(ByteForm::MoveImmediate(place), second),
             None => Work::Wrong,
         },
@@ -194,7 +194,7 @@ fn skipped_statement(head: Option<Head<'_>>) -> Statement<'_>
 pub(crate) fn statement_at(is_skipped: bool, text: &[u8]) -> Statement<'_>
     ensures { seen_statement result ≡ statement_at is_skipped text.now }
 {
-    let head = head_of(text);
+    let head = statement_front(text);
     if is_skipped {
         skipped_statement(head)
     } else {

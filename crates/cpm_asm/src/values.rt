@@ -1,7 +1,7 @@
 //! Values of the operands of statements.
 ghost use Rattle.std.specs.Prelude.{◌≡◌, IfOk, option_map};
 ghost use Rattle.cpm_asm_expression.specs.Names.{in_table};
-ghost use Rattle.cpm_asm.specs.Data.{is_expression, text_in, value};
+ghost use Rattle.cpm_asm.specs.Data.{is_expression, text_in, expression_value};
 
 use crate::word::is_blank_text;
 use arrayvec::ArrayVec;
@@ -11,13 +11,13 @@ use std::collections::BTreeMap;
 
 /// The value of an expression in a statement at an address; 0 for a text that is none.
 #[tactic(auto, unfolding(crate::specs::Data::value))]
-pub(crate) fn value(
+pub(crate) fn expression_value(
     alloc: Global,
     names: &Names,
     here: usize,
     text: &[u8],
 ) -> Result<CheckedValue, AllocError>
-    ensures { IfOk result (λ found. found ≡ value (in_table names.now) here text.now) }
+    ensures { IfOk result (λ found. found ≡ expression_value (in_table names.now) here text.now) }
 {
     let nothing = CheckedValue {
         number: 0,

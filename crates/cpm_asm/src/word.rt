@@ -1,6 +1,6 @@
 //! The word at the front of a text.
 ghost use Rattle.std.specs.Prelude.{◌≡◌};
-ghost use Rattle.cpm_asm.specs.Heads.{after_colon, is_blank_text, seen_word, word_of};
+ghost use Rattle.cpm_asm.specs.Heads.{after_colon, is_blank_text, seen_word, word_front};
 
 use cpm_asm_expression::{Letters, after_blanks, begins_name, letters_of, split_word};
 
@@ -13,8 +13,8 @@ pub(crate) enum First<'a> {
 }
 
 /// The word at the front of a text.
-pub(crate) fn word_of(text: &[u8]) -> First<'_>
-    ensures { seen_word result ≡ word_of text.now }
+pub(crate) fn word_front(text: &[u8]) -> First<'_>
+    ensures { seen_word result ≡ word_front text.now }
 {
     let text = after_blanks(text);
     match text.first() {

@@ -3,10 +3,10 @@ use Rattle.std.proofs.Common.{◌≡◌, ◌<◌, ◌≤◌, ◌+◌, ℕ, zero,
 use Rattle.std.specs.Prelude.{option_and_then, ◌||◌, nat_le, nat_lt, ◌&&◌, if◌then◌else◌}
 use Rattle.std.specs.Char.{is_ascii_digit}
 use Rattle.std.specs.List.{prefix_len}
-use Rattle.cpm_asm_expression.specs.Letters.{after_blanks, begins_name, goes_on, is_blank, is_dollar, split_word}
+use Rattle.cpm_asm_expression.specs.Letters.{after_blanks, begins_name, continues_word, is_blank, is_dollar, split_word}
 use Rattle.cpm_asm_expression.specs.Numbers.{number_of}
 use Rattle.cpm_asm_expression.specs.Quotes.{characters, behind_character, is_quote, sized_text, quoted_text, text_number}
-use Rattle.cpm_asm_expression.specs.Tokens.{first_token, joined, number_token, sign_token, tokens_below, tokens_of, tokens_or_end, with_rest, word_token}
+use Rattle.cpm_asm_expression.specs.Tokens.{first_token, tokens_joined, number_token, sign_token, tokens_below, tokens_of, tokens_or_end, with_rest, word_token}
 use Rattle.cpm_asm_expression.specs.declared.tokens.Token.{Token}
 
 -- what follows is shorter than a bound
@@ -49,21 +49,21 @@ quoted-leaves : (n : ℕ) (read : Option (List ℕ × List ℕ)) → Leaves n re
 quoted-leaves n None h = tt
 quoted-leaves n (Some p) h = with_rest-leaves n (number_token (text_number p.0)) p.1 h
 
-goes_on-letter : (b : ℕ) → begins_name b ≡ true → goes_on b ≡ true
+goes_on-letter : (b : ℕ) → begins_name b ≡ true → continues_word b ≡ true
 goes_on-letter b h = ap (λ (x : Bool). x || is_ascii_digit b || is_dollar b) h
 
 by_second : (x y z : Bool) → y ≡ true → (x || y || z) ≡ true
 by_second true y z h = refl
 by_second false y z h = ap (λ (w : Bool). w || z) h
 
-goes_on-digit : (b : ℕ) → is_ascii_digit b ≡ true → goes_on b ≡ true
+goes_on-digit : (b : ℕ) → is_ascii_digit b ≡ true → continues_word b ≡ true
 goes_on-digit b h = by_second (begins_name b) (is_ascii_digit b) (is_dollar b) h
 
 -- what goes on with a word is taken
-drop-leaves : (b : ℕ) (rest : List ℕ) → goes_on b ≡ true → length (split_word (b ∷ rest)).1 < length (b ∷ rest)
+drop-leaves : (b : ℕ) (rest : List ℕ) → continues_word b ≡ true → length (split_word (b ∷ rest)).1 < length (b ∷ rest)
 drop-leaves b rest h =
-    let n = prefix_len goes_on (b ∷ rest) in
-    let taken : n ≡ 1 + prefix_len goes_on rest = ap (λ (x : Bool). cond x (1 + prefix_len goes_on rest) 0) h in
+    let n = prefix_len continues_word (b ∷ rest) in
+    let taken : n ≡ 1 + prefix_len continues_word rest = ap (λ (x : Bool). cond x (1 + prefix_len continues_word rest) 0) h in
     omega (arith, taken, length-drop n (b ∷ rest))
 
 by-leaves : (letter digit quote : Bool) (b : ℕ) (rest : List ℕ) → begins_name b ≡ letter → is_ascii_digit b ≡ digit
@@ -87,7 +87,7 @@ blanks-leave text = omega (arith, length-drop (prefix_len is_blank text) text)
 
 joined-enough : (n k : ℕ) (bound : ℕ) (first : Option (Token × List ℕ)) → Leaves bound first
     → ((text : List ℕ) → length text < bound → tokens_below n text ≡ tokens_below k text)
-    → joined first (λ rest. tokens_below n rest) ≡ joined first (λ rest. tokens_below k rest)
+    → tokens_joined first (λ rest. tokens_below n rest) ≡ tokens_joined first (λ rest. tokens_below k rest)
 joined-enough n k bound None l same = refl
 joined-enough n k bound (Some p) l same = ap (λ o. option_map (λ ts. p.0 ∷ ts) o) (same p.1 l)
 
@@ -104,7 +104,7 @@ enough (suc n) (suc k) text h j =
     or_end-enough n k (after_blanks text) (λ rest less. enough n k rest (omega (arith, less, h, blanks-leave text)) (omega (arith, less, j, blanks-leave text)))
 
 joined-of : (n bound : ℕ) (first : Option (Token × List ℕ)) → bound ≤ n → Leaves bound first
-    → joined first (λ rest. tokens_below n rest) ≡ joined first tokens_of
+    → tokens_joined first (λ rest. tokens_below n rest) ≡ tokens_joined first tokens_of
 unfolding tokens_of
 joined-of n bound None h l = refl
 joined-of n bound (Some p) h l = ap (λ o. option_map (λ ts. p.0 ∷ ts) o) (enough n (suc (length p.1)) p.1 (omega (arith, h, l)) (omega arith))

@@ -3,11 +3,11 @@ use Rattle.std.proofs.Common.{◌≡◌, ℕ, ◌≤◌, ◌<◌, List, [], ◌�
 use Rattle.std.specs.Prelude.{Some, true, false, nat_le, cond}
 use Rattle.std.proofs.lemmas.Bool.Decides.{nat_tests}
 use Rattle.cpm_asm_expression.proofs.Levels.{not_two, not_four, right_above}
-use Rattle.cpm_asm_expression.specs.Names.{Table}
+use Rattle.cpm_asm_expression.specs.Names.{NameTable}
 use Rattle.cpm_asm_expression.specs.Values.{atom_value, combined, changed}
 use Rattle.cpm_asm_expression.specs.Grammar.{Tree, atom, bracketed, weaker, prefixed, chained, level, prefix_level, value, spelled, prefix_token, Spells}
 use Rattle.cpm_asm_expression.specs.declared.values.CheckedValue.{CheckedValue}
-use Rattle.cpm_asm_expression.specs.Reading.{Settled, State, Wants, Has, Wrong, wanted, settled, after, after_all, with_left, closed, answer, ended, reading}
+use Rattle.cpm_asm_expression.specs.Reading.{Settled, State, Wants, Has, Wrong, wanted, settled, after_token, after_all, with_left, group_closed, value_read, ended, reading}
 use Rattle.cpm_asm_expression.specs.declared.tokens.Operator.{Operator}
 use Rattle.cpm_asm_expression.specs.declared.tokens.Prefix.{Prefix}
 use Rattle.cpm_asm_expression.specs.declared.tokens.Prefix.TheVariants as prefixes
@@ -17,7 +17,7 @@ use Rattle.cpm_asm_expression.specs.declared.reader.Waiting.{Waiting}
 use Rattle.cpm_asm_expression.specs.declared.reader.Waiting.TheVariants as waiting
 
 -- the state that has v, up to what a later operator of a level settles
-pub record Arrives (m : Table) (a : ℕ) (from : State) (text rest : List Token) (l : ℕ) (v : CheckedValue) (ws : List Waiting) : Type 0 where
+pub record Arrives (m : NameTable) (a : ℕ) (from : State) (text rest : List Token) (l : ℕ) (v : CheckedValue) (ws : List Waiting) : Type 0 where
   pub have : CheckedValue
   pub left : List Waiting
   pub reads : after_all m a from text ≡ after_all m a (Has have left) rest
@@ -41,19 +41,19 @@ stays o v (waiting.Bracket ∷ ws) h = refl
 stays o v (waiting.Prefix p ∷ ws) h = ap (λ b. cond b (settled (level o) (changed p v) ws) (record { value = v; waiting = waiting.Prefix p ∷ ws })) (gt_test (level o) (prefix_level p) (apart p o h))
 stays o v (waiting.Left u q ∷ ws) h = ap (λ b. cond b (settled (level o) (combined q u v) ws) (record { value = v; waiting = waiting.Left u q ∷ ws })) (gt_test (level o) (level q) (omega (arith, right_above q, h)))
 
-takes_prefix : (m : Table) (a : ℕ) (ws : List Waiting) (p : Prefix) → wanted ws ≤ prefix_level p → after m a (Wants ws) (prefix_token p) ≡ Wants (waiting.Prefix p ∷ ws)
+takes_prefix : (m : NameTable) (a : ℕ) (ws : List Waiting) (p : Prefix) → wanted ws ≤ prefix_level p → after_token m a (Wants ws) (prefix_token p) ≡ Wants (waiting.Prefix p ∷ ws)
 takes_prefix m a ws prefixes.Not h = ap (λ b. cond b (Wants (waiting.Prefix prefixes.Not ∷ ws)) Wrong) (le_test _ _ h)
 takes_prefix m a ws prefixes.Plus h = ap (λ b. cond b (Wants (waiting.Prefix prefixes.Plus ∷ ws)) Wrong) (le_test _ _ h)
 takes_prefix m a ws prefixes.Minus h = ap (λ b. cond b (Wants (waiting.Prefix prefixes.Minus ∷ ws)) Wrong) (le_test _ _ h)
 
-pub reads_tree : (m : Table) (a : ℕ) {l : ℕ} (e : Tree l) (ws : List Waiting) (rest : List Token) → wanted ws ≤ l → Arrives m a (Wants ws) (spelled e rest) rest l (value m a e) ws
+pub reads_tree : (m : NameTable) (a : ℕ) {l : ℕ} (e : Tree l) (ws : List Waiting) (rest : List Token) → wanted ws ≤ l → Arrives m a (Wants ws) (spelled e rest) rest l (value m a e) ws
 reads_tree m a (atom x) ws rest h = record { have = atom_value m a x; left = ws; reads = refl; same = λ k below. refl }
 reads_tree m a (bracketed e) ws rest h =
     let inner = reads_tree m a e (waiting.Bracket ∷ ws) (tokens.Close ∷ rest) (omega arith) in
     record {
       have = value m a e;
       left = ws;
-      reads = inner.reads ∙ ap (λ (s : Settled). after_all m a (closed s.value s.waiting) rest) (inner.same 0 (omega arith));
+      reads = inner.reads ∙ ap (λ (s : Settled). after_all m a (group_closed s.value s.waiting) rest) (inner.same 0 (omega arith));
       same = λ k below. refl;
     }
 reads_tree m a (weaker l e) ws rest h =
@@ -78,10 +78,10 @@ reads_tree m a (chained o x y) ws rest h =
     }
 
 -- what is spelled by the grammar is read as its value
-pub reads_all : (m : Table) (a : ℕ) (e : Tree 0) → reading m a (spelled e []) ≡ Some (value m a e)
+pub reads_all : (m : NameTable) (a : ℕ) (e : Tree 0) → reading m a (spelled e []) ≡ Some (value m a e)
 reads_all m a e =
     let whole = reads_tree m a e [] [] (omega arith) in
-    ap answer whole.reads ∙ ap (λ (s : Settled). ended s.value s.waiting) (whole.same 0 (omega arith))
+    ap value_read whole.reads ∙ ap (λ (s : Settled). ended s.value s.waiting) (whole.same 0 (omega arith))
 
-pub spelled_read : (m : Table) (a : ℕ) (ts : List Token) (v : CheckedValue) → Spells m a ts v → reading m a ts ≡ Some v
+pub spelled_read : (m : NameTable) (a : ℕ) (ts : List Token) (v : CheckedValue) → Spells m a ts v → reading m a ts ≡ Some v
 spelled_read m a ts v s = ap (reading m a) s.written ∙ reads_all m a s.tree ∙ ap (λ n. Some n) s.is

@@ -5,7 +5,7 @@
 --   atom = number | text | name | $ | ( or )
 -- CP/M 2.2 Operating System Manual, "CP/M Assembler", "Precedence of Operators"
 use Rattle.std.specs.Prelude.{◌≡◌, ℕ, suc, List, [], ◌∷◌}
-use Rattle.cpm_asm_expression.specs.Names.{Table}
+use Rattle.cpm_asm_expression.specs.Names.{NameTable}
 use Rattle.cpm_asm_expression.specs.Values.{atom_value, changed, combined}
 use Rattle.cpm_asm_expression.specs.declared.tokens.Atom.{Atom}
 use Rattle.cpm_asm_expression.specs.declared.tokens.Operator.{Operator}
@@ -47,7 +47,7 @@ pub data Tree : ℕ → Type 0 where
   chained : (o : Operator) → Tree (level o) → Tree (right_level o) → Tree (level o)
 
 -- the value of an expression under a table of names, in a statement at an address
-abbrev pub value : Table → ℕ → {l : ℕ} → Tree l → CheckedValue
+abbrev pub value : NameTable → ℕ → {l : ℕ} → Tree l → CheckedValue
 value names here (atom x) = atom_value names here x
 value names here (bracketed e) = value names here e
 value names here (weaker l e) = value names here e
@@ -68,7 +68,7 @@ spelled (prefixed p e) rest = prefix_token p ∷ spelled e rest
 spelled (chained o a b) rest = spelled a (tokens.Operator o ∷ spelled b rest)
 
 -- the tokens are an expression of this value
-pub record Spells (names : Table) (here : ℕ) (ts : List Token) (v : CheckedValue) : Type 0 where
+pub record Spells (names : NameTable) (here : ℕ) (ts : List Token) (v : CheckedValue) : Type 0 where
   pub tree : Tree 0
   pub is : value names here tree ≡ v
   pub written : ts ≡ spelled tree []

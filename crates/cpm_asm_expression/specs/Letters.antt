@@ -17,15 +17,15 @@ abbrev pub is_dollar : ℕ → Bool
 is_dollar b = b == 0x24
 
 -- what a word or a number goes on with: these, digits and dollar signs
-abbrev pub goes_on : ℕ → Bool
-goes_on b = begins_name b || is_ascii_digit b || is_dollar b
+abbrev pub continues_word : ℕ → Bool
+continues_word b = begins_name b || is_ascii_digit b || is_dollar b
 
 abbrev pub after_blanks : List ℕ → List ℕ
 after_blanks text = drop (prefix_len is_blank text) text
 
 -- the word at the front of a text, and the text after it
 abbrev pub split_word : List ℕ → List ℕ × List ℕ
-split_word text = (take (prefix_len goes_on text) text, drop (prefix_len goes_on text) text)
+split_word text = (take (prefix_len continues_word text) text, drop (prefix_len continues_word text) text)
 
 -- the characters of a word without its dollar signs, in capital letters
 abbrev pub letters_of : List ℕ → List ℕ

@@ -15,19 +15,19 @@ abbrev pub name_cmp : Name → Name → Ordering
 name_cmp a b = slice_cmp nat_cmp a.letters b.letters
 
 -- a table gives some names a value
-abbrev pub Table : Type 0
-Table = Name → Option ℕ
+abbrev pub NameTable : Type 0
+NameTable = Name → Option ℕ
 
-abbrev pub empty_table : Table
-empty_table = λ _. None
+abbrev pub no_names : NameTable
+no_names = λ _. None
 
-abbrev pub with_name : Table → Name → ℕ → Table
+abbrev pub with_name : NameTable → Name → ℕ → NameTable
 with_name names name v = λ n. if is_at (name_cmp name) n then Some v else names n
 
 -- the table that a map holds
-abbrev pub in_table : BTreeMap Name ℕ → Table
+abbrev pub in_table : BTreeMap Name ℕ → NameTable
 in_table map = λ name. get name_cmp map name
 
 -- a table that gives each name of another the same value
-abbrev pub Extends : Table → Table → Type 0
+abbrev pub Extends : NameTable → NameTable → Type 0
 Extends names more = (n : Name) (v : ℕ) → names n ≡ Some v → more n ≡ Some v

@@ -42,18 +42,18 @@ before_dollars b [] = if is_dollar b then [] else b ∷ []
 before_dollars b (c ∷ cs) = b ∷ c ∷ cs
 
 -- a text without the dollar signs at its end
-abbrev pub trimmed : List ℕ → List ℕ
-trimmed [] = []
-trimmed (b ∷ bs) = before_dollars b (trimmed bs)
+abbrev pub without_dollars : List ℕ → List ℕ
+without_dollars [] = []
+without_dollars (b ∷ bs) = before_dollars b (without_dollars bs)
 
 abbrev pub by_base : List ℕ → Option ℕ → Option ℕ
 by_base digits None = number_to_base 10 0 digits
 by_base digits (Some base) = number_to_base base 0 (take (length digits - 1) digits)
 
-abbrev pub number_in : List ℕ → Option ℕ
-number_in [] = None
-number_in (c ∷ cs) = by_base (c ∷ cs) (base_of (slice_index (c ∷ cs) (length (c ∷ cs) - 1)))
+abbrev pub number_of_digits : List ℕ → Option ℕ
+number_of_digits [] = None
+number_of_digits (c ∷ cs) = by_base (c ∷ cs) (base_of (slice_index (c ∷ cs) (length (c ∷ cs) - 1)))
 
 -- the number that a word writes which begins with a digit
 abbrev pub number_of : List ℕ → Option ℕ
-number_of word = number_in (trimmed word)
+number_of word = number_of_digits (without_dollars word)

@@ -1,7 +1,7 @@
 -- Reading an expression from left to right, with a stack of what waits for its right operand (own). That it
 -- reads the grammar's expressions and no others is the law exact_reading.
 use Rattle.std.specs.Prelude.{ℕ, List, [], ◌∷◌, Option, None, Some, option_and_then, nat_le, cond, Bool, false, ◌≡◌}
-use Rattle.cpm_asm_expression.specs.Names.{Table}
+use Rattle.cpm_asm_expression.specs.Names.{NameTable}
 use Rattle.cpm_asm_expression.specs.Grammar.{level, right_level, prefix_level}
 use Rattle.cpm_asm_expression.specs.Values.{atom_value, changed, combined}
 use Rattle.cpm_asm_expression.specs.Tokens.{tokens_of}
@@ -57,42 +57,42 @@ with_sign ws (Some p) = with_prefix ws p
 abbrev pub with_left : Operator → Settled → State
 with_left o s = Wants (waiting.Left s.value o ∷ s.waiting)
 
-abbrev pub closed : CheckedValue → List Waiting → State
-closed v (waiting.Bracket ∷ ws) = Has v ws
-closed v _ = Wrong
+abbrev pub group_closed : CheckedValue → List Waiting → State
+group_closed v (waiting.Bracket ∷ ws) = Has v ws
+group_closed v _ = Wrong
 
 -- a token behind an operand
 abbrev pub after_operand : CheckedValue → List Waiting → Token → State
 after_operand v ws (tokens.Operator o) = with_left o (settled (level o) v ws)
-after_operand v ws tokens.Close = closed (settled 0 v ws).value (settled 0 v ws).waiting
+after_operand v ws tokens.Close = group_closed (settled 0 v ws).value (settled 0 v ws).waiting
 after_operand v ws _ = Wrong
 
-abbrev pub after : Table → ℕ → State → Token → State
-after names here (Wants ws) (tokens.Atom x) = Has (atom_value names here x) ws
-after names here (Wants ws) (tokens.Operator o) = with_sign ws (sign_of o)
-after names here (Wants ws) tokens.Not = with_prefix ws prefixes.Not
-after names here (Wants ws) tokens.Open = Wants (waiting.Bracket ∷ ws)
-after names here (Wants ws) tokens.Close = Wrong
-after names here (Has v ws) t = after_operand v ws t
-after names here Wrong t = Wrong
+abbrev pub after_token : NameTable → ℕ → State → Token → State
+after_token names here (Wants ws) (tokens.Atom x) = Has (atom_value names here x) ws
+after_token names here (Wants ws) (tokens.Operator o) = with_sign ws (sign_of o)
+after_token names here (Wants ws) tokens.Not = with_prefix ws prefixes.Not
+after_token names here (Wants ws) tokens.Open = Wants (waiting.Bracket ∷ ws)
+after_token names here (Wants ws) tokens.Close = Wrong
+after_token names here (Has v ws) t = after_operand v ws t
+after_token names here Wrong t = Wrong
 
-abbrev pub after_all : Table → ℕ → State → List Token → State
+abbrev pub after_all : NameTable → ℕ → State → List Token → State
 after_all names here s [] = s
-after_all names here s (t ∷ ts) = after_all names here (after names here s t) ts
+after_all names here s (t ∷ ts) = after_all names here (after_token names here s t) ts
 
 abbrev pub ended : CheckedValue → List Waiting → Option CheckedValue
 ended v [] = Some v
 ended v (w ∷ ws) = None
 
-abbrev pub answer : State → Option CheckedValue
-answer (Has v ws) = ended (settled 0 v ws).value (settled 0 v ws).waiting
-answer _ = None
+abbrev pub value_read : State → Option CheckedValue
+value_read (Has v ws) = ended (settled 0 v ws).value (settled 0 v ws).waiting
+value_read _ = None
 
-abbrev pub reading : Table → ℕ → List Token → Option CheckedValue
-reading names here ts = answer (after_all names here (Wants []) ts)
+abbrev pub reading : NameTable → ℕ → List Token → Option CheckedValue
+reading names here ts = value_read (after_all names here (Wants []) ts)
 
 -- the value of the expression that a text is, in a statement at an address; None where it is none
-unfoldable pub value_at : Table → ℕ → List ℕ → Option CheckedValue
+unfoldable pub value_at : NameTable → ℕ → List ℕ → Option CheckedValue
 value_at names here text = option_and_then (reading names here) (tokens_of text)
 
 abbrev pub binds : ℕ → Waiting → Bool
@@ -101,10 +101,10 @@ binds l (waiting.Prefix p) = nat_le l (prefix_level p)
 binds l (waiting.Left u o) = nat_le l (level o)
 
 -- the value behind what waited
-abbrev pub behind : Waiting → CheckedValue → CheckedValue
-behind waiting.Bracket v = v
-behind (waiting.Prefix p) v = changed p v
-behind (waiting.Left u o) v = combined o u v
+abbrev pub value_behind : Waiting → CheckedValue → CheckedValue
+value_behind waiting.Bracket v = v
+value_behind (waiting.Prefix p) v = changed p v
+value_behind (waiting.Left u o) v = combined o u v
 
 -- where reading stands, with what waits beside it
 abbrev pub state : Stage → List Waiting → State

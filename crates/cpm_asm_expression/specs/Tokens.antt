@@ -15,15 +15,15 @@ use Rattle.cpm_asm_expression.specs.declared.words.Keyword.{Keyword}
 use Rattle.cpm_asm_expression.specs.declared.words.Keyword.TheVariants as k
 
 -- a word is a name or an operator; registers, directives and mnemonics have no place in an expression
-abbrev pub meaning : List ℕ → Option Keyword → Option Token
-meaning letters None = Some (tokens.Atom (atoms.Named (name_with letters)))
-meaning letters (Some (k.Operator o)) = Some (tokens.Operator o)
-meaning letters (Some k.Not) = Some tokens.Not
-meaning letters (Some (k.Register r)) = None
-meaning letters (Some (k.Operation o)) = None
+abbrev pub word_meaning : List ℕ → Option Keyword → Option Token
+word_meaning letters None = Some (tokens.Atom (atoms.Named (name_with letters)))
+word_meaning letters (Some (k.Operator o)) = Some (tokens.Operator o)
+word_meaning letters (Some k.Not) = Some tokens.Not
+word_meaning letters (Some (k.Register r)) = None
+word_meaning letters (Some (k.Operation o)) = None
 
 abbrev pub word_token : List ℕ → Option Token
-word_token word = option_and_then (λ letters. meaning letters (keyword_of letters)) (short_letters word)
+word_token word = option_and_then (λ letters. word_meaning letters (keyword_of letters)) (short_letters word)
 
 -- + - * / ( ) $
 abbrev pub sign_token : ℕ → Option Token
@@ -53,13 +53,13 @@ first_token (b ∷ rest) =
     else with_rest (sign_token b) rest
 
 -- a token, and those of what follows it
-abbrev pub joined : Option (Token × List ℕ) → (List ℕ → Option (List Token)) → Option (List Token)
-joined None next = None
-joined (Some p) next = option_map (λ ts. p.0 ∷ ts) (next p.1)
+abbrev pub tokens_joined : Option (Token × List ℕ) → (List ℕ → Option (List Token)) → Option (List Token)
+tokens_joined None next = None
+tokens_joined (Some p) next = option_map (λ ts. p.0 ∷ ts) (next p.1)
 
 abbrev pub tokens_or_end : List ℕ → (List ℕ → Option (List Token)) → Option (List Token)
 tokens_or_end [] next = Some []
-tokens_or_end (b ∷ bs) next = joined (first_token (b ∷ bs)) next
+tokens_or_end (b ∷ bs) next = tokens_joined (first_token (b ∷ bs)) next
 
 -- the tokens of a text of fewer bytes than a number; None where a part of it is no token
 abbrev pub tokens_below : ℕ → List ℕ → Option (List Token)

@@ -2,7 +2,7 @@
 -- CP/M 2.2 Operating System Manual, "CP/M Assembler", "Arithmetic and Logical Operators". That a shift of 16
 -- or more gives 0, and that a division by 0 is outside, is own.
 use Rattle.std.specs.Prelude.{ℕ, ◌+◌, ◌-◌, ◌*◌, ◌/◌, ◌%◌, ◌^◌, Option, None, Some, Bool, true, false, not, nat_lt, ◌==◌, if◌then◌else◌, ◌||◌, ◌&&◌, bit_and, bit_or, bit_xor}
-use Rattle.cpm_asm_expression.specs.Names.{Table}
+use Rattle.cpm_asm_expression.specs.Names.{NameTable}
 use Rattle.cpm_asm_expression.specs.declared.tokens.Atom.{Atom}
 use Rattle.cpm_asm_expression.specs.declared.tokens.Atom.TheVariants as atoms
 use Rattle.cpm_asm_expression.specs.declared.tokens.Operator.{Operator}
@@ -20,7 +20,7 @@ named_value None = record { number = 0; is_unknown = true; is_outside = false }
 named_value (Some n) = exactly n
 
 -- `$` is the address of the statement, and has no value past the last address
-abbrev pub atom_value : Table → ℕ → Atom → CheckedValue
+abbrev pub atom_value : NameTable → ℕ → Atom → CheckedValue
 atom_value names here (atoms.Number n) = exactly n
 atom_value names here (atoms.Named name) = named_value (names name)
 atom_value names here atoms.Here = if nat_lt here 65536 then exactly here else record { number = 0; is_unknown = false; is_outside = true }

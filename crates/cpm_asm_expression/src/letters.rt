@@ -1,7 +1,7 @@
 //! The characters of words.
 ghost use Rattle.std.specs.Prelude.{◌≡◌, ◌≤◌, length, option_map};
 ghost use Rattle.std.specs.List.{prefix_len};
-ghost use Rattle.cpm_asm_expression.specs.Letters.{after_blanks, begins_name, goes_on, is_blank, letters_of, short_letters, split_word};
+ghost use Rattle.cpm_asm_expression.specs.Letters.{after_blanks, begins_name, continues_word, is_blank, letters_of, short_letters, split_word};
 
 use arrayvec::ArrayVec;
 
@@ -25,8 +25,8 @@ pub fn begins_name(byte: u8) -> bool
 }
 
 /// A character of a word or a number.
-fn goes_on(byte: u8) -> bool
-    ensures { result ≡ goes_on byte }
+fn continues_word(byte: u8) -> bool
+    ensures { result ≡ continues_word byte }
 {
     begins_name(byte) || byte.is_ascii_digit() || byte == b'$'
 }
@@ -46,11 +46,11 @@ fn blanks(text: &[u8]) -> usize
 
 /// How many bytes at the front of a text go on with a word.
 fn word_length(text: &[u8]) -> usize
-    ensures count { result ≡ prefix_len goes_on text.now }
+    ensures count { result ≡ prefix_len continues_word text.now }
     ensures within { result ≤ length text.now }
 {
     for (place, byte) in text.iter().enumerate() {
-        if !goes_on(*byte) {
+        if !continues_word(*byte) {
             return place;
         }
     }

@@ -1,6 +1,6 @@
 //! The tokens of a text.
 ghost use Rattle.std.specs.Prelude.{◌≡◌, option_map};
-ghost use Rattle.cpm_asm_expression.specs.Tokens.{first_token, meaning, sign_token, word_token};
+ghost use Rattle.cpm_asm_expression.specs.Tokens.{first_token, word_meaning, sign_token, word_token};
 
 use crate::letters::{begins_name, letters_of, split_word};
 use crate::names::name_of;

@@ -1,6 +1,6 @@
 //! Numbers, in the base that their last letter tells.
 ghost use Rattle.std.specs.Prelude.{◌≡◌, ◌<◌, ◌≤◌, length};
-ghost use Rattle.cpm_asm_expression.specs.Numbers.{base_of, digit_of, number_of, number_to_base, trimmed};
+ghost use Rattle.cpm_asm_expression.specs.Numbers.{base_of, digit_of, number_of, number_to_base, without_dollars};
 
 /// The base of a number that ends in this character.
 fn base_of(suffix: u8) -> Option<u16>
@@ -44,8 +44,8 @@ fn number_to_base(base: u16, digits: &[u8]) -> Option<u16>
 }
 
 /// A text without the dollar signs at its end.
-fn trimmed(text: &[u8]) -> &[u8]
-    ensures { result.now ≡ trimmed text.now }
+fn without_dollars(text: &[u8]) -> &[u8]
+    ensures { result.now ≡ without_dollars text.now }
 {
     let mut front = text;
     while let Some((last, before)) = front.split_last() {
@@ -61,7 +61,7 @@ fn trimmed(text: &[u8]) -> &[u8]
 pub(crate) fn number_of(word: &[u8]) -> Option<u16>
     ensures { result ≡ number_of word.now }
 {
-    let digits = trimmed(word);
+    let digits = without_dollars(word);
     let (last, front) = digits.split_last()?;
     match base_of(*last) {
         Some(base) => number_to_base(base, front),

@@ -3,7 +3,7 @@ ghost use Rattle.std.specs.Prelude.{◌≡◌, ◌∷◌, IfOk, OnOk, reverse};
 ghost use Rattle.cpm_asm_expression.specs.Names.{in_table};
 ghost use Rattle.cpm_asm_expression.specs.Grammar.{level, prefix_level, right_level};
 ghost use Rattle.cpm_asm_expression.specs.Values.{changed, combined};
-ghost use Rattle.cpm_asm_expression.specs.Reading.{after, after_operand, answer, behind, binds, closed, settled, state, value_at, wanted, with_prefix};
+ghost use Rattle.cpm_asm_expression.specs.Reading.{after_token, after_operand, value_read, value_behind, binds, group_closed, settled, state, value_at, wanted, with_prefix};
 ghost use Rattle.cpm_asm_expression.specs.declared.reader.Stage.TheVariants as stages;
 
 use crate::letters::after_blanks;
@@ -81,8 +81,8 @@ fn binds(level_of_next: u8, waiting: Waiting) -> bool
 }
 
 /// The value behind what waited.
-fn behind(waiting: Waiting, value: CheckedValue) -> CheckedValue
-    ensures { result ≡ behind waiting value }
+fn value_behind(waiting: Waiting, value: CheckedValue) -> CheckedValue
+    ensures { result ≡ value_behind waiting value }
 {
     match waiting {
         Waiting::Bracket => value,
@@ -102,7 +102,7 @@ fn settle(waiting: &mut Vec<Waiting>, own: CheckedValue, next: u8) -> CheckedVal
             return value;
         }
         waiting.pop();
-        value = behind(last, value);
+        value = value_behind(last, value);
     }
     value
 }
@@ -143,7 +143,7 @@ fn operand(
     here: usize,
     token: Token,
 ) -> Result<Stage, AllocError>
-    ensures { IfOk result (λ next. state next (reverse waiting.new.items) ≡ after (in_table names.now) here (state stages.Wants (reverse waiting.old.items)) token) }
+    ensures { IfOk result (λ next. state next (reverse waiting.new.items) ≡ after_token (in_table names.now) here (state stages.Wants (reverse waiting.old.items)) token) }
 {
     match token {
         Token::Atom(atom) => Ok(Stage::Has(atom_value(names, here, atom))),
@@ -160,7 +160,7 @@ fn operand(
 
 /// The last bracket is closed.
 fn close(waiting: &mut Vec<Waiting>, value: CheckedValue) -> Stage
-    ensures { state result (reverse waiting.new.items) ≡ closed value (reverse waiting.old.items) }
+    ensures { state result (reverse waiting.new.items) ≡ group_closed value (reverse waiting.old.items) }
 {
     match waiting.pop() {
         Some(Waiting::Bracket) => Stage::Has(value),
@@ -193,7 +193,7 @@ fn step(
     stage: Stage,
     token: Token,
 ) -> Result<Stage, AllocError>
-    ensures { IfOk result (λ next. state next (reverse waiting.new.items) ≡ after (in_table names.now) here (state stage (reverse waiting.old.items)) token) }
+    ensures { IfOk result (λ next. state next (reverse waiting.new.items) ≡ after_token (in_table names.now) here (state stage (reverse waiting.old.items)) token) }
 {
     match stage {
         Stage::Wants => operand(waiting, names, here, token),
@@ -202,8 +202,8 @@ fn step(
     }
 }
 
-fn answer(waiting: &mut Vec<Waiting>, stage: Stage) -> Option<CheckedValue>
-    ensures { result ≡ answer (state stage (reverse waiting.old.items)) }
+fn value_read(waiting: &mut Vec<Waiting>, stage: Stage) -> Option<CheckedValue>
+    ensures { result ≡ value_read (state stage (reverse waiting.old.items)) }
 {
     match stage {
         Stage::Has(value) => {
@@ -237,5 +237,5 @@ pub fn value_of(
         stage = step(&mut waiting, names, here, stage, token)?;
         rest = after_blanks(behind);
     }
-    Ok(answer(&mut waiting, stage))
+    Ok(value_read(&mut waiting, stage))
 }

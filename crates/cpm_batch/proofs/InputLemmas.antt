@@ -9,10 +9,10 @@ use Rattle.cpm_config.specs.declared.config.Origin.TheVariants as origin
 use Rattle.cpm_config.specs.declared.config.SessionConfig.{SessionConfig}
 use Rattle.cpm_geom.specs.Disk.{Disk}
 use Rattle.cpm_script.specs.Fork.{keys_before}
-use Rattle.cpm_store.specs.Files.{Files, Text}
+use Rattle.cpm_store.specs.Files.{Files, StoreName}
 use Rattle.cpm_batch.specs.declared.error.ReadError.{ReadError}
 use Rattle.cpm_batch.specs.declared.input.Input.{Input}
-use Rattle.cpm_batch.specs.Inputs.{AllImages, AllInputs, given, HasInput, ImageIn, IsFirstFault, IsImageIn, IsMet, IsNeedRefusal, IsReadRefusal, IsSessionRefusal, AreFirstFault, Need, SessionInput, forked_script_needs, image_needs, keys_in, needs_from, needs_of}
+use Rattle.cpm_batch.specs.Inputs.{AllImages, AllInputs, given, HasInput, ImageIn, IsFirstFault, IsImageIn, IsMet, IsNeedRefusal, IsReadRefusal, IsSessionRefusal, AreFirstFault, Need, SessionInput, forked_script_needs, image_needs, keys_of_session, needs_from, needs_of}
 
 -- each of the needs is met
 abbrev pub AllMet : Option Files → List Need → Type 0
@@ -107,11 +107,11 @@ sessions_more is all x sessions i s within at pushed same one =
 
 -- ---- the same of the store as it was, and of the text of a name
 
-pub image_refusal_as : (files now : Option Files) (name text : Text) (e : ReadError) → now ≡ files → text ≡ name → IsNeedRefusal now (ImageIn text ∷ []) e → IsNeedRefusal files (ImageIn name ∷ []) e
-image_refusal_as files now name text e same is h = subst (λ (f : Option Files). IsNeedRefusal f (ImageIn name ∷ []) e) same (subst (λ (t : Text). IsNeedRefusal now (ImageIn t ∷ []) e) is h)
+pub image_refusal_as : (files now : Option Files) (name text : StoreName) (e : ReadError) → now ≡ files → text ≡ name → IsNeedRefusal now (ImageIn text ∷ []) e → IsNeedRefusal files (ImageIn name ∷ []) e
+image_refusal_as files now name text e same is h = subst (λ (f : Option Files). IsNeedRefusal f (ImageIn name ∷ []) e) same (subst (λ (t : StoreName). IsNeedRefusal now (ImageIn t ∷ []) e) is h)
 
-pub image_as : (files now : Option Files) (name text : Text) (d : Disk) → now ≡ files → text ≡ name → IsImageIn now text d → IsImageIn files name d
-image_as files now name text d same is h = subst (λ (f : Option Files). IsImageIn f name d) same (subst (λ (t : Text). IsImageIn now t d) is h)
+pub image_as : (files now : Option Files) (name text : StoreName) (d : Disk) → now ≡ files → text ≡ name → IsImageIn now text d → IsImageIn files name d
+image_as files now name text d same is h = subst (λ (f : Option Files). IsImageIn f name d) same (subst (λ (t : StoreName). IsImageIn now t d) is h)
 
 pub refusal_as : (files now : Option Files) (ns ms : List Need) (e : ReadError) → now ≡ files → ms ≡ ns → IsNeedRefusal now ms e → IsNeedRefusal files ns e
 refusal_as files now ns ms e same is h = subst (λ (f : Option Files). IsNeedRefusal f ns e) same (subst (λ (xs : List Need). IsNeedRefusal now xs e) is h)
@@ -120,10 +120,10 @@ pub inputs_as : (files now : Option Files) (is : List SessionInput) → now ≡ 
 inputs_as files now is same h = subst (λ (f : Option Files). AllInputs f [] is) same h
 
 -- the needs of a forked session
-pub forked_needs : (before : List SessionInput) (session : SessionConfig) (parent : String Global) (at : ℕ) (name : Text) → session.origin ≡ origin.Forked parent at → name ≡ string_bytes parent
-    → forked_script_needs at (keys_before at (keys_in before name)) session.keys ≡ needs_of before session
+pub forked_needs : (before : List SessionInput) (session : SessionConfig) (parent : String Global) (at : ℕ) (name : StoreName) → session.origin ≡ origin.Forked parent at → name ≡ string_bytes parent
+    → forked_script_needs at (keys_before at (keys_of_session before name)) session.keys ≡ needs_of before session
 forked_needs before session parent at name is named =
-    ap (λ (n : Text). forked_script_needs at (keys_before at (keys_in before n)) session.keys) named ∙ ap (needs_from before session.keys) (sym is)
+    ap (λ (n : StoreName). forked_script_needs at (keys_before at (keys_of_session before n)) session.keys) named ∙ ap (needs_from before session.keys) (sym is)
 
 -- ---- a configuration
 

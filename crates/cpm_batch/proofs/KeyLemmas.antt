@@ -9,7 +9,7 @@ use Rattle.std.proofs.lemmas.List.{length-map}
 use Rattle.std.proofs.lemmas.Result.{IfOk-weaker}
 use Rattle.cpm_script.specs.Fork.{forked_script, keys_before}
 use Rattle.cpm_script.specs.KeyText.{count_of, keys_of}
-use Rattle.cpm_script.specs.Script.{is_after, is_skipped, is_space, keys_at, numbered, or_fault, script, script_from, with_counted, with_keys, with_line, with_text}
+use Rattle.cpm_script.specs.Script.{is_after, is_skipped, is_script_space, keys_at, at_line, or_fault, script, script_from, with_counted, keys_added, with_line, with_text}
 use Rattle.cpm_script.specs.declared.fault.LineFault.{LineFault}
 use Rattle.cpm_script.specs.declared.fault.LineFault.TheVariants.{CountFalls, NoCount, NotAKey, TooManyKeys}
 use Rattle.cpm_script.specs.declared.script.Key.{Key}
@@ -20,7 +20,7 @@ use Rattle.cpm_batch.specs.Inputs.{HasForkedKeys, HasKeys}
 abbrev pub AreFew : List Key → Type 0
 AreFew keys = length keys ≤ 4096
 
-few-keys : (keys : List Key) (count : ℕ) (bytes : List ℕ) → IfOk (with_keys keys count bytes) AreFew
+few-keys : (keys : List Key) (count : ℕ) (bytes : List ℕ) → IfOk (keys_added keys count bytes) AreFew
 few-keys keys count [] = tt
 few-keys keys count (b ∷ bytes) = by_test (nat_le (length keys + length (b ∷ bytes)) 4096) refl
   where
@@ -32,7 +32,7 @@ few-keys keys count (b ∷ bytes) = by_test (nat_le (length keys + length (b ∷
         let same : length (keys_at count (b ∷ bytes)) ≡ length (b ∷ bytes) = length-map (b ∷ bytes) _ in
         omega (arith, room, more, same)
 
-few-text : (keys : List Key) (count : ℕ) (o : Option (List ℕ)) → IfOk (or_fault NotAKey o (with_keys keys count)) AreFew
+few-text : (keys : List Key) (count : ℕ) (o : Option (List ℕ)) → IfOk (or_fault NotAKey o (keys_added keys count)) AreFew
 few-text keys count None = tt
 few-text keys count (Some bytes) = few-keys keys count bytes
 
@@ -47,12 +47,12 @@ few-counted keys (Some count) text = by_test (is_after keys count)
 few-line : (keys : List Key) (line : List ℕ) → AreFew keys → IfOk (with_line keys line) AreFew
 few-line keys line few = by_test (is_skipped line)
   where
-    by_test : (t : Bool) → IfOk (if t then Ok keys else with_counted keys (before_first is_space line) (after_first is_space line)) AreFew
+    by_test : (t : Bool) → IfOk (if t then Ok keys else with_counted keys (before_first is_script_space line) (after_first is_script_space line)) AreFew
     by_test true = few
-    by_test false = few-counted keys (count_of (before_first is_space line)) (after_first is_space line)
+    by_test false = few-counted keys (count_of (before_first is_script_space line)) (after_first is_script_space line)
 
 few-numbered : (number : ℕ) (r : Result (List Key) LineFault) (next : List Key → Result (List Key) (ℕ × LineFault)) → ((more : List Key) → AreFew more → IfOk (next more) AreFew) → IfOk r AreFew
-    → IfOk (numbered number r next) AreFew
+    → IfOk (at_line number r next) AreFew
 few-numbered number (Ok more) next goes few = goes more few
 few-numbered number (Err fault) next goes few = tt
 

@@ -9,15 +9,15 @@ use Rattle.std.proofs.lemmas.List.Elements.{All-get_or, All-nil, All-push, All-s
 use Rattle.std.proofs.lemmas.List.Folds.{find_at}
 use Rattle.std.proofs.lemmas.Option.{get_or_from_slice_get, slice_get-get_or, slice_get-map, slice_get_within}
 use Rattle.cpm_config.specs.Entries.{SessionEntries}
-use Rattle.cpm_config.specs.Rules.{fork_fault, forks_fault, if_opened, is_named, is_opened, named_in, origin_view, parent_in, session_view}
+use Rattle.cpm_config.specs.Rules.{fork_field_fault, forks_fault, if_opened, is_session_named, is_opened, named_in, origin_view, parent_in, session_view}
 use Rattle.cpm_config.proofs.FaultLemmas.{faultless_step}
 use Rattle.cpm_config.specs.declared.config.Origin.{Origin}
 use Rattle.cpm_config.specs.declared.config.Origin.TheVariants as origin
 use Rattle.cpm_config.specs.declared.config.SessionConfig.{SessionConfig}
 use Rattle.cpm_script.specs.Fork.{keys_before}
 use Rattle.cpm_script.specs.declared.script.Key.{Key}
-use Rattle.cpm_store.specs.Files.{Files, Text}
-use Rattle.cpm_batch.specs.Inputs.{AllInputs, HasInputOf, IsOpened, IsParent, SessionInput, given, keys_if_any, keys_in, place_in}
+use Rattle.cpm_store.specs.Files.{Files, StoreName}
+use Rattle.cpm_batch.specs.Inputs.{AllInputs, HasInputOf, IsOpened, IsParent, SessionInput, given, keys_if_any, keys_of_session, session_place}
 use Rattle.cpm_batch.specs.declared.input.Input.{Input}
 use Rattle.cpm_batch.proofs.KeyLemmas.{AreFew, few-before, few-behind, few-opened}
 
@@ -72,7 +72,7 @@ find-first {A} {B} view test xs y found =
 -- ---- the parent
 
 -- it stands before, it is opened, and it has not too many keys
-pub record HasParent (is : List SessionInput) (name : Text) : Type 0 where
+pub record HasParent (is : List SessionInput) (name : StoreName) : Type 0 where
   pub place : ℕ
   pub parent : SessionInput
   pub found : IsParent is name place parent
@@ -81,7 +81,7 @@ pub record HasParent (is : List SessionInput) (name : Text) : Type 0 where
 abbrev seen : SessionInput → SessionEntries
 seen i = session_view i.session
 
-parent_at : (is : List SessionInput) (name : Text) (s : SessionEntries) → All IsSound is → IsFirst seen (is_named name) is s → is_opened s.origin ≡ true → HasParent is name
+parent_at : (is : List SessionInput) (name : StoreName) (s : SessionEntries) → All IsSound is → IsFirst seen (is_session_named name) is s → is_opened s.origin ≡ true → HasParent is name
 parent_at is name s all f opened =
     let sound = sound_at is f.place f.element all f.there in
     record {
@@ -91,27 +91,27 @@ parent_at is name s all f opened =
       few = sound.few;
     }
 
-parent_by : (is : List SessionInput) (name : Text) (o : Option SessionEntries) → All IsSound is → named_in (map seen is) name ≡ o → is_some (if_opened o) ≡ true → HasParent is name
+parent_by : (is : List SessionInput) (name : StoreName) (o : Option SessionEntries) → All IsSound is → named_in (map seen is) name ≡ o → is_some (if_opened o) ≡ true → HasParent is name
 parent_by is name None all found some = absurd (cc)
 parent_by is name (Some s) all found some = by_test (is_opened s.origin) refl some
   where
     by_test : (t : Bool) → is_opened s.origin ≡ t → is_some (if t then Some s else None) ≡ true → HasParent is name
-    by_test true e g = parent_at is name s all (find-first seen (is_named name) is s found) e
+    by_test true e g = parent_at is name s all (find-first seen (is_session_named name) is s found) e
     by_test false e g = absurd (cc)
 
-pub parent_found : (files : Option Files) (is : List SessionInput) (name : Text) → AllInputs files [] is → is_some (parent_in (map (λ i. session_view i.session) is) name) ≡ true → HasParent is name
+pub parent_found : (files : Option Files) (is : List SessionInput) (name : StoreName) → AllInputs files [] is → is_some (parent_in (map (λ i. session_view i.session) is) name) ≡ true → HasParent is name
 parent_found files is name h some = parent_by is name (named_in (map seen is) name) (sound_more files [] is (All-nil IsSound) h) refl some
 
 -- the parent at a place, and the first keys of a session that is forked from it
-pub record IsReadParent (is : List Input) (name : Text) (place at : ℕ) (first : List Key) : Type 0 where
+pub record IsReadParent (is : List Input) (name : StoreName) (place at : ℕ) (first : List Key) : Type 0 where
   pub parent : SessionInput
   pub found : IsParent (map given is) name place parent
   pub few : AreFew first
   pub keys : first ≡ keys_before at parent.keys
-  pub named : first ≡ keys_before at (keys_in (map given is) name)
+  pub named : first ≡ keys_before at (keys_of_session (map given is) name)
 
-pub parent_read : (files : Option Files) (is : List Input) (name : Text) (place at : ℕ) (i : Input) (own first : List Key) → AllInputs files [] (map given is)
-    → is_some (parent_in (map (λ i. session_view i.session) (map given is)) name) ≡ true → Some place ≡ place_in (map given is) name → place < length is → i ≡ get_or is place i
+pub parent_read : (files : Option Files) (is : List Input) (name : StoreName) (place at : ℕ) (i : Input) (own first : List Key) → AllInputs files [] (map given is)
+    → is_some (parent_in (map (λ i. session_view i.session) (map given is)) name) ≡ true → Some place ≡ session_place (map given is) name → place < length is → i ≡ get_or is place i
     → own ≡ (get_or is place i).keys.items → first ≡ keys_before at own → IsReadParent is name place at first
 parent_read files is name place at i own first all some named within is_at own_is first_is =
     let h = parent_found files (map given is) name all some in
@@ -120,7 +120,7 @@ parent_read files is name place at i own first all some named within is_at own_i
     slice_get-map given is place ∙ ap (option_map given) (slice_get-get_or is place i within ∙ ap (λ (x : Input). Some x) (sym is_at)) in
     let same : h.parent ≡ given i = let f = ap (slice_get (map given is)) (sym same_place) ∙ h.found.there in cc in
     let keys : first ≡ keys_before at i.keys.items = first_is ∙ ap (keys_before at) (own_is ∙ ap (λ (x : Input). x.keys.items) (sym is_at)) in
-    let found : keys_in (map given is) name ≡ i.keys.items = ap (λ (p : Option ℕ). keys_if_any (option_and_then (slice_get (map given is)) p)) (sym named) ∙ ap keys_if_any there in
+    let found : keys_of_session (map given is) name ≡ i.keys.items = ap (λ (p : Option ℕ). keys_if_any (option_and_then (slice_get (map given is)) p)) (sym named) ∙ ap keys_if_any there in
     record {
       parent = given i;
       found = record { first = sym named; there = there; opened = subst (λ (x : SessionInput). IsOpened x.start) same h.found.opened };
@@ -138,12 +138,12 @@ seen_sessions (i ∷ is) = ap (λ ss. seen i ∷ ss) (seen_sessions is)
 -- from the sessions that were read
 pub fork_stands : (sessions : List SessionConfig) (i : ℕ) (s : SessionConfig) (is : List SessionInput) → i < length sessions → s ≡ get_or sessions i s
     → forks_fault (i + 1) (map session_view (take i sessions)) (map session_view (drop i sessions)) ≡ None → map (λ x. x.session) is ≡ take i sessions
-    → fork_fault (map (λ x. session_view x.session) is) (session_view s) ≡ None
+    → fork_field_fault (map (λ x. session_view x.session) is) (session_view s) ≡ None
 fork_stands sessions i s is within at none same =
-    ap (λ before. fork_fault before (session_view s)) (seen_sessions is ∙ ap (map session_view) same)
-    ∙ (faultless_step session_view fork_fault (i + 1) sessions i s within at none).0
+    ap (λ before. fork_field_fault before (session_view s)) (seen_sessions is ∙ ap (map session_view) same)
+    ∙ (faultless_step session_view fork_field_fault (i + 1) sessions i s within at none).0
 
 pub forks_stand : (sessions : List SessionConfig) (i : ℕ) (s : SessionConfig) → i < length sessions → s ≡ get_or sessions i s
     → forks_fault (i + 1) (map session_view (take i sessions)) (map session_view (drop i sessions)) ≡ None
     → forks_fault (i + 1 + 1) (map session_view (take (i + 1) sessions)) (map session_view (drop (i + 1) sessions)) ≡ None
-forks_stand sessions i s within at none = (faultless_step session_view fork_fault (i + 1) sessions i s within at none).1
+forks_stand sessions i s within at none = (faultless_step session_view fork_field_fault (i + 1) sessions i s within at none).1

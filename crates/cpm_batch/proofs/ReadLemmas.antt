@@ -4,7 +4,7 @@ use Rattle.std.proofs.lemmas.List.{map-append, take_more}
 use Rattle.std.specs.Prelude.{string_bytes}
 use Rattle.std.specs.declared.alloc.Global.{Global}
 use Rattle.cpm_geom.specs.Disk.{Disk}
-use Rattle.cpm_store.specs.Files.{Text}
+use Rattle.cpm_store.specs.Files.{StoreName}
 use Rattle.cpm_store.specs.Log.{Access, Gave, RanBy, Then}
 use Rattle.cpm_store.proofs.LogLemmas.{ran_more, ran_one}
 use Rattle.cpm_script.specs.Fork.{forked_script}
@@ -21,34 +21,34 @@ use Rattle.cpm_batch.specs.Reads.{AreForkedKeysRead, AreImagesRead, AreInputsRea
 use Rattle.cpm_batch.specs.declared.input.Input.{Input}
 
 -- one read
-pub image_read : {S : Type 0} (does : S → Access → S → Type 0) (name : Text) (bytes : List ℕ) (d : Disk) (s t : S) → does s (Gave name bytes) t → IsImage bytes d → RanBy does (IsImageRead name d) s t
+pub image_read : {S : Type 0} (does : S → Access → S → Type 0) (name : StoreName) (bytes : List ℕ) (d : Disk) (s t : S) → does s (Gave name bytes) t → IsImage bytes d → RanBy does (IsImageRead name d) s t
 image_read does name bytes d s t call image = (Gave name bytes ∷ [], record { bytes = bytes; image = image; calls = refl }, ran_one does (Gave name bytes) s t call)
 
-pub script_read : {S : Type 0} (does : S → Access → S → Type 0) (name : Text) (text : List ℕ) (keys : List Key) (s t : S) → does s (Gave name text) t → script text ≡ Ok keys → RanBy does (IsScriptRead name keys) s t
+pub script_read : {S : Type 0} (does : S → Access → S → Type 0) (name : StoreName) (text : List ℕ) (keys : List Key) (s t : S) → does s (Gave name text) t → script text ≡ Ok keys → RanBy does (IsScriptRead name keys) s t
 script_read does name text keys s t call read = (Gave name text ∷ [], record { text = text; read = read; calls = refl }, ran_one does (Gave name text) s t call)
 
-pub forked_script_read : {S : Type 0} (does : S → Access → S → Type 0) (name text : Text) (at : ℕ) (before keys : List Key) (s t : S) → does s (Gave name text) t → forked_script at before text ≡ Ok keys
+pub forked_script_read : {S : Type 0} (does : S → Access → S → Type 0) (name text : StoreName) (at : ℕ) (before keys : List Key) (s t : S) → does s (Gave name text) t → forked_script at before text ≡ Ok keys
     → RanBy does (IsForkedScriptRead name at before keys) s t
 forked_script_read does name text at before keys s t call read =
     (Gave name text ∷ [], record { text = text; read = read; calls = refl }, ran_one does (Gave name text) s t call)
 
 -- the same of the text of a name
-pub image_read_as : {S : Type 0} (does : S → Access → S → Type 0) (name text : Text) (d : Disk) (s t : S) → text ≡ name → RanBy does (IsImageRead text d) s t → RanBy does (IsImageRead name d) s t
-image_read_as does name text d s t is h = subst (λ (n : Text). RanBy does (IsImageRead n d) s t) is h
+pub image_read_as : {S : Type 0} (does : S → Access → S → Type 0) (name text : StoreName) (d : Disk) (s t : S) → text ≡ name → RanBy does (IsImageRead text d) s t → RanBy does (IsImageRead name d) s t
+image_read_as does name text d s t is h = subst (λ (n : StoreName). RanBy does (IsImageRead n d) s t) is h
 
 -- the keys of a script that is named, and of none
-pub script_named : {S : Type 0} (does : S → Access → S → Type 0) (script : Option (String Global)) (name : String Global) (text : Text) (keys : List Key) (s t : S) → script ≡ Some name → text ≡ string_bytes name
+pub script_named : {S : Type 0} (does : S → Access → S → Type 0) (script : Option (String Global)) (name : String Global) (text : StoreName) (keys : List Key) (s t : S) → script ≡ Some name → text ≡ string_bytes name
     → RanBy does (IsScriptRead text keys) s t → RanBy does (AreKeysRead script keys) s t
 script_named does script name text keys s t is named h =
-    subst (λ (o : Option (String Global)). RanBy does (AreKeysRead o keys) s t) (sym is) (subst (λ (n : Text). RanBy does (IsScriptRead n keys) s t) named h)
+    subst (λ (o : Option (String Global)). RanBy does (AreKeysRead o keys) s t) (sym is) (subst (λ (n : StoreName). RanBy does (IsScriptRead n keys) s t) named h)
 
 pub no_script : {S : Type 0} (does : S → Access → S → Type 0) (script : Option (String Global)) (keys : List Key) (s : S) → script ≡ None → keys ≡ [] → RanBy does (AreKeysRead script keys) s s
 no_script does script keys s is none = subst (λ (o : Option (String Global)). RanBy does (AreKeysRead o keys) s s) (sym is) ([], (none, refl), refl)
 
-pub forked_script_named : {S : Type 0} (does : S → Access → S → Type 0) (script : Option (String Global)) (name : String Global) (text : Text) (at : ℕ) (before keys : List Key) (s t : S)
+pub forked_script_named : {S : Type 0} (does : S → Access → S → Type 0) (script : Option (String Global)) (name : String Global) (text : StoreName) (at : ℕ) (before keys : List Key) (s t : S)
     → script ≡ Some name → text ≡ string_bytes name → RanBy does (IsForkedScriptRead text at before keys) s t → RanBy does (AreForkedKeysRead script at before keys) s t
 forked_script_named does script name text at before keys s t is named h =
-    subst (λ (o : Option (String Global)). RanBy does (AreForkedKeysRead o at before keys) s t) (sym is) (subst (λ (n : Text). RanBy does (IsForkedScriptRead n at before keys) s t) named h)
+    subst (λ (o : Option (String Global)). RanBy does (AreForkedKeysRead o at before keys) s t) (sym is) (subst (λ (n : StoreName). RanBy does (IsForkedScriptRead n at before keys) s t) named h)
 
 pub no_forked_script : {S : Type 0} (does : S → Access → S → Type 0) (script : Option (String Global)) (at : ℕ) (before keys : List Key) (s : S) → script ≡ None → keys ≡ before
     → RanBy does (AreForkedKeysRead script at before keys) s s
@@ -63,13 +63,13 @@ opened_read does (Ok i) before session cpu quota drives names s t is named same 
     subst (λ (o : Origin). RanBy does (IsInputReadOf before o (given i)) s t) (sym (ap (λ (x : SessionConfig). x.origin) same ∙ is))
     (subst (λ (ns : List (String Global)). RanBy does (IsOpenedRead cpu quota ns (given i)) s t) named log)
 
-pub forked_read : {S : Type 0} (does : S → Access → S → Type 0) (r : Result Input ReadError) (before : List SessionInput) (session : SessionConfig) (parent : String Global) (at : ℕ) (name : Text) (s t : S)
+pub forked_read : {S : Type 0} (does : S → Access → S → Type 0) (r : Result Input ReadError) (before : List SessionInput) (session : SessionConfig) (parent : String Global) (at : ℕ) (name : StoreName) (s t : S)
     → session.origin ≡ origin.Forked parent at → name ≡ string_bytes parent → IfOk r (λ i. i.session.now ≡ session) → IfOk r (λ i. RanBy does (IsForkedRead before name at (given i)) s t)
     → IfOk r (λ i. RanBy does (IsInputRead before (given i)) s t)
 forked_read does (Err e) before session parent at name s t is named same log = tt
 forked_read does (Ok i) before session parent at name s t is named same log =
     subst (λ (o : Origin). RanBy does (IsInputReadOf before o (given i)) s t) (sym (ap (λ (x : SessionConfig). x.origin) same ∙ is))
-    (subst (λ (n : Text). RanBy does (IsForkedRead before n at (given i)) s t) named log)
+    (subst (λ (n : StoreName). RanBy does (IsForkedRead before n at (given i)) s t) named log)
 
 -- the reads of a list, and one more
 pub then_more : (Before After All : List Access → Type 0) (xs ys : List Access) (h : Then Before After xs) → All (h.rest ++ ys) → Then Before All (xs ++ ys)

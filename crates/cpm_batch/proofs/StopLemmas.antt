@@ -11,12 +11,12 @@ use Rattle.cpm_config.specs.declared.config.SessionConfig.{SessionConfig}
 use Rattle.cpm_geom.specs.Disk.{Disk}
 use Rattle.cpm_script.specs.Fork.{keys_before}
 use Rattle.cpm_script.specs.declared.script.Key.{Key}
-use Rattle.cpm_store.specs.Files.{Text}
+use Rattle.cpm_store.specs.Files.{StoreName}
 use Rattle.cpm_store.specs.Log.{Access, AreNoWrites, Missed, RanBy, Then}
 use Rattle.cpm_store.proofs.LogLemmas.{no_writes_more, ran_more, ran_one}
 use Rattle.cpm_batch.specs.declared.error.ReadError.{ReadError}
 use Rattle.cpm_batch.specs.declared.error.ReadError.TheVariants.{File, OutOfMemory}
-use Rattle.cpm_batch.specs.Inputs.{ForkedScriptIn, ImageIn, IsMissed, Need, ScriptIn, SessionInput, image_needs, name_of, needs_of, script_needs, forked_script_needs}
+use Rattle.cpm_batch.specs.Inputs.{ForkedScriptIn, ImageIn, IsMissed, Need, ScriptIn, SessionInput, image_needs, needed_name, needs_of, script_needs, forked_script_needs}
 use Rattle.cpm_batch.specs.Reads.{AreForkedKeysRead, AreImagesRead, AreInputsRead, AreKeysRead, IsFaultRead, IsImageRead, IsInputRead, IsInputReadOf, IsNeedRead, StopsAmongNeeds, StopsAmongSessions, StopsAtFault, StopsAtSession, StopsReading}
 use Rattle.cpm_batch.proofs.ReadLemmas.{then_more}
 
@@ -98,18 +98,18 @@ inputs_behind before (i ∷ is) rest e xs ys h g =
     )
 
 -- a call that fails is a fault's read, where the error says so
-missed_fault : (n : Need) (e : ReadError) → IsMissed (name_of n) e → IsFaultRead n e (Missed (name_of n) ∷ [])
+missed_fault : (n : Need) (e : ReadError) → IsMissed (needed_name n) e → IsFaultRead n e (Missed (needed_name n) ∷ [])
 missed_fault n (File name) h = (h, refl)
 missed_fault n _ h = absurd h
 
 module _ {S : Type 0} (does : S → Access → S → Type 0) where
   -- ---- one read that is refused
 
-  pub stopped_missed : (n : Need) (e : ReadError) (s t : S) → (e ≡ OutOfMemory) ⊎ IsMissed (name_of n) e → does s (Missed (name_of n)) t → RanBy does (StopsAmongNeeds (n ∷ []) e) s t
+  pub stopped_missed : (n : Need) (e : ReadError) (s t : S) → (e ≡ OutOfMemory) ⊎ IsMissed (needed_name n) e → does s (Missed (needed_name n)) t → RanBy does (StopsAmongNeeds (n ∷ []) e) s t
   stopped_missed n e s t h call = (
-    Missed (name_of n) ∷ [],
+    Missed (needed_name n) ∷ [],
     ⊎_elim (λ m. inl (m, (tt, tt))) (λ f. inr (inl (missed_fault n e f))) h,
-    ran_one does (Missed (name_of n)) s t call,
+    ran_one does (Missed (needed_name n)) s t call,
   )
 
   pub stopped_at : (n : Need) (e : ReadError) (a : Access) (s t : S) → does s a t → IsFaultRead n e (a ∷ []) → RanBy does (StopsAmongNeeds (n ∷ []) e) s t
@@ -180,16 +180,16 @@ module _ {S : Type 0} (does : S → Access → S → Type 0) where
   pub stopped_as : (ns ms : List Need) (e : ReadError) (s t : S) → ms ≡ ns → RanBy does (StopsAmongNeeds ms e) s t → RanBy does (StopsAmongNeeds ns e) s t
   stopped_as ns ms e s t is h = subst (λ (xs : List Need). RanBy does (StopsAmongNeeds xs e) s t) is h
 
-  pub image_stopped_as : (name text : Text) (e : ReadError) (s t : S) → text ≡ name → RanBy does (StopsAmongNeeds (ImageIn text ∷ []) e) s t → RanBy does (StopsAmongNeeds (ImageIn name ∷ []) e) s t
-  image_stopped_as name text e s t is h = subst (λ (n : Text). RanBy does (StopsAmongNeeds (ImageIn n ∷ []) e) s t) is h
+  pub image_stopped_as : (name text : StoreName) (e : ReadError) (s t : S) → text ≡ name → RanBy does (StopsAmongNeeds (ImageIn text ∷ []) e) s t → RanBy does (StopsAmongNeeds (ImageIn name ∷ []) e) s t
+  image_stopped_as name text e s t is h = subst (λ (n : StoreName). RanBy does (StopsAmongNeeds (ImageIn n ∷ []) e) s t) is h
 
-  pub keys_stopped : (script : Option (String Global)) (name : String Global) (text : Text) (e : ReadError) (s t : S) → script ≡ Some name → text ≡ string_bytes name
+  pub keys_stopped : (script : Option (String Global)) (name : String Global) (text : StoreName) (e : ReadError) (s t : S) → script ≡ Some name → text ≡ string_bytes name
       → RanBy does (StopsAmongNeeds (ScriptIn text ∷ []) e) s t → RanBy does (StopsAmongNeeds (script_needs script) e) s t
   keys_stopped script name text e s t is named h =
-      subst (λ (o : Option (String Global)). RanBy does (StopsAmongNeeds (script_needs o) e) s t) (sym is) (subst (λ (n : Text). RanBy does (StopsAmongNeeds (ScriptIn n ∷ []) e) s t) named h)
+      subst (λ (o : Option (String Global)). RanBy does (StopsAmongNeeds (script_needs o) e) s t) (sym is) (subst (λ (n : StoreName). RanBy does (StopsAmongNeeds (ScriptIn n ∷ []) e) s t) named h)
 
-  pub forked_keys_stopped : (script : Option (String Global)) (name : String Global) (text : Text) (at : ℕ) (before : List Key) (e : ReadError) (s t : S) → script ≡ Some name → text ≡ string_bytes name
+  pub forked_keys_stopped : (script : Option (String Global)) (name : String Global) (text : StoreName) (at : ℕ) (before : List Key) (e : ReadError) (s t : S) → script ≡ Some name → text ≡ string_bytes name
       → RanBy does (StopsAmongNeeds (ForkedScriptIn text at before ∷ []) e) s t → RanBy does (StopsAmongNeeds (forked_script_needs at before script) e) s t
   forked_keys_stopped script name text at before e s t is named h =
       subst (λ (o : Option (String Global)). RanBy does (StopsAmongNeeds (forked_script_needs at before o) e) s t) (sym is)
-      (subst (λ (n : Text). RanBy does (StopsAmongNeeds (ForkedScriptIn n at before ∷ []) e) s t) named h)
+      (subst (λ (n : StoreName). RanBy does (StopsAmongNeeds (ForkedScriptIn n at before ∷ []) e) s t) named h)

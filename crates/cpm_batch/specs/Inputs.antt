@@ -15,7 +15,7 @@ use Rattle.cpm_script.specs.Fork.{forked_script, keys_before}
 use Rattle.cpm_script.specs.Script.{script}
 use Rattle.cpm_script.specs.declared.fault.LineFault.{LineFault}
 use Rattle.cpm_script.specs.declared.script.Key.{Key}
-use Rattle.cpm_store.specs.Files.{Files, Finds, Text}
+use Rattle.cpm_store.specs.Files.{Files, Finds, StoreName}
 use Rattle.cpm_batch.specs.declared.error.ReadError.{ReadError}
 use Rattle.cpm_batch.specs.declared.error.ReadError.TheVariants.{File, Image, Script, OutOfMemory}
 use Rattle.cpm_batch.specs.declared.input.Input.{Input}
@@ -31,38 +31,38 @@ pub record IsImage (bytes : List ℕ) (d : Disk) : Type 0 where
   pub whole : IsDisk d
 
 -- the file has the image of the disk
-pub record IsImageIn (files : Option Files) (name : Text) (d : Disk) : Type 0 where
+pub record IsImageIn (files : Option Files) (name : StoreName) (d : Disk) : Type 0 where
   pub bytes : List ℕ
   pub found : Finds files name bytes
   pub image : IsImage bytes d
 
 -- the file has a key script of these keys
-pub record IsScriptIn (files : Option Files) (name : Text) (keys : List Key) : Type 0 where
+pub record IsScriptIn (files : Option Files) (name : StoreName) (keys : List Key) : Type 0 where
   pub text : List ℕ
   pub found : Finds files name text
   pub read : script text ≡ Ok keys
 
 -- the file has a key script with which a session that is forked at this count of steps, behind the keys that its parent had before, has these keys
-pub record IsForkedScriptIn (files : Option Files) (name : Text) (at : ℕ) (before keys : List Key) : Type 0 where
+pub record IsForkedScriptIn (files : Option Files) (name : StoreName) (at : ℕ) (before keys : List Key) : Type 0 where
   pub text : List ℕ
   pub found : Finds files name text
   pub read : forked_script at before text ≡ Ok keys
 
 -- the file has so many bytes, which no image has
-pub record IsNoImageIn (files : Option Files) (name : Text) (count : ℕ) : Type 0 where
+pub record IsNoImageIn (files : Option Files) (name : StoreName) (count : ℕ) : Type 0 where
   pub bytes : List ℕ
   pub found : Finds files name bytes
   pub size : count ≡ length bytes
   pub format : format_of_length (length bytes) ≡ None
 
 -- the file's first line with a fault has this number
-pub record IsNoScriptIn (files : Option Files) (name : Text) (line : ℕ) (fault : LineFault) : Type 0 where
+pub record IsNoScriptIn (files : Option Files) (name : StoreName) (line : ℕ) (fault : LineFault) : Type 0 where
   pub text : List ℕ
   pub found : Finds files name text
   pub read : script text ≡ Err (line, fault)
 
 -- the same of a session that is forked at this count of steps, behind these keys
-pub record IsNoForkedScriptIn (files : Option Files) (name : Text) (at : ℕ) (before : List Key) (line : ℕ) (fault : LineFault) : Type 0 where
+pub record IsNoForkedScriptIn (files : Option Files) (name : StoreName) (at : ℕ) (before : List Key) (line : ℕ) (fault : LineFault) : Type 0 where
   pub text : List ℕ
   pub found : Finds files name text
   pub read : forked_script at before text ≡ Err (line, fault)
@@ -114,12 +114,12 @@ IsOpened (Opens cpu quota drives) = ⊤
 IsOpened (Forks parent at) = ⊥
 
 -- the place of the first session that has this name
-abbrev pub place_in : List SessionInput → Text → Option ℕ
-place_in before name = place_of name (map (λ i. session_view i.session) before)
+abbrev pub session_place : List SessionInput → StoreName → Option ℕ
+session_place before name = place_of name (map (λ i. session_view i.session) before)
 
 -- it is opened, it stands at this place, and this was read for it
-pub record IsParent (before : List SessionInput) (name : Text) (place : ℕ) (parent : SessionInput) : Type 0 where
-  pub first : place_in before name ≡ Some place
+pub record IsParent (before : List SessionInput) (name : StoreName) (place : ℕ) (parent : SessionInput) : Type 0 where
+  pub first : session_place before name ≡ Some place
   pub there : slice_get before place ≡ Some parent
   pub opened : IsOpened parent.start
 
@@ -128,7 +128,7 @@ abbrev pub HasForkedKeys : Option Files → Option (String Global) → (at : ℕ
 HasForkedKeys files None at before keys = keys ≡ before
 HasForkedKeys files (Some name) at before keys = IsForkedScriptIn files (string_bytes name) at before keys
 
-pub record IsForkedInput (files : Option Files) (before : List SessionInput) (name : Text) (at : ℕ) (i : SessionInput) : Type 0 where
+pub record IsForkedInput (files : Option Files) (before : List SessionInput) (name : StoreName) (at : ℕ) (i : SessionInput) : Type 0 where
   pub place : ℕ
   pub parent : SessionInput
   pub found : IsParent before name place parent
@@ -160,9 +160,9 @@ pub record AreInputs (files : Option Files) (config : Config) (system : Disk) (i
 
 -- a file that is to hold an image, or a key script; one of a session that is forked at a count of steps stands behind the keys that its parent had before
 pub data Need : Type 0 where
-  ImageIn : (name : Text) → Need
-  ScriptIn : (name : Text) → Need
-  ForkedScriptIn : (name : Text) (at : ℕ) (before : List Key) → Need
+  ImageIn : (name : StoreName) → Need
+  ScriptIn : (name : StoreName) → Need
+  ForkedScriptIn : (name : StoreName) (at : ℕ) (before : List Key) → Need
 
 abbrev pub image_needs : List (String Global) → List Need
 image_needs names = map (λ name. ImageIn (string_bytes name)) names
@@ -181,13 +181,13 @@ keys_if_any None = []
 keys_if_any (Some i) = i.keys
 
 -- those of the first session of this name
-abbrev pub keys_in : List SessionInput → Text → List Key
-keys_in before name = keys_if_any (option_and_then (slice_get before) (place_in before name))
+abbrev pub keys_of_session : List SessionInput → StoreName → List Key
+keys_of_session before name = keys_if_any (option_and_then (slice_get before) (session_place before name))
 
 -- of a session with this script that begins so
 abbrev pub needs_from : (before : List SessionInput) → Option (String Global) → Origin → List Need
 needs_from before keys (origin.Opened cpu quota drives) = image_needs drives.items ++ script_needs keys
-needs_from before keys (origin.Forked parent at) = forked_script_needs at (keys_before at (keys_in before (string_bytes parent))) keys
+needs_from before keys (origin.Forked parent at) = forked_script_needs at (keys_before at (keys_of_session before (string_bytes parent))) keys
 
 -- of a session, behind what was read for those before it
 abbrev pub needs_of : (before : List SessionInput) → SessionConfig → List Need
@@ -202,19 +202,19 @@ IsMet files (ScriptIn name) = (keys : List Key) × IsScriptIn files name keys
 IsMet files (ForkedScriptIn name at before) = (keys : List Key) × IsForkedScriptIn files name at before keys
 
 -- the name of the file
-abbrev pub name_of : Need → Text
-name_of (ImageIn name) = name
-name_of (ScriptIn name) = name
-name_of (ForkedScriptIn name at before) = name
+abbrev pub needed_name : Need → StoreName
+needed_name (ImageIn name) = name
+needed_name (ScriptIn name) = name
+needed_name (ForkedScriptIn name at before) = name
 
 -- the file of this name couldn't be read, as the error says with the name as it is shown
-abbrev pub IsMissed : Text → ReadError → Type 0
+abbrev pub IsMissed : StoreName → ReadError → Type 0
 IsMissed name (File shown) = shown.bytes ≡ shown_of (chars name)
 IsMissed name _ = ⊥
 
 -- it doesn't, as the error says, with the file's name as it is shown; any file may be one that can't be read
 abbrev pub IsFault : Option Files → Need → ReadError → Type 0
-IsFault files need (File shown) = shown.bytes ≡ shown_of (chars (name_of need))
+IsFault files need (File shown) = shown.bytes ≡ shown_of (chars (needed_name need))
 IsFault files (ImageIn name) (Image shown count) = (shown.bytes ≡ shown_of (chars name)) × IsNoImageIn files name count
 IsFault files (ScriptIn name) (Script shown line fault) = (shown.bytes ≡ shown_of (chars name)) × IsNoScriptIn files name line fault
 IsFault files (ForkedScriptIn name at before) (Script shown line fault) =

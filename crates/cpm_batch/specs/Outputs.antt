@@ -4,8 +4,8 @@ use Rattle.std.specs.List.{concat}
 use Rattle.std.specs.declared.alloc.Global.{Global}
 use Rattle.cpm_config.specs.declared.config.SessionConfig.{SessionConfig}
 use Rattle.cpm_geom.specs.Disk.{Disk}
-use Rattle.cpm_store.specs.Files.{Text}
-use Rattle.cpm_store.specs.Writes.{Named}
+use Rattle.cpm_store.specs.Files.{StoreName}
+use Rattle.cpm_store.specs.Writes.{NamedBytes}
 use Rattle.cpm_batch.specs.declared.output.SessionFiles.{SessionFiles}
 
 -- a session, and what it left
@@ -21,32 +21,32 @@ abbrev pub left_by : SessionFiles → SessionOutput
 left_by f = record { session = f.session.now; console = f.console.items; list = f.list.items; drives = f.drives }
 
 -- bytes for a file, where one is named
-abbrev pub named_bytes : Option Text → List ℕ → List Named
+abbrev pub named_bytes : Option StoreName → List ℕ → List NamedBytes
 named_bytes None bytes = []
 named_bytes (Some name) bytes = (name, bytes) ∷ []
 
 -- the image of a drive, where there are both, a name and a drive
-abbrev pub named_image : Option Text → Option Disk → List Named
+abbrev pub named_image : Option StoreName → Option Disk → List NamedBytes
 named_image name None = []
 named_image name (Some d) = named_bytes name (concat d.sectors)
 
 -- the image of the drive at a place, for the name at that place
-unfoldable pub image_at : List (String Global) → List (Option Disk) → ℕ → List Named
+unfoldable pub image_at : List (String Global) → List (Option Disk) → ℕ → List NamedBytes
 image_at names drives place = named_image (option_map string_bytes (slice_get names place)) (slice_index_or drives place None)
 
 -- the images of the drives A to D, as far as they are named
-unfoldable pub images_of : List (String Global) → List (Option Disk) → List Named
-images_of names drives = image_at names drives 0 ++ (image_at names drives 1 ++ (image_at names drives 2 ++ image_at names drives 3))
+unfoldable pub image_outputs : List (String Global) → List (Option Disk) → List NamedBytes
+image_outputs names drives = image_at names drives 0 ++ (image_at names drives 1 ++ (image_at names drives 2 ++ image_at names drives 3))
 
-abbrev pub named_images : Option (Vec (String Global) Global) → List (Option Disk) → List Named
+abbrev pub named_images : Option (Vec (String Global) Global) → List (Option Disk) → List NamedBytes
 named_images None drives = []
-named_images (Some names) drives = images_of names.items drives
+named_images (Some names) drives = image_outputs names.items drives
 
 -- of a session: the console's text, the list device's where it is named, the images where they are
-abbrev pub files_of : SessionOutput → List Named
+abbrev pub files_of : SessionOutput → List NamedBytes
 files_of o = (string_bytes o.session.console, o.console) ∷ (named_bytes (option_map string_bytes o.session.list) o.list ++ named_images o.session.out o.drives)
 
 -- of all sessions, in their order
-abbrev pub files_of_all : List SessionOutput → List Named
+abbrev pub files_of_all : List SessionOutput → List NamedBytes
 files_of_all [] = []
 files_of_all (o ∷ os) = files_of o ++ files_of_all os

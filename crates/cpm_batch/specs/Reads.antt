@@ -13,26 +13,26 @@ use Rattle.cpm_script.specs.Fork.{forked_script, keys_before}
 use Rattle.cpm_script.specs.Script.{script}
 use Rattle.cpm_script.specs.declared.fault.LineFault.{LineFault}
 use Rattle.cpm_script.specs.declared.script.Key.{Key}
-use Rattle.cpm_store.specs.Files.{Text}
+use Rattle.cpm_store.specs.Files.{StoreName}
 use Rattle.cpm_store.specs.Log.{Access, AreNoWrites, Gave, Missed, Then}
-use Rattle.cpm_batch.specs.Inputs.{Forks, ForkedScriptIn, ImageIn, IsImage, IsParent, Need, Opens, ScriptIn, SessionInput, name_of, needs_of}
+use Rattle.cpm_batch.specs.Inputs.{Forks, ForkedScriptIn, ImageIn, IsImage, IsParent, Need, Opens, ScriptIn, SessionInput, needed_name, needs_of}
 use Rattle.cpm_batch.specs.declared.error.ReadError.{ReadError}
 use Rattle.cpm_batch.specs.declared.error.ReadError.TheVariants.{File, Image, Script, OutOfMemory}
 
 -- one read, in which the file gave the image of the disk
-pub record IsImageRead (name : Text) (d : Disk) (log : List Access) : Type 0 where
+pub record IsImageRead (name : StoreName) (d : Disk) (log : List Access) : Type 0 where
   pub bytes : List ℕ
   pub image : IsImage bytes d
   pub calls : log ≡ Gave name bytes ∷ []
 
 -- one read, in which the file gave a key script of these keys
-pub record IsScriptRead (name : Text) (keys : List Key) (log : List Access) : Type 0 where
+pub record IsScriptRead (name : StoreName) (keys : List Key) (log : List Access) : Type 0 where
   pub text : List ℕ
   pub read : script text ≡ Ok keys
   pub calls : log ≡ Gave name text ∷ []
 
 -- one read, in which the file gave a key script with which a session that is forked at this count of steps, behind the keys that its parent had before, has these keys
-pub record IsForkedScriptRead (name : Text) (at : ℕ) (before keys : List Key) (log : List Access) : Type 0 where
+pub record IsForkedScriptRead (name : StoreName) (at : ℕ) (before keys : List Key) (log : List Access) : Type 0 where
   pub text : List ℕ
   pub read : forked_script at before text ≡ Ok keys
   pub calls : log ≡ Gave name text ∷ []
@@ -61,7 +61,7 @@ pub record IsOpenedRead (cpu : Cpu) (quota : ℕ) (names : List (String Global))
   pub calls : Then (AreImagesRead names drives) (AreKeysRead i.session.keys i.keys) log
 
 -- those of a session that is forked, behind what was read for the sessions before it: its keys
-pub record IsForkedRead (before : List SessionInput) (name : Text) (at : ℕ) (i : SessionInput) (log : List Access) : Type 0 where
+pub record IsForkedRead (before : List SessionInput) (name : StoreName) (at : ℕ) (i : SessionInput) (log : List Access) : Type 0 where
   pub place : ℕ
   pub parent : SessionInput
   pub found : IsParent before name place parent
@@ -89,20 +89,20 @@ pub record AreRead (config : Config) (system : Disk) (inputs : List SessionInput
 -- ---- where reading is given up
 
 -- one read, in which the file gave so many bytes, which no image has
-pub record IsNoImageRead (name : Text) (count : ℕ) (log : List Access) : Type 0 where
+pub record IsNoImageRead (name : StoreName) (count : ℕ) (log : List Access) : Type 0 where
   pub bytes : List ℕ
   pub size : count ≡ length bytes
   pub format : format_of_length (length bytes) ≡ None
   pub calls : log ≡ Gave name bytes ∷ []
 
 -- one read, in which the file gave a text whose first line with a fault has this number
-pub record IsNoScriptRead (name : Text) (line : ℕ) (fault : LineFault) (log : List Access) : Type 0 where
+pub record IsNoScriptRead (name : StoreName) (line : ℕ) (fault : LineFault) (log : List Access) : Type 0 where
   pub text : List ℕ
   pub read : script text ≡ Err (line, fault)
   pub calls : log ≡ Gave name text ∷ []
 
 -- the same of a session that is forked at this count of steps, behind these keys
-pub record IsNoForkedScriptRead (name : Text) (at : ℕ) (before : List Key) (line : ℕ) (fault : LineFault) (log : List Access) : Type 0 where
+pub record IsNoForkedScriptRead (name : StoreName) (at : ℕ) (before : List Key) (line : ℕ) (fault : LineFault) (log : List Access) : Type 0 where
   pub text : List ℕ
   pub read : forked_script at before text ≡ Err (line, fault)
   pub calls : log ≡ Gave name text ∷ []
@@ -115,7 +115,7 @@ IsNeedRead (ForkedScriptIn name at before) log = (keys : List Key) × IsForkedSc
 
 -- one read, which failed, or in which the file didn't hold it, as the error says
 abbrev pub IsFaultRead : Need → ReadError → List Access → Type 0
-IsFaultRead need (File shown) log = (shown.bytes ≡ shown_of (chars (name_of need))) × (log ≡ Missed (name_of need) ∷ [])
+IsFaultRead need (File shown) log = (shown.bytes ≡ shown_of (chars (needed_name need))) × (log ≡ Missed (needed_name need) ∷ [])
 IsFaultRead (ImageIn name) (Image shown count) log = (shown.bytes ≡ shown_of (chars name)) × IsNoImageRead name count log
 IsFaultRead (ScriptIn name) (Script shown line fault) log = (shown.bytes ≡ shown_of (chars name)) × IsNoScriptRead name line fault log
 IsFaultRead (ForkedScriptIn name at before) (Script shown line fault) log =

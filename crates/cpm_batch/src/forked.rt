@@ -4,7 +4,7 @@ ghost use Rattle.cpm_config.specs.Rules.{parent_in, session_view};
 ghost use Rattle.cpm_script.specs.Fork.{keys_before};
 ghost use Rattle.cpm_store.specs.Files.{CountsFailure};
 ghost use Rattle.cpm_store.specs.Log.{AreNoWrites, RanBy};
-ghost use Rattle.cpm_batch.specs.Inputs.{AllInputs, ForkedScriptIn, HasForkedKeys, IsFileFault, IsForkedInput, IsForkedScriptIn, IsNeedRefusal, forked_script_needs, given, keys_in, place_in};
+ghost use Rattle.cpm_batch.specs.Inputs.{AllInputs, ForkedScriptIn, HasForkedKeys, IsFileFault, IsForkedInput, IsForkedScriptIn, IsNeedRefusal, forked_script_needs, given, keys_of_session, session_place};
 ghost use Rattle.cpm_batch.specs.Reads.{AreForkedKeysRead, IsForkedRead, IsForkedScriptRead, StopsAmongNeeds};
 
 use crate::error::ReadError;
@@ -16,8 +16,8 @@ use cpm_store::Store;
 use std::alloc::Global;
 
 /// The place of the first of these sessions that has a name.
-fn place_in(before: &[Input], name: &str) -> Option<usize>
-    ensures place { result ≡ place_in (map given before.now) name.now }
+fn session_place(before: &[Input], name: &str) -> Option<usize>
+    ensures place { result ≡ session_place (map given before.now) name.now }
     ensures within { IfSome result (λ place. place < length before.now) }
 {
     before
@@ -97,8 +97,8 @@ pub(crate) fn read_forked<'a, S: Store>(
     ensures input { IfOk result (λ i. IsForkedInput (S.files store.old) (map given before.now) name.now at (given i)) }
     ensures log { IfOk result (λ i. RanBy S.does (IsForkedRead (map given before.now) name.now at (given i)) store.old store.new) }
     ensures session { IfOk result (λ i. i.session.now ≡ session.entry.now) }
-    ensures refusal { IfErr result (IsNeedRefusal (S.files store.old) (forked_script_needs at (keys_before at (keys_in (map given before.now) name.now)) session.entry.now.keys)) }
-    ensures refused_log { IfErr result (λ e. RanBy S.does (StopsAmongNeeds (forked_script_needs at (keys_before at (keys_in (map given before.now) name.now)) session.entry.now.keys) e) store.old store.new) }
+    ensures refusal { IfErr result (IsNeedRefusal (S.files store.old) (forked_script_needs at (keys_before at (keys_of_session (map given before.now) name.now)) session.entry.now.keys)) }
+    ensures refused_log { IfErr result (λ e. RanBy S.does (StopsAmongNeeds (forked_script_needs at (keys_before at (keys_of_session (map given before.now) name.now)) session.entry.now.keys) e) store.old store.new) }
     ensures device { IfErr result (λ e. IsFileFault e → CountsFailure (S.failed store.old) (S.failed store.new)) }
     ensures same { S.files store.new ≡ S.files store.old }
     ensures unwritten { RanBy S.does AreNoWrites store.old store.new }
@@ -106,7 +106,7 @@ pub(crate) fn read_forked<'a, S: Store>(
     ensures memory { IfErr result (λ e. e ≡ ReadError.OutOfMemory → S.failed store.new ≡ S.failed store.old) }
     ensures counted { S.failed store.old ≤ S.failed store.new }
 {
-    let Some(parent) = place_in(before, name) else {
+    let Some(parent) = session_place(before, name) else {
         unreachable!()
     };
     let own = before[parent].keys.as_slice();

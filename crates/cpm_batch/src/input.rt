@@ -1,6 +1,6 @@
 //! Reading what the sessions of a configuration need, in their order.
 ghost use Rattle.std.specs.Prelude.{◌≡◌, ◌≤◌, ◌∷◌, ◌++◌, ◌⊎◌, [], IfErr, IfOk, None, OnErr, OnOk, map};
-ghost use Rattle.cpm_config.specs.Rules.{config_view, fork_fault, forks_fault, session_view};
+ghost use Rattle.cpm_config.specs.Rules.{config_view, fork_field_fault, forks_fault, session_view};
 ghost use Rattle.cpm_store.specs.Files.{CountsFailure, Finds};
 ghost use Rattle.cpm_store.specs.Log.{AreNoWrites, Gave, Missed, RanBy};
 ghost use Rattle.cpm_batch.specs.Inputs.{AllImages, AllInputs, AreInputs, HasInput, HasKeys, ImageIn, IsFileFault, IsImageIn, IsMissed, IsNeedRefusal, IsOpenedInput, IsReadRefusal, IsScriptIn, IsSessionRefusal, ScriptIn, given, image_needs, needs_of, script_needs};
@@ -210,7 +210,7 @@ fn read_session<'a, S: Store>(
     before: &[Input],
 ) -> Result<Input<'a>, ReadError>
     requires before { AllInputs (S.files store.old) [] (map given before.now) }
-    requires fork { fork_fault (map (λ i. session_view i.session) (map given before.now)) (session_view session.now) ≡ None }
+    requires fork { fork_field_fault (map (λ i. session_view i.session) (map given before.now)) (session_view session.now) ≡ None }
     ensures input { IfOk result (λ i. HasInput (S.files store.old) (map given before.now) (given i)) }
     ensures log { IfOk result (λ i. RanBy S.does (IsInputRead (map given before.now) (given i)) store.old store.new) }
     ensures session { IfOk result (λ i. i.session.now ≡ session.entry.now) }

@@ -1,7 +1,7 @@
 //! What is written after the sessions of a configuration were run, in their order.
 ghost use Rattle.std.specs.Prelude.{◌≡◌, ◌<◌, ◌++◌, ℕ, None, IfOk, OnOk, map, option_map, slice_get, slice_index_or, string_bytes};
-ghost use Rattle.cpm_batch.specs.Outputs.{files_of, files_of_all, images_of, left_by, named_bytes, named_image};
-ghost use Rattle.cpm_store.specs.Writes.{named};
+ghost use Rattle.cpm_batch.specs.Outputs.{files_of, files_of_all, image_outputs, left_by, named_bytes, named_image};
+ghost use Rattle.cpm_store.specs.Writes.{named_output};
 
 use cpm_config::SessionConfig;
 use cpm_geom::Image;
@@ -26,8 +26,8 @@ fn add_named<'a>(
     name: Option<&'a str>,
     bytes: Vec<u8>,
 ) -> Result<(), AllocError>
-    ensures { OnOk result (map named outputs.new.items
-        ≡ map named outputs.old.items ++ named_bytes (option_map (λ n. n.now) name.entry) bytes.items) }
+    ensures { OnOk result (map named_output outputs.new.items
+        ≡ map named_output outputs.old.items ++ named_bytes (option_map (λ n. n.now) name.entry) bytes.items) }
 {
     if let Some(name) = name {
         outputs.push(Output { name, bytes })?;
@@ -41,8 +41,8 @@ fn add_image<'a>(
     name: Option<&'a str>,
     drive: Option<Image>,
 ) -> Result<(), AllocError>
-    ensures { OnOk result (map named outputs.new.items
-        ≡ map named outputs.old.items ++ named_image (option_map (λ n. n.now) name.entry) drive) }
+    ensures { OnOk result (map named_output outputs.new.items
+        ≡ map named_output outputs.old.items ++ named_image (option_map (λ n. n.now) name.entry) drive) }
 {
     match drive {
         Some(image) => add_named(outputs, name, image.into_bytes()),
@@ -75,8 +75,8 @@ fn add_images<'a>(
     names: &'a [String],
     mut drives: [Option<Image>; 4],
 ) -> Result<(), AllocError>
-    ensures { OnOk result (map named outputs.new.items
-        ≡ map named outputs.old.items ++ images_of names.entry.now drives) }
+    ensures { OnOk result (map named_output outputs.new.items
+        ≡ map named_output outputs.old.items ++ image_outputs names.entry.now drives) }
 {
     add_image(outputs, name_at(names, 0), take_drive(&mut drives, 0))?;
     add_image(outputs, name_at(names, 1), take_drive(&mut drives, 1))?;
@@ -87,8 +87,8 @@ fn add_images<'a>(
 
 /// Adds the files of a session.
 fn add_files<'a>(outputs: &mut Vec<Output<'a>>, files: SessionFiles<'a>) -> Result<(), AllocError>
-    ensures { OnOk result (map named outputs.new.items
-        ≡ map named outputs.old.items ++ files_of (left_by files.entry)) }
+    ensures { OnOk result (map named_output outputs.new.items
+        ≡ map named_output outputs.old.items ++ files_of (left_by files.entry)) }
 {
     let SessionFiles {
         session,
@@ -110,7 +110,7 @@ pub fn outputs_of<'a>(
     alloc: Global,
     sessions: Vec<SessionFiles<'a>>,
 ) -> Result<Vec<Output<'a>>, AllocError>
-    ensures { IfOk result (λ outputs. map named outputs.items ≡ files_of_all (map left_by sessions.entry.items)) }
+    ensures { IfOk result (λ outputs. map named_output outputs.items ≡ files_of_all (map left_by sessions.entry.items)) }
 {
     let mut outputs = Vec::new(alloc);
     let mut rest = sessions.into_iter();

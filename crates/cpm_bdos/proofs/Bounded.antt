@@ -8,14 +8,14 @@ use Rattle.cpm_geom.specs.declared.format.Format.{Format}
 use Rattle.cpm_geom.specs.declared.format.Format.TheVariants.{Ibm3740, Large}
 use Rattle.cpm_console.specs.Terminal.{Terminal, expanded, printed, key_read, said, IsWithin}
 use Rattle.cpm_console.specs.Draft.{Draft}
-use Rattle.cpm_console.specs.Editing.{Edited, begun, edited, key_into_line}
+use Rattle.cpm_console.specs.Editing.{Edited, begun_line, edited, key_into_line}
 use Rattle.cpm_console.specs.declared.line.LineState.{LineState}
 use Rattle.cpm_console.specs.declared.line.LineState.TheVariants as line
 use Rattle.cpm_console.proofs.Growth.{IsWithin-said, IsWithin-shown, IsWithin-same, length-expanded, IsWithin-key_into_line, length-key_into_line}
 use Rattle.cpm_memory.specs.Contents.{Contents, byte_at, next, run_at, touched_of, after_run}
 use Rattle.cpm_memory.proofs.Runs.{touched_of-run, limit-run}
 use Rattle.cpm_bdos.proofs.Limits.{limit-rebooted, limit-line_ended}
-use Rattle.cpm_bdos.specs.Registers.{de_of}
+use Rattle.cpm_bdos.specs.Registers.{pair_de}
 use Rattle.cpm_bdos.specs.Function.{function_of, bios_call_of}
 use Rattle.cpm_bdos.specs.Did.{Did, did, answered, rebooted}
 use Rattle.cpm_bdos.specs.Keys.{first_key, took_key}
@@ -27,15 +27,15 @@ use Rattle.cpm_bdos.specs.Faults.{fault_text, in_fault, faulted, after_fault}
 use Rattle.cpm_drives.specs.declared.disks.Disks.{Disks}
 use Rattle.cpm_drives.specs.declared.function.FileFunction.{FileFunction}
 use Rattle.cpm_drives.specs.Disks.{is_there, drive_at}
-use Rattle.cpm_drives.specs.Selecting.{used, select}
+use Rattle.cpm_drives.specs.Selecting.{drive_in_use, select}
 use Rattle.cpm_drives.specs.Calls.{drive_named}
 use Rattle.cpm_drives.specs.Vectors.{allocation_vector, allocation_of}
 use Rattle.cpm_drives.specs.Sectors.{sector_read, sector_written}
-use Rattle.cpm_bdos.specs.Disks.{by_answer, with_disks, fcb_size, record_size, call_stored, vector_of, file_function, select_disk, give_allocation, user_code}
+use Rattle.cpm_bdos.specs.Disks.{by_answer, with_disks, fcb_size, record_size, call_stored, vector_of, call_file_function, select_disk, give_allocation, user_code}
 use Rattle.cpm_bdos.specs.BiosDisks.{sector_got, sector_put, select_drive, read_sector, write_sector, translate}
 use Rattle.cpm_bdos.proofs.Pages.{pages-le}
 use Rattle.cpm_bdos.proofs.DriveCalls.{call_of, limit-record_stored, limit-call_stored, touched_of-record_stored, touched_of-call_stored}
-use Rattle.cpm_bdos.specs.Step.{called, in_mode, bdos, booted, console_input, bios_called, bios}
+use Rattle.cpm_bdos.specs.Step.{function_called, in_mode, bdos, booted, console_input, bios_called, bios}
 use Rattle.cpm_bdos.specs.Bounds.{IsFit, IsBounded}
 use Rattle.cpm_bdos.specs.declared.function.Function.{Function}
 use Rattle.cpm_bdos.specs.declared.function.Function.TheVariants.{WarmBoot, ReadKey, WriteByte, ReaderInput, PunchOutput, ListOutput, DirectConsole, GetIoByte, SetIoByte, WriteText, ReadLine, ConsoleStatus, Version, ResetDisks, SelectDisk, File, LoginVector, CurrentDisk, SetBuffer, AllocationVector, ProtectDisk, ReadOnlyVector, DiskParameters, UserCode, ResetDrives, Other}
@@ -147,7 +147,7 @@ bounded_faulted s m f drive = bounded_kept s m _ refl (within_fault s f drive)
 
 bounded_line_ended : (s t : Session) (m : Contents) → length t.line.characters ≤ 256 → IsWithin 4096 s.console t.console → IsBounded s m (line_ended t m)
 bounded_line_ended s t m few output =
-    let at = next (de_of t.regs) in
+    let at = next (pair_de t.regs) in
     let n = after_run m at (length t.line.characters ∷ []) in
     let first = touched_of-run m at (length t.line.characters ∷ []) (omega arith) (omega arith) in
     let second = touched_of-run n (next at) t.line.characters (omega arith) few in
@@ -195,11 +195,11 @@ bounded_by_answer (Err which) drive s m n disks pages limit =
     let output = within_fault (with_disks s disks) which drive in
     record { pages = pages; limit = limit; output = record { screen = output.screen; printer = output.printer } }
 
-bounded_file_function : (f : FileFunction) (system : Disk) (s : Session) (m : Contents) → IsFit s → IsBounded s m (file_function f system s m)
-unfolding file_function
+bounded_file_function : (f : FileFunction) (system : Disk) (s : Session) (m : Contents) → IsFit s → IsBounded s m (call_file_function f system s m)
+unfolding call_file_function
 bounded_file_function f system s m fit =
     let c = call_of f system s m in
-    let at = de_of s.regs in
+    let at = pair_de s.regs in
     let old = run_at m at fcb_size in
     bounded_by_answer c.answer (drive_named s.disks (slice_index old 0)) s m (call_stored m s.buffer at old c) c.disks (omega (arith, touched_of-call_stored m s.buffer at old c (omega (arith, fit.buffer)) (omega (arith, fit.parameter)))) (limit-call_stored m s.buffer at old c)
 
@@ -218,7 +218,7 @@ bounded_give_allocation : (system : Disk) (s : Session) (m : Contents) → IsBou
 unfolding give_allocation
 bounded_give_allocation system s m =
     let at = vector_of s.disks.current in
-    let drive = drive_at (used s.disks system s.disks.current) system s.disks.current in
+    let drive = drive_at (drive_in_use s.disks system s.disks.current) system s.disks.current in
     let vector = allocation_of drive in
     record {
       pages = omega (arith, touched_of-run m at vector (omega arith) (length-allocation_vector drive.image.format drive.marks.reserved), pages-le at (length vector));
@@ -268,7 +268,7 @@ bounded_translate s m = bounded_kept s m _ refl (IsWithin-same 4096 s.console)
 bounded_quiet : (s : Session) (m : Contents) (d : Did) → d.memory ≡ m → d.session.console ≡ s.console → IsBounded s m d
 bounded_quiet s m d same quiet = bounded_kept s m d same (rw quiet (IsWithin-same 4096 s.console))
 
-bounded_called : (f : Function) (system : Disk) (s : Session) (m : Contents) → IsFit s → IsBounded s m (called f system s m)
+bounded_called : (f : Function) (system : Disk) (s : Session) (m : Contents) → IsFit s → IsBounded s m (function_called f system s m)
 bounded_called WarmBoot system s m fit = bounded_rebooted s s m m (omega arith) refl (IsWithin-same 4096 s.console)
 bounded_called ReadKey system s m fit = bounded_read_key (first_key s) s m
 bounded_called WriteByte system s m fit = bounded_write_byte s m
@@ -282,9 +282,9 @@ bounded_called SetIoByte system s m fit = record {
   limit = limit-run m 3 (s.regs.e ∷ []);
   output = IsWithin-same 4096 s.console;
 }
-bounded_called WriteText system s m fit = bounded_write_text held.Call s m (de_of s.regs)
+bounded_called WriteText system s m fit = bounded_write_text held.Call s m (pair_de s.regs)
 bounded_called ReadLine system s m fit =
-    bounded_line_step after_key bounded_after_key (begun s.console.column (byte_at m (de_of s.regs))) s m (record { start = fit.column; characters = omega arith })
+    bounded_line_step after_key bounded_after_key (begun_line s.console.column (byte_at m (pair_de s.regs))) s m (record { start = fit.column; characters = omega arith })
 bounded_called ConsoleStatus system s m fit = bounded_quiet s m _ refl refl
 bounded_called Version system s m fit = bounded_quiet s m _ refl refl
 bounded_called ResetDisks system s m fit = bounded_quiet s m _ refl refl

@@ -7,7 +7,7 @@ use Rattle.cpm_memory.specs.Contents.{Contents, run_at, touched_of}
 use Rattle.cpm_memory.proofs.Runs.{touched_of-run, limit-run, length-run_at}
 use Rattle.cpm_drives.specs.declared.function.FileFunction.{FileFunction}
 use Rattle.cpm_drives.specs.Functions.{BytesCall, file_function_bytes}
-use Rattle.cpm_bdos.specs.Registers.{de_of}
+use Rattle.cpm_bdos.specs.Registers.{pair_de}
 use Rattle.cpm_bdos.specs.Disks.{by_answer, fcb_size, record_size, record_stored, changed_bytes, fcb_stored, call_stored}
 use Rattle.cpm_bdos.specs.declared.session.Session.{Session}
 use Rattle.cpm_bdos.proofs.Pages.{pages-le}
@@ -19,11 +19,11 @@ memory-by_answer (Err which) drive s m = refl
 -- the call of a function in a session
 abbrev pub call_of : FileFunction → Disk → Session → Contents → BytesCall
 call_of f system s m =
-    file_function_bytes f s.disks system (run_at m (de_of s.regs) fcb_size) (run_at m s.buffer record_size)
+    file_function_bytes f s.disks system (run_at m (pair_de s.regs) fcb_size) (run_at m s.buffer record_size)
 
 -- and the memory after it
 abbrev pub memory_of : FileFunction → Disk → Session → Contents → Contents
-memory_of f system s m = call_stored m s.buffer (de_of s.regs) (run_at m (de_of s.regs) fcb_size) (call_of f system s m)
+memory_of f system s m = call_stored m s.buffer (pair_de s.regs) (run_at m (pair_de s.regs) fcb_size) (call_of f system s m)
 
 pub limit-record_stored : (m : Contents) (at : ℕ) (bytes : List ℕ) → (record_stored m at bytes).limit ≡ m.limit
 limit-record_stored m at bytes = limit-run m at (take record_size bytes)

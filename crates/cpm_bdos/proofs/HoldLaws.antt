@@ -5,7 +5,7 @@ use Rattle.std.proofs.lemmas.List.{length-replicate}
 use Rattle.cpm_geom.specs.Disk.{Disk}
 use Rattle.cpm_console.specs.Terminal.{Terminal, said, key_read, expanded}
 use Rattle.cpm_console.specs.Draft.{Draft}
-use Rattle.cpm_console.specs.Editing.{begun, key_into_line}
+use Rattle.cpm_console.specs.Editing.{begun_line, key_into_line}
 use Rattle.cpm_console.specs.declared.line.LineState.{LineState}
 use Rattle.cpm_console.specs.declared.line.LineState.TheVariants as line
 use Rattle.cpm_console.proofs.Said.{length-screen_said}
@@ -14,7 +14,7 @@ use Rattle.cpm_volume.specs.declared.answer.Fault.{Fault as Failure}
 use Rattle.cpm_drives.specs.declared.function.FileFunction.{FileFunction}
 use Rattle.cpm_drives.specs.Functions.{file_function_bytes}
 use Rattle.cpm_drives.specs.Selecting.{select}
-use Rattle.cpm_bdos.specs.Registers.{de_of}
+use Rattle.cpm_bdos.specs.Registers.{pair_de}
 use Rattle.cpm_bdos.specs.Function.{function_of}
 use Rattle.cpm_bdos.specs.Did.{Did, did, answered}
 use Rattle.cpm_bdos.specs.Keys.{first_key}
@@ -23,8 +23,8 @@ use Rattle.cpm_bdos.specs.Output.{wrote, write_byte, write_text}
 use Rattle.cpm_bdos.specs.Input.{read_key, direct_console}
 use Rattle.cpm_bdos.specs.ReadLine.{LineReader, is_open, after_key, with_edited, take_key, line_step}
 use Rattle.cpm_bdos.specs.Faults.{after_fault}
-use Rattle.cpm_bdos.specs.Disks.{by_answer, fcb_size, record_size, file_function, select_disk, give_allocation, user_code}
-use Rattle.cpm_bdos.specs.Step.{called, in_mode}
+use Rattle.cpm_bdos.specs.Disks.{by_answer, fcb_size, record_size, call_file_function, select_disk, give_allocation, user_code}
+use Rattle.cpm_bdos.specs.Step.{function_called, in_mode}
 use Rattle.cpm_bdos.specs.Laws.{without_keys, did_with_keys, is_hold, held_by, held_in, HoldsOutput}
 use Rattle.cpm_bdos.specs.declared.function.Function.{Function}
 use Rattle.cpm_bdos.specs.declared.function.Function.TheVariants as f
@@ -93,10 +93,10 @@ free_by_answer : (a : Result ℕ Failure) (drive : ℕ) (s : Session) (m : Conte
 free_by_answer (Ok code) drive s m = refl
 free_by_answer (Err which) drive s m = refl
 
-free_file_function : (function : FileFunction) (system : Disk) (s : Session) (m : Contents) → Free (file_function function system s m)
-unfolding file_function
+free_file_function : (function : FileFunction) (system : Disk) (s : Session) (m : Contents) → Free (call_file_function function system s m)
+unfolding call_file_function
 free_file_function function system s m =
-    let c = file_function_bytes function s.disks system (run_at m (de_of s.regs) fcb_size) (run_at m s.buffer record_size) in
+    let c = file_function_bytes function s.disks system (run_at m (pair_de s.regs) fcb_size) (run_at m s.buffer record_size) in
     free_by_answer c.answer _ _ _
 
 free_select_disk : (system : Disk) (s : Session) (m : Contents) → Free (select_disk system s m)
@@ -124,7 +124,7 @@ free_write_text held s m address h =
 
 -- a function is not held where no ^S is read next, or where it does not look for it
 module _ (system : Disk) (s : Session) (m : Contents) (now : is_hold s.mode ≡ false) where
-  free_called : (function : Function) → (is_stop (first_key s) ≡ false) ⊎ (held_by function ≡ None) → Free (called function system s m)
+  free_called : (function : Function) → (is_stop (first_key s) ≡ false) ⊎ (held_by function ≡ None) → Free (function_called function system s m)
   free_called f.WarmBoot h = refl
   free_called f.ReadKey h = free_read_key (first_key s) s m now
   free_called f.WriteByte (inl h) = free_write_byte s m h
@@ -135,10 +135,10 @@ module _ (system : Disk) (s : Session) (m : Contents) (now : is_hold s.mode ≡ 
   free_called f.DirectConsole h = free_direct_console s m
   free_called f.GetIoByte h = refl
   free_called f.SetIoByte h = refl
-  free_called f.WriteText (inl h) = free_write_text held.Call s m (de_of s.regs) h
+  free_called f.WriteText (inl h) = free_write_text held.Call s m (pair_de s.regs) h
   free_called f.WriteText (inr h) = absurd cc
   free_called f.ReadLine h =
-      free_line_step after_key free_after_key (begun s.console.column (byte_at m (de_of s.regs))) s m now
+      free_line_step after_key free_after_key (begun_line s.console.column (byte_at m (pair_de s.regs))) s m now
   free_called f.ConsoleStatus h = refl
   free_called f.Version h = refl
   free_called f.ResetDisks h = refl
@@ -206,10 +206,10 @@ text_at : (what : HeldOutput) (address : ℕ) → Some (held.Text address) ≡ S
 text_at what address is = cc
 
 module _ (system : Disk) (s : Session) (m : Contents) (what : HeldOutput) (stop : is_stop (first_key s) ≡ true) where
-  function_held : (function : Function) → held_by function ≡ Some what → (called function system (without_keys s) m).session.console.screen ≢ s.console.screen → called function system s m ≡ held_at what s m
+  function_held : (function : Function) → held_by function ≡ Some what → (function_called function system (without_keys s) m).session.console.screen ≢ s.console.screen → function_called function system s m ≡ held_at what s m
   function_held f.WriteByte is shows = rw (call_held what is) (byte_held s m stop)
   function_held f.WriteText is shows =
-      rw (call_held what is) (text_held s m stop held.Call (de_of s.regs) shows)
+      rw (call_held what is) (text_held s m stop held.Call (pair_de s.regs) shows)
   function_held f.WarmBoot is shows = absurd cc
   function_held f.ReadKey is shows = absurd cc
   function_held f.ReaderInput is shows = absurd cc
@@ -235,9 +235,9 @@ module _ (system : Disk) (s : Session) (m : Contents) (what : HeldOutput) (stop 
   function_held f.ResetDrives is shows = absurd cc
   function_held f.Other is shows = absurd cc
 
-  function_silent : (function : Function) → held_by function ≡ Some what → (called function system (without_keys s) m).session.console.screen ≡ s.console.screen → called function system s m ≡ did_with_keys s.console.keys (called function system (without_keys s) m)
+  function_silent : (function : Function) → held_by function ≡ Some what → (function_called function system (without_keys s) m).session.console.screen ≡ s.console.screen → function_called function system s m ≡ did_with_keys s.console.keys (function_called function system (without_keys s) m)
   function_silent f.WriteByte is same = absurd (byte_shows s m stop same)
-  function_silent f.WriteText is same = text_ends s m stop held.Call (de_of s.regs) same
+  function_silent f.WriteText is same = text_ends s m stop held.Call (pair_de s.regs) same
   function_silent f.WarmBoot is same = absurd cc
   function_silent f.ReadKey is same = absurd cc
   function_silent f.ReaderInput is same = absurd cc

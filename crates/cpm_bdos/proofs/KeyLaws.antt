@@ -5,13 +5,13 @@ use Rattle.std.proofs.lemmas.List.{length-drop}
 use Rattle.cpm_geom.specs.Disk.{Disk}
 use Rattle.cpm_console.specs.Terminal.{Terminal, said, shown, printed, key_read}
 use Rattle.cpm_console.specs.Draft.{Draft}
-use Rattle.cpm_console.specs.Editing.{Edited, begun, edited, edit, echo_at, columns, keystroke, key_into_line, with_character}
+use Rattle.cpm_console.specs.Editing.{Edited, begun_line, edited, edit, echo_at, columns, keystroke, key_into_line, with_character}
 use Rattle.cpm_console.specs.declared.line.Keystroke.{Keystroke}
 use Rattle.cpm_console.specs.declared.line.Keystroke.TheVariants.{Interrupt, NewLine, Erase, Repeat, End, ListEcho, Retype, Restart, EraseAll, Character}
 use Rattle.cpm_console.specs.declared.line.LineState.{LineState}
 use Rattle.cpm_console.specs.declared.line.LineState.TheVariants as line
 use Rattle.cpm_memory.specs.Contents.{Contents, byte_at, run_at}
-use Rattle.cpm_bdos.specs.Registers.{de_of}
+use Rattle.cpm_bdos.specs.Registers.{pair_de}
 use Rattle.cpm_bdos.specs.Function.{function_of, bios_call_of}
 use Rattle.cpm_bdos.specs.Did.{Did}
 use Rattle.cpm_bdos.specs.Keys.{first_key, took_key}
@@ -28,10 +28,10 @@ use Rattle.cpm_drives.specs.Disks.{is_there}
 use Rattle.cpm_drives.specs.Selecting.{select}
 use Rattle.cpm_drives.specs.Calls.{drive_named}
 use Rattle.cpm_drives.specs.Sectors.{sector_read, sector_written}
-use Rattle.cpm_bdos.specs.Disks.{by_answer, with_disks, fcb_size, record_size, call_stored, file_function, select_disk, give_allocation, user_code}
+use Rattle.cpm_bdos.specs.Disks.{by_answer, with_disks, fcb_size, record_size, call_stored, call_file_function, select_disk, give_allocation, user_code}
 use Rattle.cpm_bdos.specs.BiosDisks.{sector_got, sector_put, select_drive, read_sector, write_sector, translate}
 use Rattle.cpm_bdos.proofs.DriveCalls.{call_of}
-use Rattle.cpm_bdos.specs.Step.{called, in_mode, bdos, console_input, bios_called, bios}
+use Rattle.cpm_bdos.specs.Step.{function_called, in_mode, bdos, console_input, bios_called, bios}
 use Rattle.cpm_bdos.specs.declared.function.Function.{Function}
 use Rattle.cpm_bdos.specs.declared.function.Function.TheVariants.{WarmBoot, ReadKey, WriteByte, ReaderInput, PunchOutput, ListOutput, DirectConsole, GetIoByte, SetIoByte, WriteText, ReadLine, ConsoleStatus, Version, ResetDisks, SelectDisk, File, LoginVector, CurrentDisk, SetBuffer, AllocationVector, ProtectDisk, ReadOnlyVector, DiskParameters, UserCode, ResetDrives, Other}
 use Rattle.cpm_bdos.specs.declared.function.BiosCall.{BiosCall}
@@ -152,11 +152,11 @@ takes_by_answer : (a : Result ℕ Fault) (drive : ℕ) (s : Session) (m : Conten
 takes_by_answer (Ok code) drive s m = none_taken s.console.keys
 takes_by_answer (Err which) drive s m = takes_fault s which drive
 
-takes_file_function : (f : FileFunction) (system : Disk) (s : Session) (m : Contents) → Takes s (file_function f system s m)
-unfolding file_function
+takes_file_function : (f : FileFunction) (system : Disk) (s : Session) (m : Contents) → Takes s (call_file_function f system s m)
+unfolding call_file_function
 takes_file_function f system s m =
     let c = call_of f system s m in
-    let at = de_of s.regs in
+    let at = pair_de s.regs in
     let old = run_at m at fcb_size in
     takes_by_answer c.answer (drive_named s.disks (slice_index old 0)) (with_disks s c.disks) (call_stored m s.buffer at old c)
 
@@ -175,7 +175,7 @@ takes_user_code s m = takes_if (s.regs.e == 255) s _ _ (none_taken s.console.key
 
 -- ---- steps
 
-takes_called : (f : Function) (system : Disk) (s : Session) (m : Contents) → Takes s (called f system s m)
+takes_called : (f : Function) (system : Disk) (s : Session) (m : Contents) → Takes s (function_called f system s m)
 unfolding printed
 takes_called WarmBoot system s m = none_taken s.console.keys
 takes_called ReadKey system s m = takes_read_key (first_key s) s m
@@ -186,8 +186,8 @@ takes_called ListOutput system s m = none_taken s.console.keys
 takes_called DirectConsole system s m = takes_direct_console s.regs.e s m
 takes_called GetIoByte system s m = none_taken s.console.keys
 takes_called SetIoByte system s m = none_taken s.console.keys
-takes_called WriteText system s m = takes_write_text held.Call s m (de_of s.regs)
-takes_called ReadLine system s m = takes_line_step after_key takes_after_key (begun s.console.column (byte_at m (de_of s.regs))) s m
+takes_called WriteText system s m = takes_write_text held.Call s m (pair_de s.regs)
+takes_called ReadLine system s m = takes_line_step after_key takes_after_key (begun_line s.console.column (byte_at m (pair_de s.regs))) s m
 takes_called ConsoleStatus system s m = none_taken s.console.keys
 takes_called Version system s m = none_taken s.console.keys
 takes_called ResetDisks system s m = none_taken s.console.keys

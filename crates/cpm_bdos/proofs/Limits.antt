@@ -4,12 +4,12 @@ use Rattle.std.specs.Prelude.{if◌then◌else◌, ◌==◌, slice_index}
 use Rattle.cpm_geom.specs.Disk.{Disk}
 use Rattle.cpm_console.specs.Terminal.{said, key_read}
 use Rattle.cpm_console.specs.Draft.{Draft}
-use Rattle.cpm_console.specs.Editing.{begun, key_into_line}
+use Rattle.cpm_console.specs.Editing.{begun_line, key_into_line}
 use Rattle.cpm_console.specs.declared.line.LineState.{LineState}
 use Rattle.cpm_console.specs.declared.line.LineState.TheVariants as line
 use Rattle.cpm_memory.specs.Contents.{Contents, byte_at, next, run_at, after_run}
 use Rattle.cpm_memory.proofs.Runs.{limit-run}
-use Rattle.cpm_bdos.specs.Registers.{de_of}
+use Rattle.cpm_bdos.specs.Registers.{pair_de}
 use Rattle.cpm_bdos.specs.Function.{function_of, bios_call_of}
 use Rattle.cpm_bdos.specs.Did.{Did, rebooted}
 use Rattle.cpm_bdos.specs.Keys.{first_key, took_key}
@@ -21,14 +21,14 @@ use Rattle.cpm_bdos.specs.Faults.{after_fault}
 use Rattle.cpm_drives.specs.declared.disks.Disks.{Disks}
 use Rattle.cpm_drives.specs.declared.function.FileFunction.{FileFunction}
 use Rattle.cpm_drives.specs.Disks.{is_there, drive_at}
-use Rattle.cpm_drives.specs.Selecting.{used, select}
+use Rattle.cpm_drives.specs.Selecting.{drive_in_use, select}
 use Rattle.cpm_drives.specs.Calls.{drive_named}
 use Rattle.cpm_drives.specs.Vectors.{allocation_of}
 use Rattle.cpm_drives.specs.Sectors.{sector_read, sector_written}
-use Rattle.cpm_bdos.specs.Disks.{with_disks, fcb_size, record_size, call_stored, vector_of, file_function, select_disk, give_allocation, user_code}
+use Rattle.cpm_bdos.specs.Disks.{with_disks, fcb_size, record_size, call_stored, vector_of, call_file_function, select_disk, give_allocation, user_code}
 use Rattle.cpm_bdos.specs.BiosDisks.{sector_got, sector_put, select_drive, read_sector, write_sector, translate}
 use Rattle.cpm_bdos.proofs.DriveCalls.{memory-by_answer, call_of, limit-record_stored, limit-call_stored}
-use Rattle.cpm_bdos.specs.Step.{called, in_mode, bdos, console_input, bios_called, bios}
+use Rattle.cpm_bdos.specs.Step.{function_called, in_mode, bdos, console_input, bios_called, bios}
 use Rattle.cpm_bdos.specs.declared.function.Function.{Function}
 use Rattle.cpm_bdos.specs.declared.function.Function.TheVariants.{WarmBoot, ReadKey, WriteByte, ReaderInput, PunchOutput, ListOutput, DirectConsole, GetIoByte, SetIoByte, WriteText, ReadLine, ConsoleStatus, Version, ResetDisks, SelectDisk, File, LoginVector, CurrentDisk, SetBuffer, AllocationVector, ProtectDisk, ReadOnlyVector, DiskParameters, UserCode, ResetDrives, Other}
 use Rattle.cpm_bdos.specs.declared.function.BiosCall.{BiosCall}
@@ -52,7 +52,7 @@ limit-rebooted s m =
 
 pub limit-line_ended : (s : Session) (m : Contents) → KeepsLimit m (line_ended s m)
 limit-line_ended s m =
-    let at = next (de_of s.regs) in
+    let at = next (pair_de s.regs) in
     limit-run (after_run m at (length s.line.characters ∷ [])) (next at) s.line.characters ∙ limit-run m at (length s.line.characters ∷ [])
 
 limit_write_byte : (s : Session) (m : Contents) → KeepsLimit m (write_byte s m)
@@ -95,11 +95,11 @@ limit_after_fault : (k : Option ℕ) (s : Session) (m : Contents) → KeepsLimit
 limit_after_fault None s m = refl
 limit_after_fault (Some k) s m = limit-rebooted (took_key s) m
 
-limit_file_function : (f : FileFunction) (system : Disk) (s : Session) (m : Contents) → KeepsLimit m (file_function f system s m)
-unfolding file_function
+limit_file_function : (f : FileFunction) (system : Disk) (s : Session) (m : Contents) → KeepsLimit m (call_file_function f system s m)
+unfolding call_file_function
 limit_file_function f system s m =
     let c = call_of f system s m in
-    let at = de_of s.regs in
+    let at = pair_de s.regs in
     let old = run_at m at fcb_size in
     ap (λ (n : Contents). n.limit) (memory-by_answer c.answer (drive_named s.disks (slice_index old 0)) (with_disks s c.disks) (call_stored m s.buffer at old c)) ∙ limit-call_stored m s.buffer at old c
 
@@ -111,13 +111,13 @@ limit_select_disk system s m =
 
 limit_give_allocation : (system : Disk) (s : Session) (m : Contents) → KeepsLimit m (give_allocation system s m)
 unfolding give_allocation
-limit_give_allocation system s m = limit-run m (vector_of s.disks.current) (allocation_of (drive_at (used s.disks system s.disks.current) system s.disks.current))
+limit_give_allocation system s m = limit-run m (vector_of s.disks.current) (allocation_of (drive_at (drive_in_use s.disks system s.disks.current) system s.disks.current))
 
 limit_user_code : (s : Session) (m : Contents) → KeepsLimit m (user_code s m)
 unfolding user_code
 limit_user_code s m = limit_if (s.regs.e == 255) m _ _ refl refl
 
-limit_called : (f : Function) (system : Disk) (s : Session) (m : Contents) → KeepsLimit m (called f system s m)
+limit_called : (f : Function) (system : Disk) (s : Session) (m : Contents) → KeepsLimit m (function_called f system s m)
 limit_called WarmBoot system s m = limit-rebooted s m
 limit_called ReadKey system s m = limit_read_key (first_key s) s m
 limit_called WriteByte system s m = limit_write_byte s m
@@ -127,8 +127,8 @@ limit_called ListOutput system s m = refl
 limit_called DirectConsole system s m = limit_direct_console s.regs.e s m
 limit_called GetIoByte system s m = refl
 limit_called SetIoByte system s m = limit-run m 3 (s.regs.e ∷ [])
-limit_called WriteText system s m = limit_write_text held.Call s m (de_of s.regs)
-limit_called ReadLine system s m = limit_line_step after_key limit_after_key (begun s.console.column (byte_at m (de_of s.regs))) s m
+limit_called WriteText system s m = limit_write_text held.Call s m (pair_de s.regs)
+limit_called ReadLine system s m = limit_line_step after_key limit_after_key (begun_line s.console.column (byte_at m (pair_de s.regs))) s m
 limit_called ConsoleStatus system s m = refl
 limit_called Version system s m = refl
 limit_called ResetDisks system s m = refl

@@ -4,12 +4,12 @@ use Rattle.std.specs.Prelude.{if◌then◌else◌, ◌==◌, nat_le, nat_lt, sli
 use Rattle.std.proofs.lemmas.Bool.Decides.{nat_tests}
 use Rattle.cpm_geom.specs.Disk.{Disk}
 use Rattle.cpm_console.specs.Draft.{Draft}
-use Rattle.cpm_console.specs.Editing.{begun, key_into_line}
+use Rattle.cpm_console.specs.Editing.{begun_line, key_into_line}
 use Rattle.cpm_console.specs.Terminal.{said, key_read}
 use Rattle.cpm_console.specs.declared.line.LineState.{LineState}
 use Rattle.cpm_console.specs.declared.line.LineState.TheVariants as line
 use Rattle.cpm_memory.specs.Contents.{Contents, byte_at, run_at}
-use Rattle.cpm_bdos.specs.Registers.{de_of}
+use Rattle.cpm_bdos.specs.Registers.{pair_de}
 use Rattle.cpm_bdos.specs.Function.{function_of, bios_call_of}
 use Rattle.cpm_bdos.specs.Did.{Did, did}
 use Rattle.cpm_bdos.specs.Keys.{first_key}
@@ -25,10 +25,10 @@ use Rattle.cpm_drives.specs.Disks.{is_there}
 use Rattle.cpm_drives.specs.Selecting.{select}
 use Rattle.cpm_drives.specs.Calls.{drive_named}
 use Rattle.cpm_drives.specs.Sectors.{sector_read, sector_written}
-use Rattle.cpm_bdos.specs.Disks.{by_answer, with_disks, fcb_size, record_size, call_stored, file_function, select_disk, give_allocation, user_code}
+use Rattle.cpm_bdos.specs.Disks.{by_answer, with_disks, fcb_size, record_size, call_stored, call_file_function, select_disk, give_allocation, user_code}
 use Rattle.cpm_bdos.specs.BiosDisks.{sector_got, sector_put, select_drive, read_sector, write_sector, translate}
 use Rattle.cpm_bdos.proofs.DriveCalls.{call_of}
-use Rattle.cpm_bdos.specs.Step.{called, in_mode, bdos, console_input, bios_called, bios}
+use Rattle.cpm_bdos.specs.Step.{function_called, in_mode, bdos, console_input, bios_called, bios}
 use Rattle.cpm_bdos.specs.Waiting.{function_needs_key, needs_key, is_waiting, is_command, call_in, IsWaiting}
 use Rattle.cpm_bdos.specs.declared.function.Function.{Function}
 use Rattle.cpm_bdos.specs.declared.function.Function.TheVariants.{WarmBoot, ReadKey, WriteByte, ReaderInput, PunchOutput, ListOutput, DirectConsole, GetIoByte, SetIoByte, WriteText, ReadLine, ConsoleStatus, Version, ResetDisks, SelectDisk, File, LoginVector, CurrentDisk, SetBuffer, AllocationVector, ProtectDisk, ReadOnlyVector, DiskParameters, UserCode, ResetDrives, Other}
@@ -81,11 +81,11 @@ goes_by_answer : (a : Result ℕ Failure) (drive : ℕ) (s : Session) (m : Conte
 goes_by_answer (Ok code) drive s m = λ e. cc
 goes_by_answer (Err which) drive s m = λ e. cc
 
-goes_file_function : (f : FileFunction) (system : Disk) (s : Session) (m : Contents) → Goes (file_function f system s m)
-unfolding file_function
+goes_file_function : (f : FileFunction) (system : Disk) (s : Session) (m : Contents) → Goes (call_file_function f system s m)
+unfolding call_file_function
 goes_file_function f system s m =
     let c = call_of f system s m in
-    let at = de_of s.regs in
+    let at = pair_de s.regs in
     let old = run_at m at fcb_size in
     goes_by_answer c.answer (drive_named s.disks (slice_index old 0)) (with_disks s c.disks) (call_stored m s.buffer at old c)
 
@@ -175,7 +175,7 @@ some-is n = by_test (nat_lt 0 n) (n == 0) refl refl
     by_test true true e f = absurd (grind (arith, nat_tests))
     by_test false false e f = absurd (grind (arith, nat_tests))
 
-called_waits : (f : Function) (system : Disk) (s : Session) (m : Contents) → IsWait (function_needs_key f s m && not (is_some (first_key s))) s m (called f system s m)
+called_waits : (f : Function) (system : Disk) (s : Session) (m : Contents) → IsWait (function_needs_key f s m && not (is_some (first_key s))) s m (function_called f system s m)
 called_waits WarmBoot system s m = goes s m _ (λ e. cc)
 called_waits ReadKey system s m = read_key_waits (first_key s) s m
 called_waits WriteByte system s m = goes s m _ (goes_write_byte s m)
@@ -185,10 +185,10 @@ called_waits ListOutput system s m = goes s m _ (λ e. cc)
 called_waits DirectConsole system s m = goes s m _ (goes_direct_console s.regs.e s m)
 called_waits GetIoByte system s m = goes s m _ (λ e. cc)
 called_waits SetIoByte system s m = goes s m _ (λ e. cc)
-called_waits WriteText system s m = goes s m _ (goes_write_text held.Call s m (de_of s.regs))
+called_waits WriteText system s m = goes s m _ (goes_write_text held.Call s m (pair_de s.regs))
 called_waits ReadLine system s m =
-    let l = begun s.console.column (byte_at m (de_of s.regs)) in
-    subst (λ b. IsWait (b && not (is_some (first_key s))) s m (line_step after_key l s m)) (some-is (byte_at m (de_of s.regs))) (line_step_waits after_key goes_after_key l s m)
+    let l = begun_line s.console.column (byte_at m (pair_de s.regs)) in
+    subst (λ b. IsWait (b && not (is_some (first_key s))) s m (line_step after_key l s m)) (some-is (byte_at m (pair_de s.regs))) (line_step_waits after_key goes_after_key l s m)
 called_waits ConsoleStatus system s m = goes s m _ (λ e. cc)
 called_waits Version system s m = goes s m _ (λ e. cc)
 called_waits ResetDisks system s m = goes s m _ (λ e. cc)

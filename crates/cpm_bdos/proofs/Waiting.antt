@@ -4,14 +4,14 @@ use Rattle.std.specs.Prelude.{if◌then◌else◌, ◌==◌, slice_index}
 use Rattle.cpm_geom.specs.Disk.{Disk}
 use Rattle.cpm_console.specs.Terminal.{Terminal, expanded, said, key_read}
 use Rattle.cpm_console.specs.Draft.{Draft}
-use Rattle.cpm_console.specs.Editing.{Edited, begun, key_into_line}
+use Rattle.cpm_console.specs.Editing.{Edited, begun_line, key_into_line}
 use Rattle.cpm_console.specs.declared.line.LineState.{LineState}
 use Rattle.cpm_console.specs.declared.line.LineState.TheVariants as line
 use Rattle.cpm_memory.specs.Contents.{Contents, byte_at, next, run_at}
-use Rattle.cpm_bdos.specs.Registers.{de_of}
+use Rattle.cpm_bdos.specs.Registers.{pair_de}
 use Rattle.cpm_bdos.specs.Function.{function_of, bios_call_of}
 use Rattle.cpm_bdos.specs.Behind.{session_behind, did_behind}
-use Rattle.cpm_bdos.specs.Did.{Did, did, answered, returned}
+use Rattle.cpm_bdos.specs.Did.{Did, did, answered, call_returned}
 use Rattle.cpm_bdos.specs.Keys.{first_key, took_key}
 use Rattle.cpm_bdos.specs.Hold.{is_stop, release}
 use Rattle.cpm_bdos.specs.Output.{wrote, showed, list_byte, write_byte, write_text}
@@ -24,10 +24,10 @@ use Rattle.cpm_drives.specs.Disks.{is_there}
 use Rattle.cpm_drives.specs.Selecting.{select}
 use Rattle.cpm_drives.specs.Calls.{drive_named}
 use Rattle.cpm_drives.specs.Sectors.{sector_read, sector_written}
-use Rattle.cpm_bdos.specs.Disks.{by_answer, with_disks, fcb_size, record_size, call_stored, file_function, select_disk, give_allocation, user_code}
+use Rattle.cpm_bdos.specs.Disks.{by_answer, with_disks, fcb_size, record_size, call_stored, call_file_function, select_disk, give_allocation, user_code}
 use Rattle.cpm_bdos.specs.BiosDisks.{sector_got, sector_put, select_drive, read_sector, write_sector, translate}
 use Rattle.cpm_bdos.proofs.DriveCalls.{call_of}
-use Rattle.cpm_bdos.specs.Step.{called, in_mode, bdos, console_input, bios_called, bios}
+use Rattle.cpm_bdos.specs.Step.{function_called, in_mode, bdos, console_input, bios_called, bios}
 use Rattle.cpm_bdos.specs.declared.function.Function.{Function}
 use Rattle.cpm_bdos.specs.declared.function.Function.TheVariants.{WarmBoot, ReadKey, WriteByte, ReaderInput, PunchOutput, ListOutput, DirectConsole, GetIoByte, SetIoByte, WriteText, ReadLine, ConsoleStatus, Version, ResetDisks, SelectDisk, File, LoginVector, CurrentDisk, SetBuffer, AllocationVector, ProtectDisk, ReadOnlyVector, DiskParameters, UserCode, ResetDrives, Other}
 use Rattle.cpm_bdos.specs.declared.function.BiosCall.{BiosCall}
@@ -114,11 +114,11 @@ module _ (p q : List ℕ) where
   by_answer-behind (Ok code) drive s m = refl
   by_answer-behind (Err which) drive s m = faulted-behind which drive s m
 
-  file_function-behind : (f : FileFunction) (system : Disk) (s : Session) (m : Contents) → file_function f system (session_behind p q s) m ≡ did_behind p q (file_function f system s m)
-  unfolding file_function
+  file_function-behind : (f : FileFunction) (system : Disk) (s : Session) (m : Contents) → call_file_function f system (session_behind p q s) m ≡ did_behind p q (call_file_function f system s m)
+  unfolding call_file_function
   file_function-behind f system s m =
       let c = call_of f system s m in
-      let at = de_of s.regs in
+      let at = pair_de s.regs in
       let old = run_at m at fcb_size in
       by_answer-behind c.answer (drive_named s.disks (slice_index old 0)) (with_disks s c.disks) (call_stored m s.buffer at old c)
 
@@ -136,7 +136,7 @@ module _ (p q : List ℕ) where
   unfolding user_code
   user_code-behind s m = did-if (s.regs.e == 255) _ _ _ _ refl refl
 
-  called-behind : (f : Function) (system : Disk) (s : Session) (m : Contents) → called f system (session_behind p q s) m ≡ did_behind p q (called f system s m)
+  called-behind : (f : Function) (system : Disk) (s : Session) (m : Contents) → function_called f system (session_behind p q s) m ≡ did_behind p q (function_called f system s m)
   called-behind WarmBoot system s m = refl
   called-behind ReadKey system s m = read_key-behind (first_key s) s m
   called-behind WriteByte system s m = write_byte-behind s m
@@ -146,8 +146,8 @@ module _ (p q : List ℕ) where
   called-behind DirectConsole system s m = direct_console-behind s.regs.e s m
   called-behind GetIoByte system s m = refl
   called-behind SetIoByte system s m = refl
-  called-behind WriteText system s m = write_text-behind held.Call s m (de_of s.regs)
-  called-behind ReadLine system s m = line_step-behind after_key after_key-behind (begun s.console.column (byte_at m (de_of s.regs))) s m
+  called-behind WriteText system s m = write_text-behind held.Call s m (pair_de s.regs)
+  called-behind ReadLine system s m = line_step-behind after_key after_key-behind (begun_line s.console.column (byte_at m (pair_de s.regs))) s m
   called-behind ConsoleStatus system s m = refl
   called-behind Version system s m = refl
   called-behind ResetDisks system s m = refl
@@ -211,8 +211,8 @@ module _ (p q : List ℕ) where
   bios_called-behind entry.WarmBoot system s m = refl
   bios_called-behind entry.ConsoleStatus system s m = refl
   bios_called-behind entry.ConsoleInput system s m = console_input-behind (first_key s) s m
-  bios_called-behind entry.ConsoleOutput system s m = ap (λ (t : Session). returned t m) (showed-behind s s.regs.c)
-  bios_called-behind entry.List system s m = ap (λ (t : Session). returned t m) (list_byte-behind s s.regs.c)
+  bios_called-behind entry.ConsoleOutput system s m = ap (λ (t : Session). call_returned t m) (showed-behind s s.regs.c)
+  bios_called-behind entry.List system s m = ap (λ (t : Session). call_returned t m) (list_byte-behind s s.regs.c)
   bios_called-behind entry.Punch system s m = refl
   bios_called-behind entry.Reader system s m = refl
   bios_called-behind entry.Home system s m = refl

@@ -6,8 +6,8 @@ use Rattle.cpm_memory.specs.Contents.{Contents, byte_at, run_at}
 use Rattle.cpm_drives.specs.declared.disks.Disks.{Disks}
 use Rattle.cpm_drives.specs.Disks.{is_there}
 use Rattle.cpm_drives.specs.Sectors.{sector_read, sector_written}
-use Rattle.cpm_bdos.specs.Registers.{de_of, bc_of, with_a, with_hl}
-use Rattle.cpm_bdos.specs.Did.{Did, returned}
+use Rattle.cpm_bdos.specs.Registers.{pair_de, pair_bc, with_a, with_hl}
+use Rattle.cpm_bdos.specs.Did.{Did, call_returned}
 use Rattle.cpm_bdos.specs.Disks.{with_disks, record_size, record_stored, format_in, header_of}
 use Rattle.cpm_bdos.specs.declared.session.SectorPlace.{SectorPlace}
 use Rattle.cpm_bdos.specs.declared.session.Session.{Session}
@@ -17,14 +17,14 @@ at_place s place = record s { place = place }
 
 -- a call that leaves a byte in A, or a word in HL, and returns
 abbrev pub returned_a : Session → Contents → ℕ → Did
-returned_a s m value = returned (record s { regs = with_a s.regs value }) m
+returned_a s m value = call_returned (record s { regs = with_a s.regs value }) m
 
 abbrev pub returned_hl : Session → Contents → ℕ → Did
-returned_hl s m value = returned (record s { regs = with_hl s.regs value }) m
+returned_hl s m value = call_returned (record s { regs = with_hl s.regs value }) m
 
 -- HOME
 abbrev pub home : Session → Contents → Did
-home s m = returned (at_place s (record s.place { track = 0 })) m
+home s m = call_returned (at_place s (record s.place { track = 0 })) m
 
 -- SELDSK: the address of the drive's parameter header, 0 where there is no such drive
 unfoldable pub select_drive : Disk → Session → Contents → Did
@@ -33,13 +33,13 @@ select_drive system s m =
 
 -- SETTRK, SETSEC, SETDMA
 abbrev pub set_track : Session → Contents → Did
-set_track s m = returned (at_place s (record s.place { track = bc_of s.regs })) m
+set_track s m = call_returned (at_place s (record s.place { track = pair_bc s.regs })) m
 
 abbrev pub set_sector : Session → Contents → Did
-set_sector s m = returned (at_place s (record s.place { sector = bc_of s.regs })) m
+set_sector s m = call_returned (at_place s (record s.place { sector = pair_bc s.regs })) m
 
 abbrev pub set_sector_buffer : Session → Contents → Did
-set_sector_buffer s m = returned (at_place s (record s.place { buffer = bc_of s.regs })) m
+set_sector_buffer s m = call_returned (at_place s (record s.place { buffer = pair_bc s.regs })) m
 
 -- READ: A is 0, or 1 where there is no such sector
 abbrev pub sector_got : Option (List ℕ) → Session → Contents → Did
@@ -61,4 +61,4 @@ write_sector s m =
 -- SECTRAN: the sector in BC by the table at DE, or BC itself where there is none
 unfoldable pub translate : Session → Contents → Did
 translate s m =
-    returned_hl s m (if de_of s.regs == 0 then bc_of s.regs else byte_at m ((de_of s.regs + bc_of s.regs) % 65536))
+    returned_hl s m (if pair_de s.regs == 0 then pair_bc s.regs else byte_at m ((pair_de s.regs + pair_bc s.regs) % 65536))

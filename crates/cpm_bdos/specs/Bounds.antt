@@ -2,7 +2,7 @@
 use Rattle.std.specs.Prelude.{◌≡◌, ◌≤◌, ◌+◌, length}
 use Rattle.cpm_console.specs.Terminal.{IsWithin}
 use Rattle.cpm_memory.specs.Contents.{Contents, touched_of}
-use Rattle.cpm_bdos.specs.Registers.{de_of}
+use Rattle.cpm_bdos.specs.Registers.{pair_de}
 use Rattle.cpm_bdos.specs.Did.{Did}
 use Rattle.cpm_bdos.specs.declared.session.Session.{Session}
 
@@ -11,7 +11,7 @@ pub record IsFit (s : Session) : Type 0 where
   pub column : s.console.column ≤ 255
   pub start : s.line.start ≤ 255
   pub characters : length s.line.characters ≤ 255
-  pub parameter : de_of s.regs ≤ 65535
+  pub parameter : pair_de s.regs ≤ 65535
   pub buffer : s.buffer ≤ 65535
   pub sector_buffer : s.place.buffer ≤ 65535
 

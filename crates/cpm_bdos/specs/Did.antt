@@ -3,7 +3,7 @@ use Rattle.std.specs.Prelude.{ℕ, false}
 use Rattle.cpm_memory.specs.Contents.{Contents, word_at, after_run}
 use Rattle.cpm_memory.specs.Layout.{command_processor_address, stack_address, default_buffer_address, warm_boot_jump, bdos_jump}
 use Rattle.cpm_drives.specs.Selecting.{rebooted_disks}
-use Rattle.cpm_bdos.specs.Registers.{with_result, returned_to}
+use Rattle.cpm_bdos.specs.Registers.{with_call_result, returned_to}
 use Rattle.cpm_bdos.specs.declared.session.Session.{Session}
 use Rattle.cpm_bdos.specs.declared.session.Mode.TheVariants.{Program}
 use Rattle.cpm_bdos.specs.declared.session.Went.{Went}
@@ -19,12 +19,12 @@ abbrev pub did : Session → Contents → Went → Did
 did s m went = record { session = s; memory = m; went = went }
 
 -- a call that ends returns as RET does
-abbrev pub returned : Session → Contents → Did
-returned s m = did (record s { regs = returned_to s.regs (word_at m s.regs.sp); mode = Program }) m Returned
+abbrev pub call_returned : Session → Contents → Did
+call_returned s m = did (record s { regs = returned_to s.regs (word_at m s.regs.sp); mode = Program }) m Returned
 
 -- and gives its result
 abbrev pub answered : Session → Contents → ℕ → Did
-answered s m value = returned (record s { regs = with_result s.regs value }) m
+answered s m value = call_returned (record s { regs = with_call_result s.regs value }) m
 
 -- CP/M 2.2 Operating System Manual, section 6.6, The BIOS Entry Points, WBOOT: the jumps at 0000h and 0005h are restored; own: SP is EBFEh, and PC E406h, where the command processor begins; the echo to the list device is off; no drive is logged in or protected, no search is under way, and the buffer is at 0080h. Only bytes that change are stored.
 abbrev pub rebooted : Session → Contents → Did

@@ -10,11 +10,11 @@ use Rattle.cpm_memory.specs.DiskTables.{allocation_vector_address, header_addres
 use Rattle.cpm_drives.specs.declared.disks.Disks.{Disks}
 use Rattle.cpm_drives.specs.declared.function.FileFunction.{FileFunction}
 use Rattle.cpm_drives.specs.Disks.{drive_at}
-use Rattle.cpm_drives.specs.Selecting.{used, DriveChoice, select, reset}
+use Rattle.cpm_drives.specs.Selecting.{drive_in_use, DriveChoice, select, reset}
 use Rattle.cpm_drives.specs.Calls.{drive_named}
 use Rattle.cpm_drives.specs.Functions.{BytesCall, file_function_bytes}
 use Rattle.cpm_drives.specs.Vectors.{allocation_of}
-use Rattle.cpm_bdos.specs.Registers.{de_of}
+use Rattle.cpm_bdos.specs.Registers.{pair_de}
 use Rattle.cpm_bdos.specs.Did.{Did, answered}
 use Rattle.cpm_bdos.specs.Faults.{faulted}
 use Rattle.cpm_bdos.specs.declared.session.Session.{Session}
@@ -55,22 +55,22 @@ called_on s m at old c =
     by_answer c.answer (drive_named s.disks (slice_index old 0)) (with_disks s c.disks) (call_stored m s.buffer at old c)
 
 -- a function on the file control block at DE and the record at the buffer
-unfoldable pub file_function : FileFunction → Disk → Session → Contents → Did
-file_function f system s m =
-    let at = de_of s.regs in
+unfoldable pub call_file_function : FileFunction → Disk → Session → Contents → Did
+call_file_function f system s m =
+    let at = pair_de s.regs in
     called_on s m at (run_at m at fcb_size) (file_function_bytes f s.disks system (run_at m at fcb_size) (run_at m s.buffer record_size))
 
 -- own: where the BIOS keeps its tables of a drive, A to D and then P
-abbrev pub table_of : ℕ → ℕ
-table_of drive = if drive == 15 then 4 else drive
+abbrev pub bios_table_of : ℕ → ℕ
+bios_table_of drive = if drive == 15 then 4 else drive
 
 -- where the allocation vector of a drive lies
 abbrev pub vector_of : ℕ → ℕ
-vector_of drive = allocation_vector_address (table_of drive) % 65536
+vector_of drive = allocation_vector_address (bios_table_of drive) % 65536
 
 -- where the disk parameter header of a drive lies, by the format of its disk
 abbrev pub header_of : Format → ℕ → ℕ
-header_of f drive = header_address f (table_of drive) % 65536
+header_of f drive = header_address f (bios_table_of drive) % 65536
 
 -- the format of the disk in a drive that is there
 abbrev pub format_in : Disks → Disk → ℕ → Format
@@ -81,17 +81,17 @@ abbrev pub reset_disks : Disk → Session → Contents → Did
 reset_disks system s m = answered (record s { disks = reset s.disks system; buffer = default_buffer_address }) m 0
 
 -- SELECT DISK: the drive in E
-abbrev pub chosen : ℕ → Session → Contents → DriveChoice → Did
-chosen drive s m c = by_answer c.answer drive (with_disks s c.disks) m
+abbrev pub disk_selected : ℕ → Session → Contents → DriveChoice → Did
+disk_selected drive s m c = by_answer c.answer drive (with_disks s c.disks) m
 
 unfoldable pub select_disk : Disk → Session → Contents → Did
-select_disk system s m = chosen s.regs.e s m (select s.disks system s.regs.e)
+select_disk system s m = disk_selected s.regs.e s m (select s.disks system s.regs.e)
 
 -- GET ADDR(ALLOC): the current drive is used, and its vector stored where HL then points
 unfoldable pub give_allocation : Disk → Session → Contents → Did
 give_allocation system s m =
     let at = vector_of s.disks.current in
-    let disks = used s.disks system s.disks.current in
+    let disks = drive_in_use s.disks system s.disks.current in
     answered (with_disks s disks) (after_run m at (allocation_of (drive_at disks system s.disks.current))) at
 
 -- SET/GET USER CODE: FFh asks for it

@@ -7,9 +7,9 @@ use Rattle.cpm_bdos.specs.declared.function.BiosCall.{BiosCall}
 use Rattle.cpm_bdos.specs.declared.function.BiosCall.TheVariants as entry
 
 -- the first row of a number, or what stands for a number that has none
-abbrev pub numbered : {A : Type 0} → List (ℕ × A) → A → ℕ → A
-numbered [] other n = other
-numbered (row ∷ rows) other n = if n == row.0 then row.1 else numbered rows other n
+abbrev pub row_numbered : {A : Type 0} → List (ℕ × A) → A → ℕ → A
+row_numbered [] other n = other
+row_numbered (row ∷ rows) other n = if n == row.0 then row.1 else row_numbered rows other n
 
 -- CP/M 2.2 Operating System Manual, section 5.2, Operating System Call Conventions: the functions by the number in C
 abbrev pub functions : List (ℕ × Function)
@@ -56,7 +56,7 @@ functions =
     []
 
 unfoldable pub function_of : ℕ → Function
-function_of n = numbered functions Other n
+function_of n = row_numbered functions Other n
 
 -- CP/M 2.2 Operating System Manual, section 6.6, The BIOS Entry Points: the calls by their places in the table of jumps
 abbrev pub bios_calls : List (ℕ × BiosCall)
@@ -81,4 +81,4 @@ bios_calls =
     []
 
 unfoldable pub bios_call_of : ℕ → BiosCall
-bios_call_of n = numbered bios_calls entry.Other n
+bios_call_of n = row_numbered bios_calls entry.Other n

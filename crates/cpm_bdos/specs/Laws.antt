@@ -17,15 +17,15 @@ use Rattle.cpm_bdos.specs.declared.session.Mode.{Mode}
 use Rattle.cpm_bdos.specs.declared.session.Mode.TheVariants.{Program, Text, Hold}
 
 -- own: the session with these keys pending in place of its own, and with none
-abbrev pub with_keys : List ℕ → Session → Session
-with_keys keys s = record s { console = record s.console { keys = keys } }
+abbrev pub session_with_keys : List ℕ → Session → Session
+session_with_keys keys s = record s { console = record s.console { keys = keys } }
 
 abbrev pub without_keys : Session → Session
-without_keys s = with_keys [] s
+without_keys s = session_with_keys [] s
 
 -- own: what a step did, with these keys pending
 abbrev pub did_with_keys : List ℕ → Did → Did
-did_with_keys keys d = did (with_keys keys d.session) d.memory d.went
+did_with_keys keys d = did (session_with_keys keys d.session) d.memory d.went
 
 -- own: the mode is a hold
 abbrev pub is_hold : Mode → Bool

@@ -2,11 +2,11 @@
 use Rattle.std.specs.Prelude.{ℕ, Bool, nat_lt, if◌then◌else◌, [], ◌∷◌, length, Option, Some, None}
 use Rattle.cpm_console.specs.Terminal.{said, key_read}
 use Rattle.cpm_console.specs.Draft.{Draft}
-use Rattle.cpm_console.specs.Editing.{Edited, begun, key_into_line}
+use Rattle.cpm_console.specs.Editing.{Edited, begun_line, key_into_line}
 use Rattle.cpm_console.specs.declared.line.LineState.{LineState}
 use Rattle.cpm_console.specs.declared.line.LineState.TheVariants as line
 use Rattle.cpm_memory.specs.Contents.{Contents, byte_at, next, after_run}
-use Rattle.cpm_bdos.specs.Registers.{de_of}
+use Rattle.cpm_bdos.specs.Registers.{pair_de}
 use Rattle.cpm_bdos.specs.Did.{Did, did, answered, rebooted}
 use Rattle.cpm_bdos.specs.Keys.{first_key}
 use Rattle.cpm_bdos.specs.declared.session.Session.{Session}
@@ -20,7 +20,7 @@ is_open draft = nat_lt (length draft.characters) draft.limit
 -- the end: the number of characters goes to DE + 1, and they from DE + 2 on
 abbrev pub line_ended : Session → Contents → Did
 line_ended s m =
-    let at = next (de_of s.regs) in
+    let at = next (pair_de s.regs) in
     answered s (after_run (after_run m at (length s.line.characters ∷ [])) (next at) s.line.characters) 0
 
 -- how function 10 goes on after a key
@@ -61,4 +61,4 @@ edit_line draft s m = line_step after_key draft s m
 
 -- the first step: the byte at DE is the greatest number of characters, and the line begins where the cursor is
 abbrev pub read_line : Session → Contents → Did
-read_line s m = edit_line (begun s.console.column (byte_at m (de_of s.regs))) s m
+read_line s m = edit_line (begun_line s.console.column (byte_at m (pair_de s.regs))) s m

@@ -30,16 +30,16 @@ at_opening = record {
 }
 
 -- the pair DE
-abbrev pub de_of : Regs → ℕ
-de_of regs = 256 * regs.d + regs.e
+abbrev pub pair_de : Regs → ℕ
+pair_de regs = 256 * regs.d + regs.e
 
 -- CP/M 2.2 Operating System Manual, section 5.2, Operating System Call Conventions: a result lies in HL, with its low byte in A and its high byte in B
-abbrev pub with_result : Regs → ℕ → Regs
-with_result regs value = record regs { h = value / 256; l = value % 256; a = value % 256; b = value / 256 }
+abbrev pub with_call_result : Regs → ℕ → Regs
+with_call_result regs value = record regs { h = value / 256; l = value % 256; a = value % 256; b = value / 256 }
 
 -- the pair BC
-abbrev pub bc_of : Regs → ℕ
-bc_of regs = 256 * regs.b + regs.c
+abbrev pub pair_bc : Regs → ℕ
+pair_bc regs = 256 * regs.b + regs.c
 
 -- a word left in HL
 abbrev pub with_hl : Regs → ℕ → Regs

@@ -2,13 +2,13 @@
 use Rattle.std.specs.Prelude.{ℕ, List, [], ◌∷◌, Option, Some, None, replicate}
 use Rattle.cpm_geom.specs.Disk.{Disk}
 use Rattle.cpm_console.specs.Terminal.{Terminal}
-use Rattle.cpm_console.specs.Editing.{begun}
+use Rattle.cpm_console.specs.Editing.{begun_line}
 use Rattle.cpm_memory.specs.Contents.{Contents, byte_at, after_run}
 use Rattle.cpm_memory.specs.Layout.{io_byte_address, default_buffer_address}
 use Rattle.cpm_memory.specs.DiskTables.{parameter_block_address}
-use Rattle.cpm_bdos.specs.Registers.{at_opening, de_of}
+use Rattle.cpm_bdos.specs.Registers.{at_opening, pair_de}
 use Rattle.cpm_bdos.specs.Function.{function_of, bios_call_of}
-use Rattle.cpm_bdos.specs.Did.{Did, did, returned, answered, rebooted}
+use Rattle.cpm_bdos.specs.Did.{Did, did, call_returned, answered, rebooted}
 use Rattle.cpm_bdos.specs.Keys.{first_key, took_key, console_status}
 use Rattle.cpm_bdos.specs.Hold.{release}
 use Rattle.cpm_bdos.specs.Output.{showed, list_byte, write_byte, write_text}
@@ -19,7 +19,7 @@ use Rattle.cpm_volume.specs.declared.fcb.Fcb.{Fcb}
 use Rattle.cpm_drives.specs.Disks.{opened_disks}
 use Rattle.cpm_drives.specs.Selecting.{drives_reset, protect}
 use Rattle.cpm_drives.specs.Vectors.{login_vector, read_only_vector}
-use Rattle.cpm_bdos.specs.Disks.{with_disks, reset_disks, select_disk, file_function, format_in, give_allocation, user_code}
+use Rattle.cpm_bdos.specs.Disks.{with_disks, reset_disks, select_disk, call_file_function, format_in, give_allocation, user_code}
 use Rattle.cpm_bdos.specs.BiosDisks.{returned_a, home, select_drive, set_track, set_sector, set_sector_buffer, read_sector, write_sector, translate}
 use Rattle.cpm_bdos.specs.declared.function.Function.{Function}
 use Rattle.cpm_bdos.specs.declared.function.Function.TheVariants.{WarmBoot, ReadKey, WriteByte, ReaderInput, PunchOutput, ListOutput, DirectConsole, GetIoByte, SetIoByte, WriteText, ReadLine, ConsoleStatus, Version, ResetDisks, SelectDisk, File, LoginVector, CurrentDisk, SetBuffer, AllocationVector, ProtectDisk, ReadOnlyVector, DiskParameters, UserCode, ResetDrives, Other}
@@ -42,12 +42,12 @@ no_file =
     }
 
 -- own: a session at its opening, with its drives; the BIOS stands at track 0, sector 1 of drive A
-abbrev pub opened : Terminal → List Disk → Session
-opened console images =
+abbrev pub opened_session : Terminal → List Disk → Session
+opened_session console images =
     record {
       regs = at_opening;
       console = console;
-      line = begun 0 0;
+      line = begun_line 0 0;
       mode = Program;
       disks = opened_disks images;
       buffer = default_buffer_address;
@@ -56,37 +56,37 @@ opened console images =
     }
 
 -- CP/M 2.2 Operating System Manual, section 5.2, Operating System Call Conventions: the first step of a call, by its function. Own: the reader gives 1Ah, what is punched is dropped, and a number without a function gives 0.
-abbrev pub called : Function → Disk → Session → Contents → Did
-called WarmBoot system s m = rebooted s m
-called ReadKey system s m = read_key (first_key s) s m
-called WriteByte system s m = write_byte s m
-called ReaderInput system s m = answered s m 0x1A
-called PunchOutput system s m = answered s m 0
-called ListOutput system s m = answered (list_byte s s.regs.e) m 0
-called DirectConsole system s m = direct_console s.regs.e s m
-called GetIoByte system s m = answered s m (byte_at m io_byte_address)
-called SetIoByte system s m = answered s (after_run m io_byte_address (s.regs.e ∷ [])) 0
-called WriteText system s m = write_text held.Call s m (de_of s.regs)
-called ReadLine system s m = read_line s m
-called ConsoleStatus system s m = answered s m (console_status (first_key s))
-called Version system s m = answered s m 0x0022
-called ResetDisks system s m = reset_disks system s m
-called SelectDisk system s m = select_disk system s m
-called (File function) system s m = file_function function system s m
-called LoginVector system s m = answered s m (login_vector s.disks)
-called CurrentDisk system s m = answered s m s.disks.current
-called SetBuffer system s m = answered (record s { buffer = de_of s.regs }) m 0
-called AllocationVector system s m = give_allocation system s m
-called ProtectDisk system s m = answered (with_disks s (protect s.disks system)) m 0
-called ReadOnlyVector system s m = answered s m (read_only_vector s.disks)
-called DiskParameters system s m = answered s m (parameter_block_address (format_in s.disks system s.disks.current))
-called UserCode system s m = user_code s m
-called ResetDrives system s m = answered (with_disks s (drives_reset s.disks (de_of s.regs))) m 0
-called Other system s m = answered s m 0
+abbrev pub function_called : Function → Disk → Session → Contents → Did
+function_called WarmBoot system s m = rebooted s m
+function_called ReadKey system s m = read_key (first_key s) s m
+function_called WriteByte system s m = write_byte s m
+function_called ReaderInput system s m = answered s m 0x1A
+function_called PunchOutput system s m = answered s m 0
+function_called ListOutput system s m = answered (list_byte s s.regs.e) m 0
+function_called DirectConsole system s m = direct_console s.regs.e s m
+function_called GetIoByte system s m = answered s m (byte_at m io_byte_address)
+function_called SetIoByte system s m = answered s (after_run m io_byte_address (s.regs.e ∷ [])) 0
+function_called WriteText system s m = write_text held.Call s m (pair_de s.regs)
+function_called ReadLine system s m = read_line s m
+function_called ConsoleStatus system s m = answered s m (console_status (first_key s))
+function_called Version system s m = answered s m 0x0022
+function_called ResetDisks system s m = reset_disks system s m
+function_called SelectDisk system s m = select_disk system s m
+function_called (File function) system s m = call_file_function function system s m
+function_called LoginVector system s m = answered s m (login_vector s.disks)
+function_called CurrentDisk system s m = answered s m s.disks.current
+function_called SetBuffer system s m = answered (record s { buffer = pair_de s.regs }) m 0
+function_called AllocationVector system s m = give_allocation system s m
+function_called ProtectDisk system s m = answered (with_disks s (protect s.disks system)) m 0
+function_called ReadOnlyVector system s m = answered s m (read_only_vector s.disks)
+function_called DiskParameters system s m = answered s m (parameter_block_address (format_in s.disks system s.disks.current))
+function_called UserCode system s m = user_code s m
+function_called ResetDrives system s m = answered (with_disks s (drives_reset s.disks (pair_de s.regs))) m 0
+function_called Other system s m = answered s m 0
 
 -- one step of the BDOS, by the mode; the parts of the command processor are not its own
 abbrev pub in_mode : Mode → Disk → Session → Contents → Did
-in_mode Program system s m = called (function_of s.regs.c) system s m
+in_mode Program system s m = function_called (function_of s.regs.c) system s m
 in_mode (Text address) system s m = write_text (held.Text address) s m address
 in_mode Line system s m = edit_line s.line s m
 in_mode (Hold held) system s m = release held (first_key s) s m
@@ -111,9 +111,9 @@ bios_called entry.Boot system s m = booted s m
 bios_called entry.WarmBoot system s m = rebooted s m
 bios_called entry.ConsoleStatus system s m = returned_a s m (console_status (first_key s))
 bios_called entry.ConsoleInput system s m = console_input (first_key s) s m
-bios_called entry.ConsoleOutput system s m = returned (showed s s.regs.c) m
-bios_called entry.List system s m = returned (list_byte s s.regs.c) m
-bios_called entry.Punch system s m = returned s m
+bios_called entry.ConsoleOutput system s m = call_returned (showed s s.regs.c) m
+bios_called entry.List system s m = call_returned (list_byte s s.regs.c) m
+bios_called entry.Punch system s m = call_returned s m
 bios_called entry.Reader system s m = returned_a s m 0x1A
 bios_called entry.Home system s m = home s m
 bios_called entry.SelectDrive system s m = select_drive system s m
@@ -124,7 +124,7 @@ bios_called entry.ReadSector system s m = read_sector system s m
 bios_called entry.WriteSector system s m = write_sector s m
 bios_called entry.ListStatus system s m = returned_a s m 0xFF
 bios_called entry.Translate system s m = translate s m
-bios_called entry.Other system s m = returned s m
+bios_called entry.Other system s m = call_returned s m
 
 abbrev pub bios : ℕ → Disk → Session → Contents → Did
 bios number system s m = bios_called (bios_call_of number) system s m

@@ -3,7 +3,7 @@ use Rattle.std.specs.Prelude.{◌≡◌, ◌-◌, Bool, true, false, ◌==◌, �
 use Rattle.cpm_geom.specs.Disk.{Disk}
 use Rattle.cpm_memory.specs.Contents.{Contents, byte_at}
 use Rattle.cpm_memory.specs.Layout.{bdos_address, first_bios_address, console_input_address, last_bios_address}
-use Rattle.cpm_bdos.specs.Registers.{de_of}
+use Rattle.cpm_bdos.specs.Registers.{pair_de}
 use Rattle.cpm_bdos.specs.Function.{function_of}
 use Rattle.cpm_bdos.specs.Did.{Did, did}
 use Rattle.cpm_bdos.specs.Keys.{first_key}
@@ -21,7 +21,7 @@ use Rattle.cpm_bdos.specs.declared.session.Went.TheVariants.{Waits}
 -- the first step of a function needs a key: function 1 does, and function 10 for a line that may have characters
 abbrev pub function_needs_key : Function → Session → Contents → Bool
 function_needs_key ReadKey s m = true
-function_needs_key ReadLine s m = not (byte_at m (de_of s.regs) == 0)
+function_needs_key ReadLine s m = not (byte_at m (pair_de s.regs) == 0)
 function_needs_key _ s m = false
 
 -- the parts of the command processor that read a line

@@ -6,7 +6,7 @@ ghost use Rattle.cpm_memory.specs.Layout.{io_byte_address};
 ghost use Rattle.cpm_memory.specs.Room.{HasRoom};
 ghost use Rattle.cpm_bdos.specs.Function.{function_of};
 ghost use Rattle.cpm_bdos.specs.Did.{did, answered};
-ghost use Rattle.cpm_bdos.specs.Step.{called, bdos};
+ghost use Rattle.cpm_bdos.specs.Step.{function_called, bdos};
 ghost use Rattle.cpm_bdos.specs.Bounds.{IsBounded};
 ghost use Rattle.cpm_bdos.specs.Behind.{session_behind, did_behind};
 
@@ -62,7 +62,7 @@ impl Session {
         requires screen { length self.old.console.screen ≤ 4096 }
         requires printer { length self.old.console.printer ≤ 4096 }
         requires room { HasRoom (M.contents memory.old) }
-        ensures step { did self.new (M.contents memory.new) result ≡ called (function_of self.old.regs.c) system.now self.old (M.contents memory.old) }
+        ensures step { did self.new (M.contents memory.new) result ≡ function_called (function_of self.old.regs.c) system.now self.old (M.contents memory.old) }
         ensures leads { M.Leads memory.old memory.new }
     {
         match Function::of(self.regs.c) {

@@ -2,7 +2,7 @@
 
 ghost use Rattle.std.specs.Prelude.{◌≡◌, ◌≤◌, List, ℕ, length};
 ghost use Rattle.cpm_memory.specs.Room.{HasRoom};
-ghost use Rattle.cpm_bdos.specs.Did.{did, returned};
+ghost use Rattle.cpm_bdos.specs.Did.{did, call_returned};
 ghost use Rattle.cpm_bdos.specs.Keys.{first_key};
 ghost use Rattle.cpm_bdos.specs.Output.{showed, list_byte};
 ghost use Rattle.cpm_bdos.specs.BiosDisks.{returned_a};
@@ -100,7 +100,7 @@ impl Session {
     /// Shows the byte in C as it is.
     fn console_output<M: Memory>(&mut self, memory: &M) -> Went
         requires { length self.old.console.screen ≤ 4096 }
-        ensures { did self.new (M.contents memory.now) result ≡ returned (showed self.old self.old.regs.c) (M.contents memory.now) }
+        ensures { did self.new (M.contents memory.now) result ≡ call_returned (showed self.old self.old.regs.c) (M.contents memory.now) }
     {
         self.console.put(self.regs.c);
         self.return_from_call(memory)
@@ -109,7 +109,7 @@ impl Session {
     /// Sends the byte in C to the list device.
     fn list<M: Memory>(&mut self, memory: &M) -> Went
         requires { length self.old.console.printer ≤ 4096 }
-        ensures { did self.new (M.contents memory.now) result ≡ returned (list_byte self.old self.old.regs.c) (M.contents memory.now) }
+        ensures { did self.new (M.contents memory.now) result ≡ call_returned (list_byte self.old self.old.regs.c) (M.contents memory.now) }
     {
         self.console.put_list(self.regs.c);
         self.return_from_call(memory)

@@ -2,7 +2,7 @@
 
 ghost use Rattle.std.specs.Prelude.{◌≡◌};
 ghost use Rattle.cpm_memory.specs.Room.{HasRoomFor};
-ghost use Rattle.cpm_bdos.specs.Did.{did, returned, answered, rebooted};
+ghost use Rattle.cpm_bdos.specs.Did.{did, call_returned, answered, rebooted};
 
 use crate::session::{Session, Mode, Went};
 use crate::registers::{put_result, return_to};
@@ -12,7 +12,7 @@ use cpm_memory::{Memory, change_run, get_word};
 impl Session {
     /// Returns from a call as RET does.
     pub(crate) fn return_from_call<M: Memory>(&mut self, memory: &M) -> Went
-        ensures { did self.new (M.contents memory.now) result ≡ returned self.old (M.contents memory.now) }
+        ensures { did self.new (M.contents memory.now) result ≡ call_returned self.old (M.contents memory.now) }
     {
         let address = get_word(memory, self.regs.sp);
         return_to(&mut self.regs, address);

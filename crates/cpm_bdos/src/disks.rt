@@ -6,8 +6,8 @@ ghost use Rattle.cpm_memory.specs.DiskTables.{parameter_block_address};
 ghost use Rattle.cpm_drives.specs.Selecting.{drives_reset, protect};
 ghost use Rattle.cpm_drives.specs.Vectors.{login_vector, read_only_vector};
 ghost use Rattle.cpm_bdos.specs.Did.{did, answered};
-ghost use Rattle.cpm_bdos.specs.Registers.{de_of};
-ghost use Rattle.cpm_bdos.specs.Disks.{with_disks, by_answer, file_function, table_of, vector_of, format_in, header_of, reset_disks, select_disk, give_allocation, user_code};
+ghost use Rattle.cpm_bdos.specs.Registers.{pair_de};
+ghost use Rattle.cpm_bdos.specs.Disks.{with_disks, by_answer, call_file_function, bios_table_of, vector_of, format_in, header_of, reset_disks, select_disk, give_allocation, user_code};
 
 use crate::session::{Session, Went};
 use crate::registers::pair_de;
@@ -54,7 +54,7 @@ impl Session {
     ) -> Went
         requires screen { length self.old.console.screen ≤ 4096 }
         requires room { HasRoom (M.contents memory.old) }
-        ensures step { did self.new (M.contents memory.new) result ≡ file_function function system.now self.old (M.contents memory.old) }
+        ensures step { did self.new (M.contents memory.new) result ≡ call_file_function function system.now self.old (M.contents memory.old) }
         ensures leads { M.Leads memory.old memory.new }
     {
         let at = pair_de(&self.regs);
@@ -106,7 +106,7 @@ impl Session {
 
     /// Sets the buffer to DE.
     pub(crate) fn set_buffer<M: Memory>(&mut self, memory: &M) -> Went
-        ensures { did self.new (M.contents memory.now) result ≡ answered (record self.old { buffer = de_of self.old.regs }) (M.contents memory.now) 0 }
+        ensures { did self.new (M.contents memory.now) result ≡ answered (record self.old { buffer = pair_de self.old.regs }) (M.contents memory.now) 0 }
     {
         self.buffer = pair_de(&self.regs);
         self.answer(memory, 0)
@@ -145,7 +145,7 @@ impl Session {
 
     /// Resets the drives of the vector in DE.
     pub(crate) fn reset_drives<M: Memory>(&mut self, memory: &M) -> Went
-        ensures { did self.new (M.contents memory.now) result ≡ answered (with_disks self.old (drives_reset self.old.disks (de_of self.old.regs))) (M.contents memory.now) 0 }
+        ensures { did self.new (M.contents memory.now) result ≡ answered (with_disks self.old (drives_reset self.old.disks (pair_de self.old.regs))) (M.contents memory.now) 0 }
     {
         self.disks.reset_drives(pair_de(&self.regs));
         self.answer(memory, 0)
@@ -165,8 +165,8 @@ impl Session {
 }
 
 /// The place of a drive's tables among those of all drives: A to D, and then the system drive.
-fn table_of(drive: u8) -> u16
-    ensures { result ≡ table_of drive }
+fn bios_table_of(drive: u8) -> u16
+    ensures { result ≡ bios_table_of drive }
 {
     if drive == SYSTEM { 4 } else { u16::from(drive) }
 }
@@ -175,12 +175,12 @@ fn table_of(drive: u8) -> u16
 fn vector_of(drive: u8) -> u16
     ensures { result ≡ vector_of drive }
 {
-    FIRST_ALLOCATION_VECTOR.wrapping_add(64 * table_of(drive))
+    FIRST_ALLOCATION_VECTOR.wrapping_add(64 * bios_table_of(drive))
 }
 
 /// The address of a drive's parameter header, by the format of its disk.
 pub(crate) fn header_of(format: Format, drive: u8) -> u16
     ensures { result ≡ header_of format drive }
 {
-    FIRST_HEADER.wrapping_add(32 * table_of(drive) + format_offset(format))
+    FIRST_HEADER.wrapping_add(32 * bios_table_of(drive) + format_offset(format))
 }

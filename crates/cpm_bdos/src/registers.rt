@@ -1,7 +1,7 @@
 //! What a call reads from the registers and leaves in them.
 
 ghost use Rattle.std.specs.Prelude.{◌≡◌, ◌+◌, ◌*◌, ◌/◌, ◌%◌};
-ghost use Rattle.cpm_bdos.specs.Registers.{at_opening, bc_of, de_of, with_hl, with_result, returned_to};
+ghost use Rattle.cpm_bdos.specs.Registers.{at_opening, pair_bc, pair_de, with_hl, with_call_result, returned_to};
 
 use cpm_flags::{Alternate, Flags, Regs};
 use cpm_memory::layout::{COMMAND_PROCESSOR, STACK};
@@ -53,14 +53,14 @@ pub fn at_opening() -> Regs
 
 /// The pair DE.
 pub fn pair_de(regs: &Regs) -> u16
-    ensures { result ≡ de_of regs.now }
+    ensures { result ≡ pair_de regs.now }
 {
     256 * u16::from(regs.d) + u16::from(regs.e)
 }
 
 /// The pair BC.
 pub fn pair_bc(regs: &Regs) -> u16
-    ensures { result ≡ bc_of regs.now }
+    ensures { result ≡ pair_bc regs.now }
 {
     256 * u16::from(regs.b) + u16::from(regs.c)
 }
@@ -75,7 +75,7 @@ pub fn put_hl(regs: &mut Regs, value: u16)
 
 /// Puts a call's result into HL, A and B.
 pub fn put_result(regs: &mut Regs, value: u16)
-    ensures { regs.new ≡ with_result regs.old value }
+    ensures { regs.new ≡ with_call_result regs.old value }
 {
     let high = (value >> 8) as u8;
     let low = (value & 0xff) as u8;

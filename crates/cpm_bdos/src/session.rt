@@ -1,7 +1,7 @@
 //! A session: registers, console, and the call in progress. Its memory lies elsewhere.
 
 ghost use Rattle.std.specs.Prelude.{◌≡◌, IfOk};
-ghost use Rattle.cpm_bdos.specs.Step.{no_file, opened};
+ghost use Rattle.cpm_bdos.specs.Step.{no_file, opened_session};
 ghost use Rattle.cpm_bdos.specs.Bounds.{IsFit};
 
 use crate::registers::{at_opening, pair_de};
@@ -126,7 +126,7 @@ fn no_file() -> Fcb
 impl Session {
     /// A session at its opening, with this console and drives of these images, the first as A. It takes no memory.
     pub fn new(console: Console, images: Vec<Image>) -> Self
-        ensures { result ≡ opened console images.items }
+        ensures { result ≡ opened_session console images.items }
     {
         Session {
             regs: at_opening(),

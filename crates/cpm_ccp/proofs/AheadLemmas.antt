@@ -14,11 +14,11 @@ use Rattle.cpm_volume.specs.declared.extent.Extent.{Extent}
 use Rattle.cpm_volume.specs.declared.extent.Entry.{Entry}
 use Rattle.cpm_volume.specs.declared.answer.Fault.{Fault as Failure}
 use Rattle.cpm_volume.specs.Encoding.{entry_of, entry_byte, entry_bytes}
-use Rattle.cpm_volume.specs.Files.{Volume, Write, entry_put, entry_at, no_entry, first_match, group_of, extent_number, block_number, place_of}
-use Rattle.cpm_volume.specs.Operations.{Outcome, ends, gives, with_entry, has_bad_block, agree, merged, closed_entry, is_unchanged, Close, refused, close_fault, closed, close_extent, open_to_read, reading, Target, Place, stopped, standing, opened_in, have_extent, closed_in, cross, next_target, next_place, get_record, record_in_block, read_in, read_next}
+use Rattle.cpm_volume.specs.Files.{Volume, DiskWrite, entry_put, entry_at, no_entry, first_match, group_of, extent_number, block_number, entry_place_of}
+use Rattle.cpm_volume.specs.Operations.{Outcome, ends, gives, with_entry, has_bad_block, agree, merged, closed_entry, is_unchanged, Close, refused, close_fault, closed, close_extent, open_to_read, reading, Target, Place, stopped, standing, opened_in, have_extent, closed_in, cross, next_target, next_place, get_record, record_in_block, read_in, read_next_on_volume}
 use Rattle.cpm_volume.specs.declared.answer.Answer.TheVariants.{Done as done, NoRecord as no_record, Fault as fault}
 use Rattle.cpm_volume.specs.declared.answer.Fault.TheVariants.{BadSector as bad_sector}
-use Rattle.cpm_directory.specs.Directory.{entries_of, slot_bytes, with_slot}
+use Rattle.cpm_directory.specs.Directory.{entries_of, slot_bytes, record_with_entry}
 use Rattle.cpm_directory.proofs.DriveLemmas.{entry_record, entries_length, entry_is}
 use Rattle.cpm_directory.proofs.SlotLemmas.{slot_is, own_slot, other_slot, entry_size}
 use Rattle.cpm_drive.specs.Drive.{volume_of, after_write, after_writes}
@@ -36,7 +36,7 @@ same_if false o p o' p' ho hp = hp
 same_get : (d : Dpb) (v w : Volume) (x : Extent) (current next : ℕ) → Same (get_record d v x current next) (get_record d w x current next)
 unfolding get_record ends gives
 same_get d v w x current next =
-    let b = block_number x (place_of d x current) in
+    let b = block_number x (entry_place_of d x current) in
     same_if (not (nat_lt current x.record_count)) _ _ _ _ (refl, refl) (same_if (nat_lt d.last_block b) _ _ _ _ (refl, refl) (same_if (b == 0) _ _ _ _ (refl, refl) (refl, refl)))
 
 module _ (d : Dpb) (current : ℕ) where
@@ -59,8 +59,8 @@ module _ (d : Dpb) (current : ℕ) where
   same_closed v w user x t (closed i es y) =
       same_opened (with_entry v i es) (with_entry w i es) y t (open_to_read d es user y.name t.number)
 
-pub same_read : (d : Dpb) (protected : Bool) (disk : Disk) (r r' : List Bool) (user : ℕ) (x : Extent) (current : ℕ) → Same (read_next d protected (volume_of disk r) user x current) (read_next d protected (volume_of disk r') user x current)
-unfolding read_next next_place cross volume_of read_in ends
+pub same_read : (d : Dpb) (protected : Bool) (disk : Disk) (r r' : List Bool) (user : ℕ) (x : Extent) (current : ℕ) → Same (read_next_on_volume d protected (volume_of disk r) user x current) (read_next_on_volume d protected (volume_of disk r') user x current)
+unfolding read_next_on_volume next_place cross volume_of read_in ends
 same_read d protected disk r r' user x current =
     same_at_if d current (nat_lt current 128) _ _ _ _ (same_get d (volume_of disk r) (volume_of disk r') x current (current + 1)) (same_at_if d current (extent_number x == 511) _ _ _ _ (refl, refl) (same_closed d current (volume_of disk r) (volume_of disk r') user x (next_target x) (close_extent d protected (entries_of disk) user x)))
 
@@ -104,7 +104,7 @@ told_get : (f : Format) (v : Volume) (x : Extent) (current next : ℕ) → Told 
 unfolding get_record
 told_get f v x current next =
     let d = dpb_of f in
-    let b = block_number x (place_of d x current) in
+    let b = block_number x (entry_place_of d x current) in
     told_if f (not (nat_lt current x.record_count)) _ _ (λ h. told_end f v x current) (λ h. told_if f (nat_lt d.last_block b) _ _ (λ h. told_fault f bad_sector v x current) (λ low. told_if f (b == 0) _ _ (λ h. told_end f v x current) (λ h. told_given f v x next (record_in_block d b current) (in_block_there f b current (ltb-false d.last_block b low)))))
 
 module _ (f : Format) (current : ℕ) where
@@ -138,21 +138,21 @@ module _ (f : Format) (current : ℕ) where
   told_closed v user x (close_fault which) = told_unwritten which v x
   told_closed v user x (closed i es y) = told_opened (with_entry v i es) y x _
 
-  pub told_read : (protected : Bool) (v : Volume) (user : ℕ) (x : Extent) → Told f (read_next (dpb_of f) protected v user x current)
-  unfolding read_next next_place cross
+  pub told_read : (protected : Bool) (v : Volume) (user : ℕ) (x : Extent) → Told f (read_next_on_volume (dpb_of f) protected v user x current)
+  unfolding read_next_on_volume next_place cross
   told_read protected v user x =
       told_at_if (nat_lt current 128) _ _ (told_standing v x current) (told_at_if (extent_number x == 511) _ _ (told_missing v x) (told_closed v user x (close_extent (dpb_of f) protected v.entries user x)))
 
 -- ---- what it writes: nothing, or an entry with the user that it had
 
-pub record WroteOne (es : List Entry) (ws : List Write) : Type 0 where
+pub record WroteOne (es : List Entry) (ws : List DiskWrite) : Type 0 where
   pub index : ℕ
   pub entry : Entry
   pub is : ws ≡ entry_put index entry ∷ []
   pub within : index < length es
   pub user : entry.user ≡ (entry_at es index).user
 
-abbrev pub Wrote : List Entry → List Write → Type 0
+abbrev pub Wrote : List Entry → List DiskWrite → Type 0
 Wrote es ws = (ws ≡ []) ⊎ WroteOne es ws
 
 abbrev Closes : List Entry → Close → Type 0
@@ -225,8 +225,8 @@ module _ (d : Dpb) (disk : Disk) (r : List Bool) where
   wrote_place protected user x current =
       wrote_if (nat_lt current 128) _ _ (inl refl) (wrote_if (extent_number x == 511) _ _ (inl refl) (wrote_closed user x (next_target x) (close_extent d protected (entries_of disk) user x) (closes_extent d protected (entries_of disk) user x)))
 
-  pub wrote_read : (protected : Bool) (user : ℕ) (x : Extent) (current : ℕ) → Wrote (entries_of disk) (read_next d protected (volume_of disk r) user x current).volume.written
-  unfolding read_next
+  pub wrote_read : (protected : Bool) (user : ℕ) (x : Extent) (current : ℕ) → Wrote (entries_of disk) (read_next_on_volume d protected (volume_of disk r) user x current).volume.written
+  unfolding read_next_on_volume
   wrote_read protected user x current =
       rw (read_volume d current (next_place d reading protected (volume_of disk r) user x current)) (wrote_place protected user x current)
 
@@ -250,13 +250,13 @@ entry_user : (d : Dpb) (bytes : List ℕ) → (entry_of d bytes).user ≡ get_or
 unfolding entry_of
 entry_user d bytes = refl
 
-slot_begins : (d : Dpb) (bytes : List ℕ) (slot : ℕ) (e : Entry) → length bytes ≡ 128 → slot < 4 → e.user ≡ (entry_of d (slot_bytes bytes slot)).user → BeginsAs bytes (with_slot bytes slot (entry_bytes d e))
+slot_begins : (d : Dpb) (bytes : List ℕ) (slot : ℕ) (e : Entry) → length bytes ≡ 128 → slot < 4 → e.user ≡ (entry_of d (slot_bytes bytes slot)).user → BeginsAs bytes (record_with_entry bytes slot (entry_bytes d e))
 slot_begins d bytes slot e size below user =
     let count = entry_size d e in
-    let new = with_slot bytes slot (entry_bytes d e) in
+    let new = record_with_entry bytes slot (entry_bytes d e) in
     record {
       first = elim (cases_eq slot 0) [
-        | inl zero ↦ sym (first_slot new) ∙ (ap (λ (xs : List ℕ). get_or xs 0 0) (ap (λ k. slot_bytes (with_slot bytes slot (entry_bytes d e)) k) (sym zero) ∙ own_slot bytes (entry_bytes d e) slot size below count) ∙ (first_byte d e ∙ (user ∙ (entry_user d (slot_bytes bytes slot) ∙ (ap (λ s. get_or (slot_bytes bytes s) 0 0) zero ∙ first_slot bytes)))))
+        | inl zero ↦ sym (first_slot new) ∙ (ap (λ (xs : List ℕ). get_or xs 0 0) (ap (λ k. slot_bytes (record_with_entry bytes slot (entry_bytes d e)) k) (sym zero) ∙ own_slot bytes (entry_bytes d e) slot size below count) ∙ (first_byte d e ∙ (user ∙ (entry_user d (slot_bytes bytes slot) ∙ (ap (λ s. get_or (slot_bytes bytes s) 0 0) zero ∙ first_slot bytes)))))
         | inr other ↦ sym (first_slot new) ∙ (ap (λ (xs : List ℕ). get_or xs 0 0) (other_slot bytes (entry_bytes d e) slot size below count 0 (λ z. other (sym z))) ∙ first_slot bytes)
       ];
       size = ap length (sym (slot_is bytes (entry_bytes d e) slot)) ∙ (put_length bytes (entry_bytes d e) (32 * slot) 32 count (omega arith) ∙ size);
@@ -287,7 +287,7 @@ module _ (disk : Disk) (whole : IsDisk disk) (n : ℕ) (there : IsRecord disk.fo
     old_size = whole.sizes _ (record_within disk.format _ entry_there)
 
     abbrev new : List ℕ
-    new = with_slot (sector_at disk (record_index disk.format (i / 4))) (i % 4) (entry_bytes (dpb_of disk.format) e)
+    new = record_with_entry (sector_at disk (record_index disk.format (i / 4))) (i % 4) (entry_bytes (dpb_of disk.format) e)
 
     same_user : e.user ≡ (entry_of (dpb_of disk.format) (slot_bytes (sector_at disk (record_index disk.format (i / 4))) (i % 4))).user
     same_user = user ∙ ap (λ (x : Entry). x.user) (entry_is disk i low)
@@ -318,7 +318,7 @@ module _ (disk : Disk) (whole : IsDisk disk) (n : ℕ) (there : IsRecord disk.fo
   unfolding after_writes
   begins_unwritten = begins_itself
 
-  pub begins_after : (protected : Bool) (ws : List Write) → Wrote (entries_of disk) ws → BeginsAs (get_or (records_of disk) n []) (get_or (records_of (if protected then disk else after_writes ws disk)) n [])
+  pub begins_after : (protected : Bool) (ws : List DiskWrite) → Wrote (entries_of disk) ws → BeginsAs (get_or (records_of disk) n []) (get_or (records_of (if protected then disk else after_writes ws disk)) n [])
   begins_after true ws h = begins_itself
   begins_after false ws (inl none) = rw none begins_unwritten
   begins_after false ws (inr one) = rw one.is (begins_after_write one.index one.entry one.within one.user)

@@ -15,7 +15,7 @@ use Rattle.cpm_volume.specs.declared.answer.Fault.{Fault as Failure}
 use Rattle.cpm_volume.specs.declared.answer.Fault.TheVariants as failure
 use Rattle.cpm_volume.specs.Files.{entry_at}
 use Rattle.cpm_drives.specs.Disks.{is_there}
-use Rattle.cpm_drives.specs.Selecting.{used}
+use Rattle.cpm_drives.specs.Selecting.{drive_in_use}
 use Rattle.cpm_drives.specs.Calls.{drive_named}
 use Rattle.cpm_drives.specs.Files.{open_file, close_file, make_file, erase_files, rename_files, read_next, write_next, next_ahead}
 use Rattle.cpm_bdos.specs.Bounds.{IsFit, IsBounded}
@@ -36,14 +36,14 @@ use Rattle.cpm_ccp.specs.declared.command.Command.TheVariants as typed
 use Rattle.cpm_ccp.specs.Message.{message_text}
 use Rattle.cpm_ccp.specs.Command.{command_of}
 use Rattle.cpm_ccp.specs.Words.{first_word, tail_of}
-use Rattle.cpm_ccp.specs.Parts.{finished, stepped, says, told, is_stopped, held_at_part, line_of, on_file, own_record, record_of, drive_of, with_disks, with_call}
-use Rattle.cpm_ccp.specs.Prompt.{drive_asked, chosen, prompt_text, prompted, with_drive, with_user, after_key, edit_line, drive_selected}
+use Rattle.cpm_ccp.specs.Parts.{finished, stepped, says, message_told, is_stopped, held_at_part, typed_line, on_file, own_record, record_read, command_drive, with_call_disks, with_call}
+use Rattle.cpm_ccp.specs.Prompt.{drive_asked, drives_chosen, prompt_text, prompted, with_drive_and_user, with_user, prompt_after_key, edit_command_line, drive_selected}
 use Rattle.cpm_ccp.specs.Listing.{before_file, file_text, entries_listed, next_listed, has_next, file_shown, listing_ended, drive_used, list_next, shows_file, listed_on}
-use Rattle.cpm_ccp.specs.FileCommands.{by_code, erased, asked, is_yes, erased_all, has_new_name, renamed, after_save_make, made, after_erase, save_begun, after_save_write, saved, after_save_close, closed}
-use Rattle.cpm_ccp.specs.Showing.{after_type_open, show_begun, text_of, ends_in, wrote_all, record_shown, after_type_read, next_shown, shows_record, shown_on}
-use Rattle.cpm_ccp.specs.Loading.{unknown, load_begun, started, loaded, load_record, load_in, load}
+use Rattle.cpm_ccp.specs.FileCommands.{by_code, erased, all_files_asked, is_yes, erased_all, has_new_name, renamed, after_save_make, file_made, after_erase, save_begun, after_save_write, saved, after_save_close, file_closed}
+use Rattle.cpm_ccp.specs.Showing.{after_type_open, show_begun, record_text, ends_in, wrote_all, record_shown, after_type_read, next_shown, shows_record, shown_on}
+use Rattle.cpm_ccp.specs.Loading.{unknown, load_begun, started, record_loaded, load_record, load_in, load}
 use Rattle.cpm_ccp.specs.Loading as loading
-use Rattle.cpm_ccp.specs.Step.{looks_first, begun_by, begun, in_part, in_mode, ccp}
+use Rattle.cpm_ccp.specs.Step.{looks_first, begun_by, begun_command, in_part, command_in_mode, ccp}
 use Rattle.cpm_ccp.proofs.TextLemmas.{first_word-le, tail_of-le}
 use Rattle.cpm_ccp.proofs.StartLemmas.{length-line_of, pages_started, limit_started}
 
@@ -85,7 +85,7 @@ length-message message.SaveForm = omega arith
 length-message message.TypeForm = omega arith
 length-message message.UserForm = omega arith
 
-within_told : (s : Session) (words : Message) → Within s (told s words)
+within_told : (s : Session) (words : Message) → Within s (message_told s words)
 within_told s words = within_says s (13 ∷ 10 ∷ message_text words) (omega (arith, length-message words))
 
 -- ---- the prompt and lines
@@ -93,17 +93,17 @@ within_told s words = within_says s (13 ∷ 10 ∷ message_text words) (omega (a
 within_prompted : (system : Disk) (byte : ℕ) (s : Session) → Within s (prompted system byte s)
 unfolding prompted
 within_prompted system byte s =
-    within_says (record s { disks = chosen s.disks system byte; buffer = 128 }) (13 ∷ 10 ∷ prompt_text (drive_asked s.disks byte)) (omega arith)
+    within_says (record s { disks = drives_chosen s.disks system byte; buffer = 128 }) (13 ∷ 10 ∷ prompt_text (drive_asked s.disks byte)) (omega arith)
 
-bounded_after_key : (next : CommandPart) → ReaderIsBounded (after_key next)
+bounded_after_key : (next : CommandPart) → ReaderIsBounded (prompt_after_key next)
 bounded_after_key next line.GoesOn s m e output few = record { pages = omega arith; limit = refl; output = output }
 bounded_after_key next line.Ended s m e output few = record { pages = omega arith; limit = refl; output = output }
 bounded_after_key next line.Interrupted s m e output few =
     bounded_rebooted s (with_edited s e) m m (omega arith) refl output
 
-bounded_edit_line : (next : CommandPart) (s : Session) (m : Contents) → IsFit s → IsBounded s m (edit_line next s m)
+bounded_edit_line : (next : CommandPart) (s : Session) (m : Contents) → IsFit s → IsBounded s m (edit_command_line next s m)
 bounded_edit_line next s m fit =
-    bounded_line_step (after_key next) (bounded_after_key next) s.line s m (record { start = fit.start; characters = fit.characters })
+    bounded_line_step (prompt_after_key next) (bounded_after_key next) s.line s m (record { start = fit.start; characters = fit.characters })
 
 -- a byte changed at 0004h
 bounded_change : (s : Session) (m : Contents) (value : ℕ) → IsBounded s m (did (finished s) (after_change m 4 value) Returned)
@@ -115,7 +115,7 @@ bounded_change s m value = record {
 
 bounded_drive_selected : (drive : ℕ) (s : Session) (m : Contents) → IsBounded s m (drive_selected drive s m)
 bounded_drive_selected drive s m =
-    bounded_if (is_there s.disks drive) s m _ _ (bounded_change s m (with_drive drive (byte_at m 4))) (bounded_faulted s m failure.Select drive)
+    bounded_if (is_there s.disks drive) s m _ _ (bounded_change s m (with_drive_and_user drive (byte_at m 4))) (bounded_faulted s m failure.Select drive)
 
 -- ---- DIR
 
@@ -133,7 +133,7 @@ length-file_text column drive name =
 
 within_file_shown : (index column : ℕ) (name : List ℕ) (s : Session) → Within s (file_shown index column name s)
 within_file_shown index column name s =
-    within_says s (file_text column (drive_of s) name) (length-file_text column (drive_of s) name)
+    within_says s (file_text column (command_drive s) name) (length-file_text column (command_drive s) name)
 
 within_listing_ended : (is_first : Bool) (s : Session) → Within s (listing_ended is_first s)
 within_listing_ended is_first s = within_if is_first s _ _ (within_told s message.NoFile) (within_same s)
@@ -141,7 +141,7 @@ within_listing_ended is_first s = within_if is_first s _ _ (within_told s messag
 within_listed : (system : Disk) (from column : ℕ) (is_first : Bool) (s : Session) → Within s (list_next system from column is_first s)
 unfolding list_next
 within_listed system from column is_first s =
-    within_if (not (is_there s.disks (drive_of s))) s _ _ (within_fault s failure.Select (drive_of s))
+    within_if (not (is_there s.disks (command_drive s))) s _ _ (within_fault s failure.Select (command_drive s))
     (within_if (has_next system from s) s _ _ (within_file_shown (next_listed system from s) column (entry_at (entries_listed system s) (next_listed system from s)).extent.name (drive_used system s)) (within_listing_ended is_first (drive_used system s)))
 
 within_listed_on : (system : Disk) (from column : ℕ) (s : Session) → Within s (listed_on system from column s)
@@ -160,9 +160,9 @@ within_erased : (system : Disk) (file : Fcb) (s : Session) → Within s (erased 
 unfolding erased
 within_erased system file s =
     let c = erase_files s.disks system file own_record in
-    within_by_code c.answer (drive_named s.disks file.drive) (with_disks s c.disks)
+    within_by_code c.answer (drive_named s.disks file.drive) (with_call_disks s c.disks)
 
-within_asked : (file : Fcb) (s : Session) → Within s (asked file s)
+within_asked : (file : Fcb) (s : Session) → Within s (all_files_asked file s)
 within_asked file s =
     within_says (on_file s file) (13 ∷ 10 ∷ message_text message.EraseAll) (omega arith)
 
@@ -175,30 +175,30 @@ within_renamed : (system : Disk) (old new : Fcb) (s : Session) → Within s (ren
 unfolding renamed
 within_renamed system old new s =
     let c = rename_files new.extent.name s.disks system old own_record in
-    within_if (has_new_name system s.disks new) s _ _ (within_told (with_disks s (used s.disks system (drive_named s.disks new.drive))) message.FileExists) (within_by_code c.answer (drive_named s.disks old.drive) (with_disks s c.disks))
+    within_if (has_new_name system s.disks new) s _ _ (within_told (with_call_disks s (drive_in_use s.disks system (drive_named s.disks new.drive))) message.FileExists) (within_by_code c.answer (drive_named s.disks old.drive) (with_call_disks s c.disks))
 
 within_after_make : (a : Result ℕ Failure) (pages : ℕ) (s : Session) → Within s (after_save_make a pages s)
-within_after_make (Err which) pages s = within_fault s which (drive_of s)
+within_after_make (Err which) pages s = within_fault s which (command_drive s)
 within_after_make (Ok code) pages s =
     within_if (code == 255) s _ _ (within_told s message.NoSpace) (within_same s)
 
-within_made : (system : Disk) (pages : ℕ) (s : Session) → Within s (made system pages s)
-unfolding made
+within_made : (system : Disk) (pages : ℕ) (s : Session) → Within s (file_made system pages s)
+unfolding file_made
 within_made system pages s =
     let c = make_file s.disks system s.file own_record in within_after_make c.answer pages (with_call s c)
 
 within_after_erase : (a : Result ℕ Failure) (system : Disk) (pages : ℕ) (s : Session) → Within s (after_erase a system pages s)
-within_after_erase (Err which) system pages s = within_fault s which (drive_of s)
+within_after_erase (Err which) system pages s = within_fault s which (command_drive s)
 within_after_erase (Ok code) system pages s = within_made system pages s
 
 within_save_begun : (system : Disk) (pages : ℕ) (file : Fcb) (s : Session) → Within s (save_begun system pages file s)
 unfolding save_begun
 within_save_begun system pages file s =
     let c = erase_files s.disks system file own_record in
-    within_after_erase c.answer system pages (with_disks (on_file s file) c.disks)
+    within_after_erase c.answer system pages (with_call_disks (on_file s file) c.disks)
 
 within_after_write : (a : Result ℕ Failure) (next left : ℕ) (s : Session) → Within s (after_save_write a next left s)
-within_after_write (Err which) next left s = within_fault s which (drive_of s)
+within_after_write (Err which) next left s = within_fault s which (command_drive s)
 within_after_write (Ok code) next left s =
     within_if (code == 0) s _ _ (within_same s) (within_told s message.NoSpace)
 
@@ -209,18 +209,18 @@ within_saved system next left bytes s =
     within_after_write c.answer next left (with_call s c)
 
 within_after_close : (a : Result ℕ Failure) (s : Session) → Within s (after_save_close a s)
-within_after_close (Err which) s = within_fault s which (drive_of s)
+within_after_close (Err which) s = within_fault s which (command_drive s)
 within_after_close (Ok code) s = within_same s
 
-within_closed : (system : Disk) (s : Session) → Within s (closed system s)
-unfolding closed
+within_closed : (system : Disk) (s : Session) → Within s (file_closed system s)
+unfolding file_closed
 within_closed system s =
     let c = close_file s.disks system s.file own_record in within_after_close c.answer (with_call s c)
 
 -- ---- TYPE
 
 within_after_open : (a : Result ℕ Failure) (s : Session) → Within s (after_type_open a s)
-within_after_open (Err which) s = within_fault s which (drive_of s)
+within_after_open (Err which) s = within_fault s which (command_drive s)
 within_after_open (Ok code) s =
     within_if (code == 255) s _ _ (within_told s message.NoFile) (within_says s (13 ∷ 10 ∷ []) (omega arith))
 
@@ -238,18 +238,18 @@ within_wrote_all t (c ∷ cs) =
     let rest = within_wrote_all (said t (expanded t.column c)) cs in
     record { screen = omega (arith, one.screen, rest.screen); printer = omega (arith, one.printer, rest.printer) }
 
-length-text_of : (bytes : List ℕ) → length (text_of bytes) ≤ length bytes
+length-text_of : (bytes : List ℕ) → length (record_text bytes) ≤ length bytes
 length-text_of bytes = simp (length-take) (omega arith)
 
 within_record_shown : (bytes : List ℕ) (s : Session) → length bytes ≤ 128 → Within s (record_shown bytes s)
 within_record_shown bytes s few =
-    let all = within_wrote_all s.console (text_of bytes) in
+    let all = within_wrote_all s.console (record_text bytes) in
     let short = length-text_of bytes in
-    let shows : IsWithin 4096 s.console (wrote_all s.console (text_of bytes)) = record { screen = omega (arith, all.screen); printer = omega (arith, all.printer) } in
+    let shows : IsWithin 4096 s.console (wrote_all s.console (record_text bytes)) = record { screen = omega (arith, all.screen); printer = omega (arith, all.printer) } in
     within_if (ends_in bytes) s _ _ shows shows
 
 within_after_read : (a : Result ℕ Failure) (bytes : List ℕ) (s : Session) → length bytes ≤ 128 → Within s (after_type_read a bytes s)
-within_after_read (Err which) bytes s few = within_fault s which (drive_of s)
+within_after_read (Err which) bytes s few = within_fault s which (command_drive s)
 within_after_read (Ok code) bytes s few =
     within_if (code == 0) s _ _ (within_record_shown bytes s few) (within_same s)
 
@@ -260,7 +260,7 @@ within_next_shown : (system : Disk) (s : Session) → Within s (next_shown syste
 unfolding next_shown
 within_next_shown system s =
     let c = read_next s.disks system s.file own_record in
-    within_after_read c.answer (record_of c) (with_call s c) (length-record c.buffer)
+    within_after_read c.answer (record_read c) (with_call s c) (length-record c.buffer)
 
 within_shown_on : (system : Disk) (s : Session) → Within s (shown_on system s)
 unfolding shown_on
@@ -271,12 +271,12 @@ within_shown_on system s =
 
 within_unknown : (s : Session) → length s.line.characters ≤ 255 → Within s (unknown s)
 within_unknown s few =
-    let short = first_word-le (line_of s) in
+    let short = first_word-le (typed_line s) in
     let size = length-line_of s in
-    within_says s (13 ∷ 10 ∷ (first_word (line_of s) ++ (63 ∷ []))) (omega (arith, length-append (first_word (line_of s)) (63 ∷ [])))
+    within_says s (13 ∷ 10 ∷ (first_word (typed_line s) ++ (63 ∷ []))) (omega (arith, length-append (first_word (typed_line s)) (63 ∷ [])))
 
 within_opened : (a : Result ℕ Failure) (s : Session) → length s.line.characters ≤ 255 → Within s (loading.after_load_open a s)
-within_opened (Err which) s few = within_fault s which (drive_of s)
+within_opened (Err which) s few = within_fault s which (command_drive s)
 within_opened (Ok code) s few = within_if (code == 255) s _ _ (within_unknown s few) (within_same s)
 
 within_load_begun : (system : Disk) (file : Fcb) (s : Session) → length s.line.characters ≤ 255 → Within s (load_begun system file s)
@@ -286,12 +286,12 @@ within_load_begun system file s few =
 
 bounded_started : (s : Session) (m : Contents) → length s.line.characters ≤ 255 → IsBounded s m (started s m)
 bounded_started s m few =
-    let tail = tail_of (line_of s) in
-    let short = tail_of-le (line_of s) in
+    let tail = tail_of (typed_line s) in
+    let short = tail_of-le (typed_line s) in
     let size = length-line_of s in
     record { pages = pages_started tail m (omega arith); limit = limit_started tail m; output = within_same s }
 
-bounded_loaded : (next : ℕ) (bytes : List ℕ) (s : Session) (m : Contents) → length bytes ≤ 128 → IsBounded s m (loaded next bytes s m)
+bounded_loaded : (next : ℕ) (bytes : List ℕ) (s : Session) (m : Contents) → length bytes ≤ 128 → IsBounded s m (record_loaded next bytes s m)
 bounded_loaded next bytes s m few =
     elim (cases_lt 58240 next) [
       | inl lt ↦ rw (lt-ltb 58240 next lt) (record { pages = omega arith; limit = refl; output = within_told s message.BadLoad })
@@ -304,7 +304,7 @@ bounded_loaded next bytes s m few =
     ]
 
 bounded_read : (a : Result ℕ Failure) (next : ℕ) (bytes : List ℕ) (s : Session) (m : Contents) → length s.line.characters ≤ 255 → length bytes ≤ 128 → IsBounded s m (loading.after_load_read a next bytes s m)
-bounded_read (Err which) next bytes s m line few = bounded_faulted s m which (drive_of s)
+bounded_read (Err which) next bytes s m line few = bounded_faulted s m which (command_drive s)
 bounded_read (Ok code) next bytes s m line few =
     bounded_if (code == 0) s m _ _ (bounded_loaded next bytes s m few) (bounded_started s m line)
 
@@ -312,7 +312,7 @@ bounded_load_record : (system : Disk) (next : ℕ) (s : Session) (m : Contents) 
 unfolding load_record
 bounded_load_record system next s m line =
     let c = read_next s.disks system s.file own_record in
-    let b = bounded_read c.answer next (record_of c) (with_call s c) m line (length-record c.buffer) in
+    let b = bounded_read c.answer next (record_read c) (with_call s c) m line (length-record c.buffer) in
     record { pages = b.pages; limit = b.limit; output = record { screen = b.output.screen; printer = b.output.printer } }
 
 -- ---- steps
@@ -334,13 +334,13 @@ bounded_begun_by typed.UserForm system s m fit = bounded_stepped s _ m (within_t
 bounded_begun_by (typed.Program file) system s m fit = bounded_stepped s _ m (within_load_begun system file s fit.characters)
 bounded_begun_by typed.Unknown system s m fit = bounded_stepped s _ m (within_unknown s fit.characters)
 
-bounded_begun : (command : Typed) (system : Disk) (s : Session) (m : Contents) → IsFit s → IsBounded s m (begun command system s m)
+bounded_begun : (command : Typed) (system : Disk) (s : Session) (m : Contents) → IsFit s → IsBounded s m (begun_command command system s m)
 bounded_begun command system s m fit =
     bounded_if (is_stopped s && looks_first command) s m _ _ (bounded_stepped s _ m (within_held s part.Begin)) (bounded_begun_by command system s m fit)
 
 bounded_in_part : (p : CommandPart) (system : Disk) (s : Session) (m : Contents) → IsFit s → IsBounded s m (in_part p system s m)
 bounded_in_part part.Line system s m fit = bounded_edit_line part.Begin s m fit
-bounded_in_part part.Begin system s m fit = bounded_begun (command_of s.disks.current (line_of s)) system s m fit
+bounded_in_part part.Begin system s m fit = bounded_begun (command_of s.disks.current (typed_line s)) system s m fit
 bounded_in_part (part.Directory next column) system s m fit = bounded_stepped s _ m (within_listed_on system next column s)
 bounded_in_part part.Answer system s m fit = bounded_edit_line part.EraseAll s m fit
 bounded_in_part part.EraseAll system s m fit = bounded_stepped s _ m (within_erased_all system s)
@@ -353,7 +353,7 @@ bounded_in_part (part.Load next) system s m fit = bounded_load_record system nex
 bounded_other : (s : Session) (m : Contents) → IsBounded s m (did s m GoesOn)
 bounded_other s m = record { pages = omega arith; limit = refl; output = within_same s }
 
-bounded_in_mode : (mode : Mode) (system : Disk) (s : Session) (m : Contents) → IsFit s → IsBounded s m (in_mode mode system s m)
+bounded_in_mode : (mode : Mode) (system : Disk) (s : Session) (m : Contents) → IsFit s → IsBounded s m (command_in_mode mode system s m)
 bounded_in_mode Program system s m fit = bounded_stepped s _ m (within_prompted system (byte_at m 4) s)
 bounded_in_mode (Text next) system s m fit = bounded_other s m
 bounded_in_mode Line system s m fit = bounded_other s m

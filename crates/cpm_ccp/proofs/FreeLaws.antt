@@ -18,14 +18,14 @@ use Rattle.cpm_bdos.specs.declared.session.Mode.TheVariants.{Program, Text, Line
 use Rattle.cpm_bdos.proofs.HoldLaws.{ReaderIsFree, free_line_step}
 use Rattle.cpm_ccp.specs.declared.command.Command.{Command as Typed}
 use Rattle.cpm_ccp.specs.declared.command.Command.TheVariants as typed
-use Rattle.cpm_ccp.specs.Parts.{is_stopped, drive_of, on_file, own_record, record_of, with_call}
-use Rattle.cpm_ccp.specs.Prompt.{prompted, after_key, drive_selected}
+use Rattle.cpm_ccp.specs.Parts.{is_stopped, command_drive, on_file, own_record, record_read, with_call}
+use Rattle.cpm_ccp.specs.Prompt.{prompted, prompt_after_key, drive_selected}
 use Rattle.cpm_ccp.specs.Listing.{has_next, list_next, shows_file, listed_on}
-use Rattle.cpm_ccp.specs.FileCommands.{by_code, erased, is_yes, erased_all, has_new_name, renamed, after_save_make, made, after_erase, save_begun, after_save_write, saved, after_save_close, closed}
+use Rattle.cpm_ccp.specs.FileCommands.{by_code, erased, is_yes, erased_all, has_new_name, renamed, after_save_make, file_made, after_erase, save_begun, after_save_write, saved, after_save_close, file_closed}
 use Rattle.cpm_ccp.specs.Showing.{after_type_open, show_begun, ends_in, after_type_read, next_shown, shows_record, shown_on}
 use Rattle.cpm_ccp.specs.Loading.{load_begun, load_record}
 use Rattle.cpm_ccp.specs.Loading as loading
-use Rattle.cpm_ccp.specs.Step.{looks_first, begun_by, in_part, in_mode}
+use Rattle.cpm_ccp.specs.Step.{looks_first, begun_by, in_part, command_in_mode}
 use Rattle.cpm_ccp.specs.Laws.{looks_for_stop, looks_in, command_now}
 
 -- a session, and a step, that is not held
@@ -62,7 +62,7 @@ free_prompted : (system : Disk) (byte : ℕ) (s : Session) → Free (prompted sy
 unfolding prompted
 free_prompted system byte s = refl
 
-step_after_key : (next : CommandPart) → ReaderIsFree (after_key next)
+step_after_key : (next : CommandPart) → ReaderIsFree (prompt_after_key next)
 step_after_key next line.GoesOn s m now = now
 step_after_key next line.Ended s m now = refl
 step_after_key next line.Interrupted s m now = refl
@@ -75,7 +75,7 @@ step_drive_selected drive s m = step_if (is_there s.disks drive) _ _ refl refl
 free_listed : (system : Disk) (from column : ℕ) (is_first : Bool) (s : Session) → Free (list_next system from column is_first s)
 unfolding list_next
 free_listed system from column is_first s =
-    free_if (not (is_there s.disks (drive_of s))) _ _ refl (free_if (has_next system from s) _ _ refl (free_if is_first _ _ refl refl))
+    free_if (not (is_there s.disks (command_drive s))) _ _ refl (free_if (has_next system from s) _ _ refl (free_if is_first _ _ refl refl))
 
 free_by_code : (a : Result ℕ Failure) (drive : ℕ) (s : Session) → Free (by_code a drive s)
 free_by_code (Err which) drive s = refl
@@ -99,8 +99,8 @@ free_after_make : (a : Result ℕ Failure) (pages : ℕ) (s : Session) → Free 
 free_after_make (Err which) pages s = refl
 free_after_make (Ok code) pages s = free_if (code == 255) _ _ refl refl
 
-free_made : (system : Disk) (pages : ℕ) (s : Session) → Free (made system pages s)
-unfolding made
+free_made : (system : Disk) (pages : ℕ) (s : Session) → Free (file_made system pages s)
+unfolding file_made
 free_made system pages s = free_after_make (make_file s.disks system s.file own_record).answer pages _
 
 free_after_erase : (a : Result ℕ Failure) (system : Disk) (pages : ℕ) (s : Session) → Free (after_erase a system pages s)
@@ -125,8 +125,8 @@ free_after_close : (a : Result ℕ Failure) (s : Session) → Free (after_save_c
 free_after_close (Err which) s = refl
 free_after_close (Ok code) s = refl
 
-free_closed : (system : Disk) (s : Session) → Free (closed system s)
-unfolding closed
+free_closed : (system : Disk) (s : Session) → Free (file_closed system s)
+unfolding file_closed
 free_closed system s = free_after_close (close_file s.disks system s.file own_record).answer _
 
 free_after_open : (a : Result ℕ Failure) (s : Session) → Free (after_type_open a s)
@@ -145,7 +145,7 @@ free_next_shown : (system : Disk) (s : Session) → Free (next_shown system s)
 unfolding next_shown
 free_next_shown system s =
     let c = read_next s.disks system s.file own_record in
-    free_after_read c.answer (record_of c) (with_call s c)
+    free_after_read c.answer (record_read c) (with_call s c)
 
 free_opened : (a : Result ℕ Failure) (s : Session) → Free (loading.after_load_open a s)
 free_opened (Err which) s = refl
@@ -163,7 +163,7 @@ step_load_record : (system : Disk) (next : ℕ) (s : Session) (m : Contents) →
 unfolding load_record
 step_load_record system next s m =
     let c = read_next s.disks system s.file own_record in
-    step_read c.answer next (record_of c) (with_call s c) m
+    step_read c.answer next (record_read c) (with_call s c) m
 
 free_listed_on : (system : Disk) (from column : ℕ) (s : Session) → is_stopped s ≡ false → Free (listed_on system from column s)
 unfolding listed_on
@@ -196,12 +196,12 @@ step_begun_by typed.Unknown system s m = refl
 
 module _ (system : Disk) (s : Session) (m : Contents) (now : Free s) where
   step_in_part : (p : CommandPart) → (is_stopped s ≡ false) ⊎ (looks_for_stop p (command_now s) ≡ false) → StepFree (in_part p system s m)
-  step_in_part part.Line h = free_line_step (after_key part.Begin) (step_after_key part.Begin) s.line s m now
+  step_in_part part.Line h = free_line_step (prompt_after_key part.Begin) (step_after_key part.Begin) s.line s m now
   step_in_part part.Begin h =
       step_unless (is_stopped s) (looks_first (command_now s)) _ _ h (step_begun_by (command_now s) system s m)
   step_in_part (part.Directory next column) (inl h) = free_listed_on system next column s h
   step_in_part (part.Directory next column) (inr h) = absurd cc
-  step_in_part part.Answer h = free_line_step (after_key part.EraseAll) (step_after_key part.EraseAll) s.line s m now
+  step_in_part part.Answer h = free_line_step (prompt_after_key part.EraseAll) (step_after_key part.EraseAll) s.line s m now
   step_in_part part.EraseAll h = free_erased_all system s
   step_in_part (part.Save next left) h = free_saved system next left (run_at m next 128) s
   step_in_part part.Close h = free_closed system s
@@ -209,7 +209,7 @@ module _ (system : Disk) (s : Session) (m : Contents) (now : Free s) where
   step_in_part part.Show (inr h) = absurd cc
   step_in_part (part.Load next) h = step_load_record system next s m
 
-  pub step_in_mode : (mode : Mode) → is_hold mode ≡ false → (is_stopped s ≡ false) ⊎ (looks_in mode (command_now s) ≡ false) → StepFree (in_mode mode system s m)
+  pub step_in_mode : (mode : Mode) → is_hold mode ≡ false → (is_stopped s ≡ false) ⊎ (looks_in mode (command_now s) ≡ false) → StepFree (command_in_mode mode system s m)
   step_in_mode Program is h = free_prompted system (byte_at m 4) s
   step_in_mode (Text next) is h = now
   step_in_mode Line is h = now

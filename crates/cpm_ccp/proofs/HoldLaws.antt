@@ -11,7 +11,7 @@ use Rattle.cpm_drives.specs.Disks.{is_there}
 use Rattle.cpm_drives.specs.Files.{read_next, next_ahead}
 use Rattle.cpm_bdos.specs.Did.{Did}
 use Rattle.cpm_bdos.specs.Faults.{in_fault}
-use Rattle.cpm_bdos.specs.Laws.{with_keys, without_keys, did_with_keys}
+use Rattle.cpm_bdos.specs.Laws.{session_with_keys, without_keys, did_with_keys}
 use Rattle.cpm_bdos.specs.declared.session.Session.{Session}
 use Rattle.cpm_bdos.specs.declared.session.CommandPart.{CommandPart}
 use Rattle.cpm_bdos.specs.declared.session.CommandPart.TheVariants as part
@@ -20,10 +20,10 @@ use Rattle.cpm_bdos.specs.declared.session.Mode.TheVariants.{Program, Command}
 use Rattle.cpm_ccp.specs.declared.command.Command.{Command as Typed}
 use Rattle.cpm_ccp.specs.declared.command.Command.TheVariants as typed
 use Rattle.cpm_ccp.specs.declared.message.Message.TheVariants as message
-use Rattle.cpm_ccp.specs.Parts.{stepped, is_stopped, held_at_part, on_file, own_record, record_of, drive_of, with_call}
+use Rattle.cpm_ccp.specs.Parts.{stepped, is_stopped, held_at_part, on_file, own_record, record_read, command_drive, with_call}
 use Rattle.cpm_ccp.specs.Listing.{entries_listed, next_listed, has_next, file_shown, drive_used, list_next, shows_file, listed_on}
-use Rattle.cpm_ccp.specs.Showing.{text_of, ends_in, wrote_all, record_shown, after_type_read, next_shown, shows_record, shown_on}
-use Rattle.cpm_ccp.specs.Step.{looks_first, begun_by, in_part, in_mode}
+use Rattle.cpm_ccp.specs.Showing.{record_text, ends_in, wrote_all, record_shown, after_type_read, next_shown, shows_record, shown_on}
+use Rattle.cpm_ccp.specs.Step.{looks_first, begun_by, in_part, command_in_mode}
 use Rattle.cpm_ccp.specs.Laws.{command_now, looks_for_stop, IsInUse, IsReadyFor, IsHeldRight}
 use Rattle.cpm_ccp.proofs.ShownLemmas.{Grows, Stays, grows_told, listed_first, listed_grows, listed_stays, begun_grows, record_grows_ahead, record_stays_ahead}
 use Rattle.cpm_ccp.proofs.FreeLaws.{step_in_mode}
@@ -31,22 +31,22 @@ use Rattle.cpm_ccp.proofs.FreeLaws.{step_in_mode}
 -- ---- a part of DIR or TYPE does the same whatever keys are pending
 
 module _ (keys : List ℕ) where
-  keys_if : (b : Bool) (x y x' y' : Session) → x' ≡ with_keys keys x → y' ≡ with_keys keys y → (if b then x' else y') ≡ with_keys keys (if b then x else y)
+  keys_if : (b : Bool) (x y x' y' : Session) → x' ≡ session_with_keys keys x → y' ≡ session_with_keys keys y → (if b then x' else y') ≡ session_with_keys keys (if b then x else y)
   keys_if true x y x' y' ex ey = ex
   keys_if false x y x' y' ex ey = ey
 
-  keys_fault : (s : Session) (which : Failure) (drive : ℕ) → in_fault (with_keys keys s) which drive ≡ with_keys keys (in_fault s which drive)
+  keys_fault : (s : Session) (which : Failure) (drive : ℕ) → in_fault (session_with_keys keys s) which drive ≡ session_with_keys keys (in_fault s which drive)
   unfolding shown
   keys_fault s which drive = refl
 
-  keys_file_shown : (index column : ℕ) (name : List ℕ) (s : Session) → file_shown index column name (with_keys keys s) ≡ with_keys keys (file_shown index column name s)
+  keys_file_shown : (index column : ℕ) (name : List ℕ) (s : Session) → file_shown index column name (session_with_keys keys s) ≡ session_with_keys keys (file_shown index column name s)
   unfolding said
   keys_file_shown index column name s = refl
 
-  keys_listed : (system : Disk) (from column : ℕ) (s : Session) → list_next system from column false (with_keys keys s) ≡ with_keys keys (list_next system from column false s)
+  keys_listed : (system : Disk) (from column : ℕ) (s : Session) → list_next system from column false (session_with_keys keys s) ≡ session_with_keys keys (list_next system from column false s)
   unfolding list_next has_next next_listed
   keys_listed system from column s =
-      keys_if (not (is_there s.disks (drive_of s))) _ _ _ _ (keys_fault s failure.Select (drive_of s)) (keys_if (has_next system from s) _ _ _ _ (keys_file_shown (next_listed system from s) column (entry_at (entries_listed system s) (next_listed system from s)).extent.name (drive_used system s)) refl)
+      keys_if (not (is_there s.disks (command_drive s))) _ _ _ _ (keys_fault s failure.Select (command_drive s)) (keys_if (has_next system from s) _ _ _ _ (keys_file_shown (next_listed system from s) column (entry_at (entries_listed system s) (next_listed system from s)).extent.name (drive_used system s)) refl)
 
   keys_said : (t : Terminal) (text : List ℕ) → said (record t { keys = keys }) text ≡ record (said t text) { keys = keys }
   unfolding said
@@ -58,21 +58,21 @@ module _ (keys : List ℕ) where
   keys_wrote_all t (c ∷ cs) =
       ap (λ (u : Terminal). wrote_all u cs) (keys_said t (expanded t.column c)) ∙ keys_wrote_all (said t (expanded t.column c)) cs
 
-  keys_record_shown : (bytes : List ℕ) (s : Session) → record_shown bytes (with_keys keys s) ≡ with_keys keys (record_shown bytes s)
+  keys_record_shown : (bytes : List ℕ) (s : Session) → record_shown bytes (session_with_keys keys s) ≡ session_with_keys keys (record_shown bytes s)
   keys_record_shown bytes s =
-      let wrote = keys_wrote_all s.console (text_of bytes) in
+      let wrote = keys_wrote_all s.console (record_text bytes) in
       keys_if (ends_in bytes) _ _ _ _ (ap (λ (t : Terminal). record s { console = t; mode = Program }) wrote) (ap (λ (t : Terminal). record s { console = t; mode = Command part.Show }) wrote)
 
-  keys_after_read : (a : Result ℕ Failure) (bytes : List ℕ) (s : Session) → after_type_read a bytes (with_keys keys s) ≡ with_keys keys (after_type_read a bytes s)
-  keys_after_read (Err which) bytes s = keys_fault s which (drive_of s)
+  keys_after_read : (a : Result ℕ Failure) (bytes : List ℕ) (s : Session) → after_type_read a bytes (session_with_keys keys s) ≡ session_with_keys keys (after_type_read a bytes s)
+  keys_after_read (Err which) bytes s = keys_fault s which (command_drive s)
   keys_after_read (Ok code) bytes s =
       keys_if (code == 0) _ _ _ _ (keys_record_shown bytes s) refl
 
-  keys_next_shown : (system : Disk) (s : Session) → next_shown system (with_keys keys s) ≡ with_keys keys (next_shown system s)
+  keys_next_shown : (system : Disk) (s : Session) → next_shown system (session_with_keys keys s) ≡ session_with_keys keys (next_shown system s)
   unfolding next_shown
   keys_next_shown system s =
       let c = read_next s.disks system s.file own_record in
-      keys_after_read c.answer (record_of c) (with_call s c)
+      keys_after_read c.answer (record_read c) (with_call s c)
 
 -- ---- a step that looks
 
@@ -144,9 +144,9 @@ module _ (system : Disk) (s : Session) (m : Contents) (stop : is_stopped s ≡ t
     unfolding listed_on
     file_listed h = goes_so (is_stopped s) (shows_file system from s) _ _ h
 
-    file_goes : shows_file system from s ≡ false → listed_on system from column s ≡ with_keys s.console.keys (listed_on system from column (without_keys s))
+    file_goes : shows_file system from s ≡ false → listed_on system from column s ≡ session_with_keys s.console.keys (listed_on system from column (without_keys s))
     file_goes h =
-        file_listed h ∙ (keys_listed s.console.keys system from column (without_keys s) ∙ ap (with_keys s.console.keys) (sym (free_listed system from column s)))
+        file_listed h ∙ (keys_listed s.console.keys system from column (without_keys s) ∙ ap (session_with_keys s.console.keys) (sym (free_listed system from column s)))
 
   -- ---- each record of TYPE
   module _ (in_use : IsInUse system s) where
@@ -165,9 +165,9 @@ module _ (system : Disk) (s : Session) (m : Contents) (stop : is_stopped s ≡ t
     unfolding shown_on
     record_read h = goes_so (is_stopped s) (shows_record (next_ahead s.disks system s.file)) _ _ h
 
-    record_goes : shows_record (next_ahead s.disks system s.file) ≡ false → shown_on system s ≡ with_keys s.console.keys (shown_on system (without_keys s))
+    record_goes : shows_record (next_ahead s.disks system s.file) ≡ false → shown_on system s ≡ session_with_keys s.console.keys (shown_on system (without_keys s))
     record_goes h =
-        record_read h ∙ (keys_next_shown s.console.keys system (without_keys s) ∙ ap (with_keys s.console.keys) (sym (free_shown system s)))
+        record_read h ∙ (keys_next_shown s.console.keys system (without_keys s) ∙ ap (session_with_keys s.console.keys) (sym (free_shown system s)))
 
   -- ---- parts
 
@@ -199,10 +199,10 @@ module _ (system : Disk) (s : Session) (m : Contents) (stop : is_stopped s ≡ t
       ap (λ (t : Session). stepped t m) (record_goes in_use ((record_ahead in_use).1 h))
   part_silent (part.Load next) looks in_use h = absurd cc
 
-  mode_held : (mode : Mode) (p : CommandPart) → mode ≡ Command p → looks_for_stop p (command_now s) ≡ true → IsReadyFor p system s → (in_mode mode system (without_keys s) m).session.console.screen ≢ s.console.screen → in_mode mode system s m ≡ stepped (held_at_part s p) m
+  mode_held : (mode : Mode) (p : CommandPart) → mode ≡ Command p → looks_for_stop p (command_now s) ≡ true → IsReadyFor p system s → (command_in_mode mode system (without_keys s) m).session.console.screen ≢ s.console.screen → command_in_mode mode system s m ≡ stepped (held_at_part s p) m
   mode_held mode p is looks in_use h = rw is (part_held p looks in_use (rw is at h))
 
-  mode_silent : (mode : Mode) (p : CommandPart) → mode ≡ Command p → looks_for_stop p (command_now s) ≡ true → IsReadyFor p system s → (in_mode mode system (without_keys s) m).session.console.screen ≡ s.console.screen → in_mode mode system s m ≡ did_with_keys s.console.keys (in_mode mode system (without_keys s) m)
+  mode_silent : (mode : Mode) (p : CommandPart) → mode ≡ Command p → looks_for_stop p (command_now s) ≡ true → IsReadyFor p system s → (command_in_mode mode system (without_keys s) m).session.console.screen ≡ s.console.screen → command_in_mode mode system s m ≡ did_with_keys s.console.keys (command_in_mode mode system (without_keys s) m)
   mode_silent mode p is looks in_use h = rw is (part_silent p looks in_use (rw is at h))
 
 pub IsHeldRight-now : (system : Disk) (s : Session) (m : Contents) → IsHeldRight system s m

@@ -22,11 +22,11 @@ use Rattle.cpm_bdos.specs.declared.session.Session.{Session}
 use Rattle.cpm_bdos.specs.declared.session.CommandPart.TheVariants as part
 use Rattle.cpm_bdos.specs.declared.session.Mode.{Mode}
 use Rattle.cpm_bdos.specs.declared.session.Mode.TheVariants.{Command}
-use Rattle.cpm_ccp.specs.Parts.{is_stopped, own_record, record_of, drive_of, with_call}
+use Rattle.cpm_ccp.specs.Parts.{is_stopped, own_record, record_read, command_drive, with_call}
 use Rattle.cpm_ccp.specs.Showing.{show_begun, ends_in, after_type_read, next_shown, shows_record, shown_on}
 use Rattle.cpm_ccp.specs.Showing as showing
 use Rattle.cpm_ccp.specs.Laws.{command_now, IsMarked, KeepsMarks}
-use Rattle.cpm_ccp.specs.Step.{looks_first, begun_by, in_mode}
+use Rattle.cpm_ccp.specs.Step.{looks_first, begun_by, command_in_mode}
 use Rattle.cpm_ccp.specs.declared.command.Command.{Command as Typed}
 use Rattle.cpm_ccp.specs.declared.command.Command.TheVariants as typed
 
@@ -129,13 +129,13 @@ called_if false c d hc hd = hd
 marked_call : (system : Disk) (s : Session) → IsMarked s → Marked (read_next s.disks system s.file own_record).disks (read_next s.disks system s.file own_record).fcb.drive
 unfolding read_next on_named_drive
 marked_call system s h =
-    called_if (is_there s.disks (drive_of s)) _ _ (marked_there (read_next_on s.disks.user s.file own_record) s.disks system s.file.drive (read_keeps s.disks.user s.file own_record)) h
+    called_if (is_there s.disks (command_drive s)) _ _ (marked_there (read_next_on s.disks.user s.file own_record) s.disks system s.file.drive (read_keeps s.disks.user s.file own_record)) h
 
 marked_next : (system : Disk) (s : Session) → IsMarked s → IsMarked (next_shown system s)
 unfolding next_shown
 marked_next system s h =
     let c = read_next s.disks system s.file own_record in
-    marked_read c.answer (record_of c) (with_call s c) (marked_call system s h)
+    marked_read c.answer (record_read c) (with_call s c) (marked_call system s h)
 
 pub marked_shown : (system : Disk) (s : Session) → IsMarked s → IsMarked (shown_on system s)
 unfolding shown_on
@@ -153,11 +153,11 @@ begun_marked true held command file system s m stop is shows = absurd cc
 begun_marked false held command file system s m stop is shows =
     rw is (marked_begun system file s (rw is at shows))
 
-mode_begun : (mode : Mode) (file : Fcb) (system : Disk) (s : Session) (m : Contents) → mode ≡ Command part.Begin → command_now s ≡ typed.TypeFile file → is_stopped s ≡ false → (in_mode mode system s m).session.mode ≡ Command part.Show → IsMarked (in_mode mode system s m).session
+mode_begun : (mode : Mode) (file : Fcb) (system : Disk) (s : Session) (m : Contents) → mode ≡ Command part.Begin → command_now s ≡ typed.TypeFile file → is_stopped s ≡ false → (command_in_mode mode system s m).session.mode ≡ Command part.Show → IsMarked (command_in_mode mode system s m).session
 mode_begun mode file system s m is command stop shows =
     rw is (begun_marked (is_stopped s) _ (command_now s) file system s m stop command (rw is at shows))
 
-mode_shown : (mode : Mode) (system : Disk) (s : Session) (m : Contents) → mode ≡ Command part.Show → IsMarked s → IsMarked (in_mode mode system s m).session
+mode_shown : (mode : Mode) (system : Disk) (s : Session) (m : Contents) → mode ≡ Command part.Show → IsMarked s → IsMarked (command_in_mode mode system s m).session
 mode_shown mode system s m is h = rw is (marked_shown system s h)
 
 pub KeepsMarks-now : (system : Disk) (s : Session) (m : Contents) → KeepsMarks system s m

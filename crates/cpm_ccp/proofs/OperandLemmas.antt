@@ -6,8 +6,8 @@ use Rattle.cpm_volume.specs.declared.fcb.Fcb.{Fcb}
 use Rattle.cpm_volume.specs.Files.{has_wildcard}
 use Rattle.cpm_directory.specs.CommandLine.{is_drive, fcb_named}
 use Rattle.cpm_ccp.specs.Words.{is_drive_alone, number_up_to}
-use Rattle.cpm_ccp.specs.Names.{is_command_name, is_every, program_file}
-use Rattle.cpm_ccp.specs.Command.{HasOperands, built_in_of, by_name, directory_of, erase_of, is_elsewhere, meaning, rename_of, rename_command, save_of, save_command, type_of, user_numbered, user_of}
+use Rattle.cpm_ccp.specs.Names.{is_program_name, is_every, program_file}
+use Rattle.cpm_ccp.specs.Command.{HasOperands, built_in_of, by_name, directory_command, erase_of, is_elsewhere, command_meaning, rename_of, rename_command, save_of, save_command, type_command, user_numbered, user_of}
 use Rattle.cpm_ccp.specs.declared.built_in.BuiltIn.{BuiltIn}
 use Rattle.cpm_ccp.specs.declared.built_in.BuiltIn.TheVariants as built_in
 use Rattle.cpm_ccp.specs.declared.command.Command.TheVariants.{Erase, EraseAll, RenameForm, Rename, TypeFile, TypeForm, SaveForm, Save}
@@ -78,15 +78,15 @@ last_fails true false w is = absurd (cc)
 last_fails true true true is = absurd (cc)
 last_fails true true false is = refl
 
-program-fits : (file : Fcb) → 8 ≤ length file.extent.name → is_command_name file ≡ true
+program-fits : (file : Fcb) → 8 ≤ length file.extent.name → is_program_name file ≡ true
     → (drop 8 (program_file file).extent.name ≡ codes "COM") × (has_wildcard (program_file file).extent.name ≡ false)
-unfolding program_file is_command_name has_wildcard
+unfolding program_file is_program_name has_wildcard
 program-fits file eight named =
     (behind_front 8 file.extent.name (codes "COM") eight, wildcard-kept 8 file.extent.name (codes "COM") (last_fails _ _ _ named) refl)
 
-by_name-fits : (current : ℕ) (file : Fcb) (tail : List ℕ) (found : Option BuiltIn) → 8 ≤ length file.extent.name → is_command_name file ≡ true
+by_name-fits : (current : ℕ) (file : Fcb) (tail : List ℕ) (found : Option BuiltIn) → 8 ≤ length file.extent.name → is_program_name file ≡ true
     → HasOperands (by_name current file tail found)
-unfolding by_name directory_of erase_of rename_of save_of type_of user_of
+unfolding by_name directory_command erase_of rename_of save_of type_command user_of
 by_name-fits current file tail None eight named = program-fits file eight named
 by_name-fits current file tail (Some built_in.Dir) eight named = tt
 by_name-fits current file tail (Some built_in.Era) eight named = erased (fcb_named tail) _ refl
@@ -95,5 +95,5 @@ by_name-fits current file tail (Some built_in.Save) eight named = save_command-f
 by_name-fits current file tail (Some built_in.TypeFile) eight named = shown (fcb_named tail) _ refl
 by_name-fits current file tail (Some built_in.User) eight named = user-fits _ (number_up_to-le 15 _)
 
-pub meaning-fits : (current : ℕ) (file : Fcb) (tail : List ℕ) → 8 ≤ length file.extent.name → is_command_name file ≡ true → HasOperands (meaning current file tail)
+pub meaning-fits : (current : ℕ) (file : Fcb) (tail : List ℕ) → 8 ≤ length file.extent.name → is_program_name file ≡ true → HasOperands (command_meaning current file tail)
 meaning-fits current file tail eight named = by_name-fits current file tail (built_in_of file) eight named

@@ -31,9 +31,9 @@ use Rattle.cpm_bdos.proofs.HoldLaws.{said_grows}
 use Rattle.cpm_ccp.specs.declared.message.Message.{Message}
 use Rattle.cpm_ccp.specs.declared.message.Message.TheVariants as message
 use Rattle.cpm_ccp.specs.Message.{message_text}
-use Rattle.cpm_ccp.specs.Parts.{says, told, own_record, record_of, drive_of, with_call}
+use Rattle.cpm_ccp.specs.Parts.{says, message_told, own_record, record_read, command_drive, with_call}
 use Rattle.cpm_ccp.specs.Listing.{before_file, low_seven, file_text, entries_listed, next_listed, has_next, file_shown, drive_used, list_next, shows_file}
-use Rattle.cpm_ccp.specs.Showing.{after_type_open, show_begun, is_end, text_of, ends_in, wrote_all, record_shown, after_type_read, next_shown, shows_record}
+use Rattle.cpm_ccp.specs.Showing.{after_type_open, show_begun, ends_text, record_text, ends_in, wrote_all, record_shown, after_type_read, next_shown, shows_record}
 use Rattle.cpm_ccp.specs.Laws.{IsInUse}
 use Rattle.cpm_ccp.proofs.AheadLemmas.{same_read, Told, told_read, Wrote, wrote_read, BeginsAs, begins_after}
 
@@ -56,7 +56,7 @@ grows_says s text some same = said_grows s.console text some same
 cons_some : (x : ℕ) (xs : List ℕ) → 0 < length (x ∷ xs)
 cons_some x xs = omega arith
 
-pub grows_told : (s : Session) (words : Message) → Grows s (told s words)
+pub grows_told : (s : Session) (words : Message) → Grows s (message_told s words)
 grows_told s words same =
     grows_says s (13 ∷ 10 ∷ message_text words) (cons_some 13 (10 ∷ message_text words)) same
 
@@ -83,12 +83,12 @@ file_some column drive name =
 
 grows_file_shown : (index column : ℕ) (name : List ℕ) (s : Session) → Grows s (file_shown index column name s)
 grows_file_shown index column name s same =
-    grows_says s (file_text column (drive_of s) name) (file_some column (drive_of s) name) same
+    grows_says s (file_text column (command_drive s) name) (file_some column (command_drive s) name) same
 
 pub listed_first : (system : Disk) (from column : ℕ) (s : Session) → Grows s (list_next system from column true s)
 unfolding list_next
 listed_first system from column s =
-    grows_if (not (is_there s.disks (drive_of s))) s _ _ (grows_fault s failure.Select (drive_of s))
+    grows_if (not (is_there s.disks (command_drive s))) s _ _ (grows_fault s failure.Select (command_drive s))
     (grows_if (has_next system from s) s _ _ (grows_file_shown (next_listed system from s) column (entry_at (entries_listed system s) (next_listed system from s)).extent.name (drive_used system s)) (grows_told (drive_used system s) message.NoFile))
 
 either_grows : (gone more : Bool) (s x y z : Session) → (gone || more) ≡ true → Grows s x → Grows s y → Grows s (if gone then x else if more then y else z)
@@ -104,17 +104,17 @@ neither_grows false false s x y z h hz = hz
 pub listed_grows : (system : Disk) (from column : ℕ) (s : Session) → shows_file system from s ≡ true → Grows s (list_next system from column false s)
 unfolding list_next shows_file
 listed_grows system from column s h =
-    either_grows (not (is_there s.disks (drive_of s))) (has_next system from s) s _ _ _ h (grows_fault s failure.Select (drive_of s)) (grows_file_shown (next_listed system from s) column (entry_at (entries_listed system s) (next_listed system from s)).extent.name (drive_used system s))
+    either_grows (not (is_there s.disks (command_drive s))) (has_next system from s) s _ _ _ h (grows_fault s failure.Select (command_drive s)) (grows_file_shown (next_listed system from s) column (entry_at (entries_listed system s) (next_listed system from s)).extent.name (drive_used system s))
 
 pub listed_stays : (system : Disk) (from column : ℕ) (s : Session) → shows_file system from s ≡ false → Stays s (list_next system from column false s)
 unfolding list_next shows_file
 listed_stays system from column s h =
-    neither_grows (not (is_there s.disks (drive_of s))) (has_next system from s) s _ _ _ h refl
+    neither_grows (not (is_there s.disks (command_drive s))) (has_next system from s) s _ _ _ h refl
 
 -- ---- TYPE: the first step
 
 grows_after_open : (a : Result ℕ Failure) (s : Session) → Grows s (after_type_open a s)
-grows_after_open (Err which) s = grows_fault s which (drive_of s)
+grows_after_open (Err which) s = grows_fault s which (command_drive s)
 grows_after_open (Ok code) s =
     grows_if (code == 255) s _ _ (grows_told s message.NoFile) (grows_says s (13 ∷ 10 ∷ []) (cons_some 13 (10 ∷ [])))
 
@@ -161,18 +161,18 @@ console_if : (b : Bool) (x y : Session) (t : Terminal) → x.console ≡ t → y
 console_if true x y t hx hy = hx
 console_if false x y t hx hy = hy
 
-record_console : (bytes : List ℕ) (s : Session) → (record_shown bytes s).console ≡ wrote_all s.console (text_of bytes)
+record_console : (bytes : List ℕ) (s : Session) → (record_shown bytes s).console ≡ wrote_all s.console (record_text bytes)
 record_console bytes s =
-    console_if (ends_in bytes) _ _ (wrote_all s.console (text_of bytes)) refl refl
+    console_if (ends_in bytes) _ _ (wrote_all s.console (record_text bytes)) refl refl
 
-record_grows : (b : ℕ) (bs : List ℕ) (s : Session) → is_end b ≡ false → Grows s (record_shown (b ∷ bs) s)
+record_grows : (b : ℕ) (bs : List ℕ) (s : Session) → ends_text b ≡ false → Grows s (record_shown (b ∷ bs) s)
 record_grows b bs s h same =
-    let now : (record_shown (b ∷ bs) s).console ≡ wrote_all s.console (b ∷ text_of bs) = record_console (b ∷ bs) s ∙ ap (wrote_all s.console) (before_cons is_end b bs h) in
-    wrote_grows s.console b (text_of bs) (sym (ap (λ (t : Terminal). t.screen) now) ∙ same)
+    let now : (record_shown (b ∷ bs) s).console ≡ wrote_all s.console (b ∷ record_text bs) = record_console (b ∷ bs) s ∙ ap (wrote_all s.console) (before_cons ends_text b bs h) in
+    wrote_grows s.console b (record_text bs) (sym (ap (λ (t : Terminal). t.screen) now) ∙ same)
 
-record_stays : (b : ℕ) (bs : List ℕ) (s : Session) → is_end b ≡ true → Stays s (record_shown (b ∷ bs) s)
+record_stays : (b : ℕ) (bs : List ℕ) (s : Session) → ends_text b ≡ true → Stays s (record_shown (b ∷ bs) s)
 record_stays b bs s h =
-    let now : (record_shown (b ∷ bs) s).console ≡ s.console = record_console (b ∷ bs) s ∙ (ap (wrote_all s.console) (before_nil is_end b bs h) ∙ wrote_nothing s.console) in
+    let now : (record_shown (b ∷ bs) s).console ≡ s.console = record_console (b ∷ bs) s ∙ (ap (wrote_all s.console) (before_nil ends_text b bs h) ∙ wrote_nothing s.console) in
     ap (λ (t : Terminal). t.screen) now
 
 -- what is looked at ahead, beside what the read then gives: a fault, no record, or a record that begins as the one ahead
@@ -188,7 +188,7 @@ record EndsSo (looks : Bool) (a : Result ℕ Failure) : Type 0 where
 record GivesSo (looks : Bool) (a : Result ℕ Failure) (bytes : List ℕ) : Type 0 where
   is : a ≡ Ok 0
   size : length bytes ≡ 128
-  shows : looks ≡ not (is_end (get_or bytes 0 0))
+  shows : looks ≡ not (ends_text (get_or bytes 0 0))
 
 abbrev Agrees : Bool → Result ℕ Failure → List ℕ → Type 0
 Agrees looks a bytes = FailsSo looks a ⊎ (EndsSo looks a ⊎ GivesSo looks a bytes)
@@ -201,16 +201,16 @@ not_false : (b : Bool) → false ≡ not b → b ≡ true
 not_false true h = refl
 not_false false h = absurd cc
 
-grows_given : (bytes : List ℕ) (s : Session) → length bytes ≡ 128 → is_end (get_or bytes 0 0) ≡ false → Grows s (record_shown bytes s)
+grows_given : (bytes : List ℕ) (s : Session) → length bytes ≡ 128 → ends_text (get_or bytes 0 0) ≡ false → Grows s (record_shown bytes s)
 grows_given [] s size h = absurd (omega (arith, size))
 grows_given (b ∷ bs) s size h = record_grows b bs s h
 
-stays_given : (bytes : List ℕ) (s : Session) → length bytes ≡ 128 → is_end (get_or bytes 0 0) ≡ true → Stays s (record_shown bytes s)
+stays_given : (bytes : List ℕ) (s : Session) → length bytes ≡ 128 → ends_text (get_or bytes 0 0) ≡ true → Stays s (record_shown bytes s)
 stays_given [] s size h = absurd (omega (arith, size))
 stays_given (b ∷ bs) s size h = record_stays b bs s h
 
 agrees_grows : (looks : Bool) (a : Result ℕ Failure) (bytes : List ℕ) (s : Session) → Agrees looks a bytes → looks ≡ true → Grows s (after_type_read a bytes s)
-agrees_grows looks a bytes s (inl f) h = rw f.is (grows_fault s f.which (drive_of s))
+agrees_grows looks a bytes s (inl f) h = rw f.is (grows_fault s f.which (command_drive s))
 agrees_grows looks a bytes s (inr (inl e)) h = absurd (let x = sym h ∙ e.shows in cc)
 agrees_grows looks a bytes s (inr (inr g)) h =
     rw g.is (grows_given bytes s g.size (not_true _ (sym h ∙ g.shows)))
@@ -233,9 +233,9 @@ take_all bytes size = ap (λ n. take n bytes) (sym size) ∙ whole bytes
 same_begin : (old new : List ℕ) → BeginsAs old new → length (take 128 new) ≡ 128
 same_begin old new b = ap length (take_all new b.size) ∙ b.size
 
-same_look : (old new : List ℕ) → BeginsAs old new → not (is_end (get_or old 0 0)) ≡ not (is_end (get_or (take 128 new) 0 0))
+same_look : (old new : List ℕ) → BeginsAs old new → not (ends_text (get_or old 0 0)) ≡ not (ends_text (get_or (take 128 new) 0 0))
 same_look old new b =
-    ap (λ c. not (is_end c)) (sym b.first ∙ ap (λ (xs : List ℕ). get_or xs 0 0) (sym (take_all new b.size)))
+    ap (λ c. not (ends_text c)) (sym b.first ∙ ap (λ (xs : List ℕ). get_or xs 0 0) (sym (take_all new b.size)))
 
 -- the outcome that is looked at ahead, and the one of the read: the same answer and number
 module _ (here : Drive) (whole : IsDisk here.image) (fcb : Fcb) (buffer : List ℕ) (disk : Disk) (same : disk ≡ here.image) where
@@ -295,26 +295,26 @@ agrees_if : (b : Bool) (x : Result (List ℕ) Answer) (c d : FileCall) → Agree
 agrees_if true x c d h e = h
 agrees_if false x c d h e = inl (record { which = failure.Select; is = e; shows = refl })
 
-agrees_there : (system : Disk) (s : Session) → IsInUse system s → Agrees (shows_record (ahead (marked_drive s.disks system (drive_of s)) s.disks.user s.file)) (read_next_on s.disks.user s.file own_record (ready (drive_at s.disks system (drive_of s)))).answer (take 128 (read_next_on s.disks.user s.file own_record (ready (drive_at s.disks system (drive_of s)))).buffer)
+agrees_there : (system : Disk) (s : Session) → IsInUse system s → Agrees (shows_record (ahead (marked_drive s.disks system (command_drive s)) s.disks.user s.file)) (read_next_on s.disks.user s.file own_record (ready (drive_at s.disks system (command_drive s)))).answer (take 128 (read_next_on s.disks.user s.file own_record (ready (drive_at s.disks system (command_drive s)))).buffer)
 unfolding marked_drive drive_at
 agrees_there system s in_use =
-    let own = own_drive s.disks (drive_of s) in
+    let own = own_drive s.disks (command_drive s) in
     let drive = drive_or (system_drive s.disks system) own in
     agrees_on s.disks.user s.file own_record (drive_or (lent_drive system s.disks.system) own) (ready drive) (marked_image s.disks system own ∙ sym (ready_image drive)) (marked_protected s.disks system own in_use.protected ∙ sym (ready_protected drive)) (rw (ready_image drive) in_use.whole)
 
-agrees_now : (system : Disk) (s : Session) → IsInUse system s → Agrees (shows_record (next_ahead s.disks system s.file)) (read_next s.disks system s.file own_record).answer (record_of (read_next s.disks system s.file own_record))
+agrees_now : (system : Disk) (s : Session) → IsInUse system s → Agrees (shows_record (next_ahead s.disks system s.file)) (read_next s.disks system s.file own_record).answer (record_read (read_next s.disks system s.file own_record))
 unfolding next_ahead read_next on_named_drive
 agrees_now system s in_use =
-    agrees_if (is_there s.disks (drive_of s)) _ _ _ (agrees_there system s in_use) refl
+    agrees_if (is_there s.disks (command_drive s)) _ _ _ (agrees_there system s in_use) refl
 
 pub record_grows_ahead : (system : Disk) (s : Session) → IsInUse system s → shows_record (next_ahead s.disks system s.file) ≡ true → Grows s (next_shown system s)
 unfolding next_shown
 record_grows_ahead system s in_use h =
     let c = read_next s.disks system s.file own_record in
-    agrees_grows (shows_record (next_ahead s.disks system s.file)) c.answer (record_of c) (with_call s c) (agrees_now system s in_use) h
+    agrees_grows (shows_record (next_ahead s.disks system s.file)) c.answer (record_read c) (with_call s c) (agrees_now system s in_use) h
 
 pub record_stays_ahead : (system : Disk) (s : Session) → IsInUse system s → shows_record (next_ahead s.disks system s.file) ≡ false → Stays s (next_shown system s)
 unfolding next_shown
 record_stays_ahead system s in_use h =
     let c = read_next s.disks system s.file own_record in
-    agrees_stays (shows_record (next_ahead s.disks system s.file)) c.answer (record_of c) (with_call s c) (agrees_now system s in_use) h
+    agrees_stays (shows_record (next_ahead s.disks system s.file)) c.answer (record_read c) (with_call s c) (agrees_now system s in_use) h

@@ -3,14 +3,14 @@ use Rattle.std.proofs.Common.{◌≡◌, ℕ, ◌+◌, ◌≤◌, List, [], ◌�
 use Rattle.std.proofs.lemmas.List.{length-append, length-map}
 use Rattle.cpm_memory.specs.Contents.{Contents, touched_of, after_run}
 use Rattle.cpm_memory.proofs.Runs.{touched_of-run, limit-run}
-use Rattle.cpm_directory.specs.CommandLine.{fcb_named, rest_of}
+use Rattle.cpm_directory.specs.CommandLine.{fcb_named, text_behind_name}
 use Rattle.cpm_bdos.specs.declared.session.Session.{Session}
 use Rattle.cpm_bdos.proofs.Pages.{pages-le}
 use Rattle.cpm_ccp.specs.Capitals.{capital}
-use Rattle.cpm_ccp.specs.Parts.{line_of}
+use Rattle.cpm_ccp.specs.Parts.{typed_line}
 use Rattle.cpm_ccp.specs.Loading.{name_bytes, default_files, memory_started}
 
-pub length-line_of : (s : Session) → length (line_of s) ≡ length s.line.characters
+pub length-line_of : (s : Session) → length (typed_line s) ≡ length s.line.characters
 length-line_of s = length-map s.line.characters capital
 
 length-name_bytes : (text : List ℕ) → length (name_bytes (fcb_named text)) ≡ 16
@@ -21,7 +21,7 @@ length-default_files : (tail : List ℕ) → length (default_files tail) ≡ 33
 unfolding default_files
 length-default_files tail =
     let first = length-name_bytes tail in
-    let second = length-name_bytes (rest_of tail) in
+    let second = length-name_bytes (text_behind_name tail) in
     simp (length-append) (omega (arith, first, second))
 
 -- four runs of bytes lie in eight pages at most

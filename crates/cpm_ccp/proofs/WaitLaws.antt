@@ -22,13 +22,13 @@ use Rattle.cpm_ccp.specs.declared.command.Command.{Command as Typed}
 use Rattle.cpm_ccp.specs.declared.command.Command.TheVariants as typed
 use Rattle.cpm_ccp.specs.Command.{command_of}
 use Rattle.cpm_ccp.specs.declared.message.Message.TheVariants as message
-use Rattle.cpm_ccp.specs.Parts.{went_of, stepped, finished, told, is_stopped, held_at_part, line_of, on_file, own_record, record_of, with_call}
+use Rattle.cpm_ccp.specs.Parts.{went_of, stepped, finished, message_told, is_stopped, held_at_part, typed_line, on_file, own_record, record_read, with_call}
 use Rattle.cpm_ccp.specs.Listing.{list_next, listed_on}
-use Rattle.cpm_ccp.specs.FileCommands.{erased, asked, erased_all, renamed, save_begun, saved, closed}
+use Rattle.cpm_ccp.specs.FileCommands.{erased, all_files_asked, erased_all, renamed, save_begun, saved, file_closed}
 use Rattle.cpm_ccp.specs.Showing.{show_begun, shown_on}
-use Rattle.cpm_ccp.specs.Prompt.{prompted, after_key, edit_line, drive_selected}
+use Rattle.cpm_ccp.specs.Prompt.{prompted, prompt_after_key, edit_command_line, drive_selected}
 use Rattle.cpm_ccp.specs.Loading.{unknown, load_begun, after_load_read, load_record}
-use Rattle.cpm_ccp.specs.Step.{looks_first, begun_by, begun, in_part, in_mode}
+use Rattle.cpm_ccp.specs.Step.{looks_first, begun_by, begun_command, in_part, command_in_mode}
 use Rattle.cpm_ccp.specs.Laws.{WaitsForKeys}
 
 abbrev Goes : Did → Type 0
@@ -51,7 +51,7 @@ went_goes (Command part) e = cc
 goes_stepped : (s : Session) (m : Contents) → Goes (stepped s m)
 goes_stepped s m = went_goes s.mode
 
-goes_after_key : (next : CommandPart) → ReaderGoes (after_key next)
+goes_after_key : (next : CommandPart) → ReaderGoes (prompt_after_key next)
 goes_after_key next line.GoesOn s m = λ e. cc
 goes_after_key next line.Ended s m = λ e. cc
 goes_after_key next line.Interrupted s m = λ e. cc
@@ -68,33 +68,33 @@ goes_load_record : (system : Disk) (next : ℕ) (s : Session) (m : Contents) →
 unfolding load_record
 goes_load_record system next s m =
     let c = read_next s.disks system s.file own_record in
-    goes_after_read c.answer next (record_of c) (with_call s c) m
+    goes_after_read c.answer next (record_read c) (with_call s c) m
 
 goes_begun_by : (command : Typed) (system : Disk) (s : Session) (m : Contents) → Goes (begun_by command system s m)
 goes_begun_by typed.Nothing system s m = goes_stepped (finished s) m
 goes_begun_by (typed.SelectDrive drive) system s m = goes_drive_selected drive s m
 goes_begun_by (typed.Directory file) system s m = goes_stepped (list_next system 0 0 true (on_file s file)) m
 goes_begun_by (typed.Erase file) system s m = goes_stepped (erased system file s) m
-goes_begun_by (typed.EraseAll file) system s m = goes_stepped (asked file s) m
+goes_begun_by (typed.EraseAll file) system s m = goes_stepped (all_files_asked file s) m
 goes_begun_by (typed.Rename old new) system s m = goes_stepped (renamed system old new s) m
-goes_begun_by typed.RenameForm system s m = goes_stepped (told s message.RenameForm) m
+goes_begun_by typed.RenameForm system s m = goes_stepped (message_told s message.RenameForm) m
 goes_begun_by (typed.Save pages file) system s m = goes_stepped (save_begun system pages file s) m
-goes_begun_by typed.SaveForm system s m = goes_stepped (told s message.SaveForm) m
+goes_begun_by typed.SaveForm system s m = goes_stepped (message_told s message.SaveForm) m
 goes_begun_by (typed.TypeFile file) system s m = goes_stepped (show_begun system file s) m
-goes_begun_by typed.TypeForm system s m = goes_stepped (told s message.TypeForm) m
+goes_begun_by typed.TypeForm system s m = goes_stepped (message_told s message.TypeForm) m
 goes_begun_by (typed.User user) system s m = λ e. cc
-goes_begun_by typed.UserForm system s m = goes_stepped (told s message.UserForm) m
+goes_begun_by typed.UserForm system s m = goes_stepped (message_told s message.UserForm) m
 goes_begun_by (typed.Program file) system s m = goes_stepped (load_begun system file s) m
 goes_begun_by typed.Unknown system s m = goes_stepped (unknown s) m
 
-goes_begun : (command : Typed) (system : Disk) (s : Session) (m : Contents) → Goes (begun command system s m)
+goes_begun : (command : Typed) (system : Disk) (s : Session) (m : Contents) → Goes (begun_command command system s m)
 goes_begun command system s m =
     goes_if (is_stopped s && looks_first command) _ _ (goes_stepped (held_at_part s part.Begin) m) (goes_begun_by command system s m)
 
 -- ---- lines
 
-edit_line_waits : (next : CommandPart) (s : Session) (m : Contents) → IsWait (is_open s.line && not (is_some (first_key s))) s m (edit_line next s m)
-edit_line_waits next s m = line_step_waits (after_key next) (goes_after_key next) s.line s m
+edit_line_waits : (next : CommandPart) (s : Session) (m : Contents) → IsWait (is_open s.line && not (is_some (first_key s))) s m (edit_command_line next s m)
+edit_line_waits next s m = line_step_waits (prompt_after_key next) (goes_after_key next) s.line s m
 
 -- ---- parts
 
@@ -115,18 +115,18 @@ part_waits (part.Load next) system s m h = absurd (never (first_key s) h)
 
 part_goes : (p : CommandPart) (system : Disk) (s : Session) (m : Contents) → (part_needs_key p s && not (is_some (first_key s))) ≡ false → Goes (in_part p system s m)
 part_goes part.Line system s m h = (edit_line_waits part.Begin s m).elsewhere h
-part_goes part.Begin system s m h = goes_begun (command_of s.disks.current (line_of s)) system s m
+part_goes part.Begin system s m h = goes_begun (command_of s.disks.current (typed_line s)) system s m
 part_goes (part.Directory next column) system s m h = goes_stepped (listed_on system next column s) m
 part_goes part.Answer system s m h = (edit_line_waits part.EraseAll s m).elsewhere h
 part_goes part.EraseAll system s m h = goes_stepped (erased_all system s) m
 part_goes (part.Save next left) system s m h = goes_stepped (saved system next left (run_at m next 128) s) m
-part_goes part.Close system s m h = goes_stepped (closed system s) m
+part_goes part.Close system s m h = goes_stepped (file_closed system s) m
 part_goes part.Show system s m h = goes_stepped (shown_on system s) m
 part_goes (part.Load next) system s m h = goes_load_record system next s m
 
 -- ---- modes
 
-mode_waits : (mode : Mode) (system : Disk) (s : Session) (m : Contents) → is_command mode ≡ true → (needs_key mode s m && not (is_some (first_key s))) ≡ true → in_mode mode system s m ≡ did s m Waits
+mode_waits : (mode : Mode) (system : Disk) (s : Session) (m : Contents) → is_command mode ≡ true → (needs_key mode s m && not (is_some (first_key s))) ≡ true → command_in_mode mode system s m ≡ did s m Waits
 mode_waits Program system s m is h = absurd cc
 mode_waits (Text next) system s m is h = absurd cc
 mode_waits Line system s m is h = absurd cc
@@ -134,7 +134,7 @@ mode_waits (Hold held) system s m is h = absurd cc
 mode_waits Fault system s m is h = absurd cc
 mode_waits (Command p) system s m is h = part_waits p system s m h
 
-mode_goes : (mode : Mode) (system : Disk) (s : Session) (m : Contents) → is_command mode ≡ true → (needs_key mode s m && not (is_some (first_key s))) ≡ false → Goes (in_mode mode system s m)
+mode_goes : (mode : Mode) (system : Disk) (s : Session) (m : Contents) → is_command mode ≡ true → (needs_key mode s m && not (is_some (first_key s))) ≡ false → Goes (command_in_mode mode system s m)
 mode_goes Program system s m is h = absurd cc
 mode_goes (Text next) system s m is h = absurd cc
 mode_goes Line system s m is h = absurd cc
@@ -142,7 +142,7 @@ mode_goes (Hold held) system s m is h = absurd cc
 mode_goes Fault system s m is h = absurd cc
 mode_goes (Command p) system s m is h = part_goes p system s m h
 
-prompt_goes : (mode : Mode) (system : Disk) (s : Session) (m : Contents) → mode ≡ Program → Goes (in_mode mode system s m)
+prompt_goes : (mode : Mode) (system : Disk) (s : Session) (m : Contents) → mode ≡ Program → Goes (command_in_mode mode system s m)
 prompt_goes mode system s m is = rw is (goes_stepped (prompted system (byte_at m 4) s) m)
 
 pub WaitsForKeys-now : (system : Disk) (s : Session) (m : Contents) → WaitsForKeys system s m

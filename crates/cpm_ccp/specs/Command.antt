@@ -3,9 +3,9 @@ use Rattle.std.specs.Prelude.{◌≡◌, ◌<◌, ℕ, ◌-◌, ◌==◌, ◌&&�
 use Rattle.std.specs.Str.{bytes_eq}
 use Rattle.cpm_volume.specs.declared.fcb.Fcb.{Fcb}
 use Rattle.cpm_volume.specs.Files.{has_wildcard}
-use Rattle.cpm_directory.specs.CommandLine.{after_spaces, fcb_named, rest_of}
+use Rattle.cpm_directory.specs.CommandLine.{after_spaces, fcb_named, text_behind_name}
 use Rattle.cpm_ccp.specs.Words.{first_word, tail_of, is_drive_alone, number_up_to}
-use Rattle.cpm_ccp.specs.Names.{all_of, is_blank, is_command_name, is_every, program_file}
+use Rattle.cpm_ccp.specs.Names.{all_of, is_unnamed, is_program_name, is_every, program_file}
 use Rattle.cpm_ccp.specs.declared.built_in.BuiltIn.{BuiltIn}
 use Rattle.cpm_ccp.specs.declared.built_in.BuiltIn.TheVariants as built_in
 use Rattle.cpm_ccp.specs.declared.command.Command.{Command}
@@ -24,8 +24,8 @@ built_in_of file =
     else None
 
 -- section 1, DIR: no name stands for all files
-unfoldable pub directory_of : List ℕ → Command
-directory_of tail = let file = fcb_named tail in Directory (if is_blank file then all_of file else file)
+unfoldable pub directory_command : List ℕ → Command
+directory_command tail = let file = fcb_named tail in Directory (if is_unnamed file then all_of file else file)
 
 -- section 1, ERA: all files are asked for
 unfoldable pub erase_of : List ℕ → Command
@@ -55,7 +55,7 @@ rename_command current new (Some text) =
     else Rename (record old { drive = new.drive }) new
 
 unfoldable pub rename_of : ℕ → List ℕ → Command
-rename_of current tail = rename_command current (fcb_named tail) (behind_equals (rest_of tail))
+rename_of current tail = rename_command current (fcb_named tail) (behind_equals (text_behind_name tail))
 
 -- section 1, SAVE: a number of pages and one file; own: 0 to 255 pages
 unfoldable pub save_command : Option ℕ → Fcb → Command
@@ -66,8 +66,8 @@ unfoldable pub save_of : List ℕ → Command
 save_of tail = save_command (number_up_to 255 (first_word tail)) (fcb_named (tail_of tail))
 
 -- section 1, TYPE: one file
-unfoldable pub type_of : List ℕ → Command
-type_of tail = let file = fcb_named tail in if has_wildcard file.extent.name then TypeForm else TypeFile file
+unfoldable pub type_command : List ℕ → Command
+type_command tail = let file = fcb_named tail in if has_wildcard file.extent.name then TypeForm else TypeFile file
 
 -- section 1, USER: 0 to 15
 unfoldable pub user_numbered : Option ℕ → Command
@@ -79,16 +79,16 @@ user_of tail = user_numbered (number_up_to 15 (first_word tail))
 
 -- what a command does that has this name and this tail
 unfoldable pub by_name : ℕ → Fcb → List ℕ → Option BuiltIn → Command
-by_name current file tail (Some built_in.Dir) = directory_of tail
+by_name current file tail (Some built_in.Dir) = directory_command tail
 by_name current file tail (Some built_in.Era) = erase_of tail
 by_name current file tail (Some built_in.Ren) = rename_of current tail
 by_name current file tail (Some built_in.Save) = save_of tail
-by_name current file tail (Some built_in.TypeFile) = type_of tail
+by_name current file tail (Some built_in.TypeFile) = type_command tail
 by_name current file tail (Some built_in.User) = user_of tail
 by_name current file tail None = Program (program_file file)
 
-abbrev pub meaning : ℕ → Fcb → List ℕ → Command
-meaning current file tail = by_name current file tail (built_in_of file)
+abbrev pub command_meaning : ℕ → Fcb → List ℕ → Command
+command_meaning current file tail = by_name current file tail (built_in_of file)
 
 -- the command of a line, with this current drive
 unfoldable pub command_of : ℕ → List ℕ → Command
@@ -98,7 +98,7 @@ command_of current line =
     let file = fcb_named word in
     if length word == 0 then Nothing
     else if is_drive_alone word tail then SelectDrive (slice_index word 0 - 0x41)
-    else if is_command_name file then meaning current file tail
+    else if is_program_name file then command_meaning current file tail
     else Unknown
 
 -- what the operands are like, whatever the line

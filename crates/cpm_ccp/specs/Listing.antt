@@ -10,12 +10,12 @@ use Rattle.cpm_volume.specs.Files.{entry_at}
 use Rattle.cpm_volume.specs.Names.{is_named}
 use Rattle.cpm_directory.specs.Directory.{entries_of}
 use Rattle.cpm_drives.specs.Disks.{is_there, drive_at}
-use Rattle.cpm_drives.specs.Selecting.{used}
+use Rattle.cpm_drives.specs.Selecting.{drive_in_use}
 use Rattle.cpm_bdos.specs.Faults.{in_fault}
 use Rattle.cpm_bdos.specs.declared.session.Session.{Session}
 use Rattle.cpm_bdos.specs.declared.session.CommandPart.TheVariants as part
 use Rattle.cpm_ccp.specs.declared.message.Message.TheVariants.{NoFile}
-use Rattle.cpm_ccp.specs.Parts.{at_part, finished, says, told, is_stopped, held_at_part, drive_of, with_disks}
+use Rattle.cpm_ccp.specs.Parts.{at_part, finished, says, message_told, is_stopped, held_at_part, command_drive, with_call_disks}
 
 -- own: the high bit of the type's second character marks a system file
 abbrev pub is_system : List ℕ → Bool
@@ -46,11 +46,11 @@ file_text column drive name =
 
 -- the entries of the drive that is listed, and the next one
 abbrev pub entries_listed : Disk → Session → List Entry
-entries_listed system s = entries_of (drive_at s.disks system (drive_of s)).image
+entries_listed system s = entries_of (drive_at s.disks system (command_drive s)).image
 
 unfoldable pub next_listed : Disk → ℕ → Session → ℕ
 next_listed system from s =
-    listed_from (dpb_of (drive_at s.disks system (drive_of s)).image.format) s.disks.user s.file.extent.name (entries_listed system s) from
+    listed_from (dpb_of (drive_at s.disks system (command_drive s)).image.format) s.disks.user s.file.extent.name (entries_listed system s) from
 
 unfoldable pub has_next : Disk → ℕ → Session → Bool
 has_next system from s = nat_lt (next_listed system from s) (length (entries_listed system s))
@@ -58,27 +58,27 @@ has_next system from s = nat_lt (next_listed system from s) (length (entries_lis
 -- a file is shown, and the next entry is looked at then
 abbrev pub file_shown : ℕ → ℕ → List ℕ → Session → Session
 file_shown index column name s =
-    at_part (says s (file_text column (drive_of s) name)) (part.Directory (index + 1) ((column + 1) % 4))
+    at_part (says s (file_text column (command_drive s) name)) (part.Directory (index + 1) ((column + 1) % 4))
 
 -- after the last file the listing ends; where there was none it says so
 abbrev pub listing_ended : Bool → Session → Session
-listing_ended is_first s = if is_first then told s NoFile else finished s
+listing_ended is_first s = if is_first then message_told s NoFile else finished s
 
 -- the drive is used by a listing
 abbrev pub drive_used : Disk → Session → Session
-drive_used system s = with_disks s (used s.disks system (drive_of s))
+drive_used system s = with_call_disks s (drive_in_use s.disks system (command_drive s))
 
 -- one file from an entry on, or the end; own: a drive that is not there is a fault
 unfoldable pub list_next : Disk → ℕ → ℕ → Bool → Session → Session
 list_next system from column is_first s =
-    if not (is_there s.disks (drive_of s)) then in_fault s Select (drive_of s)
+    if not (is_there s.disks (command_drive s)) then in_fault s Select (command_drive s)
     else if has_next system from s
     then file_shown (next_listed system from s) column (entry_at (entries_listed system s) (next_listed system from s)).extent.name (drive_used system s)
     else listing_ended is_first (drive_used system s)
 
 -- own: a step that shows anything looks for ^S first, the end after files shows nothing
 unfoldable pub shows_file : Disk → ℕ → Session → Bool
-shows_file system from s = not (is_there s.disks (drive_of s)) || has_next system from s
+shows_file system from s = not (is_there s.disks (command_drive s)) || has_next system from s
 
 unfoldable pub listed_on : Disk → ℕ → ℕ → Session → Session
 listed_on system from column s =

@@ -4,7 +4,7 @@ use Rattle.std.specs.Prelude.{ℕ, Bool, List, ◌∷◌, map, replicate, take}
 use Rattle.cpm_volume.specs.declared.fcb.Fcb.{Fcb}
 use Rattle.cpm_volume.specs.declared.answer.Fault.{Fault}
 use Rattle.cpm_console.specs.Terminal.{said}
-use Rattle.cpm_console.specs.Editing.{begun}
+use Rattle.cpm_console.specs.Editing.{begun_line}
 use Rattle.cpm_memory.specs.Contents.{Contents}
 use Rattle.cpm_drives.specs.declared.disks.Disks.{Disks}
 use Rattle.cpm_drives.specs.Calls.{FileCall, drive_named}
@@ -48,8 +48,8 @@ says s text = record s { console = said s.console text }
 abbrev pub says_below : Session → List ℕ → Session
 says_below s text = says s (0x0D ∷ 0x0A ∷ text)
 
-abbrev pub told : Session → Message → Session
-told s message = finished (says_below s (message_text message))
+abbrev pub message_told : Session → Message → Session
+message_told s message = finished (says_below s (message_text message))
 
 -- own: DIR and TYPE show nothing where ^S is the next key; the part then begins anew after another key
 abbrev pub is_stopped : Session → Bool
@@ -60,11 +60,11 @@ held_at_part s part = stopped s (held.Command part)
 
 -- own: a line of up to 127 characters is read from the cursor on, a part for each key
 abbrev pub reads_line : Session → CommandPart → Session
-reads_line s part = record s { line = begun s.console.column 127; mode = Command part }
+reads_line s part = record s { line = begun_line s.console.column 127; mode = Command part }
 
 -- the line that was typed, its small letters made capital
-abbrev pub line_of : Session → List ℕ
-line_of s = map capital s.line.characters
+abbrev pub typed_line : Session → List ℕ
+typed_line s = map capital s.line.characters
 
 -- own: the file control block and the record are the command processor's own
 abbrev pub on_file : Session → Fcb → Session
@@ -74,20 +74,20 @@ abbrev pub own_record : List ℕ
 own_record = replicate 128 0
 
 -- a record that was read has 128 bytes
-abbrev pub record_of : FileCall → List ℕ
-record_of c = take 128 c.buffer
+abbrev pub record_read : FileCall → List ℕ
+record_read c = take 128 c.buffer
 
 -- the drive of that file
-abbrev pub drive_of : Session → ℕ
-drive_of s = drive_named s.disks s.file.drive
+abbrev pub command_drive : Session → ℕ
+command_drive s = drive_named s.disks s.file.drive
 
 -- a fault of that drive ends the command
 abbrev pub failed : Fault → Session → Session
-failed which s = in_fault s which (drive_of s)
+failed which s = in_fault s which (command_drive s)
 
 -- the session after a call on that file
-abbrev pub with_disks : Session → Disks → Session
-with_disks s disks = record s { disks = disks }
+abbrev pub with_call_disks : Session → Disks → Session
+with_call_disks s disks = record s { disks = disks }
 
 abbrev pub with_call : Session → FileCall → Session
 with_call s c = record s { disks = c.disks; file = c.fcb }

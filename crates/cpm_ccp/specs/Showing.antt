@@ -11,12 +11,12 @@ use Rattle.cpm_drives.specs.Files.{open_file, read_next, next_ahead}
 use Rattle.cpm_bdos.specs.declared.session.Session.{Session}
 use Rattle.cpm_bdos.specs.declared.session.CommandPart.TheVariants as part
 use Rattle.cpm_ccp.specs.declared.message.Message.TheVariants.{NoFile}
-use Rattle.cpm_ccp.specs.Parts.{at_part, finished, says_below, told, is_stopped, held_at_part, own_record, record_of, failed, with_call}
+use Rattle.cpm_ccp.specs.Parts.{at_part, finished, says_below, message_told, is_stopped, held_at_part, own_record, record_read, failed, with_call}
 
 -- the file is open, and is shown from a fresh line on
 abbrev pub after_type_open : Result ℕ Failure → Session → Session
 after_type_open (Err which) s = failed which s
-after_type_open (Ok code) s = if code == 0xFF then told s NoFile else at_part (says_below s []) part.Show
+after_type_open (Ok code) s = if code == 0xFF then message_told s NoFile else at_part (says_below s []) part.Show
 
 -- function 15
 unfoldable pub show_begun : Disk → Fcb → Session → Session
@@ -24,15 +24,15 @@ show_begun system file s =
     let c = open_file s.disks system file own_record in after_type_open c.answer (with_call s c)
 
 -- 1Ah ends a text
-abbrev pub is_end : ℕ → Bool
-is_end c = c == 0x1A
+abbrev pub ends_text : ℕ → Bool
+ends_text c = c == 0x1A
 
 -- the characters of a record that are shown, one after the other, and whether the text ends among them
-abbrev pub text_of : List ℕ → List ℕ
-text_of bytes = before_first is_end bytes
+abbrev pub record_text : List ℕ → List ℕ
+record_text bytes = before_first ends_text bytes
 
 abbrev pub ends_in : List ℕ → Bool
-ends_in bytes = list_any is_end bytes
+ends_in bytes = list_any ends_text bytes
 
 -- own: a tab is expanded at the column where it is shown
 unfoldable pub wrote_all : Terminal → List ℕ → Terminal
@@ -41,7 +41,7 @@ wrote_all t (c ∷ cs) = wrote_all (said t (expanded t.column c)) cs
 
 abbrev pub record_shown : List ℕ → Session → Session
 record_shown bytes s =
-    let t = record s { console = wrote_all s.console (text_of bytes) } in
+    let t = record s { console = wrote_all s.console (record_text bytes) } in
     if ends_in bytes then finished t else at_part t part.Show
 
 -- where there is no further record the text ends
@@ -52,11 +52,11 @@ after_type_read (Ok code) bytes s = if code == 0 then record_shown bytes s else 
 -- function 20
 unfoldable pub next_shown : Disk → Session → Session
 next_shown system s =
-    let c = read_next s.disks system s.file own_record in after_type_read c.answer (record_of c) (with_call s c)
+    let c = read_next s.disks system s.file own_record in after_type_read c.answer (record_read c) (with_call s c)
 
 -- own: what the next record would show, or a fault of its drive, is looked at first; at the end, and where 1Ah comes first, nothing is shown
 abbrev pub shows_record : Result (List ℕ) Answer → Bool
-shows_record (Ok bytes) = not (is_end (slice_index bytes 0))
+shows_record (Ok bytes) = not (ends_text (slice_index bytes 0))
 shows_record (Err (Fault which)) = true
 shows_record (Err _) = false
 

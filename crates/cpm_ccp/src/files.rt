@@ -1,7 +1,7 @@
 //! ERA, REN and SAVE.
 
 ghost use Rattle.std.specs.Prelude.{◌≡◌, ◌<◌, ◌≤◌, length};
-ghost use Rattle.cpm_ccp.specs.FileCommands.{by_code, erased, asked, is_yes, erased_all, is_taken, has_new_name, renamed, saving, after_save_make, made, save_begun, after_save_write, saved, closed};
+ghost use Rattle.cpm_ccp.specs.FileCommands.{by_code, erased, all_files_asked, is_yes, erased_all, is_name_taken, has_new_name, renamed, saving, after_save_make, file_made, save_begun, after_save_write, saved, file_closed};
 
 use crate::message::Message;
 use crate::parts::{NONE, fail, finish, go_to, read_line, say_below, tell};
@@ -43,7 +43,7 @@ pub(crate) fn erase(session: &mut Session, system: &Image, file: &Fcb)
 pub(crate) fn ask(session: &mut Session, file: &Fcb)
     requires screen { length session.old.console.screen ≤ 4096 }
     requires printer { length session.old.console.printer ≤ 4096 }
-    ensures { session.new ≡ asked file.now session.old }
+    ensures { session.new ≡ all_files_asked file.now session.old }
 {
     session.file = *file;
     say_below(session, Message::EraseAll.text());
@@ -74,8 +74,8 @@ pub(crate) fn erase_all(session: &mut Session, system: &Image)
 
 /// Whether the user has the name, in any entry.
 #[tactic(auto, unfolding(crate::specs::FileCommands::is_taken))]
-fn is_taken(disks: &Disks, system: &Image, file: &Fcb) -> bool
-    ensures { result ≡ is_taken system.now disks.now file.now }
+fn is_name_taken(disks: &Disks, system: &Image, file: &Fcb) -> bool
+    ensures { result ≡ is_name_taken system.now disks.now file.now }
 {
     let image = disks.lent_at(system, disks.drive_named(file.drive));
     let pattern = Pattern::Files {
@@ -90,7 +90,7 @@ fn is_taken(disks: &Disks, system: &Image, file: &Fcb) -> bool
 fn has_new_name(disks: &Disks, system: &Image, new: &Fcb) -> bool
     ensures { result ≡ has_new_name system.now disks.now new.now }
 {
-    disks.is_there(disks.drive_named(new.drive)) && is_taken(disks, system, new)
+    disks.is_there(disks.drive_named(new.drive)) && is_name_taken(disks, system, new)
 }
 
 /// REN: gives a file a new name, which no other has.
@@ -141,7 +141,7 @@ pub(crate) fn begin_save(session: &mut Session, system: &Image, pages: u8, file:
 fn make(session: &mut Session, system: &Image, pages: u8)
     requires screen { length session.old.console.screen ≤ 4096 }
     requires printer { length session.old.console.printer ≤ 4096 }
-    ensures { session.new ≡ made system.now pages session.old }
+    ensures { session.new ≡ file_made system.now pages session.old }
 {
     match session.disks.make_file(system, &mut session.file) {
         Ok(NONE) => tell(session, Message::NoSpace),
@@ -168,7 +168,7 @@ pub(crate) fn save(session: &mut Session, system: &Image, next: u16, left: u16, 
 #[tactic(auto, unfolding(crate::specs::FileCommands::closed))]
 pub(crate) fn close(session: &mut Session, system: &Image)
     requires { length session.old.console.screen ≤ 4096 }
-    ensures { session.new ≡ closed system.now session.old }
+    ensures { session.new ≡ file_closed system.now session.old }
 {
     match session.disks.close_file(system, &mut session.file) {
         Ok(_) => finish(session),

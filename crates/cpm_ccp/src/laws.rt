@@ -1,6 +1,6 @@
 //! Laws of the command processor, as contracts.
 
-ghost use Rattle.cpm_ccp.specs.Laws.{WaitingLaw, LimitLaw, HoldingLaw, MarksLaw};
+ghost use Rattle.cpm_ccp.specs.Laws.{WaitingLaw, LimitLaw, CommandHoldingLaw, MarksLaw};
 
 /// A step waits exactly where it reads a line and finds no key, and then changes nothing.
 pub fn waits_for_keys_of_lines()
@@ -14,7 +14,7 @@ pub fn keeps_the_limit()
 
 /// ^S holds a step of DIR and of TYPE exactly where it would show a byte, and no other step.
 pub fn holds_what_it_shows()
-    ensures { HoldingLaw }
+    ensures { CommandHoldingLaw }
 {}
 
 /// TYPE uses the drive of its file with its first step, and each record comes from a drive that was used.

@@ -6,10 +6,10 @@ ghost use Rattle.cpm_memory.specs.Room.{HasRoom, HasRoomFor};
 ghost use Rattle.cpm_bdos.specs.Did.{did};
 ghost use Rattle.cpm_bdos.specs.Bounds.{IsBounded};
 ghost use Rattle.cpm_bdos.specs.Behind.{session_behind, did_behind};
-ghost use Rattle.cpm_ccp.specs.Loading.{unknown, load_begun, name_bytes, default_files, memory_started, started, loaded, load_record, load};
+ghost use Rattle.cpm_ccp.specs.Loading.{unknown, load_begun, name_bytes, default_files, memory_started, started, record_loaded, load_record, load};
 
 use crate::message::Message;
-use crate::parts::{NO_RECORD, NONE, fail, finish, go_to, line_of, say_below, tell};
+use crate::parts::{NO_RECORD, NONE, fail, finish, go_to, typed_line, say_below, tell};
 use crate::words::{default_fcbs, first_word, tail};
 use cpm_bdos::{CommandPart, Session, Mode, Went};
 use cpm_volume::Fcb;
@@ -27,7 +27,7 @@ pub(crate) fn refuse_word(session: &mut Session)
     requires printer { length session.old.console.printer ≤ 4096 }
     ensures { session.new ≡ unknown session.old }
 {
-    let line = line_of(session);
+    let line = typed_line(session);
     say_below(session, first_word(line.as_slice()));
     session.console.say(b'?');
     finish(session);
@@ -103,7 +103,7 @@ fn start<M: Memory>(session: &mut Session, memory: &mut M) -> Went
     ensures step { did session.new (M.contents memory.new) result ≡ started session.old (M.contents memory.old) }
     ensures leads { M.Leads memory.old memory.new }
 {
-    let line = line_of(session);
+    let line = typed_line(session);
     put_tail(memory, tail(line.as_slice()));
     session.regs.sp = STACK;
     session.regs.pc = PROGRAM;
@@ -117,7 +117,7 @@ fn load_at<M: Memory>(session: &mut Session, memory: &mut M, next: u16, record: 
     requires screen { length session.old.console.screen ≤ 4096 }
     requires printer { length session.old.console.printer ≤ 4096 }
     requires room { HasRoom (M.contents memory.old) }
-    ensures step { did session.new (M.contents memory.new) result ≡ loaded next «record».now session.old (M.contents memory.old) }
+    ensures step { did session.new (M.contents memory.new) result ≡ record_loaded next «record».now session.old (M.contents memory.old) }
     ensures leads { M.Leads memory.old memory.new }
 {
     if next > LAST_RECORD {

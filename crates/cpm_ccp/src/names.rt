@@ -3,14 +3,14 @@
 ghost use Rattle.std.specs.Prelude.{◌≡◌};
 ghost use Rattle.std.specs.List.{list_any};
 ghost use Rattle.cpm_volume.specs.Files.{has_wildcard};
-ghost use Rattle.cpm_ccp.specs.Names.{is_wildcard, is_blank, is_every, is_command_name, all_of, program_file};
+ghost use Rattle.cpm_ccp.specs.Names.{is_wildcard, is_unnamed, is_every, is_program_name, all_of, program_file};
 
 use cpm_directory::{Extent, Fcb};
 
 /// Whether neither a name nor a type is given.
 #[tactic(auto, unfolding(crate::specs::Names::is_blank))]
-pub(crate) fn is_blank(file: &Fcb) -> bool
-    ensures { result ≡ is_blank file.now }
+pub(crate) fn is_unnamed(file: &Fcb) -> bool
+    ensures { result ≡ is_unnamed file.now }
 {
     file.extent.name.as_slice() == b"           ".as_slice()
 }
@@ -38,8 +38,8 @@ pub(crate) fn is_every(file: &Fcb) -> bool
 
 /// Whether a first word can be a command by its name.
 #[tactic(auto, unfolding(crate::specs::Names::is_command_name))]
-pub(crate) fn is_command_name(file: &Fcb) -> bool
-    ensures { result ≡ is_command_name file.now }
+pub(crate) fn is_program_name(file: &Fcb) -> bool
+    ensures { result ≡ is_program_name file.now }
 {
     let (name, kind) = file.extent.name.split_at(8);
     name != b"        ".as_slice() && kind == b"   ".as_slice() && !has_wildcard(file)

@@ -1,21 +1,21 @@
 //! The operands of the built-in commands.
 
 ghost use Rattle.std.specs.Prelude.{◌≡◌, option_map};
-ghost use Rattle.cpm_ccp.specs.Command.{directory_of, erase_of, rename_of, save_of, type_of, user_of, behind_equals, is_elsewhere, effective_drive};
+ghost use Rattle.cpm_ccp.specs.Command.{directory_command, erase_of, rename_of, save_of, type_command, user_of, behind_equals, is_elsewhere, effective_drive};
 
 use crate::command::Command;
-use crate::names::{all_of, has_wildcard, is_blank, is_every};
+use crate::names::{all_of, has_wildcard, is_unnamed, is_every};
 use crate::number::number_up_to;
 use crate::words::{after_spaces, first_word, split_first_word};
 use cpm_directory::{Fcb, parse_fcb};
 
 /// DIR: no name stands for all files.
 #[tactic(auto, unfolding(crate::specs::Command::directory_of))]
-pub(crate) fn directory_of(tail: &[u8]) -> Command
-    ensures { result ≡ directory_of tail.now }
+pub(crate) fn directory_command(tail: &[u8]) -> Command
+    ensures { result ≡ directory_command tail.now }
 {
     let file = parse_fcb(tail).0;
-    if is_blank(&file) {
+    if is_unnamed(&file) {
         Command::Directory(all_of(file))
     } else {
         Command::Directory(file)
@@ -98,8 +98,8 @@ pub(crate) fn save_of(tail: &[u8]) -> Command
 
 /// TYPE.
 #[tactic(auto, unfolding(crate::specs::Command::type_of))]
-pub(crate) fn type_of(tail: &[u8]) -> Command
-    ensures { result ≡ type_of tail.now }
+pub(crate) fn type_command(tail: &[u8]) -> Command
+    ensures { result ≡ type_command tail.now }
 {
     let file = parse_fcb(tail).0;
     if has_wildcard(&file) {

@@ -2,7 +2,7 @@
 
 ghost use Rattle.std.specs.Prelude.{◌≡◌, ◌≤◌, length, map};
 ghost use Rattle.cpm_ccp.specs.Capitals.{capital};
-ghost use Rattle.cpm_ccp.specs.Parts.{at_part, finished, went_of, says_below, told, failed, reads_line, line_of};
+ghost use Rattle.cpm_ccp.specs.Parts.{at_part, finished, went_of, says_below, message_told, failed, reads_line, typed_line};
 
 use crate::capitals::capital;
 use crate::message::Message;
@@ -60,7 +60,7 @@ pub(crate) fn say_below(session: &mut Session, text: &[u8])
 pub(crate) fn tell(session: &mut Session, message: Message)
     requires screen { length session.old.console.screen ≤ 4096 }
     requires printer { length session.old.console.printer ≤ 4096 }
-    ensures { session.new ≡ told session.old message }
+    ensures { session.new ≡ message_told session.old message }
 {
     say_below(session, message.text());
     finish(session);
@@ -84,8 +84,8 @@ pub(crate) fn read_line(session: &mut Session, part: CommandPart)
 }
 
 /// The line that was typed, its small letters made capital.
-pub(crate) fn line_of(session: &Session) -> ArrayVec<u8, 255>
-    ensures value { result.items ≡ line_of session.now }
+pub(crate) fn typed_line(session: &Session) -> ArrayVec<u8, 255>
+    ensures value { result.items ≡ typed_line session.now }
     ensures short { length result.items ≤ 255 }
 {
     in_capitals(session.line.characters())

@@ -4,7 +4,7 @@ ghost use Rattle.std.specs.Prelude.{◌≡◌, ◌<◌, ◌≤◌, length};
 ghost use Rattle.cpm_memory.specs.Contents.{byte_at};
 ghost use Rattle.cpm_memory.specs.Room.{HasRoom};
 ghost use Rattle.cpm_bdos.specs.Did.{did};
-ghost use Rattle.cpm_ccp.specs.Prompt.{drive_asked, prompted, edit_line, with_drive, with_user, drive_selected, user_selected};
+ghost use Rattle.cpm_ccp.specs.Prompt.{drive_asked, prompted, edit_command_line, with_drive_and_user, with_user, drive_selected, user_selected};
 
 use crate::parts::{finish, go_to, read_line, say_below};
 use cpm_bdos::{CommandPart, Session, Went};
@@ -41,11 +41,11 @@ pub(crate) fn prompt(session: &mut Session, system: &Image, byte: u8)
 }
 
 /// A step of the line, after which a part comes.
-pub(crate) fn edit_line<M: Memory>(session: &mut Session, memory: &mut M, next: CommandPart) -> Went
+pub(crate) fn edit_command_line<M: Memory>(session: &mut Session, memory: &mut M, next: CommandPart) -> Went
     requires screen { length session.old.console.screen ≤ 4096 }
     requires printer { length session.old.console.printer ≤ 4096 }
     requires room { HasRoom (M.contents memory.old) }
-    ensures step { did session.new (M.contents memory.new) result ≡ edit_line next session.old (M.contents memory.old) }
+    ensures step { did session.new (M.contents memory.new) result ≡ edit_command_line next session.old (M.contents memory.old) }
     ensures leads { M.Leads memory.old memory.new }
 {
     match session.step_line() {
@@ -70,7 +70,7 @@ pub(crate) fn select_drive<M: Memory>(session: &mut Session, memory: &mut M, dri
     if !session.disks.is_there(drive) {
         return session.fault(Fault::Select, drive);
     }
-    let byte = with_drive(memory.get(USER_AND_DRIVE), drive);
+    let byte = with_drive_and_user(memory.get(USER_AND_DRIVE), drive);
     change_byte(memory, USER_AND_DRIVE, byte);
     finish(session);
     Went::Returned
@@ -90,9 +90,9 @@ pub(crate) fn select_user<M: Memory>(session: &mut Session, memory: &mut M, user
 }
 
 /// A byte with another drive in its low four bits.
-fn with_drive(byte: u8, drive: u8) -> u8
+fn with_drive_and_user(byte: u8, drive: u8) -> u8
     requires { drive < 16 }
-    ensures { result ≡ with_drive drive byte }
+    ensures { result ≡ with_drive_and_user drive byte }
 {
     16 * (byte / 16) + drive
 }

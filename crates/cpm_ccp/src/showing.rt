@@ -2,7 +2,7 @@
 
 ghost use Rattle.std.specs.Prelude.{◌≡◌, ◌≤◌, length, position};
 ghost use Rattle.std.specs.List.{position_or_len};
-ghost use Rattle.cpm_ccp.specs.Showing.{show_begun, is_end, text_of, ends_in, wrote_all, record_shown, next_shown, shows_record, shown_on};
+ghost use Rattle.cpm_ccp.specs.Showing.{show_begun, ends_text, record_text, ends_in, wrote_all, record_shown, next_shown, shows_record, shown_on};
 ghost use Rattle.cpm_drives.specs.Files.{next_ahead};
 
 use crate::message::Message;
@@ -34,22 +34,22 @@ pub(crate) fn begin_show(session: &mut Session, system: &Image, file: &Fcb)
 }
 
 /// The characters of a record up to the end of the text.
-fn text_of(record: &[u8]) -> &[u8]
-    ensures value { result.now ≡ text_of «record».now }
+fn record_text(record: &[u8]) -> &[u8]
+    ensures value { result.now ≡ record_text «record».now }
     ensures short { length result.now ≤ length «record».now }
 {
     &record[..text_length(record)]
 }
 
 fn text_length(record: &[u8]) -> usize
-    ensures count { result ≡ position_or_len is_end «record».now }
+    ensures count { result ≡ position_or_len ends_text «record».now }
     ensures within { result ≤ length «record».now }
 {
     first_end(record).unwrap_or(record.len())
 }
 
 fn first_end(record: &[u8]) -> Option<usize>
-    ensures { result ≡ position is_end «record».now }
+    ensures { result ≡ position ends_text «record».now }
 {
     record.iter().position(|c| *c == END_OF_TEXT)
 }
@@ -79,7 +79,7 @@ fn show_record(session: &mut Session, record: &[u8; 128])
     requires printer { length session.old.console.printer ≤ 4096 }
     ensures { session.new ≡ record_shown «record».now session.old }
 {
-    write_all(&mut session.console, text_of(record));
+    write_all(&mut session.console, record_text(record));
     if ends_in(record) {
         finish(session);
     } else {

@@ -6,8 +6,8 @@ ghost use Rattle.cpm_bdos.specs.Did.{did};
 ghost use Rattle.cpm_bdos.specs.Bounds.{IsBounded};
 ghost use Rattle.cpm_bdos.specs.Behind.{session_behind, did_behind};
 ghost use Rattle.cpm_ccp.specs.Command.{HasOperands, command_of};
-ghost use Rattle.cpm_ccp.specs.Parts.{line_of};
-ghost use Rattle.cpm_ccp.specs.Step.{looks_first, begun_by, begun, in_part, ccp};
+ghost use Rattle.cpm_ccp.specs.Parts.{typed_line};
+ghost use Rattle.cpm_ccp.specs.Step.{looks_first, begun_by, begun_command, in_part, ccp};
 
 use crate::command::Command;
 use crate::files::{ask, begin_save, close, erase, erase_all, rename, save};
@@ -15,8 +15,8 @@ use crate::listing::{list, list_on};
 use crate::loading::{begin_load, load_record, refuse_word};
 use crate::message::Message;
 use crate::parse::parse_command;
-use crate::parts::{finish, line_of, tell, went_of};
-use crate::prompt::{edit_line, prompt, select_drive, select_user};
+use crate::parts::{finish, typed_line, tell, went_of};
+use crate::prompt::{edit_command_line, prompt, select_drive, select_user};
 use crate::showing::{begin_show, show_on};
 use cpm_bdos::{CommandPart, Session, HeldOutput, Mode, Went, get_record};
 use cpm_geom::Image;
@@ -69,10 +69,10 @@ fn do_part<M: Memory>(session: &mut Session, memory: &mut M, system: &Image, par
     ensures leads { M.Leads memory.old memory.new }
 {
     match part {
-        CommandPart::Line => return edit_line(session, memory, CommandPart::Begin),
+        CommandPart::Line => return edit_command_line(session, memory, CommandPart::Begin),
         CommandPart::Begin => return begin(session, memory, system),
         CommandPart::Directory { next, column } => list_on(session, system, next, column),
-        CommandPart::Answer => return edit_line(session, memory, CommandPart::EraseAll),
+        CommandPart::Answer => return edit_command_line(session, memory, CommandPart::EraseAll),
         CommandPart::EraseAll => erase_all(session, system),
         CommandPart::Save { next, left } => {
             let record = get_record(memory, next);
@@ -90,10 +90,10 @@ fn begin<M: Memory>(session: &mut Session, memory: &mut M, system: &Image) -> We
     requires screen { length session.old.console.screen ≤ 4096 }
     requires printer { length session.old.console.printer ≤ 4096 }
     requires room { HasRoom (M.contents memory.old) }
-    ensures step { did session.new (M.contents memory.new) result ≡ begun (command_of session.old.disks.current (line_of session.old)) system.now session.old (M.contents memory.old) }
+    ensures step { did session.new (M.contents memory.new) result ≡ begun_command (command_of session.old.disks.current (typed_line session.old)) system.now session.old (M.contents memory.old) }
     ensures leads { M.Leads memory.old memory.new }
 {
-    let line = line_of(session);
+    let line = typed_line(session);
     let command = parse_command(line.as_slice(), session.disks.current);
     if session.is_stopped() && looks_first(&command) {
         return session.hold(HeldOutput::Command(CommandPart::Begin));

@@ -2,7 +2,7 @@
 
 ghost use Rattle.std.specs.Prelude.{◌≡◌, ◌≤◌, length, not, position, ◌==◌};
 ghost use Rattle.std.specs.List.{list_all, position_or_len};
-ghost use Rattle.cpm_directory.specs.CommandLine.{after_spaces, is_drive, fcb_named, rest_of};
+ghost use Rattle.cpm_directory.specs.CommandLine.{after_spaces, is_drive, fcb_named, text_behind_name};
 ghost use Rattle.cpm_ccp.specs.Words.{first_word, is_space, is_drive_alone, tail_of};
 
 use cpm_directory::{Fcb, parse_fcb};
@@ -27,7 +27,7 @@ pub(crate) fn tail(line: &[u8]) -> &[u8]
 /// second begins where the first ends.
 pub(crate) fn default_fcbs(tail: &[u8]) -> (Fcb, Fcb)
     ensures first { result.0 ≡ fcb_named tail.now }
-    ensures second { result.1 ≡ fcb_named (rest_of tail.now) }
+    ensures second { result.1 ≡ fcb_named (text_behind_name tail.now) }
 {
     let (first, rest) = parse_fcb(tail);
     (first, parse_fcb(rest).0)

@@ -17,7 +17,7 @@ abbrev pub ok_line : List ℕ
 ok_line = codes "ok" ++ 0x0A ∷ []
 
 -- the bytes are an image, whose directory has no fault
-pub record IsInOrder (bytes : List ℕ) : Type 0 where
+pub record IsSoundImage (bytes : List ℕ) : Type 0 where
   pub disk : Disk
   pub image : IsImage bytes disk
   pub checked : IsChecked (dpb_of disk.format) (entries_of disk) (Ok tt)
@@ -36,11 +36,11 @@ IsCheckRefusal {W} name bytes (FileRefused (read.Image shown count)) old new =
     (shown.bytes ≡ shown_of (chars name)) × (count ≡ length bytes) × (format_of_length (length bytes) ≡ None) × (new ≡ old)
 IsCheckRefusal {W} name bytes (ImageDamaged shown damage) old new =
     (shown.bytes ≡ shown_of (chars name)) × IsDamaged bytes damage × (new ≡ old)
-IsCheckRefusal {W} name bytes (OutputUnwritable reason) old new = IsInOrder bytes
+IsCheckRefusal {W} name bytes (OutputUnwritable reason) old new = IsSoundImage bytes
 IsCheckRefusal {W} name bytes _ old new = ⊥
 
 -- the number of the code that the text of a refusal begins with
-abbrev pub status_of : CheckError → ℕ
-status_of (FileRefused e) = status_of_reading e
-status_of (ImageDamaged name damage) = 6
-status_of (OutputUnwritable reason) = 5
+abbrev pub check_status_of : CheckError → ℕ
+check_status_of (FileRefused e) = status_of_reading e
+check_status_of (ImageDamaged name damage) = 6
+check_status_of (OutputUnwritable reason) = 5

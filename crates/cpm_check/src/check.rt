@@ -1,7 +1,7 @@
 //! The command `check`.
 ghost use Rattle.std.specs.Prelude.{IfErr, IfOk, OnOk};
 ghost use Rattle.std.specs.Io.KnownBytes.{Appends};
-ghost use Rattle.cpm_check.specs.Check.{IsCheckRefusal, IsInOrder, ok_line};
+ghost use Rattle.cpm_check.specs.Check.{IsCheckRefusal, IsSoundImage, ok_line};
 
 use crate::error::CheckError;
 use cpm_batch::ReadError;
@@ -27,7 +27,7 @@ fn write_ok<W: Write>(out: &mut W) -> io::Result<()>
 /// `FileRefused` has the number of bytes that no image has. `ImageDamaged` has the first fault of the directory, with the files that it is
 /// about. With both nothing was written. `OutputUnwritable` has the error of the writer, who may have got the beginning.
 pub fn run_check<W: Write>(name: &str, bytes: Vec<u8>, out: &mut W) -> Result<(), CheckError>
-    ensures order { IfOk result (λ _. IsInOrder bytes.items) }
+    ensures order { IfOk result (λ _. IsSoundImage bytes.items) }
     ensures text { OnOk result (Appends (W.contents out.old) (W.contents out.new) ok_line) }
     ensures refusal { IfErr result (λ e. IsCheckRefusal name.now bytes.items e out.old out.new) }
 {

@@ -1,6 +1,6 @@
 //! Why an image is not in order.
 ghost use Rattle.std.specs.Prelude.{◌≡◌};
-ghost use Rattle.cpm_check.specs.Check.{status_of};
+ghost use Rattle.cpm_check.specs.Check.{check_status_of};
 
 use cpm_batch::ReadError;
 use cpm_command_line::ShownWord;
@@ -31,7 +31,7 @@ impl fmt::Debug for CheckError {
 impl CheckError {
     /// The exit status: the number of the code.
     pub fn status(&self) -> u8
-        ensures { result ≡ status_of self.now }
+        ensures { result ≡ check_status_of self.now }
     {
         match self {
             CheckError::FileRefused(error) => error.status(),

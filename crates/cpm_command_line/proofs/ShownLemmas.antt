@@ -1,17 +1,17 @@
 -- One more character, of a text or of a line.
 use Rattle.std.proofs.Common.{◌≡◌, ℕ, ◌+◌, ◌<◌, false, true, if◌then◌else◌, List, ◌∷◌, ◌++◌, length, drop, map, get_or, sym, ap, ◌∙◌, IsUtf8, chars, codes, encode_utf8, add-one, drop-cons}
 use Rattle.std.proofs.lemmas.Str.{chars_past_char}
-use Rattle.cpm_command_line.specs.Shown.{has_room, shown_after, shown_character, untabbed}
+use Rattle.cpm_command_line.specs.Shown.{has_room_to_show, shown_after, shown_character, untabbed}
 
 -- there is room for it
-pub shown_after-more : (done new rest : List ℕ) (c : ℕ) → has_room done ≡ true → new ≡ done ++ encode_utf8 (shown_character c)
+pub shown_after-more : (done new rest : List ℕ) (c : ℕ) → has_room_to_show done ≡ true → new ≡ done ++ encode_utf8 (shown_character c)
     → shown_after done (c ∷ rest) ≡ shown_after new rest
 shown_after-more done new rest c room e =
     ap (λ b. if b then shown_after (done ++ encode_utf8 (shown_character c)) rest else done ++ codes "...") room
     ∙ sym (ap (λ bytes. shown_after bytes rest) e)
 
 -- there is no room
-pub shown_after-full : (done new rest : List ℕ) (c : ℕ) → has_room done ≡ false → new ≡ done ++ codes "..."
+pub shown_after-full : (done new rest : List ℕ) (c : ℕ) → has_room_to_show done ≡ false → new ≡ done ++ codes "..."
     → shown_after done (c ∷ rest) ≡ new
 shown_after-full done new rest c room e =
     ap (λ b. if b then shown_after (done ++ encode_utf8 (shown_character c)) rest else done ++ codes "...") room ∙ sym e

@@ -8,14 +8,14 @@ abbrev pub shown_character : ℕ → ℕ
 shown_character c = if is_control c then 0x3F else c
 
 -- own: behind these bytes at least 8 of 200 are left
-abbrev pub has_room : List ℕ → Bool
-has_room done = nat_le (length done + 8) 200
+abbrev pub has_room_to_show : List ℕ → Bool
+has_room_to_show done = nat_le (length done + 8) 200
 
 -- own: the bytes shown once `done` are there: the characters while there is room, else three dots
 abbrev pub shown_after : List ℕ → List ℕ → List ℕ
 shown_after done [] = done
 shown_after done (c ∷ rest) =
-    if has_room done then shown_after (done ++ encode_utf8 (shown_character c)) rest else done ++ codes "..."
+    if has_room_to_show done then shown_after (done ++ encode_utf8 (shown_character c)) rest else done ++ codes "..."
 
 -- own: the bytes shown for these characters
 abbrev pub shown_of : List ℕ → List ℕ

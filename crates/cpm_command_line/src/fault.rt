@@ -2,7 +2,7 @@
 ghost use Rattle.std.specs.Prelude.{◌≡◌, ◌+◌, ◌<◌, ◌≤◌, ◌++◌, false, IsTrue, if◌then◌else◌, chars, codes, encode_utf8, length};
 ghost use Rattle.clap.specs.Words.{kind_of};
 ghost use Rattle.cpm_command_line.specs.Refusals.{IsOfKind};
-ghost use Rattle.cpm_command_line.specs.Shown.{characters_of, has_room, shown_character, shown_of};
+ghost use Rattle.cpm_command_line.specs.Shown.{characters_of, has_room_to_show, shown_character, shown_of};
 
 use arrayvec::ArrayString;
 use clap::Error;
@@ -112,7 +112,7 @@ pub fn shown_line(line: &[u8]) -> ShownWord
 
 /// Adds a character where there is room for more, else dots: it says which.
 fn add_shown(word: &mut ShownWord, c: char) -> bool
-    ensures room { result ≡ has_room word.old.bytes }
+    ensures room { result ≡ has_room_to_show word.old.bytes }
     ensures shown { IsTrue result → word.new.bytes ≡ word.old.bytes ++ encode_utf8 (shown_character c) }
     ensures short { IsTrue result → length word.new.bytes ≤ 196 }
     ensures dots { result ≡ false → length word.old.bytes + 3 ≤ 200 → word.new.bytes ≡ word.old.bytes ++ codes "..." }

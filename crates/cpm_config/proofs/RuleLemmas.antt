@@ -7,7 +7,7 @@ use Rattle.std.proofs.lemmas.Int.{to_z-of_z}
 use mir.Syntax.{w64}
 use mir.Val.{SFits, of_z, to_z}
 use Rattle.cpm_config.specs.Entries.{ConfigEntries, Forks, Opens, OriginEntries, SessionEntries, Text}
-use Rattle.cpm_config.specs.Rules.{ForkLaw, IsKept, at_fault, fault_of, field_or, fork_fault, forked_fault, is_at, is_between, is_cpu, is_length_between, is_name, is_steps, opened_fault, origin_fault, parent_in, range_fault, session_fault, sessions_fault}
+use Rattle.cpm_config.specs.Rules.{ForkLaw, IsOriginKept, at_fault, session_origin_fault, field_or, fork_field_fault, forked_fault, is_at, is_between, is_cpu, is_length_between, is_name, is_steps, opened_fault, origin_fault, parent_in, range_fault, session_fault, sessions_fault}
 use Rattle.cpm_config.proofs.FaultLemmas.{fewer_faults}
 use Rattle.cpm_config.specs.declared.field.Field.{Field}
 
@@ -28,7 +28,7 @@ wider low high high' (negsuc n) more within = absurd (cc)
 
 -- what a session keeps: how it begins, and its count of steps
 pub record IsGood (s : SessionEntries) : Type 0 where
-  pub origin : IsKept s.origin
+  pub origin : IsOriginKept s.origin
   pub steps : is_between 0 (2 ^ 63) s.steps ≡ true
 
 -- a count of steps of a session fits 64 bits
@@ -37,7 +37,7 @@ good-steps z within = wider 0 1000000000000 (2 ^ 63) z (omega arith) within
 
 -- what is kept of an opened session that breaks no rule
 good-opened : (s : SessionEntries) (cpu : Text) (quota : ℤ) (drives : List Text) → opened_fault s cpu quota drives ≡ None
-    → IsKept (Opens cpu quota drives) × (is_between 0 (2 ^ 63) s.steps ≡ true)
+    → IsOriginKept (Opens cpu quota drives) × (is_between 0 (2 ^ 63) s.steps ≡ true)
 unfolding opened_fault
 good-opened s cpu quota drives none =
     let after_name = kept (is_name s.name) _ _ none in
@@ -53,12 +53,12 @@ first-none (Some f) next none = none
 
 -- a forked session that breaks no rule has a fork that breaks none
 forked-stands : (before : List SessionEntries) (s : SessionEntries) → forked_fault before s ≡ None
-    → (fork_fault before s ≡ None) × (is_steps s.steps ≡ true)
+    → (fork_field_fault before s ≡ None) × (is_steps s.steps ≡ true)
 unfolding forked_fault
 forked-stands before s none =
     let after_name = kept (is_name s.name) _ _ none in
     let after_steps = kept (is_steps s.steps) _ _ after_name.1 in
-    (first-none (fork_fault before s) _ after_steps.1, after_steps.0)
+    (first-none (fork_field_fault before s) _ after_steps.1, after_steps.0)
 
 -- a count that is not above a session's steps fits 64 bits
 below : (steps at : ℤ) → int_le (pos 0) at ≡ true → int_le at steps ≡ true → is_steps steps ≡ true → is_between 0 (2 ^ 63) at ≡ true
@@ -74,8 +74,8 @@ at-kept (Some p) steps at none within =
     below steps at is.0 (and_parts (int_le at p.steps) (int_le at steps) is.1).1 within
 
 -- what is kept of a session that breaks no rule, opened or forked
-good-origin : (before : List SessionEntries) (s : SessionEntries) (origin : OriginEntries) → s.origin ≡ origin → fault_of before s origin ≡ None
-    → IsKept origin × (is_between 0 (2 ^ 63) s.steps ≡ true)
+good-origin : (before : List SessionEntries) (s : SessionEntries) (origin : OriginEntries) → s.origin ≡ origin → session_origin_fault before s origin ≡ None
+    → IsOriginKept origin × (is_between 0 (2 ^ 63) s.steps ≡ true)
 good-origin before s (Opens cpu quota drives) is none = good-opened s cpu quota drives none
 good-origin before s (Forks parent at) is none =
     let stands = forked-stands before s none in
@@ -89,8 +89,8 @@ good-session before s none =
     record { origin = good.0; steps = good.1 }
 
 -- a session that breaks no rule has no fork that breaks one
-stands : (before : List SessionEntries) (s : SessionEntries) (origin : OriginEntries) → s.origin ≡ origin → fault_of before s origin ≡ None
-    → fork_fault before s ≡ None
+stands : (before : List SessionEntries) (s : SessionEntries) (origin : OriginEntries) → s.origin ≡ origin → session_origin_fault before s origin ≡ None
+    → fork_field_fault before s ≡ None
 stands before s (Opens cpu quota drives) is none = ap (origin_fault before s.steps) is
 stands before s (Forks parent at) is none = (forked-stands before s none).0
 
@@ -120,4 +120,4 @@ passed high z fits within = ap (is_between 0 high) (to_z-of_z w64 z fits) ∙ wi
 -- a configuration that breaks no rule has no fork that breaks one
 pub fork_law : ForkLaw
 fork_law c none =
-    fewer_faults session_fault fork_fault (λ before s. stands before s s.origin refl) 1 [] c.sessions (good-config c none).sessions
+    fewer_faults session_fault fork_field_fault (λ before s. stands before s s.origin refl) 1 [] c.sessions (good-config c none).sessions

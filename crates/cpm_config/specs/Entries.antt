@@ -34,8 +34,8 @@ result_map f (Err e) = Err e
 -- ---- one entry
 
 -- the key at the top, where the session is 0, or of the session with this number
-abbrev pub place : ℕ → Field → ConfigKey
-place session f = record { session = session; field = f }
+abbrev pub config_key : ℕ → Field → ConfigKey
+config_key session f = record { session = session; field = f }
 
 abbrev pub top : ℕ
 top = 0
@@ -53,10 +53,10 @@ abbrev pub has : Field → Members → Bool
 has f ms = is_some (value_of f ms)
 
 abbrev pub text_at : ℕ → Field → Members → Result Text KeyFault
-text_at session f ms = or_wanted (place session f) (option_and_then as_str (value_of f ms))
+text_at session f ms = or_wanted (config_key session f) (option_and_then as_str (value_of f ms))
 
 abbrev pub number_at : ℕ → Field → Members → Result ℤ KeyFault
-number_at session f ms = or_wanted (place session f) (option_and_then as_integer (value_of f ms))
+number_at session f ms = or_wanted (config_key session f) (option_and_then as_integer (value_of f ms))
 
 -- a text that may be left out
 abbrev pub text_if_any : Option Data → Option (Option Text)
@@ -64,7 +64,7 @@ text_if_any None = Some None
 text_if_any (Some d) = option_map Some (as_str d)
 
 abbrev pub optional_text_at : ℕ → Field → Members → Result (Option Text) KeyFault
-optional_text_at session f ms = or_wanted (place session f) (text_if_any (value_of f ms))
+optional_text_at session f ms = or_wanted (config_key session f) (text_if_any (value_of f ms))
 
 -- the texts of an array that holds nothing else
 abbrev pub texts_of : Items → Option (List Text)
@@ -76,7 +76,7 @@ texts_in (array ds) = texts_of ds
 texts_in _ = None
 
 abbrev pub texts_at : ℕ → Field → Members → Result (List Text) KeyFault
-texts_at session f ms = or_wanted (place session f) (option_and_then texts_in (value_of f ms))
+texts_at session f ms = or_wanted (config_key session f) (option_and_then texts_in (value_of f ms))
 
 -- an array of texts that may be left out
 abbrev pub texts_if_any : Option Data → Option (Option (List Text))
@@ -84,7 +84,7 @@ texts_if_any None = Some None
 texts_if_any (Some d) = option_map Some (texts_in d)
 
 abbrev pub optional_texts_at : ℕ → Field → Members → Result (Option (List Text)) KeyFault
-optional_texts_at session f ms = or_wanted (place session f) (texts_if_any (value_of f ms))
+optional_texts_at session f ms = or_wanted (config_key session f) (texts_if_any (value_of f ms))
 
 abbrev pub member_names : Members → List Text
 member_names no_members = []
@@ -123,7 +123,7 @@ known_in_session session ms =
 abbrev pub misplaced : ℕ → List Field → Members → Result (Unit {0}) KeyFault
 misplaced session [] ms = Ok tt
 misplaced session (f ∷ fs) ms =
-    if has f ms then Err (Misplaced (place session f)) else misplaced session fs ms
+    if has f ms then Err (Misplaced (config_key session f)) else misplaced session fs ms
 
 -- the entries of a session with this name, beginning and count of steps: what it has in any case
 unfoldable pub session_with : ℕ → Members → Text → OriginEntries → ℤ → Result SessionEntries KeyFault
@@ -172,7 +172,7 @@ session_of_table n ms =
 
 abbrev pub session_in : ℕ → Data → Result SessionEntries KeyFault
 session_in n (table ms) = session_of_table n ms
-session_in n _ = Err (Wanted (place top field.Sessions))
+session_in n _ = Err (Wanted (config_key top field.Sessions))
 
 -- ---- the sessions, numbered on from n
 
@@ -183,7 +183,7 @@ sessions_of n (item d ds) =
 
 abbrev pub sessions_in : Option Data → Result (List SessionEntries) KeyFault
 sessions_in (Some (array ds)) = sessions_of 1 ds
-sessions_in _ = Err (Wanted (place top field.Sessions))
+sessions_in _ = Err (Wanted (config_key top field.Sessions))
 
 abbrev pub sessions_at : Members → Result (List SessionEntries) KeyFault
 sessions_at ms = sessions_in (value_of field.Sessions ms)
@@ -244,7 +244,7 @@ draft_view d = record {
 }
 
 -- what was read, unless memory ran out
-abbrev pub Reads : {X Y : Type 0} → (X → Y) → Result X DocumentStop → Result Y KeyFault → Type 0
-Reads view (Ok x) read = read ≡ Ok (view x)
-Reads view (Err (Fault fault)) read = read ≡ Err fault
-Reads view (Err OutOfMemory) read = Unit {0}
+abbrev pub ReadsEntry : {X Y : Type 0} → (X → Y) → Result X DocumentStop → Result Y KeyFault → Type 0
+ReadsEntry view (Ok x) read = read ≡ Ok (view x)
+ReadsEntry view (Err (Fault fault)) read = read ≡ Err fault
+ReadsEntry view (Err OutOfMemory) read = Unit {0}

@@ -7,7 +7,7 @@ use Rattle.toml.specs.Data.{Members}
 use Rattle.toml.specs.Parse.{parse_document}
 use Rattle.cpm_flags.specs.declared.regs.Cpu.{Cpu}
 use Rattle.cpm_flags.specs.declared.regs.Cpu.TheVariants.{I8080, Z80}
-use Rattle.cpm_config.specs.Entries.{ConfigEntries, OriginEntries, Opens, Forks, SessionEntries, Text, config_in, place, top}
+use Rattle.cpm_config.specs.Entries.{ConfigEntries, OriginEntries, Opens, Forks, SessionEntries, Text, config_in, config_key, top}
 use Rattle.cpm_config.specs.declared.config.Config.{Config}
 use Rattle.cpm_config.specs.declared.config.Origin.{Origin}
 use Rattle.cpm_config.specs.declared.config.Origin.TheVariants as origin
@@ -52,16 +52,16 @@ is_out drives (Some names) = length names == length drives
 -- ---- forks
 
 -- a session has this name
-abbrev pub is_named : Text → SessionEntries → Bool
-is_named name s = bytes_eq s.name name
+abbrev pub is_session_named : Text → SessionEntries → Bool
+is_session_named name s = bytes_eq s.name name
 
 -- the first of these sessions that has a name
 abbrev pub named_in : List SessionEntries → Text → Option SessionEntries
-named_in ss name = find (is_named name) ss
+named_in ss name = find (is_session_named name) ss
 
 -- its place
 abbrev pub place_of : Text → List SessionEntries → Option ℕ
-place_of name = position_from (is_named name) 0
+place_of name = position_from (is_session_named name) 0
 
 -- a session that begins so is opened, and not forked
 abbrev pub is_opened : OriginEntries → Bool
@@ -92,12 +92,12 @@ origin_fault before steps (Opens cpu quota drives) = None
 origin_fault before steps (Forks parent at) = at_fault (parent_in before parent) steps at
 
 -- the field by which a session is not forked from one of those before it, if it is forked
-abbrev pub fork_fault : List SessionEntries → SessionEntries → Option Field
-fork_fault before s = origin_fault before s.steps s.origin
+abbrev pub fork_field_fault : List SessionEntries → SessionEntries → Option Field
+fork_field_fault before s = origin_fault before s.steps s.origin
 
 -- a fault of the session with this number, else what follows
 abbrev pub fault_or : ℕ → Option Field → Option ConfigKey → Option ConfigKey
-fault_or n (Some f) next = Some (place n f)
+fault_or n (Some f) next = Some (config_key n f)
 fault_or n None next = next
 
 -- the first place in the sessions, numbered on from n and behind those before them, that has a fault
@@ -108,7 +108,7 @@ first_fault fault n before (s ∷ ss) =
 
 -- the first at which a fork breaks a rule
 abbrev pub forks_fault : ℕ → List SessionEntries → List SessionEntries → Option ConfigKey
-forks_fault = first_fault fork_fault
+forks_fault = first_fault fork_field_fault
 
 -- the drives of an opened session
 abbrev pub own_drives : OriginEntries → List Text
@@ -156,18 +156,18 @@ unfoldable pub forked_fault : List SessionEntries → SessionEntries → Option 
 forked_fault before s =
     if not (is_name s.name) then Some field.Name
     else (if not (is_steps s.steps) then Some field.Steps
-    else field_or (fork_fault before s)
+    else field_or (fork_field_fault before s)
     (if not (is_out (drives_of before s) s.out) then Some field.Out
     else None))
 
 -- the same of a session that begins so
-abbrev pub fault_of : List SessionEntries → SessionEntries → OriginEntries → Option Field
-fault_of before s (Opens cpu quota drives) = opened_fault s cpu quota drives
-fault_of before s (Forks parent at) = forked_fault before s
+abbrev pub session_origin_fault : List SessionEntries → SessionEntries → OriginEntries → Option Field
+session_origin_fault before s (Opens cpu quota drives) = opened_fault s cpu quota drives
+session_origin_fault before s (Forks parent at) = forked_fault before s
 
 -- the first field of a session, behind those before it, that breaks a rule
 abbrev pub session_fault : List SessionEntries → SessionEntries → Option Field
-session_fault before s = fault_of before s s.origin
+session_fault before s = session_origin_fault before s s.origin
 
 -- the first place in the sessions, numbered on from n and behind those before them, that breaks a rule
 abbrev pub sessions_fault : ℕ → List SessionEntries → List SessionEntries → Option ConfigKey
@@ -176,9 +176,9 @@ sessions_fault = first_fault session_fault
 -- the first place that breaks a rule
 unfoldable pub range_fault : ConfigEntries → Option ConfigKey
 range_fault c =
-    if not (is_between 16 16384 c.frames) then Some (place top field.Frames)
-    else (if not (is_between 1 1000000000 c.quantum) then Some (place top field.Quantum)
-    else (if not (is_length_between 1 64 c.sessions) then Some (place top field.Sessions)
+    if not (is_between 16 16384 c.frames) then Some (config_key top field.Frames)
+    else (if not (is_between 1 1000000000 c.quantum) then Some (config_key top field.Quantum)
+    else (if not (is_length_between 1 64 c.sessions) then Some (config_key top field.Sessions)
     else sessions_fault 1 [] c.sessions))
 
 -- ---- names
@@ -189,7 +189,7 @@ Placed = ConfigKey × Text
 
 abbrev pub session_names : ℕ → List SessionEntries → List Placed
 session_names n [] = []
-session_names n (s ∷ ss) = (place n field.Name, s.name) ∷ session_names (n + 1) ss
+session_names n (s ∷ ss) = (config_key n field.Name, s.name) ∷ session_names (n + 1) ss
 
 abbrev pub placed_if_any : ConfigKey → Option Text → List Placed
 placed_if_any p None = []
@@ -203,13 +203,13 @@ all_placed_if_any p None = []
 all_placed_if_any p (Some ts) = all_placed p ts
 
 -- the files that a session writes
-abbrev pub files_of : ℕ → SessionEntries → List Placed
-files_of n s = (place n field.Console, s.console) ∷ (placed_if_any (place n field.List) s.list
-    ++ all_placed_if_any (place n field.Out) s.out)
+abbrev pub file_names_of : ℕ → SessionEntries → List Placed
+file_names_of n s = (config_key n field.Console, s.console) ∷ (placed_if_any (config_key n field.List) s.list
+    ++ all_placed_if_any (config_key n field.Out) s.out)
 
-abbrev pub files_of_all : ℕ → List SessionEntries → List Placed
-files_of_all n [] = []
-files_of_all n (s ∷ ss) = files_of n s ++ files_of_all (n + 1) ss
+abbrev pub file_names_of_all : ℕ → List SessionEntries → List Placed
+file_names_of_all n [] = []
+file_names_of_all n (s ∷ ss) = file_names_of n s ++ file_names_of_all (n + 1) ss
 
 -- one of the names is this one
 abbrev pub is_among : List Placed → Text → Bool
@@ -224,8 +224,8 @@ repeated_after before (p ∷ ps) =
 abbrev pub repeated : List Placed → Option ConfigKey
 repeated = repeated_after []
 
-abbrev pub placed : NameUse → Placed
-placed n = (n.place, n.name.now)
+abbrev pub name_placed : NameUse → Placed
+name_placed n = (n.place, n.name.now)
 
 -- the place of the first session that has the name of an earlier one, else of the first file to
 -- be written twice
@@ -234,14 +234,14 @@ some_or (Some p) q = Some p
 some_or None q = q
 
 abbrev pub twice_fault : ConfigEntries → Option ConfigKey
-twice_fault c = some_or (repeated (session_names 1 c.sessions)) (repeated (files_of_all 1 c.sessions))
+twice_fault c = some_or (repeated (session_names 1 c.sessions)) (repeated (file_names_of_all 1 c.sessions))
 
 -- ---- the whole
 
 -- a beginning that the code can keep
-abbrev pub IsKept : OriginEntries → Type 0
-IsKept (Opens cpu quota drives) = (is_cpu cpu ≡ true) × (is_between 0 65535 quota ≡ true)
-IsKept (Forks parent at) = is_between 0 (2 ^ 63) at ≡ true
+abbrev pub IsOriginKept : OriginEntries → Type 0
+IsOriginKept (Opens cpu quota drives) = (is_cpu cpu ≡ true) × (is_between 0 65535 quota ≡ true)
+IsOriginKept (Forks parent at) = is_between 0 (2 ^ 63) at ≡ true
 
 abbrev pub texts_of_strings : Vec (String Global) Global → List Text
 texts_of_strings v = map string_bytes v.items

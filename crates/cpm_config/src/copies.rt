@@ -1,7 +1,7 @@
 //! A configuration of its own, from one that borrows its document.
 ghost use Rattle.std.specs.Prelude.{◌≡◌, ◌^◌, [], IfOk, None, map, option_map, pos, string_bytes, true};
 ghost use Rattle.cpm_config.specs.Entries.{draft_view, origin_draft_view, session_draft_view, text_view, texts_view};
-ghost use Rattle.cpm_config.specs.Rules.{IsKept, config_view, cpu_text, is_between, is_cpu, origin_view, range_fault, session_view, sessions_fault, texts_of_strings};
+ghost use Rattle.cpm_config.specs.Rules.{IsOriginKept, config_view, cpu_text, is_between, is_cpu, origin_view, range_fault, session_view, sessions_fault, texts_of_strings};
 
 use crate::config::{Config, Origin, SessionConfig};
 use crate::draft::{Draft, OriginDraft, SessionDraft};
@@ -68,7 +68,7 @@ fn unsigned_16(number: i64) -> u16
 
 /// How a session of a draft that breaks no rule begins.
 fn origin_of(alloc: Global, origin: &OriginDraft<'_>) -> Result<Origin, AllocError>
-    requires { IsKept (origin_draft_view origin.now) }
+    requires { IsOriginKept (origin_draft_view origin.now) }
     ensures { IfOk result (λ o. origin_view o ≡ origin_draft_view origin.now) }
 {
     match origin {
@@ -86,7 +86,7 @@ fn origin_of(alloc: Global, origin: &OriginDraft<'_>) -> Result<Origin, AllocErr
 
 /// The session of a draft that breaks no rule.
 fn session_of(alloc: Global, draft: &SessionDraft<'_>) -> Result<SessionConfig, AllocError>
-    requires origin { IsKept (origin_draft_view draft.now.origin) }
+    requires origin { IsOriginKept (origin_draft_view draft.now.origin) }
     requires steps { is_between 0 (2 ^ 63) draft.now.steps ≡ true }
     ensures { IfOk result (λ s. session_view s ≡ session_draft_view draft.now) }
 {

@@ -2,7 +2,7 @@
 ghost use Rattle.std.specs.Prelude.{◌≡◌, [], ℤ, Err, IfErr, IfOk, IsErrOf, Ok, map};
 ghost use Rattle.toml.specs.Data.{no_members};
 ghost use Rattle.toml.specs.View.{items_view, table_view, view};
-ghost use Rattle.cpm_config.specs.Entries.{◌>>=◌ as ◌and_then◌, Forks, Opens, OriginEntries, Reads, Text, config_in, draft_view, forked_of_table, known_at_top, known_in_session, misplaced, opened_of_table, optional_text_at, origin_draft_view, session_draft_view, session_in, session_of_table, session_with, sessions_at, sessions_of, text_at, text_view, texts_at};
+ghost use Rattle.cpm_config.specs.Entries.{◌>>=◌ as ◌and_then◌, Forks, Opens, OriginEntries, ReadsEntry, Text, config_in, draft_view, forked_of_table, known_at_top, known_in_session, misplaced, opened_of_table, optional_text_at, origin_draft_view, session_draft_view, session_in, session_of_table, session_with, sessions_at, sessions_of, text_at, text_view, texts_at};
 
 use crate::fault::{KeyFault, DocumentStop};
 use crate::field::{Field, ConfigKey};
@@ -173,7 +173,7 @@ fn session_with<'a>(
     origin: OriginDraft<'a>,
     steps: i64,
 ) -> Result<SessionDraft<'a>, DocumentStop>
-    ensures { Reads session_draft_view result (session_with session (table_view table.now) name.now (origin_draft_view origin.entry) steps) }
+    ensures { ReadsEntry session_draft_view result (session_with session (table_view table.now) name.now (origin_draft_view origin.entry) steps) }
 {
     let files = files_of(table, session)?;
     let out = optional_texts_at(alloc, table, session, Field::Out)?;
@@ -194,7 +194,7 @@ fn opened_of_table<'a>(
     table: &'a Table,
     session: u64,
 ) -> Result<SessionDraft<'a>, DocumentStop>
-    ensures { Reads session_draft_view result (opened_of_table session (table_view table.now)) }
+    ensures { ReadsEntry session_draft_view result (opened_of_table session (table_view table.now)) }
 {
     let head = opened_head(table, session)?;
     let drives = texts_at(alloc, table, session, Field::Drives)?;
@@ -212,7 +212,7 @@ fn forked_of_table<'a>(
     table: &'a Table,
     session: u64,
 ) -> Result<SessionDraft<'a>, DocumentStop>
-    ensures { Reads session_draft_view result (forked_of_table session (table_view table.now)) }
+    ensures { ReadsEntry session_draft_view result (forked_of_table session (table_view table.now)) }
 {
     let head = forked_head(table, session)?;
     let origin = OriginDraft::Forked {
@@ -229,7 +229,7 @@ fn session_of_table<'a>(
     table: &'a Table,
     session: u64,
 ) -> Result<SessionDraft<'a>, DocumentStop>
-    ensures { Reads session_draft_view result (session_of_table session (table_view table.now)) }
+    ensures { ReadsEntry session_draft_view result (session_of_table session (table_view table.now)) }
 {
     if value_at(table, Field::Fork).is_some() {
         forked_of_table(alloc, table, session)
@@ -240,7 +240,7 @@ fn session_of_table<'a>(
 
 /// The entries of a value that has to be a session's table.
 fn session_in<'a>(alloc: Global, value: &'a Value, session: u64) -> Result<SessionDraft<'a>, DocumentStop>
-    ensures { Reads session_draft_view result (session_in session (view value.now)) }
+    ensures { ReadsEntry session_draft_view result (session_in session (view value.now)) }
 {
     match value {
         Value::Table(table) => session_of_table(alloc, table, session),
@@ -259,7 +259,7 @@ fn add_sessions<'a>(
     sessions: &mut Vec<SessionDraft<'a>>,
 ) -> Result<(), DocumentStop>
     requires { sessions.old.items ≡ [] }
-    ensures { Reads (λ _. map session_draft_view sessions.new.items) result (sessions_of 1 (items_view values.now)) }
+    ensures { ReadsEntry (λ _. map session_draft_view sessions.new.items) result (sessions_of 1 (items_view values.now)) }
 {
     let mut number: u64 = 0;
     for value in values {
@@ -272,7 +272,7 @@ fn add_sessions<'a>(
 
 /// The entries of all sessions.
 fn sessions_of<'a>(alloc: Global, values: &'a [Value]) -> Result<Vec<SessionDraft<'a>>, DocumentStop>
-    ensures { Reads (λ v. map session_draft_view v.items) result (sessions_of 1 (items_view values.now)) }
+    ensures { ReadsEntry (λ v. map session_draft_view v.items) result (sessions_of 1 (items_view values.now)) }
 {
     let mut sessions = Vec::new(alloc);
     add_sessions(alloc, values, &mut sessions)?;
@@ -281,7 +281,7 @@ fn sessions_of<'a>(alloc: Global, values: &'a [Value]) -> Result<Vec<SessionDraf
 
 /// The entries of the sessions of a document.
 fn sessions_at<'a>(alloc: Global, table: &'a Table) -> Result<Vec<SessionDraft<'a>>, DocumentStop>
-    ensures read { Reads (λ v. map session_draft_view v.items) result (sessions_at (table_view table.now)) }
+    ensures read { ReadsEntry (λ v. map session_draft_view v.items) result (sessions_at (table_view table.now)) }
     ensures memory { IsErrOf result DocumentStop.OutOfMemory → table_view table.now ≡ no_members → ⊥ }
 {
     match value_at(table, Field::Sessions) {
@@ -308,7 +308,7 @@ fn check_top_keys(table: &Table) -> Result<(), KeyFault>
 /// The entries of a document.
 #[tactic(auto, unfolding(crate::specs::Entries::config_in))]
 pub(crate) fn draft_of<'a>(alloc: Global, table: &'a Table) -> Result<Draft<'a>, DocumentStop>
-    ensures read { Reads draft_view result (config_in (table_view table.now)) }
+    ensures read { ReadsEntry draft_view result (config_in (table_view table.now)) }
     ensures memory { IsErrOf result DocumentStop.OutOfMemory → table_view table.now ≡ no_members → ⊥ }
 {
     check_top_keys(table)?;

@@ -1,6 +1,6 @@
 //! Sessions that are forked from others, and those that they are forked from.
 ghost use Rattle.std.specs.Prelude.{◌≡◌, [], Some, map, option_map, pos};
-ghost use Rattle.cpm_config.specs.Rules.{at_fault, config_view, fork_fault, forks_fault, if_opened, named_in, place_of, session_view};
+ghost use Rattle.cpm_config.specs.Rules.{at_fault, config_view, fork_field_fault, forks_fault, if_opened, named_in, place_of, session_view};
 
 use crate::config::{Config, Origin, SessionConfig};
 use crate::field::{Field, ConfigKey};
@@ -38,8 +38,8 @@ fn at_fault(parent: &SessionConfig, steps: u64, at: u64) -> Option<Field>
 }
 
 /// The field by which a session is not forked from one of those before it, if it is forked.
-fn fork_fault(before: &[SessionConfig], session: &SessionConfig) -> Option<Field>
-    ensures { result ≡ fork_fault (map session_view before.now) (session_view session.now) }
+fn fork_field_fault(before: &[SessionConfig], session: &SessionConfig) -> Option<Field>
+    ensures { result ≡ fork_field_fault (map session_view before.now) (session_view session.now) }
 {
     let Origin::Forked { parent, at } = &session.origin else {
         return None;
@@ -58,7 +58,7 @@ fn forks_fault(sessions: &[SessionConfig]) -> Option<ConfigKey>
     for session in sessions {
         let before = &sessions[..count];
         count += 1;
-        if let Some(field) = fork_fault(before, session) {
+        if let Some(field) = fork_field_fault(before, session) {
             return Some(ConfigKey {
                 session: count as u64,
                 field,

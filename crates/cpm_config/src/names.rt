@@ -2,8 +2,8 @@
 ghost use Rattle.std.specs.Prelude.{◌≡◌, ◌++◌, ◌∷◌, [], IfOk, OnOk, length, map, option_map};
 ghost use Rattle.std.specs.List.{list_any};
 ghost use Rattle.std.specs.Str.{bytes_eq};
-ghost use Rattle.cpm_config.specs.Entries.{draft_view, place, session_draft_view, text_view, texts_view};
-ghost use Rattle.cpm_config.specs.Rules.{all_placed, all_placed_if_any, files_of, files_of_all, placed, placed_if_any, repeated, session_names, twice_fault};
+ghost use Rattle.cpm_config.specs.Entries.{draft_view, config_key, session_draft_view, text_view, texts_view};
+ghost use Rattle.cpm_config.specs.Rules.{all_placed, all_placed_if_any, file_names_of, file_names_of_all, name_placed, placed_if_any, repeated, session_names, twice_fault};
 
 use crate::draft::{Draft, SessionDraft};
 use crate::field::{Field, ConfigKey};
@@ -23,7 +23,7 @@ fn add<'a>(
     field: Field,
     name: &'a str,
 ) -> Result<(), AllocError>
-    ensures { OnOk result (map placed names.new.items ≡ map placed names.old.items ++ (place session field, name.now) ∷ []) }
+    ensures { OnOk result (map name_placed names.new.items ≡ map name_placed names.old.items ++ (config_key session field, name.now) ∷ []) }
 {
     let place = ConfigKey { session, field };
     names.push(NameUse { place, name })?;
@@ -37,7 +37,7 @@ fn add_if_any<'a>(
     field: Field,
     name: Option<&'a str>,
 ) -> Result<(), AllocError>
-    ensures { OnOk result (map placed names.new.items ≡ map placed names.old.items ++ placed_if_any (place session field) (text_view name.entry)) }
+    ensures { OnOk result (map name_placed names.new.items ≡ map name_placed names.old.items ++ placed_if_any (config_key session field) (text_view name.entry)) }
 {
     match name {
         Some(name) => add(names, session, field, name),
@@ -52,7 +52,7 @@ fn add_all<'a>(
     field: Field,
     more: &[&'a str],
 ) -> Result<(), AllocError>
-    ensures { OnOk result (map placed names.new.items ≡ map placed names.old.items ++ all_placed (place session field) (map (λ t. t.now) more.now)) }
+    ensures { OnOk result (map name_placed names.new.items ≡ map name_placed names.old.items ++ all_placed (config_key session field) (map (λ t. t.now) more.now)) }
 {
     for name in more {
         add(names, session, field, name)?;
@@ -67,7 +67,7 @@ fn add_all_if_any<'a>(
     field: Field,
     more: &Option<Vec<&'a str>>,
 ) -> Result<(), AllocError>
-    ensures { OnOk result (map placed names.new.items ≡ map placed names.old.items ++ all_placed_if_any (place session field) (option_map texts_view more.now)) }
+    ensures { OnOk result (map name_placed names.new.items ≡ map name_placed names.old.items ++ all_placed_if_any (config_key session field) (option_map texts_view more.now)) }
 {
     match more {
         Some(more) => add_all(names, session, field, more.as_slice()),
@@ -81,7 +81,7 @@ fn add_files<'a>(
     number: u64,
     session: &SessionDraft<'a>,
 ) -> Result<(), AllocError>
-    ensures { OnOk result (map placed names.new.items ≡ map placed names.old.items ++ files_of number (session_draft_view session.now)) }
+    ensures { OnOk result (map name_placed names.new.items ≡ map name_placed names.old.items ++ file_names_of number (session_draft_view session.now)) }
 {
     add(names, number, Field::Console, session.console)?;
     add_if_any(names, number, Field::List, session.list)?;
@@ -93,7 +93,7 @@ fn session_names<'a>(
     alloc: Global,
     sessions: &[SessionDraft<'a>],
 ) -> Result<Vec<NameUse<'a>>, AllocError>
-    ensures { IfOk result (λ v. map placed v.items ≡ session_names 1 (map session_draft_view sessions.now)) }
+    ensures { IfOk result (λ v. map name_placed v.items ≡ session_names 1 (map session_draft_view sessions.now)) }
 {
     let mut names = Vec::new(alloc);
     let mut number: u64 = 0;
@@ -105,11 +105,11 @@ fn session_names<'a>(
 }
 
 /// The files that the sessions write.
-fn files_of_all<'a>(
+fn file_names_of_all<'a>(
     alloc: Global,
     sessions: &[SessionDraft<'a>],
 ) -> Result<Vec<NameUse<'a>>, AllocError>
-    ensures { IfOk result (λ v. map placed v.items ≡ files_of_all 1 (map session_draft_view sessions.now)) }
+    ensures { IfOk result (λ v. map name_placed v.items ≡ file_names_of_all 1 (map session_draft_view sessions.now)) }
 {
     let mut names = Vec::new(alloc);
     let mut number: u64 = 0;
@@ -128,7 +128,7 @@ fn is_among(names: &[NameUse<'_>], name: &str) -> bool
 
 /// The place of the first name that stands before.
 fn repeated(names: &[NameUse<'_>]) -> Option<ConfigKey>
-    ensures { result ≡ repeated (map placed names.now) }
+    ensures { result ≡ repeated (map name_placed names.now) }
 {
     let mut count = 0;
     for named in names {
@@ -150,6 +150,6 @@ pub(crate) fn twice_fault(alloc: Global, draft: &Draft<'_>) -> Result<Option<Con
     if let Some(place) = repeated(names.as_slice()) {
         return Ok(Some(place));
     }
-    let files = files_of_all(alloc, sessions)?;
+    let files = file_names_of_all(alloc, sessions)?;
     Ok(repeated(files.as_slice()))
 }

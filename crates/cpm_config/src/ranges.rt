@@ -1,7 +1,7 @@
 //! The rules on the values of a configuration.
 ghost use Rattle.std.specs.Prelude.{◌≡◌, [], Some, map, option_map};
 ghost use Rattle.std.specs.List.{list_all};
-ghost use Rattle.cpm_config.specs.Entries.{Forks, draft_view, place, session_draft_view, texts_view};
+ghost use Rattle.cpm_config.specs.Entries.{Forks, draft_view, config_key, session_draft_view, texts_view};
 ghost use Rattle.cpm_config.specs.Rules.{at_fault, drives_if_any, forked_fault, if_opened, is_between, is_cpu, is_length_between, is_name, is_name_byte, is_out, is_steps, named_in, opened_fault, origin_fault, range_fault, session_fault, sessions_fault};
 
 use crate::draft::{Draft, OriginDraft, SessionDraft};
@@ -192,7 +192,7 @@ fn sessions_fault(sessions: &[SessionDraft<'_>]) -> Option<ConfigKey>
 
 /// A place at the top.
 fn at_top(field: Field) -> Option<ConfigKey>
-    ensures { result ≡ Some (place 0 field) }
+    ensures { result ≡ Some (config_key 0 field) }
 {
     Some(ConfigKey { session: 0, field })
 }

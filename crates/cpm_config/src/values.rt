@@ -6,7 +6,7 @@ ghost use Rattle.std.specs.Str.{bytes_eq};
 ghost use Rattle.toml.specs.Data.{get_member};
 ghost use Rattle.toml.specs.View.{items_view, table_view, view};
 ghost use Rattle.cpm_config.specs.Fields.{field_name};
-ghost use Rattle.cpm_config.specs.Entries.{Reads, has_only, number_at, optional_text_at, optional_texts_at, or_wanted, result_map, text_at, texts_at, texts_of, texts_view};
+ghost use Rattle.cpm_config.specs.Entries.{ReadsEntry, has_only, number_at, optional_text_at, optional_texts_at, or_wanted, result_map, text_at, texts_at, texts_of, texts_view};
 
 use crate::fault::{KeyFault, DocumentStop};
 use crate::field::{Field, ConfigKey};
@@ -82,7 +82,7 @@ pub(crate) fn optional_text_at<'a>(
 /// no fault here has texts to drop.
 fn add_texts<'a>(values: &'a [Value], place: ConfigKey, texts: &mut Vec<&'a str>) -> Result<(), DocumentStop>
     requires { texts.old.items ≡ [] }
-    ensures { Reads (λ _. texts_view texts.new) result (or_wanted place (texts_of (items_view values.now))) }
+    ensures { ReadsEntry (λ _. texts_view texts.new) result (or_wanted place (texts_of (items_view values.now))) }
 {
     for value in values {
         let Some(text) = value.as_str() else {
@@ -95,7 +95,7 @@ fn add_texts<'a>(values: &'a [Value], place: ConfigKey, texts: &mut Vec<&'a str>
 
 /// The texts of an array that holds nothing else.
 fn texts_of<'a>(alloc: Global, values: &'a [Value], place: ConfigKey) -> Result<Vec<&'a str>, DocumentStop>
-    ensures { Reads texts_view result (or_wanted place (texts_of (items_view values.now))) }
+    ensures { ReadsEntry texts_view result (or_wanted place (texts_of (items_view values.now))) }
 {
     let mut texts = Vec::new(alloc);
     add_texts(values, place, &mut texts)?;
@@ -109,7 +109,7 @@ pub(crate) fn texts_at<'a>(
     session: u64,
     field: Field,
 ) -> Result<Vec<&'a str>, DocumentStop>
-    ensures { Reads texts_view result (texts_at session field (table_view table.now)) }
+    ensures { ReadsEntry texts_view result (texts_at session field (table_view table.now)) }
 {
     let place = ConfigKey { session, field };
     match value_at(table, field) {
@@ -125,7 +125,7 @@ pub(crate) fn optional_texts_at<'a>(
     session: u64,
     field: Field,
 ) -> Result<Option<Vec<&'a str>>, DocumentStop>
-    ensures { Reads (option_map texts_view) result (optional_texts_at session field (table_view table.now)) }
+    ensures { ReadsEntry (option_map texts_view) result (optional_texts_at session field (table_view table.now)) }
 {
     match value_at(table, field) {
         Some(_) => Ok(Some(texts_at(alloc, table, session, field)?)),

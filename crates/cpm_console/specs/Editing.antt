@@ -54,8 +54,8 @@ abbrev pub fresh_line : Draft → List ℕ
 fresh_line l = 0x23 ∷ 0x0D ∷ 0x0A ∷ replicate l.start 0x20
 
 -- a line with no character yet
-abbrev pub begun : ℕ → ℕ → Draft
-begun start limit = record { start = start; limit = limit; characters = [] }
+abbrev pub begun_line : ℕ → ℕ → Draft
+begun_line start limit = record { start = start; limit = limit; characters = [] }
 
 -- the line with one character more, without its last one, and with none
 abbrev pub with_character : Draft → ℕ → Draft

@@ -18,8 +18,8 @@ pub record Terminal : Type 0 where
   pub list_echo : Bool
 
 -- own: a console on which nothing was done
-abbrev pub blank : Terminal
-blank = record { keys = []; screen = []; printer = []; column = 0; list_echo = false }
+abbrev pub blank_terminal : Terminal
+blank_terminal = record { keys = []; screen = []; printer = []; column = 0; list_echo = false }
 
 -- own: a key pressed
 abbrev pub pressed : Terminal → ℕ → Terminal

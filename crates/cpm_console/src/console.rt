@@ -1,7 +1,7 @@
 //! Keys that wait to be read, bytes that wait to be taken, and the column of the cursor.
 
 ghost use Rattle.std.specs.Prelude.{◌≡◌, ◌<◌, ◌≤◌, ◌+◌, ◌-◌, ◌%◌, ◌↔◌, ◌++◌, ◌∷◌, [], length, take, drop, min, slice_get, IsTrue, IfNone, IfOk, if◌then◌else◌};
-ghost use Rattle.cpm_console.specs.Terminal.{blank, pressed, key_read, has_room, shown, printed, said, expanded, column_after, column_past, waiting_on, with_waiting};
+ghost use Rattle.cpm_console.specs.Terminal.{blank_terminal, pressed, key_read, has_room, shown, printed, said, expanded, column_after, column_past, waiting_on, with_waiting};
 
 use crate::device::Device;
 use circular_buffer::HeapCircularBuffer;
@@ -57,7 +57,7 @@ fn ring_copy(
 impl Console {
     /// A console on which nothing was done. All the memory that it ever takes is taken here; refused for want of it.
     pub fn new(alloc: Global) -> Result<Self, AllocError>
-        ensures { IfOk result (λ c. c ≡ blank) }
+        ensures { IfOk result (λ c. c ≡ blank_terminal) }
     {
         let pending = HeapCircularBuffer::with_capacity(alloc, KEYS)?;
         let screen = HeapCircularBuffer::with_capacity(alloc, RING)?;

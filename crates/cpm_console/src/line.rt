@@ -3,7 +3,7 @@
 ghost use Rattle.std.specs.Prelude.{◌≡◌, ◌<◌, ◌≤◌, ◌+◌, ◌*◌, ◌-◌, ◌↔◌, ◌++◌, ◌∷◌, ◌==◌, [], ℕ, length, take, drop, min, slice_get, IsTrue, IfOk, if◌then◌else◌, true, false, not, fold, replicate};
 ghost use Rattle.cpm_console.specs.Terminal.{said, IsWithin};
 ghost use Rattle.cpm_console.specs.Draft.{Draft};
-ghost use Rattle.cpm_console.specs.Editing.{echo_at, next_column, columns, echo, erasure, without_last, last_echo, with_character, emptied, fresh_line, keystroke, edited, put_in, begun, key_into_line};
+ghost use Rattle.cpm_console.specs.Editing.{echo_at, next_column, columns, echo, erasure, without_last, last_echo, with_character, emptied, fresh_line, keystroke, edited, put_in, begun_line, key_into_line};
 
 use crate::Console;
 use arrayvec::ArrayVec;
@@ -85,7 +85,7 @@ impl Model for Line {
 impl Line {
     /// An empty line that begins at a column and may have this many characters.
     pub fn new(start: u8, limit: u8) -> Self
-        ensures { result ≡ begun start limit }
+        ensures { result ≡ begun_line start limit }
     {
         Line {
             start,

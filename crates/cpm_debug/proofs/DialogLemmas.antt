@@ -7,8 +7,8 @@ use Rattle.std.specs.Io.KnownBytes.{Appends}
 use Rattle.cpm_flags.specs.declared.regs.Cpu.{Cpu}
 use Rattle.cpm_geom.specs.Disk.{Disk}
 use Rattle.cpm_machine.specs.MachineState.{MachineState}
-use Rattle.cpm_debug.specs.Debug.{IsCutShort, IsDebugRefusal, IsFailure, IsHeld, IsReadFailure, IsUnanswered, debugged, system_drive}
-use Rattle.cpm_debug.specs.Dialog.{answer, answer_to, dialog, is_quit, pressed, reply, unknown_line}
+use Rattle.cpm_debug.specs.Debug.{IsDialogCutShort, IsDebugRefusal, IsFailure, IsHeld, IsReadFailure, IsUnanswered, debugged, debug_system_drive}
+use Rattle.cpm_debug.specs.Dialog.{debug_answer, answer_to, dialog, is_quit, request_pressed, reply, unknown_line}
 use Rattle.cpm_debug.specs.Hearing.{Hears, heard, lines_within}
 use Rattle.cpm_debug.specs.Orders.{Request, press_of, request_of}
 use Rattle.cpm_debug.specs.declared.error.DebugError.{DebugError}
@@ -21,8 +21,8 @@ on_ok (Err e) p = tt
 
 -- the answer to keys
 pub answer_press : (system : Disk) (cpu : Cpu) (listing : List ℕ) (o : Option (List ℕ)) (s : MachineState)
-    → answer system cpu listing (press_of o) s ≡ reply (if (pressed (press_of o) s).accepted then [] else unknown_line) (pressed (press_of o) s).state
-unfolding answer
+    → debug_answer system cpu listing (press_of o) s ≡ reply (if (request_pressed (press_of o) s).accepted then [] else unknown_line) (request_pressed (press_of o) s).state
+unfolding debug_answer
 answer_press system cpu listing None s = refl
 answer_press system cpu listing (Some []) s = refl
 answer_press system cpu listing (Some (k ∷ ks)) s = refl
@@ -111,11 +111,11 @@ answered_more {system = system} {cpu = cpu} {listing = listing} {start = start} 
 
 pub so_far_more : {system : Disk} {cpu : Cpu} {listing : List ℕ} {start now : MachineState} {known rest before after_it : Option (List ℕ)} (left room bytes : ℕ) (next : MachineState) (heard_rest later : Option (List ℕ)) (line : List ℕ) (asks : Request)
     → IsSoFar system cpu listing start now known rest before after_it (suc left) room → Hears room bytes rest heard_rest (Some line) → asks ≡ request_of line → is_quit asks ≡ false
-    → next ≡ (answer system cpu listing asks now).state → Appends after_it later (answer system cpu listing asks now).text → IsSoFar system cpu listing start next known heard_rest before later left bytes
+    → next ≡ (debug_answer system cpu listing asks now).state → Appends after_it later (debug_answer system cpu listing asks now).text → IsSoFar system cpu listing start next known heard_rest before later left bytes
 so_far_more {system = system} {cpu = cpu} {listing = listing} {start = start} {now = now} {known = known} {rest = rest} {before = before} {after_it = after_it} left room bytes next heard_rest later line asks so hears is goes_on state writes =
     let on : is_quit (request_of line) ≡ false = ap is_quit (sym is) ∙ goes_on in
-    let there : next ≡ (answer_to system cpu listing line now).state = state ∙ ap (λ q. (answer system cpu listing q now).state) is in
-    let wrote : Appends after_it later (answer_to system cpu listing line now).text = subst (λ (q : Request). Appends after_it later (answer system cpu listing q now).text) is writes in
+    let there : next ≡ (answer_to system cpu listing line now).state = state ∙ ap (λ q. (debug_answer system cpu listing q now).state) is in
+    let wrote : Appends after_it later (answer_to system cpu listing line now).text = subst (λ (q : Request). Appends after_it later (debug_answer system cpu listing q now).text) is writes in
     record {
       lines = so.lines ++ line ∷ [];
       follows = one_more known rest heard_rest left room bytes so.lines line so.follows hears;
@@ -149,12 +149,12 @@ held_quit {system = system} {cpu = cpu} {listing = listing} {start = start} {now
       written = subst (λ (t : List ℕ). Appends before after_it t) (sym same) so.written;
     }
 
-cut_short : {system : Disk} {cpu : Cpu} {listing : List ℕ} {start now : MachineState} {known rest before after_it : Option (List ℕ)} (left room : ℕ) → IsSoFar system cpu listing start now known rest before after_it left room → IsCutShort system cpu listing start known before after_it
+cut_short : {system : Disk} {cpu : Cpu} {listing : List ℕ} {start now : MachineState} {known rest before after_it : Option (List ℕ)} (left room : ℕ) → IsSoFar system cpu listing start now known rest before after_it left room → IsDialogCutShort system cpu listing start known before after_it
 cut_short {known = known} {rest = rest} left room so =
     record { lines = so.lines; more = more_of rest left room; heard = heard_more known rest left room so.lines so.follows; written = so.written }
 
 read_failure : (system : Disk) (cpu : Cpu) (listing : List ℕ) (start : MachineState) (known before after_it : Option (List ℕ)) (e : DebugError) → IsReadFailure e
-    → IsCutShort system cpu listing start known before after_it → IsFailure system cpu listing start known before after_it e
+    → IsDialogCutShort system cpu listing start known before after_it → IsFailure system cpu listing start known before after_it e
 read_failure system cpu listing start known before after_it (ProgramTooLong n) fails cut = absurd fails
 read_failure system cpu listing start known before after_it (Unreadable reason) fails cut = cut
 read_failure system cpu listing start known before after_it (Unwritable reason) fails cut = absurd fails
@@ -173,14 +173,14 @@ both_empty (x ∷ xs) ys e = absurd (let bad : ⊥ = cc in bad)
 -- the writer failed
 pub unanswered : {system : Disk} {cpu : Cpu} {listing : List ℕ} {start now : MachineState} {known rest before after_it : Option (List ℕ)} (left room bytes : ℕ) (heard_rest : Option (List ℕ)) (line : List ℕ) (asks : Request)
     → IsSoFar system cpu listing start now known rest before after_it (suc left) room → Hears room bytes rest heard_rest (Some line) → asks ≡ request_of line → is_quit asks ≡ false
-    → (answer system cpu listing asks now).text ≢ [] → IsUnanswered system cpu listing start known
+    → (debug_answer system cpu listing asks now).text ≢ [] → IsUnanswered system cpu listing start known
 unanswered {system = system} {cpu = cpu} {listing = listing} {start = start} {now = now} {known = known} {rest = rest} left room bytes heard_rest line asks so hears is goes_on some =
     let on : is_quit (request_of line) ≡ false = ap is_quit (sym is) ∙ goes_on in
     record {
       lines = so.lines ++ line ∷ [];
       more = more_of heard_rest left bytes;
       heard = heard_more known heard_rest left bytes (so.lines ++ line ∷ []) (one_more known rest heard_rest left room bytes so.lines line so.follows hears);
-      some = λ none. some (ap (λ q. (answer system cpu listing q now).text) is
+      some = λ none. some (ap (λ q. (debug_answer system cpu listing q now).text) is
           ∙ both_empty (dialog system cpu listing so.lines start) (answer_to system cpu listing line now).text (sym (answered (suc left) room so line on) ∙ none));
     }
 
@@ -194,8 +194,8 @@ pub held_whole : (system : Disk) (cpu : Cpu) (listing : List ℕ) (start : Machi
     → IsHeld system cpu listing start known before after_it
 held_whole system cpu listing start known before after_it held = record { lines = held.lines; heard = same_heard known held.lines held.heard; written = held.written }
 
-cut_whole : (system : Disk) (cpu : Cpu) (listing : List ℕ) (start : MachineState) (known before after_it : Option (List ℕ)) → IsCutShort system cpu listing start (option_map (take 16777217) known) before after_it
-    → IsCutShort system cpu listing start known before after_it
+cut_whole : (system : Disk) (cpu : Cpu) (listing : List ℕ) (start : MachineState) (known before after_it : Option (List ℕ)) → IsDialogCutShort system cpu listing start (option_map (take 16777217) known) before after_it
+    → IsDialogCutShort system cpu listing start known before after_it
 cut_whole system cpu listing start known before after_it cut =
     record { lines = cut.lines; more = cut.more; heard = same_heard known (cut.lines ++ cut.more) cut.heard; written = cut.written }
 
@@ -204,11 +204,11 @@ unanswered_whole : (system : Disk) (cpu : Cpu) (listing : List ℕ) (start : Mac
 unanswered_whole system cpu listing start known un = record { lines = un.lines; more = un.more; heard = same_heard known (un.lines ++ un.more) un.heard; some = un.some }
 
 pub refusal_whole : {W : Type 0} (cpu : Cpu) (listing program : List ℕ) (known before after_it : Option (List ℕ)) (old new : W) (e : DebugError) → length program ≤ 58112
-    → IsFailure system_drive cpu listing (debugged cpu program) (option_map (take 16777217) known) before after_it e → IsDebugRefusal cpu listing program known before after_it old new e
+    → IsFailure debug_system_drive cpu listing (debugged cpu program) (option_map (take 16777217) known) before after_it e → IsDebugRefusal cpu listing program known before after_it old new e
 refusal_whole cpu listing program known before after_it old new (ProgramTooLong n) fits fails = absurd fails
-refusal_whole cpu listing program known before after_it old new (Unreadable reason) fits fails = (fits, cut_whole system_drive cpu listing (debugged cpu program) known before after_it fails)
-refusal_whole cpu listing program known before after_it old new (Unwritable reason) fits fails = (fits, unanswered_whole system_drive cpu listing (debugged cpu program) known fails)
-refusal_whole cpu listing program known before after_it old new OutOfMemory fits fails = (fits, cut_whole system_drive cpu listing (debugged cpu program) known before after_it fails)
+refusal_whole cpu listing program known before after_it old new (Unreadable reason) fits fails = (fits, cut_whole debug_system_drive cpu listing (debugged cpu program) known before after_it fails)
+refusal_whole cpu listing program known before after_it old new (Unwritable reason) fits fails = (fits, unanswered_whole debug_system_drive cpu listing (debugged cpu program) known fails)
+refusal_whole cpu listing program known before after_it old new OutOfMemory fits fails = (fits, cut_whole debug_system_drive cpu listing (debugged cpu program) known before after_it fails)
 
 -- memory was refused before anything was read
 abbrev heard_of : Option (List ℕ) → List (List ℕ)
@@ -219,27 +219,27 @@ all_heard : (known : Option (List ℕ)) → IfSome known (λ text. heard_of know
 all_heard None = tt
 all_heard (Some text) = refl
 
-pub at_once : (system : Disk) (cpu : Cpu) (listing : List ℕ) (start : MachineState) (known before : Option (List ℕ)) → IsCutShort system cpu listing start known before before
+pub at_once : (system : Disk) (cpu : Cpu) (listing : List ℕ) (start : MachineState) (known before : Option (List ℕ)) → IsDialogCutShort system cpu listing start known before before
 at_once system cpu listing start known before = record { lines = []; more = heard_of known; heard = all_heard known; written = Appends-nil before }
 
 -- ---- what the debugger answers, from the dialog that it held
 
 pub held_result : {A E : Type 0} (r : Result A E) (system : Disk) (cpu : Cpu) (listing : List ℕ) (s : MachineState) (program : List ℕ) (known k before after_it : Option (List ℕ))
-    → system ≡ system_drive → s ≡ debugged cpu program → k ≡ option_map (take 16777217) known → OnOk r (IsHeld system cpu listing s k before after_it)
-    → OnOk r (IsHeld system_drive cpu listing (debugged cpu program) known before after_it)
+    → system ≡ debug_system_drive → s ≡ debugged cpu program → k ≡ option_map (take 16777217) known → OnOk r (IsHeld system cpu listing s k before after_it)
+    → OnOk r (IsHeld debug_system_drive cpu listing (debugged cpu program) known before after_it)
 held_result (Err e) system cpu listing s program known k before after_it drive machine reader held = tt
 held_result (Ok x) system cpu listing s program known k before after_it drive machine reader held =
     let on_drive = subst (λ (d : Disk). IsHeld d cpu listing s k before after_it) drive held in
-    let on_machine = subst (λ (m : MachineState). IsHeld system_drive cpu listing m k before after_it) machine on_drive in
-    held_whole system_drive cpu listing (debugged cpu program) known before after_it
-    (subst (λ (o : Option (List ℕ)). IsHeld system_drive cpu listing (debugged cpu program) o before after_it) reader on_machine)
+    let on_machine = subst (λ (m : MachineState). IsHeld debug_system_drive cpu listing m k before after_it) machine on_drive in
+    held_whole debug_system_drive cpu listing (debugged cpu program) known before after_it
+    (subst (λ (o : Option (List ℕ)). IsHeld debug_system_drive cpu listing (debugged cpu program) o before after_it) reader on_machine)
 
 pub refused_result : {A W : Type 0} (r : Result A DebugError) (system : Disk) (cpu : Cpu) (listing : List ℕ) (s : MachineState) (program : List ℕ) (known k before after_it : Option (List ℕ)) (old new : W)
-    → system ≡ system_drive → s ≡ debugged cpu program → k ≡ option_map (take 16777217) known → length program ≤ 58112 → IfErr r (IsFailure system cpu listing s k before after_it)
+    → system ≡ debug_system_drive → s ≡ debugged cpu program → k ≡ option_map (take 16777217) known → length program ≤ 58112 → IfErr r (IsFailure system cpu listing s k before after_it)
     → IfErr r (IsDebugRefusal cpu listing program known before after_it old new)
 refused_result (Ok x) system cpu listing s program known k before after_it old new drive machine reader fits failed = tt
 refused_result (Err e) system cpu listing s program known k before after_it old new drive machine reader fits failed =
     let on_drive = subst (λ (d : Disk). IsFailure d cpu listing s k before after_it e) drive failed in
-    let on_machine = subst (λ (m : MachineState). IsFailure system_drive cpu listing m k before after_it e) machine on_drive in
+    let on_machine = subst (λ (m : MachineState). IsFailure debug_system_drive cpu listing m k before after_it e) machine on_drive in
     refusal_whole cpu listing program known before after_it old new e fits
-    (subst (λ (o : Option (List ℕ)). IsFailure system_drive cpu listing (debugged cpu program) o before after_it e) reader on_machine)
+    (subst (λ (o : Option (List ℕ)). IsFailure debug_system_drive cpu listing (debugged cpu program) o before after_it e) reader on_machine)

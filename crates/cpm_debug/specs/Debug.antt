@@ -18,7 +18,7 @@ pub record IsHeld (system : Disk) (cpu : Cpu) (listing : List ℕ) (s : MachineS
   pub written : Appends before now (dialog system cpu listing lines s)
 
 -- The reader failed behind some lines, which were answered.
-pub record IsCutShort (system : Disk) (cpu : Cpu) (listing : List ℕ) (s : MachineState) (known before now : Option (List ℕ)) : Type 0 where
+pub record IsDialogCutShort (system : Disk) (cpu : Cpu) (listing : List ℕ) (s : MachineState) (known before now : Option (List ℕ)) : Type 0 where
   pub lines : List (List ℕ)
   pub more : List (List ℕ)
   pub heard : IfSome known (λ text. lines ++ more ≡ heard text)
@@ -39,14 +39,14 @@ IsReadFailure _ = ⊥
 
 -- when a dialog with a machine ends early
 abbrev pub IsFailure : Disk → Cpu → List ℕ → MachineState → Option (List ℕ) → Option (List ℕ) → Option (List ℕ) → DebugError → Type 0
-IsFailure system cpu listing s known before now (Unreadable reason) = IsCutShort system cpu listing s known before now
-IsFailure system cpu listing s known before now OutOfMemory = IsCutShort system cpu listing s known before now
+IsFailure system cpu listing s known before now (Unreadable reason) = IsDialogCutShort system cpu listing s known before now
+IsFailure system cpu listing s known before now OutOfMemory = IsDialogCutShort system cpu listing s known before now
 IsFailure system cpu listing s known before now (Unwritable reason) = IsUnanswered system cpu listing s known
 IsFailure system cpu listing s known before now _ = ⊥
 
 -- the system drive, and the machine with a program, a blank drive and all pages
-abbrev pub system_drive : Disk
-system_drive = blank_disk Ibm3740
+abbrev pub debug_system_drive : Disk
+debug_system_drive = blank_disk Ibm3740
 
 abbrev pub debugged : Cpu → List ℕ → MachineState
 debugged cpu program = opened_with cpu (blank_disk Ibm3740 ∷ []) program
@@ -54,4 +54,4 @@ debugged cpu program = opened_with cpu (blank_disk Ibm3740 ∷ []) program
 -- When the debugger of a program is refused: the program is too long, and nothing was written, or the dialog ended early.
 abbrev pub IsDebugRefusal : {W : Type 0} → Cpu → List ℕ → List ℕ → Option (List ℕ) → Option (List ℕ) → Option (List ℕ) → W → W → DebugError → Type 0
 IsDebugRefusal cpu listing program known before now old new (ProgramTooLong count) = (58112 < length program) × (count ≡ length program) × (new ≡ old)
-IsDebugRefusal cpu listing program known before now old new error = (length program ≤ 58112) × IsFailure system_drive cpu listing (debugged cpu program) known before now error
+IsDebugRefusal cpu listing program known before now old new error = (length program ≤ 58112) × IsFailure debug_system_drive cpu listing (debugged cpu program) known before now error

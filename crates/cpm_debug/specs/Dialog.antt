@@ -27,13 +27,13 @@ pub record Reply : Type 0 where
 -- ---- lines
 
 -- a text and the newline that ends it
-abbrev pub line_of : List ℕ → List ℕ
-line_of text = text ++ 0x0A ∷ []
+abbrev pub ended_line : List ℕ → List ℕ
+ended_line text = text ++ 0x0A ∷ []
 
 -- a line, and behind it a line of the listing, where there is one
 abbrev pub with_source : List ℕ → List ℕ → List ℕ
-with_source text [] = line_of text
-with_source text (b ∷ source) = line_of text ++ line_of (b ∷ source)
+with_source text [] = ended_line text
+with_source text (b ∷ source) = ended_line text ++ ended_line (b ∷ source)
 
 -- ---- grants
 
@@ -66,44 +66,44 @@ press [] s = record { accepted = true; state = s }
 press (key ∷ keys) s = if takes_key s then press keys (keyed key s) else record { accepted = false; state = s }
 
 -- the keys that a text stands for; none where it stands for none
-abbrev pub keys_in : List ℕ → List ℕ
-keys_in text = unwrap_or (keys_of text) []
+abbrev pub keys_in_text : List ℕ → List ℕ
+keys_in_text text = unwrap_or (keys_of text) []
 
 -- what becomes of the keys of a request; where it has none, none is accepted
-abbrev pub pressed : Request → MachineState → Pressed
-pressed (Press keys) s = press keys s
-pressed _ s = record { accepted = false; state = s }
+abbrev pub request_pressed : Request → MachineState → Pressed
+request_pressed (Press keys) s = press keys s
+request_pressed _ s = record { accepted = false; state = s }
 
 -- ---- console bytes
 
-abbrev pub without_text : MachineState → MachineState
-without_text s =
+abbrev pub without_console : MachineState → MachineState
+without_console s =
     record s { session = record s.session { console = record s.session.console { screen = [] } } }
 
 -- ---- answers
 
 -- the answer to what is no order, and to keys that are refused
 abbrev pub unknown_line : List ℕ
-unknown_line = line_of (codes "?")
+unknown_line = ended_line (codes "?")
 
 abbrev pub reply : List ℕ → MachineState → Reply
 reply text s = record { text = text; state = s }
 
 -- a line, with the line of the listing that shows the bytes at PC, and the state
-abbrev pub reply_at : List ℕ → List ℕ → MachineState → Reply
-reply_at listing text s = reply (with_source text (source_line listing s.session.regs.pc)) s
+abbrev pub reply_to_line : List ℕ → List ℕ → MachineState → Reply
+reply_to_line listing text s = reply (with_source text (source_line listing s.session.regs.pc)) s
 
 -- what is answered with this system drive and this listing, and the state after it
-unfoldable pub answer : Disk → Cpu → List ℕ → Request → MachineState → Reply
-answer system cpu listing (Grant steps) s = reply_at listing (grant_line (granted system steps s)) (after system (executed system steps s) s)
-answer system cpu listing (GrantUntil pc steps) s = reply_at listing (grant_line (granted_until system pc steps s)) (after system (executed_until system pc steps s) s)
-answer system cpu listing (Dump address) s = reply (line_of (dump_line address (bytes_from s.memory address 16))) s
-answer system cpu listing (ListAt address) s = reply (line_of (instruction_line cpu address (bytes_from s.memory address 4))) s
-answer system cpu listing Registers s = reply_at listing (regs_line cpu s.session.regs s.count) s
-answer system cpu listing (Press keys) s = reply (if (press keys s).accepted then [] else unknown_line) (press keys s).state
-answer system cpu listing Output s = reply (line_of s.session.console.screen) (without_text s)
-answer system cpu listing Quit s = reply [] s
-answer system cpu listing Unknown s = reply unknown_line s
+unfoldable pub debug_answer : Disk → Cpu → List ℕ → Request → MachineState → Reply
+debug_answer system cpu listing (Grant steps) s = reply_to_line listing (grant_line (granted system steps s)) (after system (executed system steps s) s)
+debug_answer system cpu listing (GrantUntil pc steps) s = reply_to_line listing (grant_line (granted_until system pc steps s)) (after system (executed_until system pc steps s) s)
+debug_answer system cpu listing (Dump address) s = reply (ended_line (dump_line address (bytes_from s.memory address 16))) s
+debug_answer system cpu listing (ListAt address) s = reply (ended_line (instruction_line cpu address (bytes_from s.memory address 4))) s
+debug_answer system cpu listing Registers s = reply_to_line listing (regs_line cpu s.session.regs s.count) s
+debug_answer system cpu listing (Press keys) s = reply (if (press keys s).accepted then [] else unknown_line) (press keys s).state
+debug_answer system cpu listing Output s = reply (ended_line s.session.console.screen) (without_console s)
+debug_answer system cpu listing Quit s = reply [] s
+debug_answer system cpu listing Unknown s = reply unknown_line s
 
 -- ---- dialogs
 
@@ -113,7 +113,7 @@ is_quit _ = false
 
 -- what is answered to a line
 abbrev pub answer_to : Disk → Cpu → List ℕ → List ℕ → MachineState → Reply
-answer_to system cpu listing line s = answer system cpu listing (request_of line) s
+answer_to system cpu listing line s = debug_answer system cpu listing (request_of line) s
 
 -- what is answered to lines, one after another, up to the order that ends the dialog
 abbrev pub dialog : Disk → Cpu → List ℕ → List (List ℕ) → MachineState → List ℕ

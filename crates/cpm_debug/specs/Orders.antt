@@ -19,23 +19,23 @@ pub data Request : Type 0 where
 -- ---- addresses
 
 -- a hexadecimal digit: 0 to 9, A to F, a to f
-abbrev pub digit_of : ℕ → Option ℕ
-digit_of c = if is_within 0x30 0x39 c then Some (c - 0x30)
+abbrev pub hex_digit_of : ℕ → Option ℕ
+hex_digit_of c = if is_within 0x30 0x39 c then Some (c - 0x30)
     else (if is_within 0x41 0x46 c then Some (c - 55) else (if is_within 0x61 0x66 c then Some (c - 87) else None))
 
 -- two numbers as one, the first of which counts so much
-abbrev pub joined : ℕ → Option ℕ → Option ℕ → Option ℕ
-joined base high low = option_and_then (λ h. option_map (λ l. h * base + l) low) high
+abbrev pub digits_joined : ℕ → Option ℕ → Option ℕ → Option ℕ
+digits_joined base high low = option_and_then (λ h. option_map (λ l. h * base + l) low) high
 
-abbrev pub byte_of : ℕ → ℕ → Option ℕ
-byte_of high low = joined 16 (digit_of high) (digit_of low)
+abbrev pub byte_of_digits : ℕ → ℕ → Option ℕ
+byte_of_digits high low = digits_joined 16 (hex_digit_of high) (hex_digit_of low)
 
-abbrev pub word_of : ℕ → ℕ → ℕ → ℕ → Option ℕ
-word_of a b c d = joined 256 (byte_of a b) (byte_of c d)
+abbrev pub word_of_digits : ℕ → ℕ → ℕ → ℕ → Option ℕ
+word_of_digits a b c d = digits_joined 256 (byte_of_digits a b) (byte_of_digits c d)
 
 -- an address has four digits
 abbrev pub address_of : List ℕ → Option ℕ
-address_of (a ∷ b ∷ c ∷ d ∷ []) = word_of a b c d
+address_of (a ∷ b ∷ c ∷ d ∷ []) = word_of_digits a b c d
 address_of _ = None
 
 -- ---- the text of an order
@@ -52,7 +52,7 @@ grant_until_of (Some pc) None = Unknown
 grant_until_of None steps = Unknown
 
 abbrev pub addressed_grant : List ℕ → Request
-addressed_grant (a ∷ b ∷ c ∷ d ∷ e ∷ count) = if e == 0x20 then grant_until_of (word_of a b c d) (count_of count) else Unknown
+addressed_grant (a ∷ b ∷ c ∷ d ∷ e ∷ count) = if e == 0x20 then grant_until_of (word_of_digits a b c d) (count_of count) else Unknown
 addressed_grant _ = Unknown
 
 -- D and an address
@@ -92,13 +92,13 @@ request_of (c ∷ []) = letter_request c
 request_of (c ∷ space ∷ text) = if space == 0x20 then text_request c text else Unknown
 
 -- what an order that was read asks for
-abbrev pub asked : Order → Request
-asked (order.Grant steps) = Grant steps
-asked (order.GrantUntil pc steps) = GrantUntil pc steps
-asked (order.Dump address) = Dump address
-asked (order.ListAt address) = ListAt address
-asked order.Registers = Registers
-asked (order.Press text) = press_of (keys_of text.now)
-asked order.Output = Output
-asked order.Quit = Quit
-asked order.Unknown = Unknown
+abbrev pub request_of_order : Order → Request
+request_of_order (order.Grant steps) = Grant steps
+request_of_order (order.GrantUntil pc steps) = GrantUntil pc steps
+request_of_order (order.Dump address) = Dump address
+request_of_order (order.ListAt address) = ListAt address
+request_of_order order.Registers = Registers
+request_of_order (order.Press text) = press_of (keys_of text.now)
+request_of_order order.Output = Output
+request_of_order order.Quit = Quit
+request_of_order order.Unknown = Unknown

@@ -5,8 +5,8 @@ use Rattle.std.specs.Str.Lines.{lines}
 use Rattle.cpm_listing.specs.Digits.{four_digits}
 
 -- how a line begins that has this address: its four digits between spaces
-abbrev pub head_of : ℕ → List ℕ
-head_of pc = 0x20 ∷ four_digits pc ++ 0x20 ∷ []
+abbrev pub line_head : ℕ → List ℕ
+line_head pc = 0x20 ∷ four_digits pc ++ 0x20 ∷ []
 
 -- something stands first, and it is no space
 abbrev pub begins_with_text : List ℕ → Bool
@@ -25,4 +25,4 @@ first_with head (line ∷ rest) = if has_bytes head line then line else first_wi
 -- the line of a listing that shows the bytes at an address, without its end; where there is none, nothing. A line ends with
 -- LF or CR LF
 abbrev pub source_line : (listing : List ℕ) → (pc : ℕ) → List ℕ
-source_line listing pc = first_with (head_of pc) (lines listing)
+source_line listing pc = first_with (line_head pc) (lines listing)

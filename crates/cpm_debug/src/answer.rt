@@ -9,8 +9,8 @@ ghost use Rattle.cpm_machine.specs.Until.{executed_until, granted_until};
 ghost use Rattle.cpm_listing.specs.Dump.{dump_line};
 ghost use Rattle.cpm_listing.specs.Instruction.{instruction_line};
 ghost use Rattle.cpm_listing.specs.Registers.{regs_line};
-ghost use Rattle.cpm_debug.specs.Dialog.{answer, bytes_from, grant_line, line_of, pressed, unknown_line, with_source};
-ghost use Rattle.cpm_debug.specs.Orders.{asked, press_of};
+ghost use Rattle.cpm_debug.specs.Dialog.{debug_answer, bytes_from, grant_line, ended_line, request_pressed, unknown_line, with_source};
+ghost use Rattle.cpm_debug.specs.Orders.{request_of_order, press_of};
 ghost use Rattle.cpm_debug.specs.Source.{source_line};
 
 use crate::grant_line::grant_line;
@@ -76,7 +76,7 @@ fn grant_until<W: Write>(
 /// Shows sixteen bytes.
 fn dump<W: Write>(address: u16, machine: &Machine, out: &mut W) -> io::Result<()>
     ensures { OnOk result (Appends (W.contents out.old) (W.contents out.new)
-        (line_of (dump_line address (bytes_from machine.now.memory address 16)))) }
+        (ended_line (dump_line address (bytes_from machine.now.memory address 16)))) }
 {
     let line = dump_line(address, &sixteen(machine, address));
     write_line(out, line.as_str())
@@ -85,7 +85,7 @@ fn dump<W: Write>(address: u16, machine: &Machine, out: &mut W) -> io::Result<()
 /// Shows the instruction of a processor that four bytes begin with.
 fn list_at<W: Write>(cpu: Cpu, address: u16, machine: &Machine, out: &mut W) -> io::Result<()>
     ensures { OnOk result (Appends (W.contents out.old) (W.contents out.new)
-        (line_of (instruction_line cpu address (bytes_from machine.now.memory address 4)))) }
+        (ended_line (instruction_line cpu address (bytes_from machine.now.memory address 4)))) }
 {
     let line = instruction_line(cpu, address, four(machine, address));
     write_line(out, line.as_str())
@@ -104,11 +104,11 @@ fn registers<W: Write>(cpu: Cpu, listing: &[u8], machine: &Machine, out: &mut W)
 
 /// Presses the keys that a text stands for.
 fn press_keys<W: Write>(text: &[u8], machine: &mut Machine, out: &mut W) -> io::Result<()>
-    ensures state { machine.new ≡ (pressed (press_of (keys_of text.now)) machine.old).state }
+    ensures state { machine.new ≡ (request_pressed (press_of (keys_of text.now)) machine.old).state }
     ensures text { OnOk result (Appends (W.contents out.old) (W.contents out.new)
-        (if (pressed (press_of (keys_of text.now)) machine.old).accepted then [] else unknown_line)) }
+        (if (request_pressed (press_of (keys_of text.now)) machine.old).accepted then [] else unknown_line)) }
     ensures refused { OnErr result
-        ((if (pressed (press_of (keys_of text.now)) machine.old).accepted then [] else unknown_line) ≢ []) }
+        ((if (request_pressed (press_of (keys_of text.now)) machine.old).accepted then [] else unknown_line) ≢ []) }
 {
     if press_text(machine, text) {
         return Ok(());
@@ -128,10 +128,10 @@ pub(crate) fn obey<W: Write>(
     machine: &mut Machine,
     out: &mut W,
 ) -> io::Result<()>
-    ensures state { OnOk result (machine.new ≡ (answer system.now cpu listing.now (asked order.entry) machine.old).state) }
+    ensures state { OnOk result (machine.new ≡ (debug_answer system.now cpu listing.now (request_of_order order.entry) machine.old).state) }
     ensures text { OnOk result (Appends (W.contents out.old) (W.contents out.new)
-        (answer system.now cpu listing.now (asked order.entry) machine.old).text) }
-    ensures refused { OnErr result ((answer system.now cpu listing.now (asked order.entry) machine.old).text ≢ []) }
+        (debug_answer system.now cpu listing.now (request_of_order order.entry) machine.old).text) }
+    ensures refused { OnErr result ((debug_answer system.now cpu listing.now (request_of_order order.entry) machine.old).text ≢ []) }
 {
     match order {
         Order::Grant(steps) => grant(system, listing, steps, machine, out),

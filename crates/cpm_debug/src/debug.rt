@@ -1,7 +1,7 @@
 //! The debugger.
 ghost use Rattle.std.specs.Prelude.{◌≡◌, ◌∷◌, [], ◌↔◌, ◌<◌, ◌≤◌, length, IfErr, IfOk, IsErrOf, OnOk};
 ghost use Rattle.cpm_geom.specs.Disk.{blank_disk};
-ghost use Rattle.cpm_debug.specs.Debug.{IsDebugRefusal, IsFailure, IsHeld, debugged, system_drive};
+ghost use Rattle.cpm_debug.specs.Debug.{IsDebugRefusal, IsFailure, IsHeld, debugged, debug_system_drive};
 
 use crate::answer::obey;
 use crate::error::DebugError;
@@ -32,7 +32,7 @@ fn blank_drives(alloc: Global) -> Result<Vec<Image>, DebugError>
 /// The system drive, and the machine with a program.
 fn made(alloc: Global, cpu: Cpu, program: Vec<u8>) -> Result<(Image, Machine), DebugError>
     requires { length program.items ≤ 58112 }
-    ensures made { IfOk result (λ parts. (parts.0 ≡ system_drive) × (parts.1 ≡ debugged cpu program.items)) }
+    ensures made { IfOk result (λ parts. (parts.0 ≡ debug_system_drive) × (parts.1 ≡ debugged cpu program.items)) }
     ensures refusal { IfErr result (λ e. e ≡ DebugError.OutOfMemory) }
 {
     let system = Image::blank(alloc, Format::Ibm3740)?;
@@ -96,7 +96,7 @@ pub fn run_debug<R: BufRead, W: Write>(
     input: &mut R,
     out: &mut W,
 ) -> Result<(), DebugError>
-    ensures held { OnOk result (IsHeld system_drive cpu listing.now (debugged cpu program.items)
+    ensures held { OnOk result (IsHeld debug_system_drive cpu listing.now (debugged cpu program.items)
         (R.remaining input.old) (W.contents out.old) (W.contents out.new)) }
 
     ensures too_long { IsErrOf result (DebugError.ProgramTooLong (length program.items))

@@ -2,7 +2,7 @@
 ghost use Rattle.std.specs.Prelude.{◌≡◌, ◌<◌, IfSome};
 ghost use Rattle.cpm_script.specs.KeyText.{count_of};
 ghost use Rattle.cpm_debug.specs.Dialog.{is_quit};
-ghost use Rattle.cpm_debug.specs.Orders.{address_of, addressed_grant, asked, byte_of, digit_of, dump_of, grant_of, list_of, request_of, text_request, word_of};
+ghost use Rattle.cpm_debug.specs.Orders.{address_of, addressed_grant, request_of_order, byte_of_digits, hex_digit_of, dump_of, grant_of, list_of, request_of, text_request, word_of_digits};
 
 use cpm_script::count_of;
 
@@ -30,8 +30,8 @@ pub enum Order<'a> {
 }
 
 /// The value of a hexadecimal digit.
-fn digit_of(byte: u8) -> Option<u8>
-    ensures value { result ≡ digit_of byte }
+fn hex_digit_of(byte: u8) -> Option<u8>
+    ensures value { result ≡ hex_digit_of byte }
     ensures small { IfSome result (λ d. d < 16) }
 {
     match byte {
@@ -43,21 +43,21 @@ fn digit_of(byte: u8) -> Option<u8>
 }
 
 /// The byte that two hexadecimal digits write.
-fn byte_of(high: u8, low: u8) -> Option<u8>
-    ensures { result ≡ byte_of high low }
+fn byte_of_digits(high: u8, low: u8) -> Option<u8>
+    ensures { result ≡ byte_of_digits high low }
 {
-    let high = digit_of(high)?;
-    let low = digit_of(low)?;
+    let high = hex_digit_of(high)?;
+    let low = hex_digit_of(low)?;
     Some(high * 16 + low)
 }
 
 /// The word that four hexadecimal digits write.
-fn word_of(digits: [u8; 4]) -> Option<u16>
+fn word_of_digits(digits: [u8; 4]) -> Option<u16>
     ensures { result ≡ address_of digits }
 {
     let [a, b, c, d] = digits;
-    let high = byte_of(a, b)?;
-    let low = byte_of(c, d)?;
+    let high = byte_of_digits(a, b)?;
+    let low = byte_of_digits(c, d)?;
     Some(u16::from(high) * 256 + u16::from(low))
 }
 
@@ -66,7 +66,7 @@ fn address_of(text: &[u8]) -> Option<u16>
     ensures { result ≡ address_of text.now }
 {
     match text {
-        [a, b, c, d] => word_of([*a, *b, *c, *d]),
+        [a, b, c, d] => word_of_digits([*a, *b, *c, *d]),
         _ => None,
     }
 }
@@ -74,7 +74,7 @@ fn address_of(text: &[u8]) -> Option<u16>
 impl<'a> Order<'a> {
     /// The order of a count.
     fn grant(text: &[u8]) -> Order<'a>
-        ensures { asked result ≡ grant_of (count_of text.now) }
+        ensures { request_of_order result ≡ grant_of (count_of text.now) }
     {
         match count_of(text) {
             Some(steps) => Order::Grant(steps),
@@ -84,7 +84,7 @@ impl<'a> Order<'a> {
 
     /// The order of an address whose bytes are shown.
     fn dump(text: &[u8]) -> Order<'a>
-        ensures { asked result ≡ dump_of (address_of text.now) }
+        ensures { request_of_order result ≡ dump_of (address_of text.now) }
     {
         match address_of(text) {
             Some(address) => Order::Dump(address),
@@ -94,7 +94,7 @@ impl<'a> Order<'a> {
 
     /// The order of an address whose instruction is shown.
     fn list_at(text: &[u8]) -> Order<'a>
-        ensures { asked result ≡ list_of (address_of text.now) }
+        ensures { request_of_order result ≡ list_of (address_of text.now) }
     {
         match address_of(text) {
             Some(address) => Order::ListAt(address),
@@ -104,10 +104,10 @@ impl<'a> Order<'a> {
 
     /// The order of an address, a space and a count.
     fn grant_until(text: &'a [u8]) -> Order<'a>
-        ensures { asked result ≡ addressed_grant text.now }
+        ensures { request_of_order result ≡ addressed_grant text.now }
     {
         match text {
-            [a, b, c, d, b' ', count @ ..] => match (word_of([*a, *b, *c, *d]), count_of(count)) {
+            [a, b, c, d, b' ', count @ ..] => match (word_of_digits([*a, *b, *c, *d]), count_of(count)) {
                 (Some(pc), Some(steps)) => Order::GrantUntil(pc, steps),
                 _ => Order::Unknown,
             },
@@ -117,7 +117,7 @@ impl<'a> Order<'a> {
 
     /// The order of a letter and the text behind its space.
     fn of_text(letter: u8, text: &'a [u8]) -> Order<'a>
-        ensures { asked result ≡ text_request letter text.now }
+        ensures { request_of_order result ≡ text_request letter text.now }
     {
         match letter {
             b'S' => Order::grant(text),
@@ -131,7 +131,7 @@ impl<'a> Order<'a> {
 
     /// The order that a line gives.
     pub fn read(line: &'a [u8]) -> Order<'a>
-        ensures { asked result ≡ request_of line.now }
+        ensures { request_of_order result ≡ request_of line.now }
     {
         match line {
             [b'R'] => Order::Registers,
@@ -144,7 +144,7 @@ impl<'a> Order<'a> {
     /// Whether it ends the dialog.
     #[tactic(auto, unfolding(crate::specs::Dialog::is_quit))]
     pub(crate) fn is_quit(self) -> bool
-        ensures { result ≡ is_quit (asked self.entry) }
+        ensures { result ≡ is_quit (request_of_order self.entry) }
     {
         match self {
             Order::Quit => true,

@@ -1,13 +1,13 @@
 //! The line of a listing that shows what stands at an address.
 ghost use Rattle.std.specs.Prelude.{◌≡◌};
-ghost use Rattle.cpm_debug.specs.Source.{begins_with_text, has_bytes, head_of, source_line};
+ghost use Rattle.cpm_debug.specs.Source.{begins_with_text, has_bytes, line_head, source_line};
 
 use cpm_listing::four_digits;
 use cpm_script::first_line;
 
 /// How a line begins that has this address.
-fn head_of(address: u16) -> [u8; 6]
-    ensures { result ≡ head_of address }
+fn line_head(address: u16) -> [u8; 6]
+    ensures { result ≡ line_head address }
 {
     let [a, b, c, d] = four_digits(address);
     [b' ', a, b, c, d, b' ']
@@ -34,7 +34,7 @@ fn has_bytes(head: &[u8; 6], line: &[u8]) -> bool
 pub(crate) fn source_line(listing: &[u8], pc: u16) -> &[u8]
     ensures { result.now ≡ source_line listing.now pc }
 {
-    let head = head_of(pc);
+    let head = line_head(pc);
     let mut rest = listing;
     while !rest.is_empty() {
         let (line, after) = first_line(rest);

@@ -1,7 +1,7 @@
 //! Writing answers.
 ghost use Rattle.std.specs.Prelude.{◌≡◌, ◌++◌, OnOk};
 ghost use Rattle.std.specs.Io.KnownBytes.{Appends};
-ghost use Rattle.cpm_debug.specs.Dialog.{line_of, with_source, without_text};
+ghost use Rattle.cpm_debug.specs.Dialog.{ended_line, with_source, without_console};
 
 use cpm_machine::Machine;
 use std::io;
@@ -12,7 +12,7 @@ const CHUNK: usize = 8192;
 
 /// Writes a line and its end.
 fn put_line<W: Write>(out: &mut W, line: &[u8]) -> io::Result<()>
-    ensures { OnOk result (Appends (W.contents out.old) (W.contents out.new) (line_of line.now)) }
+    ensures { OnOk result (Appends (W.contents out.old) (W.contents out.new) (ended_line line.now)) }
 {
     out.write_all(line)?;
     out.write_all(b"\n")?;
@@ -21,7 +21,7 @@ fn put_line<W: Write>(out: &mut W, line: &[u8]) -> io::Result<()>
 
 /// Writes a line and its end, and flushes.
 pub(crate) fn write_line<W: Write>(out: &mut W, line: &str) -> io::Result<()>
-    ensures { OnOk result (Appends (W.contents out.old) (W.contents out.new) (line_of line.now)) }
+    ensures { OnOk result (Appends (W.contents out.old) (W.contents out.new) (ended_line line.now)) }
 {
     put_line(out, line.as_bytes())?;
     out.flush()?;
@@ -43,7 +43,7 @@ pub(crate) fn write_with_source<W: Write>(out: &mut W, line: &str, source: &[u8]
 
 /// Moves all console bytes to the writer.
 fn move_text<W: Write>(machine: &mut Machine, out: &mut W) -> io::Result<()>
-    ensures state { OnOk result (machine.new ≡ without_text machine.old) }
+    ensures state { OnOk result (machine.new ≡ without_console machine.old) }
     ensures text { OnOk result (Appends (W.contents out.old) (W.contents out.new)
         machine.old.session.console.screen) }
 {
@@ -59,9 +59,9 @@ fn move_text<W: Write>(machine: &mut Machine, out: &mut W) -> io::Result<()>
 
 /// Writes all console bytes and a line's end.
 pub(crate) fn write_text<W: Write>(machine: &mut Machine, out: &mut W) -> io::Result<()>
-    ensures state { OnOk result (machine.new ≡ without_text machine.old) }
+    ensures state { OnOk result (machine.new ≡ without_console machine.old) }
     ensures text { OnOk result (Appends (W.contents out.old) (W.contents out.new)
-        (line_of machine.old.session.console.screen)) }
+        (ended_line machine.old.session.console.screen)) }
 {
     move_text(machine, out)?;
     write_line(out, "")

@@ -1,6 +1,6 @@
 //! The Z80's rows after CBh, and after DDh CBh and FDh CBh.
 ghost use Rattle.std.specs.Prelude.{◌≡◌, ◌/◌, ◌%◌};
-ghost use Rattle.cpm_decode.specs.Fields.{place};
+ghost use Rattle.cpm_decode.specs.Fields.{byte_operand};
 ghost use Rattle.cpm_decode.specs.FieldsZ80.{shift};
 ghost use Rattle.cpm_decode.specs.PageZ80.{decoded_with};
 ghost use Rattle.cpm_decode.specs.RowsZ80Bits.{decoded_bits, decoded_indexed_bits};
@@ -26,7 +26,7 @@ fn shift_of(bits: u8) -> Shift
 
 /// A row with the byte in a register or at HL.
 fn on_place(op: BitOp, opcode: u8) -> Option<DecodedZ80>
-    ensures { result ≡ Some (decoded_with 2 (OpZ80.Bits op (place (opcode % 8)))) }
+    ensures { result ≡ Some (decoded_with 2 (OpZ80.Bits op (byte_operand (opcode % 8)))) }
 {
     Some(DecodedZ80 {
         op: OpZ80::Bits(op, place_of(opcode)),

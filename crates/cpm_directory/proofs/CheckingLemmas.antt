@@ -14,7 +14,7 @@ use Rattle.cpm_geom.specs.Disk.{Disk, sector_at}
 use Rattle.cpm_volume.specs.declared.extent.Entry.{Entry}
 use Rattle.cpm_volume.specs.Reserved.{is_directory_block}
 use Rattle.cpm_volume.specs.Files.{same_name, entry_at, no_entry, block_number, extent_number, group_of, is_of, first_of}
-use Rattle.cpm_volume.specs.Encoding.{entry_of, extent_of, number_in}
+use Rattle.cpm_volume.specs.Encoding.{entry_of, extent_of, block_number_in}
 use Rattle.cpm_volume.proofs.Entries.{any_index}
 use Rattle.cpm_directory.specs.Directory.{slot_bytes, entries_of}
 use Rattle.cpm_directory.specs.Login.{has_block}
@@ -97,7 +97,7 @@ same_name_zip (x ∷ a) (y ∷ b) h = ap (λ (t : Bool). eqb (x % 128) (y % 128)
 pub map_length : (disk : Disk) (i : ℕ) → i ≤ (dpb_of disk.format).last_entry → length (entry_at (entries_of disk) i).extent.blocks ≡ 16
 unfolding entry_of extent_of
 map_length disk i h =
-    rw (entry_is disk i h) (length-map-range_with_len (number_in (dpb_of disk.format) (slot_bytes (sector_at disk (record_index disk.format (i / 4))) (i % 4))) 0 16)
+    rw (entry_is disk i h) (length-map-range_with_len (block_number_in (dpb_of disk.format) (slot_bytes (sector_at disk (record_index disk.format (i / 4))) (i % 4))) 0 16)
 
 none_of_map : {X Y : Type 0} (f : X → Y) (o : Option X) → option_map f o ≡ None → o ≡ None
 none_of_map f None h = refl

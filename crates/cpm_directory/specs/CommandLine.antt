@@ -25,15 +25,15 @@ unfoldable pub after_drive : List ℕ → List ℕ
 after_drive text = if is_drive text then drop 2 text else text
 
 -- the characters up to a delimiter, and the text from it on
-unfoldable pub word_of : List ℕ → List ℕ
-word_of text = take (position_or_len is_delimiter text) text
+unfoldable pub word_in : List ℕ → List ℕ
+word_in text = take (position_or_len is_delimiter text) text
 
 unfoldable pub after_word : List ℕ → List ℕ
 after_word text = drop (position_or_len is_delimiter text) text
 
 -- the type behind a period, and the text behind it
 unfoldable pub type_of : List ℕ → List ℕ
-type_of text = if slice_index text 0 == 0x2E then word_of (drop 1 text) else []
+type_of text = if slice_index text 0 == 0x2E then word_in (drop 1 text) else []
 
 unfoldable pub after_type : List ℕ → List ℕ
 after_type text = if slice_index text 0 == 0x2E then after_word (drop 1 text) else text
@@ -44,8 +44,8 @@ character_of word place =
     let star = position_or_len (λ c. c == 0x2A) word in
     if nat_lt place star then slice_index word place else (if nat_lt star (length word) then 0x3F else 0x20)
 
-abbrev pub field : ℕ → List ℕ → List ℕ
-field size word = map (character_of word) (range_with_len 0 size)
+abbrev pub name_field : ℕ → List ℕ → List ℕ
+name_field size word = map (character_of word) (range_with_len 0 size)
 
 -- the name and what is behind it, once spaces and a drive are skipped
 abbrev pub at_name : List ℕ → List ℕ
@@ -57,7 +57,7 @@ fcb_named text =
     record {
       drive = drive_of (after_spaces text);
       extent = record {
-        name = field 8 (word_of (at_name text)) ++ field 3 (type_of (after_word (at_name text)));
+        name = name_field 8 (word_in (at_name text)) ++ name_field 3 (type_of (after_word (at_name text)));
         ex = 0;
         s1 = 0;
         s2 = 0;
@@ -69,5 +69,5 @@ fcb_named text =
     }
 
 -- the text behind that name
-unfoldable pub rest_of : List ℕ → List ℕ
-rest_of text = after_type (after_word (at_name text))
+unfoldable pub text_behind_name : List ℕ → List ℕ
+text_behind_name text = after_type (after_word (at_name text))

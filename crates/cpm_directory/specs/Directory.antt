@@ -27,12 +27,12 @@ pub record Lists (places : List Entry) (disk : Disk) : Type 0 where
   pub at : (i : ℕ) → i ≤ (dpb_of disk.format).last_entry → slice_index_or places i no_entry ≡ entry_at (entries_of disk) i
 
 -- a record with the bytes of an entry in it
-unfoldable pub with_slot : List ℕ → ℕ → List ℕ → List ℕ
-with_slot bytes slot entry = take (32 * slot) bytes ++ (entry ++ drop 32 (drop (32 * slot) bytes))
+unfoldable pub record_with_entry : List ℕ → ℕ → List ℕ → List ℕ
+record_with_entry bytes slot entry = take (32 * slot) bytes ++ (entry ++ drop 32 (drop (32 * slot) bytes))
 
 -- one entry is written: its 32 bytes in their record change, no other entry and no other record
 pub record PutsEntry (old : Disk) (index : ℕ) (e : Entry) (new : Disk) : Type 0 where
-  pub bytes : new ≡ with_sector old (record_index old.format (index / 4)) (with_slot (sector_at old (record_index old.format (index / 4))) (index % 4) (entry_bytes (dpb_of old.format) e))
+  pub bytes : new ≡ with_sector old (record_index old.format (index / 4)) (record_with_entry (sector_at old (record_index old.format (index / 4))) (index % 4) (entry_bytes (dpb_of old.format) e))
   pub entry : IsStorable (dpb_of old.format) e.extent → entries_of new ≡ slice_set (entries_of old) index e
   pub others : (k : ℕ) → k ≢ index → entry_at (entries_of new) k ≡ entry_at (entries_of old) k
   pub records : (n : ℕ) → n ≢ index / 4 → slice_index_or (records_of new) n [] ≡ slice_index_or (records_of old) n []

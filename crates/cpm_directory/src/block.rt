@@ -1,7 +1,7 @@
 //! The block of a record.
 
 ghost use Rattle.std.specs.Prelude.{◌≡◌, ◌≤◌, ◌<◌, MatchResult};
-ghost use Rattle.cpm_volume.specs.Files.{block_number, place_of};
+ghost use Rattle.cpm_volume.specs.Files.{block_number, entry_place_of};
 
 use crate::directory::DirectoryError;
 use cpm_volume::{Extent, Fcb};
@@ -11,10 +11,10 @@ use cpm_geom::Dpb;
 /// is refused.
 pub fn block_at(dpb: &Dpb, fcb: &Fcb) -> Result<u16, DirectoryError>
     ensures { MatchResult result
-        (λ block. (block ≡ block_number fcb.now.extent (place_of dpb.now fcb.now.extent fcb.now.current_record)) × (block ≤ dpb.now.last_block))
-        (λ e. (e ≡ DirectoryError.BlockAboveLast) × (dpb.now.last_block < block_number fcb.now.extent (place_of dpb.now fcb.now.extent fcb.now.current_record))) }
+        (λ block. (block ≡ block_number fcb.now.extent (entry_place_of dpb.now fcb.now.extent fcb.now.current_record)) × (block ≤ dpb.now.last_block))
+        (λ e. (e ≡ DirectoryError.BlockAboveLast) × (dpb.now.last_block < block_number fcb.now.extent (entry_place_of dpb.now fcb.now.extent fcb.now.current_record))) }
 {
-    let block = number_at(&fcb.extent, place_of(dpb, &fcb.extent, fcb.current_record));
+    let block = number_at(&fcb.extent, entry_place_of(dpb, &fcb.extent, fcb.current_record));
     if block > dpb.last_block {
         return Err(DirectoryError::BlockAboveLast);
     }
@@ -23,8 +23,8 @@ pub fn block_at(dpb: &Dpb, fcb: &Fcb) -> Result<u16, DirectoryError>
 
 /// The place of a record of an extent among its block numbers.
 #[tactic(auto, unfolding(cpm_volume::specs::Files::place_of))]
-fn place_of(dpb: &Dpb, extent: &Extent, current: u8) -> usize
-    ensures { result ≡ place_of dpb.now extent.now current }
+fn entry_place_of(dpb: &Dpb, extent: &Extent, current: u8) -> usize
+    ensures { result ≡ entry_place_of dpb.now extent.now current }
 {
     let block_size = usize::from(dpb.block_mask) + 1;
     let part = usize::from(extent.number()) % (usize::from(dpb.extent_mask) + 1);

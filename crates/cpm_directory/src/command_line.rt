@@ -2,7 +2,7 @@
 
 ghost use Rattle.std.specs.Prelude.{◌≡◌, ◌≤◌, ◌==◌, ◌++◌, length, not};
 ghost use Rattle.std.specs.List.{position_or_len, position};
-ghost use Rattle.cpm_directory.specs.CommandLine.{is_delimiter, after_spaces, drive_of, after_drive, word_of, after_word, type_of, after_type, character_of, field, fcb_named, rest_of};
+ghost use Rattle.cpm_directory.specs.CommandLine.{is_delimiter, after_spaces, drive_of, after_drive, word_in, after_word, type_of, after_type, character_of, name_field, fcb_named, text_behind_name};
 
 use cpm_volume::{Extent, Fcb};
 
@@ -10,7 +10,7 @@ use cpm_volume::{Extent, Fcb};
 /// behind it.
 pub fn parse_fcb(text: &[u8]) -> (Fcb, &[u8])
     ensures fcb { result.0 ≡ fcb_named text.now }
-    ensures rest { result.1.now ≡ rest_of text.now }
+    ensures rest { result.1.now ≡ text_behind_name text.now }
 {
     let (drive, text) = split_drive(after_spaces(text));
     let (name, text) = split_word(text);
@@ -73,7 +73,7 @@ fn split_drive(text: &[u8]) -> (u8, &[u8])
 
 /// The characters up to a delimiter, and the text from it on.
 fn split_word(text: &[u8]) -> (&[u8], &[u8])
-    ensures word { result.0.now ≡ word_of text.now }
+    ensures word { result.0.now ≡ word_in text.now }
     ensures rest { result.1.now ≡ after_word text.now }
 {
     let end = word_length(text);
@@ -107,7 +107,7 @@ fn split_type(text: &[u8]) -> (&[u8], &[u8])
 
 /// A name and a type in their fields.
 fn fields(name: &[u8], kind: &[u8]) -> [u8; 11]
-    ensures { result ≡ field 8 name.now ++ field 3 kind.now }
+    ensures { result ≡ name_field 8 name.now ++ name_field 3 kind.now }
 {
     let mut both = [0; 11];
     for place in 0..11 {

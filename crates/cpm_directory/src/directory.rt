@@ -5,7 +5,7 @@ ghost use Rattle.cpm_geom.specs.Geometry.{dpb_of, record_index};
 ghost use Rattle.cpm_geom.specs.Disk.{sector_at, with_sector};
 ghost use Rattle.cpm_volume.specs.Files.{entry_at, first_free};
 ghost use Rattle.cpm_volume.specs.Encoding.{entry_bytes, IsStorable};
-ghost use Rattle.cpm_directory.specs.Directory.{entries_of, with_slot, PutsEntry};
+ghost use Rattle.cpm_directory.specs.Directory.{entries_of, record_with_entry, PutsEntry};
 ghost use Rattle.cpm_directory.specs.Matching.{match_from};
 
 use crate::lent::LentImage;

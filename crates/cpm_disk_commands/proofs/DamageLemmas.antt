@@ -20,11 +20,11 @@ use Rattle.cpm_directory.specs.WellFormed.{IsChecked, bad_block_in, fault_of, is
 use Rattle.cpm_directory.specs.declared.fault.DriveFault.{DriveFault}
 use Rattle.cpm_directory.specs.declared.fault.DriveFault.TheVariants.{BadBlock, TwiceBlock, TwiceEntry}
 use Rattle.cpm_directory.proofs.DriveLemmas.{entries_length}
-use Rattle.cpm_disk_commands.specs.Damage.{entry_of, other_of}
+use Rattle.cpm_disk_commands.specs.Damage.{fault_entry, other_of}
 
 -- a fault is told of this entry, and of it or an earlier one
 pub record IsToldOf (i : ℕ) (fault : DriveFault) : Type 0 where
-  pub entry : entry_of fault ≡ i
+  pub entry : fault_entry fault ≡ i
   pub other : other_of fault ≤ i
 
 -- ---- a bad number
@@ -112,7 +112,7 @@ told d es i fault h = go (eqb (entry_at es i).user deleted) refl h
 
 -- the entries that a fault is told of are the directory's
 pub told_within : (disk : Disk) (fault : DriveFault) → IsChecked (dpb_of disk.format) (entries_of disk) (Err fault)
-    → (entry_of fault ≤ (dpb_of disk.format).last_entry) × (other_of fault ≤ (dpb_of disk.format).last_entry)
+    → (fault_entry fault ≤ (dpb_of disk.format).last_entry) × (other_of fault ≤ (dpb_of disk.format).last_entry)
 told_within disk fault h =
     let at = told (dpb_of disk.format) (entries_of disk) h.0 fault h.1 in
     let size = entries_length disk in

@@ -4,7 +4,7 @@ use Rattle.std.specs.List.{insert, list_all, position_or_len}
 use Rattle.std.proofs.lemmas.List.{at_drop_more, at_drop_all}
 use Rattle.cpm_image_files.specs.declared.listing.DiskFile.{DiskFile}
 use Rattle.cpm_disk_commands.specs.HostNames.{host_part, shown_small}
-use Rattle.cpm_disk_commands.specs.Listing.{comes_before, is_blank, is_less, is_wanted, line_of, lines_of, placed, placed_all, seen, seen_part}
+use Rattle.cpm_disk_commands.specs.Listing.{comes_before, is_blank_byte, is_less, is_wanted, file_line, lines_of, in_its_place, placed_all, visible, seen_part}
 
 -- ---- what is written so far, and what is left
 
@@ -54,7 +54,7 @@ less_end name other i l = at_drop_all (λ (xs : List ℕ). is_less xs (drop i ot
 pub placed_more : (done done' : List DiskFile) (files : List DiskFile) (i : ℕ) (d : DiskFile) (all : List DiskFile) → i < length files
     → done' ≡ insert done (position_or_len (comes_before (get_or files i d)) done) (get_or files i d)
     → placed_all done (drop i files) ≡ all → placed_all done' (drop (i + 1) files) ≡ all
-unfolding placed placed_all
+unfolding in_its_place placed_all
 placed_more done done' files i d all l e h =
     ap (λ (xs : List DiskFile). placed_all xs (drop (i + 1) files)) e ∙ sym (at_drop_more (placed_all done) files i d l) ∙ h
 
@@ -65,7 +65,7 @@ placed_end done files i all l h = sym (at_drop_all (placed_all done) files i l) 
 -- ---- lines and parts
 
 pub lines_more : (user : Option ℕ) (files : List DiskFile) (i : ℕ) (d : DiskFile) → i < length files
-    → lines_of user (drop i files) ≡ cond (is_wanted user (get_or files i d)) (line_of (get_or files i d)) [] ++ lines_of user (drop (i + 1) files)
+    → lines_of user (drop i files) ≡ cond (is_wanted user (get_or files i d)) (file_line (get_or files i d)) [] ++ lines_of user (drop (i + 1) files)
 unfolding lines_of
 lines_more user files i d l = at_drop_more (lines_of user) files i d l
 
@@ -74,17 +74,17 @@ unfolding lines_of
 lines_end user files i l = at_drop_all (lines_of user) files i l
 
 part_at : (part : List ℕ) (i : ℕ) → i < length part
-    → seen_part (drop i part) ≡ cond (list_all is_blank (drop i part)) [] (seen (get_or part i 0) ∷ seen_part (drop (i + 1) part))
+    → seen_part (drop i part) ≡ cond (list_all is_blank_byte (drop i part)) [] (visible (get_or part i 0) ∷ seen_part (drop (i + 1) part))
 unfolding seen_part
 part_at part i l =
     at_drop_more seen_part part i 0 l
-    ∙ sym (at_drop_more (λ (xs : List ℕ). cond (list_all is_blank xs) [] (seen (get_or part i 0) ∷ seen_part (drop (i + 1) part))) part i 0 l)
+    ∙ sym (at_drop_more (λ (xs : List ℕ). cond (list_all is_blank_byte xs) [] (visible (get_or part i 0) ∷ seen_part (drop (i + 1) part))) part i 0 l)
 
-pub part_more : (part : List ℕ) (i : ℕ) → i < length part → list_all is_blank (drop i part) ≡ false
-    → seen_part (drop i part) ≡ (seen (get_or part i 0) ∷ []) ++ seen_part (drop (i + 1) part)
+pub part_more : (part : List ℕ) (i : ℕ) → i < length part → list_all is_blank_byte (drop i part) ≡ false
+    → seen_part (drop i part) ≡ (visible (get_or part i 0) ∷ []) ++ seen_part (drop (i + 1) part)
 part_more part i l h = part_at part i l ∙ rw h refl
 
-pub part_blank : (part : List ℕ) (i : ℕ) → i < length part → list_all is_blank (drop i part) ≡ true → seen_part (drop i part) ≡ []
+pub part_blank : (part : List ℕ) (i : ℕ) → i < length part → list_all is_blank_byte (drop i part) ≡ true → seen_part (drop i part) ≡ []
 part_blank part i l h = part_at part i l ∙ rw h refl
 
 pub part_end : (part : List ℕ) (i : ℕ) → length part ≤ i → seen_part (drop i part) ≡ []

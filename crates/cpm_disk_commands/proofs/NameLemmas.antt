@@ -11,7 +11,7 @@ use Rattle.std.proofs.lemmas.List.{take_more}
 use Rattle.std.proofs.lemmas.Str.{len_utf8_ascii}
 use Rattle.std.proofs.lemmas.Str.Pattern.{NoCharPasses-char}
 use Rattle.cpm_volume.specs.Files.{has_wildcard}
-use Rattle.cpm_disk_commands.specs.Names.{is_name_character, capital, character_at, star_of, name_part, type_part, has_parts, fields, name_of, with_bit, marked, IsBaseName}
+use Rattle.cpm_disk_commands.specs.Names.{is_name_character, capital_letter, character_at, star_of, name_part, type_part, has_parts, fields, one_name, with_bit, with_marks, IsBaseName}
 
 -- ---- a character of a name
 
@@ -24,10 +24,10 @@ pub right_of : (x y : Bool) → (x && y) ≡ false → x ≡ true → y ≡ fals
 right_of true y h e = h
 right_of false y h e = absurd (false≢true e)
 
-plain_capital : (c : ℕ) → is_name_character c ≡ true → eqb (capital c % 128) 63 ≡ false
-unfolding is_name_character capital
+plain_capital : (c : ℕ) → is_name_character c ≡ true → eqb (capital_letter c % 128) 63 ≡ false
+unfolding is_name_character capital_letter
 plain_capital c h =
-    right_of (is_name_character c) _ (agree_below_at (λ k. is_name_character k && eqb (capital k % 128) 63) (λ _. false) 128 c refl (name_low c h)) h
+    right_of (is_name_character c) _ (agree_below_at (λ k. is_name_character k && eqb (capital_letter k % 128) 63) (λ _. false) 128 c refl (name_low c h)) h
 
 no_star : (c : ℕ) → is_name_character c ≡ true → eqb c 42 ≡ false
 unfolding is_name_character
@@ -64,8 +64,8 @@ unfolding with_bit
 bit_low true c = omega arith
 bit_low false c = omega arith
 
-pub plain_name : (is_read_only is_system : Bool) (text : List ℕ) → has_parts is_name_character text ≡ true → has_wildcard (marked is_read_only is_system (fields text)) ≡ false
-unfolding has_wildcard marked fields has_parts
+pub plain_name : (is_read_only is_system : Bool) (text : List ℕ) → has_parts is_name_character text ≡ true → has_wildcard (with_marks is_read_only is_system (fields text)) ≡ false
+unfolding has_wildcard with_marks fields has_parts
 plain_name is_read_only is_system text h =
     let both = and_parts _ _ (and_parts _ _ h).1 in
     let name = plain_at (name_part text) (and_parts _ _ both.0).1 in
@@ -76,8 +76,8 @@ plain_name is_read_only is_system text h =
     (or_from _ _ (kind 2) refl))))))))))
 
 -- what a text spells that is a name
-pub name_is : (text name : List ℕ) → Some name ≡ name_of text → (has_parts is_name_character text ≡ true) × (name ≡ fields text)
-unfolding name_of
+pub name_is : (text name : List ℕ) → Some name ≡ one_name text → (has_parts is_name_character text ≡ true) × (name ≡ fields text)
+unfolding one_name
 name_is text name h = go (has_parts is_name_character text) h refl
   where
     go : (b : Bool) → Some name ≡ cond b (Some (fields text)) None → has_parts is_name_character text ≡ b → (has_parts is_name_character text ≡ true) × (name ≡ fields text)

@@ -7,7 +7,7 @@ use Rattle.std.proofs.lemmas.List.Sums.{fails_before_first, passes_at_first, pre
 use Rattle.std.proofs.lemmas.List.Sorted.{IsPermutation-append_left, IsPermutation-insert, IsPermutation-middle, IsPermutation-refl, IsPermutation-trans}
 use Rattle.std.specs.List.Sorted.{IsPermutation}
 use Rattle.cpm_image_files.specs.declared.listing.DiskFile.{DiskFile}
-use Rattle.cpm_disk_commands.specs.Listing.{comes_before, is_less, placed, placed_all, OrderLaw}
+use Rattle.cpm_disk_commands.specs.Listing.{comes_before, is_less, in_its_place, placed_all, OrderLaw}
 
 -- ---- the first number that differs says what is less, or else what follows
 
@@ -125,18 +125,18 @@ before_trans x y z p q =
     first_trans x.user y.user z.user (is_less x.name y.name) (is_less y.name z.name) (is_less x.name z.name) (less_trans x.name y.name z.name) p q
 
 placed_ordered : (done files : List DiskFile) → IsOrdered comes_before done → IsOrdered comes_before (placed_all done files)
-unfolding placed placed_all
+unfolding in_its_place placed_all
 placed_ordered done [] h = h
 placed_ordered done (file ∷ files) h =
-    placed_ordered (placed file done) files (insert_ordered comes_before before_one_way before_trans file done h)
+    placed_ordered (in_its_place file done) files (insert_ordered comes_before before_one_way before_trans file done h)
 
 placed_same : (done files : List DiskFile) → IsPermutation (done ++ files) (placed_all done files)
-unfolding placed placed_all
+unfolding in_its_place placed_all
 placed_same done [] = subst (λ xs. IsPermutation xs done) (sym (append-nil done)) (IsPermutation-refl done)
 placed_same done (file ∷ files) =
     let front = IsPermutation-middle done file files in
-    let put = IsPermutation-append_left files (file ∷ done) (placed file done) (IsPermutation-insert done (position_or_len (comes_before file) done) file) in
-    IsPermutation-trans (done ++ file ∷ files) (placed file done ++ files) (placed_all (placed file done) files) (IsPermutation-trans (done ++ file ∷ files) (file ∷ (done ++ files)) (placed file done ++ files) front put) (placed_same (placed file done) files)
+    let put = IsPermutation-append_left files (file ∷ done) (in_its_place file done) (IsPermutation-insert done (position_or_len (comes_before file) done) file) in
+    IsPermutation-trans (done ++ file ∷ files) (in_its_place file done ++ files) (placed_all (in_its_place file done) files) (IsPermutation-trans (done ++ file ∷ files) (file ∷ (done ++ files)) (in_its_place file done ++ files) front put) (placed_same (in_its_place file done) files)
 
 pub in_their_order : OrderLaw
 in_their_order files = (placed_same [] files, placed_ordered [] files (λ j k d l h. absurd (omega arith)))

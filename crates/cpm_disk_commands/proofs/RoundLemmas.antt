@@ -3,7 +3,7 @@ use Rattle.std.proofs.Common.{◌≡◌, ◌∙◌, ℕ, ◌-◌, ◌*◌, Bool,
 use Rattle.std.proofs.lemmas.Bool.{false≢true, true≢false}
 use Rattle.cpm_geom.specs.Disk.{Disk}
 use Rattle.cpm_image_files.specs.Filled.{filled}
-use Rattle.cpm_image_files.specs.Shelf.{records_for, HasFile}
+use Rattle.cpm_image_files.specs.Shelf.{records_for, DiskHasFile}
 use Rattle.cpm_image_files.specs.Texts.{from_text, to_text}
 use Rattle.cpm_image_files.specs.declared.name.FileName.{FileName}
 use Rattle.cpm_image_files.proofs.FilledLemmas.{what_is_put}
@@ -11,7 +11,7 @@ use Rattle.cpm_image_files.proofs.TextLemmas.{texts_come_back}
 use Rattle.cpm_disk_commands.specs.Filing.{stored, IsTaken, RoundLaw}
 
 -- the file's records are those that were put
-whole_is : (disk : Disk) (file : FileName) (is_text : Bool) (bytes got : List ℕ) → HasFile disk file.user file.name (stored is_text bytes) → (taken : IsTaken disk file is_text got)
+whole_is : (disk : Disk) (file : FileName) (is_text : Bool) (bytes got : List ℕ) → DiskHasFile disk file.user file.name (stored is_text bytes) → (taken : IsTaken disk file is_text got)
     → taken.whole ≡ filled (stored is_text bytes)
 whole_is disk file is_text bytes got has taken = (what_is_put disk file.user file.name (stored is_text bytes) has).1 taken.whole taken.got.file
 

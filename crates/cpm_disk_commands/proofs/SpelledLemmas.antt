@@ -11,37 +11,37 @@ use Rattle.std.proofs.lemmas.List.Sums.{position_or_len_is}
 use Rattle.cpm_volume.specs.Files.{same_name}
 use Rattle.cpm_volume.proofs.NameLemmas.{same_name-sym, same_name-trans}
 use Rattle.cpm_disk_commands.specs.HostNames.{host_part, host_text, is_host_name, is_read_as, shown_small, small, ApartLaw, SpelledLaw}
-use Rattle.cpm_disk_commands.specs.Listing.{is_blank}
-use Rattle.cpm_disk_commands.specs.Names.{capital, character_at, fields, has_parts, is_name_character, is_part, is_sized, marked, name_of, name_part, star_of, type_part, with_bit}
+use Rattle.cpm_disk_commands.specs.Listing.{is_blank_byte}
+use Rattle.cpm_disk_commands.specs.Names.{capital_letter, character_at, fields, has_parts, is_name_character, is_part, is_sized, with_marks, one_name, name_part, star_of, type_part, with_bit}
 use Rattle.cpm_disk_commands.proofs.NameLemmas.{all_at, bit_low, name_is, name_low, right_of, star_behind}
 
 -- ---- a character of a name, as it is shown
 
 abbrev shown : ℕ → ℕ
-shown c = small (capital c)
+shown c = small (capital_letter c)
 
 never : (f : ℕ → Bool) → agree_below (λ k. is_name_character k && f k) (λ _. false) 128 ≡ true → (c : ℕ) → is_name_character c ≡ true → f c ≡ false
 never f h c is = right_of (is_name_character c) (f c) (agree_below_at (λ k. is_name_character k && f k) (λ _. false) 128 c h (name_low c is)) is
 
 shown_name : (c : ℕ) → is_name_character c ≡ true → is_name_character (shown c) ≡ true
-unfolding is_name_character capital small
+unfolding is_name_character capital_letter small
 shown_name c h = not-false (is_name_character (shown c)) (never (λ k. not (is_name_character (shown k))) refl c h)
 
-shown_capital : (c : ℕ) → is_name_character c ≡ true → capital (shown c) ≡ capital c
-unfolding is_name_character capital small
-shown_capital c h = eqb-true (capital (shown c)) (capital c) (not-false (eqb (capital (shown c)) (capital c)) (never (λ k. not (eqb (capital (shown k)) (capital k))) refl c h))
+shown_capital : (c : ℕ) → is_name_character c ≡ true → capital_letter (shown c) ≡ capital_letter c
+unfolding is_name_character capital_letter small
+shown_capital c h = eqb-true (capital_letter (shown c)) (capital_letter c) (not-false (eqb (capital_letter (shown c)) (capital_letter c)) (never (λ k. not (eqb (capital_letter (shown k)) (capital_letter k))) refl c h))
 
 shown_dot : (c : ℕ) → is_name_character c ≡ true → eqb (shown c) 46 ≡ false
-unfolding is_name_character capital small
+unfolding is_name_character capital_letter small
 shown_dot c h = never (λ k. eqb (shown k) 46) refl c h
 
 shown_slash : (c : ℕ) → is_name_character c ≡ true → eqb (shown c) 47 ≡ eqb c 47
-unfolding is_name_character capital small
+unfolding is_name_character capital_letter small
 shown_slash c h = agree_below_at (λ k. eqb (shown k) 47) (λ k. eqb k 47) 128 c refl (name_low c h)
 
-capital_seen : (c : ℕ) → is_name_character c ≡ true → is_blank (capital c) ≡ false
-unfolding is_name_character capital
-capital_seen c h = never (λ k. is_blank (capital k)) refl c h
+capital_seen : (c : ℕ) → is_name_character c ≡ true → is_blank_byte (capital_letter c) ≡ false
+unfolding is_name_character capital_letter
+capital_seen c h = never (λ k. is_blank_byte (capital_letter k)) refl c h
 
 -- ---- a part of a name, as it is shown
 
@@ -51,7 +51,7 @@ shown_all (c ∷ p) h =
     let both = and_parts (is_name_character c) (list_all is_name_character p) h in
     and_from (is_name_character (shown c)) (list_all is_name_character (map shown p)) (shown_name c both.0) (shown_all p both.1)
 
-shown_back : (p : List ℕ) → list_all is_name_character p ≡ true → map capital (map shown p) ≡ map capital p
+shown_back : (p : List ℕ) → list_all is_name_character p ≡ true → map capital_letter (map shown p) ≡ map capital_letter p
 shown_back [] h = refl
 shown_back (c ∷ p) h =
     let both = and_parts (is_name_character c) (list_all is_name_character p) h in
@@ -63,7 +63,7 @@ shown_slashes (c ∷ p) h =
     let both = and_parts (is_name_character c) (list_all is_name_character p) h in
     rw (shown_slash c both.0, shown_slashes p both.1) refl
 
-host_capitals : (p : List ℕ) → list_all is_name_character p ≡ true → host_part (map capital p) ≡ map shown p
+host_capitals : (p : List ℕ) → list_all is_name_character p ≡ true → host_part (map capital_letter p) ≡ map shown p
 unfolding host_part
 host_capitals [] h = refl
 host_capitals (c ∷ p) h =
@@ -82,7 +82,7 @@ host_append (x ∷ xs) ys = ap (λ (zs : List ℕ). shown_small x ++ zs) (host_a
 
 -- ---- the field that a part fills
 
-char_below : (p : List ℕ) (k : ℕ) → list_all is_name_character p ≡ true → k < length p → character_at p k ≡ capital (get_or p k 0)
+char_below : (p : List ℕ) (k : ℕ) → list_all is_name_character p ≡ true → k < length p → character_at p k ≡ capital_letter (get_or p k 0)
 unfolding character_at
 char_below p k h l =
     let before : ltb k (star_of p) ≡ true = rw (star_behind p h) (lt-ltb k (length p) l) in
@@ -95,30 +95,30 @@ char_above p k h l =
     let none : ltb (star_of p) (length p) ≡ false = rw (star_behind p h) (le-ltb (length p) (length p) (omega arith)) in
     rw behind (rw none refl)
 
-field_is : (p : List ℕ) (n : ℕ) → list_all is_name_character p ≡ true → length p ≤ n → map capital p ++ replicate (n - length p) 32 ≡ map (character_at p) (range_with_len 0 n)
+field_is : (p : List ℕ) (n : ℕ) → list_all is_name_character p ≡ true → length p ≤ n → map capital_letter p ++ replicate (n - length p) 32 ≡ map (character_at p) (range_with_len 0 n)
 field_is p n h l =
     let blanks : List ℕ = replicate (n - length p) 32 in
-    let front : length (map capital p) ≡ length p = length-map p capital in
+    let front : length (map capital_letter p) ≡ length p = length-map p capital_letter in
     let back : length blanks ≡ n - length p = length-replicate (n - length p) 32 in
-    let size : length (map capital p ++ blanks) ≡ n = length-append (map capital p) blanks ∙ omega (arith, front, back) in
-    fill_by_all (character_at p) (map capital p ++ blanks) n 0 size (λ k m.
+    let size : length (map capital_letter p ++ blanks) ≡ n = length-append (map capital_letter p) blanks ∙ omega (arith, front, back) in
+    fill_by_all (character_at p) (map capital_letter p ++ blanks) n 0 size (λ k m.
     elim (cases_lt k (length p)) [
       | inl lt ↦
-          get_or_append_left (map capital p) blanks 0 k (omega (arith, front)) ∙ (get_or-map capital p k 0 0 lt ∙ sym (char_below p k h lt))
+          get_or_append_left (map capital_letter p) blanks 0 k (omega (arith, front)) ∙ (get_or-map capital_letter p k 0 0 lt ∙ sym (char_below p k h lt))
       | inr ge ↦
-          get_or-append_right (map capital p) blanks (length p) k 0 front ge ∙ (get_or-replicate (n - length p) (k - length p) 32 0 (omega arith) ∙ sym (char_above p k h ge))
+          get_or-append_right (map capital_letter p) blanks (length p) k 0 front ge ∙ (get_or-replicate (n - length p) (k - length p) 32 0 (omega arith) ∙ sym (char_above p k h ge))
     ])
 
 host_field : (p : List ℕ) (n : ℕ) → list_all is_name_character p ≡ true → length p ≤ n → host_part (map (character_at p) (range_with_len 0 n)) ≡ map shown p
 host_field p n h l =
-    ap host_part (sym (field_is p n h l)) ∙ (host_append (map capital p) (replicate (n - length p) 32)
-    ∙ (ap (λ (zs : List ℕ). host_part (map capital p) ++ zs) (host_blanks (n - length p)) ∙ (append-nil (host_part (map capital p)) ∙ host_capitals p h)))
+    ap host_part (sym (field_is p n h l)) ∙ (host_append (map capital_letter p) (replicate (n - length p) 32)
+    ∙ (ap (λ (zs : List ℕ). host_part (map capital_letter p) ++ zs) (host_blanks (n - length p)) ∙ (append-nil (host_part (map capital_letter p)) ∙ host_capitals p h)))
 
 -- what is shown of a part fills the same field
 field_back : (p : List ℕ) (n : ℕ) → list_all is_name_character p ≡ true → length p ≤ n → map (character_at (map shown p)) (range_with_len 0 n) ≡ map (character_at p) (range_with_len 0 n)
 field_back p n h l =
     let size : length (map shown p) ≡ length p = length-map p shown in
-    let same : map capital (map shown p) ++ replicate (n - length (map shown p)) 32 ≡ map capital p ++ replicate (n - length p) 32 = λ i. shown_back p h i ++ replicate (n - size i) 32 in
+    let same : map capital_letter (map shown p) ++ replicate (n - length (map shown p)) 32 ≡ map capital_letter p ++ replicate (n - length p) 32 = λ i. shown_back p h i ++ replicate (n - size i) 32 in
     sym (field_is (map shown p) n (shown_all p h) (omega (arith, size))) ∙ (same ∙ field_is p n h l)
 
 -- ---- a text of one part or two
@@ -170,8 +170,8 @@ plain_shown p h k l =
     ap (λ (c : ℕ). eqb c 46) (get_or-map shown p k 0 0 within) ∙ shown_dot (get_or p k 0) (all_at is_name_character p k h within)
 
 read_back : (text name kind : List ℕ) → IsSpelled name kind → name_part text ≡ map shown name → type_part text ≡ map shown kind
-    → name_of text ≡ Some (map (character_at name) (range_with_len 0 8) ++ map (character_at kind) (range_with_len 0 3))
-unfolding name_of has_parts fields
+    → one_name text ≡ Some (map (character_at name) (range_with_len 0 8) ++ map (character_at kind) (range_with_len 0 3))
+unfolding one_name has_parts fields
 read_back text name kind is first second =
     let size : length (map shown name) ≡ length name = length-map name shown in
     let kind_size : length (map shown kind) ≡ length kind = length-map kind shown in
@@ -198,18 +198,18 @@ unfolding host_part
 kind_shown is_read_only is_system kind =
     rw (bit_shown is_read_only (character_at kind 0), bit_shown is_system (character_at kind 1)) refl
 
-kind_blank : (is_read_only is_system : Bool) (kind : List ℕ) → list_all is_blank (kind_with is_read_only is_system kind) ≡ list_all is_blank (map (character_at kind) (range_with_len 0 3))
+kind_blank : (is_read_only is_system : Bool) (kind : List ℕ) → list_all is_blank_byte (kind_with is_read_only is_system kind) ≡ list_all is_blank_byte (map (character_at kind) (range_with_len 0 3))
 kind_blank is_read_only is_system kind =
     rw (bit_low is_read_only (character_at kind 0), bit_low is_system (character_at kind 1)) refl
 
-no_kind : list_all is_blank (map (character_at []) (range_with_len 0 3)) ≡ true
+no_kind : list_all is_blank_byte (map (character_at []) (range_with_len 0 3)) ≡ true
 unfolding character_at
 no_kind = refl
 
-some_kind : (c : ℕ) (kind : List ℕ) → list_all is_name_character (c ∷ kind) ≡ true → list_all is_blank (map (character_at (c ∷ kind)) (range_with_len 0 3)) ≡ false
+some_kind : (c : ℕ) (kind : List ℕ) → list_all is_name_character (c ∷ kind) ≡ true → list_all is_blank_byte (map (character_at (c ∷ kind)) (range_with_len 0 3)) ≡ false
 some_kind c kind h =
-    let first : character_at (c ∷ kind) 0 ≡ capital c = char_below (c ∷ kind) 0 h (omega arith) in
-    let seen : is_blank (character_at (c ∷ kind) 0) ≡ false = ap is_blank first ∙ capital_seen c (and_parts _ _ h).0 in
+    let first : character_at (c ∷ kind) 0 ≡ capital_letter c = char_below (c ∷ kind) 0 h (omega arith) in
+    let seen : is_blank_byte (character_at (c ∷ kind) 0) ≡ false = ap is_blank_byte first ∙ capital_seen c (and_parts _ _ h).0 in
     and_left _ _ seen
 
 -- the text of two parts
@@ -217,24 +217,24 @@ abbrev text_with : (has_none : Bool) (name kind : List ℕ) → List ℕ
 text_with has_none name kind = cond has_none name (name ++ 46 ∷ kind)
 
 text_is : (is_read_only is_system : Bool) (text : List ℕ) → IsSpelled (name_part text) (type_part text)
-    → host_text (marked is_read_only is_system (fields text)) ≡ text_with (list_all is_blank (map (character_at (type_part text)) (range_with_len 0 3))) (map shown (name_part text)) (map shown (type_part text))
-unfolding host_text marked fields
+    → host_text (with_marks is_read_only is_system (fields text)) ≡ text_with (list_all is_blank_byte (map (character_at (type_part text)) (range_with_len 0 3))) (map shown (name_part text)) (map shown (type_part text))
+unfolding host_text with_marks fields
 text_is is_read_only is_system text is =
     let blank = kind_blank is_read_only is_system (type_part text) in
     let name = host_field (name_part text) 8 is.letters is.short in
     let kind = kind_shown is_read_only is_system (type_part text) ∙ host_field (type_part text) 3 is.kind_letters is.short_kind in
     let dotted = append_assoc (map shown (name_part text)) (46 ∷ []) (map shown (type_part text)) in
-    (λ i. cond (blank i) (name i) (name i ++ 46 ∷ [] ++ kind i)) ∙ ap (λ (t : List ℕ). cond (list_all is_blank (map (character_at (type_part text)) (range_with_len 0 3))) (map shown (name_part text)) t) dotted
+    (λ i. cond (blank i) (name i) (name i ++ 46 ∷ [] ++ kind i)) ∙ ap (λ (t : List ℕ). cond (list_all is_blank_byte (map (character_at (type_part text)) (range_with_len 0 3))) (map shown (name_part text)) t) dotted
 
 -- ---- it has no slash, and is read as the name
 
 -- what a text has to be, to be a name's
 record IsReadBack (text name kind : List ℕ) : Type 0 where
-  pub read : name_of text ≡ Some (map (character_at name) (range_with_len 0 8) ++ map (character_at kind) (range_with_len 0 3))
+  pub read : one_name text ≡ Some (map (character_at name) (range_with_len 0 8) ++ map (character_at kind) (range_with_len 0 3))
   pub plain : list_any (λ c. eqb c 47) text ≡ false
 
 text_back : (name kind : List ℕ) → IsSpelled name kind → list_any (λ c. eqb c 47) name ≡ false → list_any (λ c. eqb c 47) kind ≡ false
-    → IsReadBack (text_with (list_all is_blank (map (character_at kind) (range_with_len 0 3))) (map shown name) (map shown kind)) name kind
+    → IsReadBack (text_with (list_all is_blank_byte (map (character_at kind) (range_with_len 0 3))) (map shown name) (map shown kind)) name kind
 text_back name [] is p q =
     let dots = plain_shown name is.letters in
     let back : IsReadBack (map shown name) name [] = record {
@@ -277,8 +277,8 @@ spelled_parts text h =
       kind_letters = kind.1;
     }
 
-same_marked : (is_read_only is_system : Bool) (text : List ℕ) → same_name (fields text) (marked is_read_only is_system (fields text)) ≡ true
-unfolding same_name marked fields
+same_marked : (is_read_only is_system : Bool) (text : List ℕ) → same_name (fields text) (with_marks is_read_only is_system (fields text)) ≡ true
+unfolding same_name with_marks fields
 same_marked is_read_only is_system text =
     let at = λ (k : ℕ). eq-eqb (character_at (name_part text) k % 128) (character_at (name_part text) k % 128) refl in
     let first = eq-eqb _ _ (sym (bit_low is_read_only (character_at (type_part text) 0))) in
@@ -293,12 +293,12 @@ spelled text name is_read_only is_system h slash =
     let is = name_is text name (sym h) in
     let parts = spelled_parts text is.0 in
     let plain = parts_plain text slash in
-    let made = marked is_read_only is_system (fields text) in
+    let made = with_marks is_read_only is_system (fields text) in
     let back : IsReadBack (host_text made) (name_part text) (type_part text) =
     subst (λ t. IsReadBack t (name_part text) (type_part text)) (sym (text_is is_read_only is_system text parts)) (text_back (name_part text) (type_part text) parts plain.0 plain.1) in
-    let read : is_read_as made (name_of (host_text made)) ≡ true = ap (is_read_as made) back.read ∙ same_marked is_read_only is_system text in
+    let read : is_read_as made (one_name (host_text made)) ≡ true = ap (is_read_as made) back.read ∙ same_marked is_read_only is_system text in
     let whole : is_host_name (host_text made) made ≡ true = and_from _ _ (not_from_false _ back.plain) read in
-    subst (λ n. is_host_name (host_text (marked is_read_only is_system n)) (marked is_read_only is_system n) ≡ true) (sym is.1) whole
+    subst (λ n. is_host_name (host_text (with_marks is_read_only is_system n)) (with_marks is_read_only is_system n) ≡ true) (sym is.1) whole
 
 -- ---- names with one text
 
@@ -309,4 +309,4 @@ read_apart (Some found) name other p q = same_name-trans name other found (same_
 pub apart : ApartLaw
 unfolding is_host_name
 apart name other p q e =
-    read_apart (name_of (host_text name)) name other (and_parts _ _ p).1 (ap (λ t. is_read_as other (name_of t)) e ∙ (and_parts _ _ q).1)
+    read_apart (one_name (host_text name)) name other (and_parts _ _ p).1 (ap (λ t. is_read_as other (one_name t)) e ∙ (and_parts _ _ q).1)

@@ -15,10 +15,10 @@ abbrev pub file_of : Entry → NamedFile
 file_of e = record { user = e.user; name = e.extent.name }
 
 -- the entry that has the fault, and the one that it is told beside
-abbrev pub entry_of : DriveFault → ℕ
-entry_of (BadBlock entry block) = entry
-entry_of (TwiceBlock entry block owner) = entry
-entry_of (TwiceEntry entry earlier) = entry
+abbrev pub fault_entry : DriveFault → ℕ
+fault_entry (BadBlock entry block) = entry
+fault_entry (TwiceBlock entry block owner) = entry
+fault_entry (TwiceEntry entry earlier) = entry
 
 abbrev pub other_of : DriveFault → ℕ
 other_of (BadBlock entry block) = entry
@@ -29,7 +29,7 @@ other_of (TwiceEntry entry earlier) = earlier
 abbrev pub damage_of : Disk → DriveFault → Damage
 damage_of disk fault = record {
   fault = fault;
-  file = file_of (entry_at (entries_of disk) (entry_of fault));
+  file = file_of (entry_at (entries_of disk) (fault_entry fault));
   other = file_of (entry_at (entries_of disk) (other_of fault));
   last_block = (dpb_of disk.format).last_block;
 }

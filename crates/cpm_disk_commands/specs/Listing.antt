@@ -34,13 +34,13 @@ unfoldable pub comes_before : DiskFile → DiskFile → Bool
 comes_before file other = nat_lt file.user other.user || ((file.user == other.user) && is_less file.name other.name)
 
 -- a file in its place among others: before the first that it comes before
-unfoldable pub placed : DiskFile → List DiskFile → List DiskFile
-placed file files = insert files (position_or_len (comes_before file) files) file
+unfoldable pub in_its_place : DiskFile → List DiskFile → List DiskFile
+in_its_place file files = insert files (position_or_len (comes_before file) files) file
 
 -- files, each put in its place among those before it
 unfoldable pub placed_all : List DiskFile → List DiskFile → List DiskFile
 placed_all done [] = done
-placed_all done (file ∷ files) = placed_all (placed file done) files
+placed_all done (file ∷ files) = placed_all (in_its_place file done) files
 
 abbrev pub in_order : List DiskFile → List DiskFile
 in_order files = placed_all [] files
@@ -58,25 +58,25 @@ OrderLaw =
 abbrev pub right : ℕ → List ℕ → List ℕ
 right width text = replicate (width - length text) 0x20 ++ text
 
-abbrev pub left : ℕ → List ℕ → List ℕ
-left width text = text ++ replicate (width - length text) 0x20
+abbrev pub left_aligned : ℕ → List ℕ → List ℕ
+left_aligned width text = text ++ replicate (width - length text) 0x20
 
-abbrev pub is_blank : ℕ → Bool
-is_blank c = c % 128 == 0x20
+abbrev pub is_blank_byte : ℕ → Bool
+is_blank_byte c = c % 128 == 0x20
 
 -- a character without its attribute; a question mark stands for one that is not seen
-unfoldable pub seen : ℕ → ℕ
-seen c = if nat_lt 0x20 (c % 128) && nat_lt (c % 128) 0x7F then c % 128 else 0x3F
+unfoldable pub visible : ℕ → ℕ
+visible c = if nat_lt 0x20 (c % 128) && nat_lt (c % 128) 0x7F then c % 128 else 0x3F
 
 -- a part of a name, without the blanks behind it
 unfoldable pub seen_part : List ℕ → List ℕ
 seen_part [] = []
-seen_part (c ∷ cs) = if list_all is_blank (c ∷ cs) then [] else seen c ∷ seen_part cs
+seen_part (c ∷ cs) = if list_all is_blank_byte (c ∷ cs) then [] else visible c ∷ seen_part cs
 
 -- a name, with a dot before the type if there is one
 unfoldable pub seen_name : List ℕ → List ℕ
 seen_name name =
-    seen_part (take 8 name) ++ (if list_all is_blank (drop 8 name) then [] else 0x2E ∷ seen_part (drop 8 name))
+    seen_part (take 8 name) ++ (if list_all is_blank_byte (drop 8 name) then [] else 0x2E ∷ seen_part (drop 8 name))
 
 -- the attributes of a file, by its name
 unfoldable pub read_only_of : List ℕ → List ℕ
@@ -88,9 +88,9 @@ system_of name = if nat_lt 127 (slice_index name 9) then codes ", system" else [
 unfoldable pub unit_of : ℕ → List ℕ
 unit_of count = if count == 1 then codes " record" else codes " records"
 
-unfoldable pub line_of : DiskFile → List ℕ
-line_of file =
-    codes "user " ++ right 2 (decimal file.user) ++ codes "  " ++ left 12 (seen_name file.name) ++ codes "  " ++ right 4 (decimal file.records)
+unfoldable pub file_line : DiskFile → List ℕ
+file_line file =
+    codes "user " ++ right 2 (decimal file.user) ++ codes "  " ++ left_aligned 12 (seen_name file.name) ++ codes "  " ++ right 4 (decimal file.records)
     ++ unit_of file.records ++ read_only_of file.name ++ system_of file.name ++ codes "\n"
 
 -- ---- the list
@@ -103,7 +103,7 @@ is_wanted (Some user) file = file.user == user
 -- a line for each file that is wanted
 unfoldable pub lines_of : Option ℕ → List DiskFile → List ℕ
 lines_of user [] = []
-lines_of user (file ∷ files) = (if is_wanted user file then line_of file else []) ++ lines_of user files
+lines_of user (file ∷ files) = (if is_wanted user file then file_line file else []) ++ lines_of user files
 
 -- how many blocks are free, of those that files can have
 unfoldable pub free_line : Format → ℕ → List ℕ
@@ -113,7 +113,7 @@ abbrev pub list_text : Format → Option ℕ → Shelf → List ℕ
 list_text format user shelf = lines_of user (in_order shelf.files.items) ++ free_line format shelf.free_blocks
 
 -- Why a list is not written: its writer refuses some of it; or memory is refused, and the writer is as it was.
-abbrev pub IsWriteRefusal : {W : Type 0} → FilingError → W → W → Type 0
-IsWriteRefusal {W} (OutputUnwritable reason) old new = ⊤
-IsWriteRefusal {W} OutOfMemory old new = new ≡ old
-IsWriteRefusal {W} _ old new = ⊥
+abbrev pub IsListWriteRefusal : {W : Type 0} → FilingError → W → W → Type 0
+IsListWriteRefusal {W} (OutputUnwritable reason) old new = ⊤
+IsListWriteRefusal {W} OutOfMemory old new = new ≡ old
+IsListWriteRefusal {W} _ old new = ⊥

@@ -4,7 +4,7 @@ use Rattle.std.specs.List.{filter}
 use Rattle.cpm_command_line.specs.Shown.{shown_of}
 use Rattle.cpm_volume.specs.Files.{has_wildcard, name_matches}
 use Rattle.cpm_image_files.specs.declared.listing.DiskFile.{DiskFile}
-use Rattle.cpm_disk_commands.specs.Names.{pattern_of}
+use Rattle.cpm_disk_commands.specs.Names.{pattern_text}
 use Rattle.cpm_disk_commands.specs.declared.damage.NamedFile.{NamedFile}
 use Rattle.cpm_disk_commands.specs.declared.error.FilingError.{FilingError}
 use Rattle.cpm_disk_commands.specs.declared.error.FilingError.TheVariants.{NotPattern, NoFile, OutOfMemory}
@@ -23,15 +23,15 @@ meant user pattern files = map listed (filter (is_meant user pattern) files)
 -- These are the files that a pattern's text names, and there is one.
 pub record AreMeant (text : List ℕ) (user : ℕ) (files : List DiskFile) (named : List NamedFile) : Type 0 where
   pub pattern : List ℕ
-  pub pattern_is : pattern_of text ≡ Some pattern
+  pub pattern_is : pattern_text text ≡ Some pattern
   pub named_are : named ≡ meant user pattern files
   pub some : named ≢ []
 
 -- Why there are none: the text is no pattern; it is one, but no file of the user matches; or one does, but there was no memory.
 abbrev pub IsMatchRefusal : (image text : List ℕ) → (user : ℕ) → List DiskFile → FilingError → Type 0
-IsMatchRefusal image text user files (NotPattern shown) = (shown.bytes ≡ shown_of (chars text)) × (pattern_of text ≡ None)
+IsMatchRefusal image text user files (NotPattern shown) = (shown.bytes ≡ shown_of (chars text)) × (pattern_text text ≡ None)
 IsMatchRefusal image text user files (NoFile shown pattern number) =
     (shown.bytes ≡ shown_of (chars image)) × (pattern.bytes ≡ shown_of (chars text)) × (number ≡ user)
-    × ((pattern : List ℕ) × (pattern_of text ≡ Some pattern) × (meant user pattern files ≡ []))
-IsMatchRefusal image text user files OutOfMemory = (pattern : List ℕ) × (pattern_of text ≡ Some pattern) × (meant user pattern files ≢ [])
+    × ((pattern : List ℕ) × (pattern_text text ≡ Some pattern) × (meant user pattern files ≡ []))
+IsMatchRefusal image text user files OutOfMemory = (pattern : List ℕ) × (pattern_text text ≡ Some pattern) × (meant user pattern files ≢ [])
 IsMatchRefusal image text user files _ = ⊥

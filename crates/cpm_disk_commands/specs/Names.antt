@@ -16,8 +16,8 @@ unfoldable pub is_pattern_character : ℕ → Bool
 is_pattern_character c = is_name_character c || ((c == 0x3F) || (c == 0x2A))
 
 -- CP/M 2.2 Operating System Manual, section 1.4, File References: a small letter counts as the capital
-unfoldable pub capital : ℕ → ℕ
-capital c = if nat_le 0x61 c && nat_le c 0x7A then c - 32 else c
+unfoldable pub capital_letter : ℕ → ℕ
+capital_letter c = if nat_le 0x61 c && nat_le c 0x7A then c - 32 else c
 
 -- ---- the two parts
 
@@ -36,7 +36,7 @@ star_of part = position_or_len (λ c. c == 0x2A) part
 -- CP/M 2.2 Operating System Manual, section 1.4, File References: * stands for question marks up to the end of its part; else blanks follow the characters
 unfoldable pub character_at : List ℕ → ℕ → ℕ
 character_at part place =
-    if nat_lt place (star_of part) then capital (slice_index part place) else (if nat_lt (star_of part) (length part) then 0x3F else 0x20)
+    if nat_lt place (star_of part) then capital_letter (slice_index part place) else (if nat_lt (star_of part) (length part) then 0x3F else 0x20)
 
 -- eight characters and three
 unfoldable pub fields : List ℕ → List ℕ
@@ -58,12 +58,12 @@ has_parts is_of_kind text =
 -- ---- what they spell
 
 -- the name of one file
-unfoldable pub name_of : List ℕ → Option (List ℕ)
-name_of text = if has_parts is_name_character text then Some (fields text) else None
+unfoldable pub one_name : List ℕ → Option (List ℕ)
+one_name text = if has_parts is_name_character text then Some (fields text) else None
 
 -- a pattern of names
-unfoldable pub pattern_of : List ℕ → Option (List ℕ)
-pattern_of text = if has_parts is_pattern_character text then Some (fields text) else None
+unfoldable pub pattern_text : List ℕ → Option (List ℕ)
+pattern_text text = if has_parts is_pattern_character text then Some (fields text) else None
 
 -- ---- words that have a name in them
 
@@ -79,6 +79,6 @@ unfoldable pub with_bit : Bool → ℕ → ℕ
 with_bit is_set c = if is_set then c % 128 + 128 else c % 128
 
 -- CP/M 2.2 Operating System Manual, section 5.2, SET FILE ATTRIBUTES: the high bits of the type's first two characters mark a file as read-only and as the system's
-unfoldable pub marked : (is_read_only is_system : Bool) → List ℕ → List ℕ
-marked is_read_only is_system name =
+unfoldable pub with_marks : (is_read_only is_system : Bool) → List ℕ → List ℕ
+with_marks is_read_only is_system name =
     slice_set (slice_set name 8 (with_bit is_read_only (slice_index name 8))) 9 (with_bit is_system (slice_index name 9))

@@ -12,24 +12,24 @@ use Rattle.cpm_image_files.specs.declared.name.FileName.{FileName}
 use Rattle.cpm_image_files.specs.declared.refusal.ShelfError.{ShelfError}
 use Rattle.cpm_image_files.specs.declared.refusal.ShelfError.TheVariants as shelf
 use Rattle.cpm_disk_commands.specs.Damage.{damage_of}
-use Rattle.cpm_disk_commands.specs.Names.{name_of}
+use Rattle.cpm_disk_commands.specs.Names.{one_name}
 use Rattle.cpm_disk_commands.specs.declared.damage.NamedFile.{NamedFile}
 use Rattle.cpm_disk_commands.specs.declared.error.FilingError.{FilingError}
 use Rattle.cpm_disk_commands.specs.declared.error.FilingError.TheVariants.{NotName, NotPattern, NotPair, PutTwice, NotImage, Damaged, NoFile, NoHostName, Refused, OutputUnwritable, OutOfMemory}
 
 -- the number of the code that the text begins with
-abbrev pub status_of : FilingError → ℕ
-status_of (NotName text) = 1
-status_of (NotPattern text) = 1
-status_of (NotPair text) = 1
-status_of (PutTwice text file) = 1
-status_of (OutputUnwritable reason) = 5
-status_of (NotImage image count) = 6
-status_of (Damaged image damage) = 6
-status_of (NoFile image pattern user) = 6
-status_of (Refused image file refusal) = 6
-status_of (NoHostName image file) = 6
-status_of OutOfMemory = 8
+abbrev pub filing_status_of : FilingError → ℕ
+filing_status_of (NotName text) = 1
+filing_status_of (NotPattern text) = 1
+filing_status_of (NotPair text) = 1
+filing_status_of (PutTwice text file) = 1
+filing_status_of (OutputUnwritable reason) = 5
+filing_status_of (NotImage image count) = 6
+filing_status_of (Damaged image damage) = 6
+filing_status_of (NoFile image pattern user) = 6
+filing_status_of (Refused image file refusal) = 6
+filing_status_of (NoHostName image file) = 6
+filing_status_of OutOfMemory = 8
 
 -- bytes are no image, by their number
 abbrev pub IsNotImage : (image bytes : List ℕ) → FilingError → Type 0
@@ -38,8 +38,8 @@ IsNotImage image bytes (NotImage shown count) =
 IsNotImage image bytes _ = ⊥
 
 -- the user and the name of a file
-abbrev pub named : FileName → NamedFile
-named file = record { user = file.user; name = file.name }
+abbrev pub file_named : FileName → NamedFile
+file_named file = record { user = file.user; name = file.name }
 
 -- the fault of a directory is told of the image in a file of the host
 abbrev pub IsDamageTold : Disk → (image : List ℕ) → DriveFault → FilingError → Type 0
@@ -66,7 +66,7 @@ IsFaultOf disk shelf.OutOfMemory = ⊤
 
 -- a text is no name of a file
 abbrev pub IsNotName : (text : List ℕ) → FilingError → Type 0
-IsNotName text (NotName shown) = (shown.bytes ≡ shown_of (chars text)) × (name_of text ≡ None)
+IsNotName text (NotName shown) = (shown.bytes ≡ shown_of (chars text)) × (one_name text ≡ None)
 IsNotName text _ = ⊥
 
 -- two files are one on a disk: of one user, and of one name in the low seven bits of each character
@@ -76,5 +76,5 @@ is_same_file file other = (file.user == other.user) && same_name file.name other
 -- a word would put a file on a disk that one before it is already
 abbrev pub IsPutTwice : (before : List FileName) → FileName → (word : List ℕ) → FilingError → Type 0
 IsPutTwice before file word (PutTwice shown about) =
-    (shown.bytes ≡ shown_of (chars word)) × (about ≡ named file) × (list_any (is_same_file file) before ≡ true)
+    (shown.bytes ≡ shown_of (chars word)) × (about ≡ file_named file) × (list_any (is_same_file file) before ≡ true)
 IsPutTwice before file word _ = ⊥

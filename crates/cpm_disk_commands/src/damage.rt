@@ -4,7 +4,7 @@ ghost use Rattle.cpm_directory.specs.Directory.{entries_of};
 ghost use Rattle.cpm_directory.specs.WellFormed.{IsChecked};
 ghost use Rattle.cpm_volume.specs.Files.{entry_at};
 ghost use Rattle.cpm_geom.specs.Geometry.{dpb_of};
-ghost use Rattle.cpm_disk_commands.specs.Damage.{damage_of, entry_of, file_of, other_of};
+ghost use Rattle.cpm_disk_commands.specs.Damage.{damage_of, fault_entry, file_of, other_of};
 
 use cpm_directory::{DriveFault, entry};
 use cpm_volume::Entry;
@@ -44,8 +44,8 @@ pub struct Damage {
 }
 
 /// The entry that has a fault.
-fn entry_of(fault: DriveFault) -> u16
-    ensures { result ≡ entry_of fault }
+fn fault_entry(fault: DriveFault) -> u16
+    ensures { result ≡ fault_entry fault }
 {
     match fault {
         DriveFault::BadBlock { entry, .. }
@@ -80,7 +80,7 @@ pub fn damage_of(image: &Image, fault: DriveFault) -> Damage
 {
     Damage {
         fault,
-        file: file_at(image, entry_of(fault)),
+        file: file_at(image, fault_entry(fault)),
         other: file_at(image, other_of(fault)),
         last_block: image.format().dpb().last_block,
     }

@@ -1,6 +1,6 @@
 //! Why a command on disk images is refused.
 ghost use Rattle.std.specs.Prelude.{◌≡◌};
-ghost use Rattle.cpm_disk_commands.specs.Refusals.{status_of};
+ghost use Rattle.cpm_disk_commands.specs.Refusals.{filing_status_of};
 
 use crate::damage::{Damage, NamedFile};
 use cpm_command_line::ShownWord;
@@ -81,7 +81,7 @@ fn advice(reason: FileRefusal) -> &'static str {
 impl FilingError {
     /// The exit status: the number of the code.
     pub fn status(&self) -> u8
-        ensures { result ≡ status_of self.now }
+        ensures { result ≡ filing_status_of self.now }
     {
         match self {
             FilingError::NotName(_)

@@ -7,8 +7,8 @@ ghost use Rattle.cpm_geom.specs.Disk.{blank_disk};
 ghost use Rattle.cpm_geom.specs.Geometry.{dpb_of};
 ghost use Rattle.cpm_image_files.specs.Shelf.{records_for, IsPut, IsPutRefusal};
 ghost use Rattle.cpm_image_files.specs.Taken.{IsGetRefusal, IsRemovalRefusal, IsRemoved, IsRenamed, IsRenameRefusal};
-ghost use Rattle.cpm_disk_commands.specs.Filing.{format_for, stored, IsImage, IsPutTold, IsTaken};
-ghost use Rattle.cpm_disk_commands.specs.Refusals.{named, IsDamageTold, IsFaultOf, IsNotImage, IsTold, IsToldRefusal};
+ghost use Rattle.cpm_disk_commands.specs.Filing.{format_for, stored, IsImageFile, IsPutTold, IsTaken};
+ghost use Rattle.cpm_disk_commands.specs.Refusals.{file_named, IsDamageTold, IsFaultOf, IsNotImage, IsTold, IsToldRefusal};
 ghost use Rattle.std.specs.Prelude.{length};
 
 use crate::damage::{NamedFile, damage_of};
@@ -22,7 +22,7 @@ use std::alloc::Global;
 /// The image of these bytes, of the file of this name. Refused where no image has so many.
 pub fn image_of(name: &str, bytes: Vec<u8>) -> Result<Image, FilingError>
     ensures { MatchResult result
-        (λ image. IsImage bytes.items image)
+        (λ image. IsImageFile bytes.items image)
         (λ e. IsNotImage name.now bytes.items e) }
 {
     match Image::from_bytes(bytes) {
@@ -48,7 +48,7 @@ pub(crate) fn damaged(image: &Image, name: &str, fault: DriveFault) -> FilingErr
 /// Why nothing is done with a file, as it is told.
 fn told(image: &Image, name: &str, file: &FileName, error: ShelfError) -> FilingError
     requires { IsFaultOf image.now error }
-    ensures { IsTold image.now name.now (named file.now) error result }
+    ensures { IsTold image.now name.now (file_named file.now) error result }
 {
     match error {
         ShelfError::Damaged(fault) => damaged(image, name, fault),
@@ -97,7 +97,7 @@ fn put_bytes(
 ) -> Result<Image, FilingError>
     ensures { MatchResult result
         (λ new. IsPut image.now file.now.user file.now.name bytes.now new)
-        (λ e. IsToldRefusal image.now name.now (named file.now) (IsPutRefusal image.now file.now.user file.now.name (records_for (length bytes.now))) e) }
+        (λ e. IsToldRefusal image.now name.now (file_named file.now) (IsPutRefusal image.now file.now.user file.now.name (records_for (length bytes.now))) e) }
 {
     match put(alloc, image, file, bytes) {
         Ok(new) => Ok(new),
@@ -115,7 +115,7 @@ pub fn get_file(
 ) -> Result<Vec<u8>, FilingError>
     ensures { MatchResult result
         (λ bytes. IsTaken image.now file.now is_text bytes.items)
-        (λ e. IsToldRefusal image.now name.now (named file.now) (IsGetRefusal image.now file.now.user file.now.name) e) }
+        (λ e. IsToldRefusal image.now name.now (file_named file.now) (IsGetRefusal image.now file.now.user file.now.name) e) }
 {
     let bytes = match get(alloc, image, file) {
         Ok(bytes) => bytes,
@@ -139,7 +139,7 @@ pub fn remove_file(
 ) -> Result<Image, FilingError>
     ensures { MatchResult result
         (λ new. IsRemoved image.now file.now.user file.now.name new)
-        (λ e. IsToldRefusal image.now name.now (named file.now) (IsRemovalRefusal image.now file.now.user file.now.name) e) }
+        (λ e. IsToldRefusal image.now name.now (file_named file.now) (IsRemovalRefusal image.now file.now.user file.now.name) e) }
 {
     match remove(alloc, image, file) {
         Ok(new) => Ok(new),
@@ -158,7 +158,7 @@ pub fn rename_file(
     requires { new_name.now.user ≡ file.now.user }
     ensures { MatchResult result
         (λ new. IsRenamed image.now file.now.user file.now.name new_name.now.name new)
-        (λ e. IsToldRefusal image.now name.now (named file.now) (IsRenameRefusal image.now file.now.user file.now.name new_name.now.name) e) }
+        (λ e. IsToldRefusal image.now name.now (file_named file.now) (IsRenameRefusal image.now file.now.user file.now.name new_name.now.name) e) }
 {
     match rename(alloc, image, file, new_name) {
         Ok(new) => Ok(new),

@@ -3,13 +3,13 @@
 ghost use Rattle.std.specs.Prelude.{◌≡◌, ◌≤◌, ◌<◌, ◌+◌, ◌%◌, ◌==◌, ◌++◌, true, false, MatchOption, MatchResult, length};
 ghost use Rattle.std.specs.List.{list_all, list_any, zip};
 ghost use Rattle.cpm_volume.specs.Files.{same_name};
-ghost use Rattle.cpm_disk_commands.specs.Listing.{is_blank};
+ghost use Rattle.cpm_disk_commands.specs.Listing.{is_blank_byte};
 ghost use Rattle.cpm_disk_commands.specs.HostNames.{host_part, host_text, is_host_name, is_read_as, shown_small, small, IsNoHostName};
-ghost use Rattle.cpm_disk_commands.specs.Names.{name_of};
+ghost use Rattle.cpm_disk_commands.specs.Names.{one_name};
 
 use crate::damage::NamedFile;
 use crate::error::FilingError;
-use crate::lines::{are_blank, is_blank};
+use crate::lines::{are_blank, is_blank_byte};
 use crate::names::name_of;
 use arrayvec::ArrayString;
 use cpm_command_line::shown;
@@ -81,7 +81,7 @@ fn add_character(text: &mut ArrayString<12>, c: u8)
     ensures text { text.new.bytes ≡ text.old.bytes ++ shown_small c }
     ensures length { length text.new.bytes ≤ length text.old.bytes + 1 }
 {
-    if !is_blank(c) {
+    if !is_blank_byte(c) {
         text.push(char::from(small(c)));
     }
 }
@@ -106,7 +106,7 @@ fn is_host_name(text: &str, name: &[u8; 11]) -> bool
 
 /// Whether a text is read as a name.
 fn is_read_as(name: &[u8; 11], text: &str) -> bool
-    ensures { result ≡ is_read_as name.now (name_of text.now) }
+    ensures { result ≡ is_read_as name.now (one_name text.now) }
 {
     match name_of(text) {
         Some(found) => is_same_name(&found, name),

@@ -3,7 +3,7 @@
 ghost use Rattle.std.specs.Prelude.{◌≡◌, ◌≤◌, ◌<◌, ◌++◌, ◌-◌, OnOk, decimal, length, replicate};
 ghost use Rattle.std.specs.List.{list_all};
 ghost use Rattle.cpm_geom.specs.Geometry.{dpb_of};
-ghost use Rattle.cpm_disk_commands.specs.Listing.{free_line, is_blank, is_wanted, left, line_of, lines_of, read_only_of, right, seen, seen_name, seen_part, system_of, unit_of};
+ghost use Rattle.cpm_disk_commands.specs.Listing.{free_line, is_blank_byte, is_wanted, left_aligned, file_line, lines_of, read_only_of, right, visible, seen_name, seen_part, system_of, unit_of};
 
 use cpm_geom::Format;
 use cpm_image_files::DiskFile;
@@ -62,7 +62,7 @@ fn is_wanted(user: Option<u8>, file: &DiskFile) -> bool
 /// Adds the line of a file.
 #[tactic(auto, unfolding(crate::specs::Listing::line_of))]
 fn add_line(text: &mut Vec<u8>, file: &DiskFile) -> Result<(), AllocError>
-    ensures { OnOk result (text.new.items ≡ text.old.items ++ line_of file.now) }
+    ensures { OnOk result (text.new.items ≡ text.old.items ++ file_line file.now) }
 {
     text.extend_from_slice(b"user ")?;
     add_number(text, u32::from(file.user), 2)?;
@@ -133,7 +133,7 @@ fn add_blanks(text: &mut Vec<u8>, count: usize) -> Result<(), AllocError>
 
 /// Adds a name at the left of its field.
 fn add_padded_name(text: &mut Vec<u8>, name: &[u8; 11]) -> Result<(), AllocError>
-    ensures { OnOk result (text.new.items ≡ text.old.items ++ left 12 (seen_name name.now)) }
+    ensures { OnOk result (text.new.items ≡ text.old.items ++ left_aligned 12 (seen_name name.now)) }
 {
     let start = text.len();
     add_name(text, name)?;
@@ -163,29 +163,29 @@ fn add_part(text: &mut Vec<u8>, part: &[u8]) -> Result<(), AllocError>
         if are_blank(&part[place..]) {
             break;
         }
-        text.push(seen(part[place]))?;
+        text.push(visible(part[place]))?;
     }
     Ok(())
 }
 
 /// Whether there are only blanks.
 pub(crate) fn are_blank(part: &[u8]) -> bool
-    ensures { result ≡ list_all is_blank part.now }
+    ensures { result ≡ list_all is_blank_byte part.now }
 {
     part.iter().all(|c| *c % 128 == b' ')
 }
 
 /// Whether a character is a blank, whatever its attribute.
-pub(crate) fn is_blank(c: u8) -> bool
-    ensures { result ≡ is_blank c }
+pub(crate) fn is_blank_byte(c: u8) -> bool
+    ensures { result ≡ is_blank_byte c }
 {
     c % 128 == b' '
 }
 
 /// A character as it is shown: its low seven bits, and `?` for what can't be seen.
 #[tactic(auto, unfolding(crate::specs::Listing::seen))]
-fn seen(c: u8) -> u8
-    ensures { result ≡ seen c }
+fn visible(c: u8) -> u8
+    ensures { result ≡ visible c }
 {
     let c = c % 128;
     if b' ' < c && c < 0x7F { c } else { b'?' }

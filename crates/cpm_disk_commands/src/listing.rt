@@ -4,7 +4,7 @@ ghost use Rattle.std.specs.Prelude.{◌≡◌, ◌≤◌, ◌+◌, ◌++◌, IfE
 ghost use Rattle.std.specs.Io.KnownBytes.{Appends};
 ghost use Rattle.std.specs.List.{position_or_len};
 ghost use Rattle.cpm_image_files.specs.Listing.{IsListed};
-ghost use Rattle.cpm_disk_commands.specs.Listing.{comes_before, in_order, is_less, list_text, IsListTold, IsWriteRefusal};
+ghost use Rattle.cpm_disk_commands.specs.Listing.{comes_before, in_order, is_less, list_text, IsListTold, IsListWriteRefusal};
 
 use crate::error::FilingError;
 use crate::filing::damaged;
@@ -41,7 +41,7 @@ pub fn write_list<W: Write>(
     out: &mut W,
 ) -> Result<(), FilingError>
     ensures text { OnOk result (Appends (W.contents out.old) (W.contents out.new) (list_text format user shelf.now)) }
-    ensures refusal { IfErr result (λ e. IsWriteRefusal e out.old out.new) }
+    ensures refusal { IfErr result (λ e. IsListWriteRefusal e out.old out.new) }
 {
     let text = match text_of(alloc, format, shelf, user) {
         Ok(text) => text,

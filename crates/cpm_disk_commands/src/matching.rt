@@ -4,7 +4,7 @@ ghost use Rattle.std.specs.Prelude.{◌≡◌, ◌≢◌, ◌<◌, true, false, 
 ghost use Rattle.std.specs.List.{list_all, zip};
 ghost use Rattle.cpm_volume.specs.Files.{has_wildcard, name_matches, wildcard_or_same};
 ghost use Rattle.cpm_disk_commands.specs.Matching.{is_meant, listed, meant, AreMeant, IsMatchRefusal};
-ghost use Rattle.cpm_disk_commands.specs.Refusals.{named};
+ghost use Rattle.cpm_disk_commands.specs.Refusals.{file_named};
 
 use crate::error::FilingError;
 use crate::names::pattern_of;
@@ -23,7 +23,7 @@ pub fn matching_files(
 ) -> Result<Vec<FileName>, FilingError>
     requires { user < 16 }
     ensures { MatchResult result
-        (λ found. AreMeant pattern.now user files.now (map named found.items))
+        (λ found. AreMeant pattern.now user files.now (map file_named found.items))
         (λ e. IsMatchRefusal name.now pattern.now user files.now e) }
 {
     let Some(wanted) = pattern_of(pattern) else {
@@ -48,7 +48,7 @@ fn files_of(
     pattern: &[u8; 11],
 ) -> Result<Vec<FileName>, AllocError>
     requires { user < 16 }
-    ensures found { IfOk result (λ found. map named found.items ≡ meant user pattern.now files.now) }
+    ensures found { IfOk result (λ found. map file_named found.items ≡ meant user pattern.now files.now) }
     ensures some { IfErr result (λ _. meant user pattern.now files.now ≢ []) }
 {
     let mut found = Vec::new(alloc);
@@ -66,7 +66,7 @@ fn file_meant(file: &DiskFile, user: u8, pattern: &[u8; 11]) -> Option<FileName>
     requires { user < 16 }
     ensures { MatchOption result
         (is_meant user pattern.now file.now ≡ false)
-        (λ found. (is_meant user pattern.now file.now ≡ true) × (named found ≡ listed file.now)) }
+        (λ found. (is_meant user pattern.now file.now ≡ true) × (file_named found ≡ listed file.now)) }
 {
     if file.user == user && names_match(pattern, &file.name) {
         FileName::new(user, file.name)

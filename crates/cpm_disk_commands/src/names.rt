@@ -2,13 +2,13 @@
 
 ghost use Rattle.std.specs.Prelude.{◌≡◌, ◌≤◌, ◌+◌, ◌==◌, ◌&&◌, length};
 ghost use Rattle.std.specs.List.{list_all, position, position_or_len};
-ghost use Rattle.cpm_disk_commands.specs.Names.{capital, character_at, fields, has_parts, is_name_character, is_part, is_pattern_character, is_special, is_sized, name_of, name_part, pattern_of, star_of, type_part};
+ghost use Rattle.cpm_disk_commands.specs.Names.{capital_letter, character_at, fields, has_parts, is_name_character, is_part, is_pattern_character, is_special, is_sized, one_name, name_part, pattern_text, star_of, type_part};
 
 /// The name of one file: 1 to 8 characters and, behind a dot, up to 3. Letters become capitals, and blanks fill both parts up.
 /// None where the text is no such name.
 #[tactic(auto, unfolding(crate::specs::Names::name_of))]
 pub fn name_of(text: &str) -> Option<[u8; 11]>
-    ensures { result ≡ name_of text.now }
+    ensures { result ≡ one_name text.now }
 {
     let text = text.as_bytes();
     if is_name(text) {
@@ -21,7 +21,7 @@ pub fn name_of(text: &str) -> Option<[u8; 11]>
 /// A pattern of names: the same, where `?` stands for any character and a last `*` for all that follow in its part.
 #[tactic(auto, unfolding(crate::specs::Names::pattern_of))]
 pub fn pattern_of(text: &str) -> Option<[u8; 11]>
-    ensures { result ≡ pattern_of text.now }
+    ensures { result ≡ pattern_text text.now }
 {
     let text = text.as_bytes();
     if is_pattern(text) {
@@ -182,7 +182,7 @@ fn character_at(part: &[u8], place: usize) -> u8
 {
     let star = star_of(part);
     if place < star {
-        capital(part[place])
+        capital_letter(part[place])
     } else if star < part.len() {
         b'?'
     } else {
@@ -192,8 +192,8 @@ fn character_at(part: &[u8], place: usize) -> u8
 
 /// A small letter as its capital.
 #[tactic(auto, unfolding(crate::specs::Names::capital))]
-fn capital(c: u8) -> u8
-    ensures { result ≡ capital c }
+fn capital_letter(c: u8) -> u8
+    ensures { result ≡ capital_letter c }
 {
     if c.is_ascii_lowercase() {
         c - (b'a' - b'A')

@@ -3,7 +3,7 @@
 ghost use Rattle.std.specs.Prelude.{◌≡◌, ◌<◌, ◌==◌, ℕ, List, Some, true, false, MatchOption, MatchResult, length};
 ghost use Rattle.std.specs.List.{after_first, before_first, list_any, position_or_len};
 ghost use Rattle.cpm_volume.specs.Files.{has_wildcard};
-ghost use Rattle.cpm_disk_commands.specs.Names.{marked, name_of, with_bit, IsBaseName};
+ghost use Rattle.cpm_disk_commands.specs.Names.{with_marks, one_name, with_bit, IsBaseName};
 ghost use Rattle.cpm_disk_commands.specs.Refusals.{is_same_file, IsNotName, IsPutTwice};
 
 use crate::damage::NamedFile;
@@ -43,20 +43,20 @@ pub fn file_name(
 ) -> Result<FileName, FilingError>
     requires { user < 16 }
     ensures { MatchResult result
-        (λ file. (name : List ℕ) × (name_of text.now ≡ Some name) × (file.user ≡ user) × (file.name ≡ marked is_read_only is_system name))
+        (λ file. (name : List ℕ) × (one_name text.now ≡ Some name) × (file.user ≡ user) × (file.name ≡ with_marks is_read_only is_system name))
         (λ e. IsNotName text.now e) }
 {
     let Some(name) = name_of(text) else {
         return Err(FilingError::NotName(shown(text)));
     };
-    let name = marked(name, is_read_only, is_system);
+    let name = with_marks(name, is_read_only, is_system);
     Ok(FileName::new(user, name).unwrap())
 }
 
 /// A name with these attributes.
 #[tactic(auto, unfolding(crate::specs::Names::marked))]
-fn marked(name: [u8; 11], is_read_only: bool, is_system: bool) -> [u8; 11]
-    ensures { result ≡ marked is_read_only is_system name }
+fn with_marks(name: [u8; 11], is_read_only: bool, is_system: bool) -> [u8; 11]
+    ensures { result ≡ with_marks is_read_only is_system name }
 {
     let mut name = name;
     name[8] = with_bit(name[8], is_read_only);

@@ -16,9 +16,9 @@ use Rattle.cpm_volume.specs.declared.answer.Fault.TheVariants.{BadSector as bad_
 use Rattle.cpm_volume.specs.declared.answer.Answer.{Answer}
 use Rattle.cpm_volume.specs.declared.answer.Answer.TheVariants.{NoRecord as no_record, CannotClose as cannot_close, NoExtent as no_extent, NoEntryFree as no_entry_free, Fault as fault}
 use Rattle.cpm_volume.specs.Reserved.{is_reserved, least_free}
-use Rattle.cpm_volume.specs.Files.{extent_number, group_of, place_of, block_number, deleted, entry_at, first_match, first_free, directory_records, Volume, Write, record_put, IsSound}
+use Rattle.cpm_volume.specs.Files.{extent_number, group_of, entry_place_of, block_number, deleted, entry_at, first_match, first_free, directory_records, Volume, DiskWrite, record_put, IsSound}
 use Rattle.cpm_volume.specs.Encoding.{AreBytes}
-use Rattle.cpm_volume.specs.Operations.{Outcome, ends, gives, with_entry, merged, agree, has_bad_block, closed_entry, is_unchanged, Close, refused, close_fault, closed, close_extent, opened, open_extent, open_to_read, made, make_extent, close_file, make_file, Purpose, reading, writing, Target, Place, stopped, standing, opened_in, made_in, opened_or_made, have_extent, closed_in, cross, next_target, target_of, next_place, place_at, record_in_block, get_record, Found, no_such_block, none_free, old_block, new_block, block_to_write, with_block, taken_writes, put_found, put_record, read_in, write_in, read_next, write_next, read_random, write_random, write_random_cleared}
+use Rattle.cpm_volume.specs.Operations.{Outcome, ends, gives, with_entry, merged, agree, has_bad_block, closed_entry, is_unchanged, Close, refused, close_fault, closed, close_extent, opened_extent, open_extent, open_to_read, made_extent, make_extent, close_file_on_volume, make_file_on_volume, Purpose, reading, writing, Target, Place, stopped, standing, opened_in, made_in, opened_or_made, have_extent, closed_in, cross, next_target, target_of, next_place, place_at, record_in_block, get_record, Found, no_such_block, none_free, old_block, new_block, block_to_write, with_block, taken_writes, put_found, put_record, read_in, write_in, read_next_on_volume, write_next_on_volume, read_random_on_volume, write_random_on_volume, write_random_cleared_on_volume}
 use Rattle.cpm_volume.proofs.Closing.{closed_user}
 use Rattle.cpm_volume.proofs.Moving.{closed_volume, closes_free, goes_on, number_below}
 use Rattle.cpm_drive.specs.Laws.{IsOfBytes, Fits, AllFit}
@@ -69,13 +69,13 @@ module _ (f : Format) where
 
   MakesFit : Volume → Option (List Entry × Extent) → Type 0
   MakesFit v None = ⊤
-  MakesFit v (Some made) = VolumeFits f (with_entry v (first_free v.entries) made.0) × IsOfBytes (dpb_of f) made.1
+  MakesFit v (Some made_extent) = VolumeFits f (with_entry v (first_free v.entries) made_extent.0) × IsOfBytes (dpb_of f) made_extent.1
 
   makes : (v : Volume) (user : ℕ) (x : Extent) (number : ℕ) → user < 256 → number < 8192 → VolumeFits f v → IsOfBytes (dpb_of f) x → MakesFit v (make_extent v.entries user x number)
   unfolding make_extent MakesFit
   makes v user x number user_fits small fit extent =
       let new = made_fits (dpb_of f) x number small extent in
-      cond_both (ltb (first_free v.entries) (length v.entries)) (Some (set v.entries (first_free v.entries) (record { user = user; extent = made x number }), made x number)) None (MakesFit v) (λ free. (put_fits f v fit (first_free v.entries) (record { user = user; extent = made x number }) (ltb-true _ _ free) user_fits new, new)) (λ _. tt)
+      cond_both (ltb (first_free v.entries) (length v.entries)) (Some (set v.entries (first_free v.entries) (record { user = user; extent = made_extent x number }), made_extent x number)) None (MakesFit v) (λ free. (put_fits f v fit (first_free v.entries) (record { user = user; extent = made_extent x number }) (ltb-true _ _ free) user_fits new, new)) (λ _. tt)
 
   OpensFit : Option Extent → Type 0
   OpensFit None = ⊤
@@ -85,13 +85,13 @@ module _ (f : Format) where
   unfolding open_extent OpensFit
   opens v user name number small fit =
       let i = first_match (dpb_of f) v.entries user name (group_of (dpb_of f) number) in
-      cond_both (ltb i (length v.entries)) (Some (opened (entry_at v.entries i).extent number)) None OpensFit (λ h. opened_fits (dpb_of f) (entry_at v.entries i).extent number small (fit.entries i (ltb-true _ _ h))) (λ _. tt)
+      cond_both (ltb i (length v.entries)) (Some (opened_extent (entry_at v.entries i).extent number)) None OpensFit (λ h. opened_fits (dpb_of f) (entry_at v.entries i).extent number small (fit.entries i (ltb-true _ _ h))) (λ _. tt)
 
   opens_to_read : (v : Volume) (user : ℕ) (name : List ℕ) (number : ℕ) → number < 8192 → VolumeFits f v → OpensFit (open_to_read (dpb_of f) v.entries user name number)
   unfolding open_to_read OpensFit
   opens_to_read v user name number small fit =
       let i = first_match (dpb_of f) v.entries user name (group_of (dpb_of f) number) in
-      let it = opened (entry_at v.entries i).extent number in
+      let it = opened_extent (entry_at v.entries i).extent number in
       cond_both (ltb i (length v.entries)) (cond (ltb (extent_number (entry_at v.entries i).extent) number) None (Some it)) None OpensFit (λ h.
       cond_both (ltb (extent_number (entry_at v.entries i).extent) number) None (Some it) OpensFit (λ _. tt) (λ _. opened_fits (dpb_of f) (entry_at v.entries i).extent number small (fit.entries i (ltb-true _ _ h)))) (λ _. tt)
 
@@ -169,7 +169,7 @@ module _ (f : Format) where
   gets : (v : Volume) (x : Extent) (current next : ℕ) → VolumeFits f v → IsOfBytes (dpb_of f) x → OutcomeFits (get_record (dpb_of f) v x current next)
   unfolding get_record ends gives OutcomeFits
   gets v x current next fit extent =
-      let b = block_number x (place_of (dpb_of f) x current) in
+      let b = block_number x (entry_place_of (dpb_of f) x current) in
       cond_both (not (ltb current x.record_count)) (ends no_record v x current) _ OutcomeFits (λ _. (fit, extent)) (λ _.
       cond_both (ltb (dpb_of f).last_block b) (ends (fault bad_sector) v x current) _ OutcomeFits (λ _. (fit, extent)) (λ _.
       cond_both (eqb b 0) (ends no_record v x current) (gives v x next (record_in_block (dpb_of f) b current)) OutcomeFits (λ _. (fit, extent)) (λ _. (fit, extent))))
@@ -239,7 +239,7 @@ module _ (f : Format) where
   taken_fit false b block = tt
   taken_fit true b block = zeros_fit b ((dpb_of f).block_mask + 1) 0 block (omega arith)
 
-  log_with : (v v' : Volume) (ws : List Write) → VolumeFits f v → v'.entries ≡ v.entries → v'.written ≡ v.written ++ ws → AllFit f ws → VolumeFits f v'
+  log_with : (v v' : Volume) (ws : List DiskWrite) → VolumeFits f v → v'.entries ≡ v.entries → v'.written ≡ v.written ++ ws → AllFit f ws → VolumeFits f v'
   log_with v v' ws fit same log more = record {
     count = rw same fit.count;
     users = rw same fit.users;
@@ -255,13 +255,13 @@ module _ (f : Format) where
       (log_with v _ (record_put (record_in_block (dpb_of f) b current) bytes ∷ []) fit refl refl (one_fits b current bytes there are), counting_fits (dpb_of f) x current small extent)
   puts_found clears v x current next bytes (new_block b) small are fit extent there = (
     log_with v _ (taken_writes (dpb_of f) clears b ++ record_put (record_in_block (dpb_of f) b current) bytes ∷ []) fit refl (append_assoc v.written (taken_writes (dpb_of f) clears b) (record_put (record_in_block (dpb_of f) b current) bytes ∷ [])) (fit_append f (taken_writes (dpb_of f) clears b) (record_put (record_in_block (dpb_of f) b current) bytes ∷ []) (taken_fit clears b there) (one_fits b current bytes there are)),
-    counting_fits (dpb_of f) (with_block x (place_of (dpb_of f) x current) b) current small (with_block_fits f x (place_of (dpb_of f) x current) b there.0 (place_within f x current small) extent),
+    counting_fits (dpb_of f) (with_block x (entry_place_of (dpb_of f) x current) b) current small (with_block_fits f x (entry_place_of (dpb_of f) x current) b there.0 (place_within f x current small) extent),
   )
 
   puts : (clears : Bool) (v : Volume) (user : ℕ) (x : Extent) (current next : ℕ) (bytes : List ℕ) → IsSound (dpb_of f) v user x → current < 128 → AreBytes 128 bytes → VolumeFits f v → IsOfBytes (dpb_of f) x → OutcomeFits (put_record (dpb_of f) clears v x current next bytes)
   unfolding put_record
   puts clears v user x current next bytes sound small are fit extent =
-      puts_found clears v x current next bytes (block_to_write (dpb_of f) v.reserved (block_number x (place_of (dpb_of f) x current))) small are fit extent (found v user x (place_of (dpb_of f) x current) sound)
+      puts_found clears v x current next bytes (block_to_write (dpb_of f) v.reserved (block_number x (entry_place_of (dpb_of f) x current))) small are fit extent (found v user x (entry_place_of (dpb_of f) x current) sound)
 
   -- where a write stands, the drive and the file control block agree
   PlaceSound : ℕ → Place → Type 0
@@ -310,37 +310,37 @@ module _ (f : Format) where
 
   -- ---- the calls
   module _ (v : Volume) (user : ℕ) (x : Extent) (user_fits : user < 256) (fit : VolumeFits f v) (extent : IsOfBytes (dpb_of f) x) where
-    pub read_next_fits : (current : ℕ) → OutcomeFits (read_next (dpb_of f) false v user x current)
-    unfolding read_next
+    pub read_next_fits : (current : ℕ) → OutcomeFits (read_next_on_volume (dpb_of f) false v user x current)
+    unfolding read_next_on_volume
     read_next_fits current = reads_in current 1 (next_place (dpb_of f) reading false v user x current) (at_next reading v user x current user_fits fit extent)
 
-    pub read_at_fits : (current n : ℕ) → n < 65536 → OutcomeFits (read_random (dpb_of f) false v user x current n)
-    unfolding read_random
+    pub read_at_fits : (current n : ℕ) → n < 65536 → OutcomeFits (read_random_on_volume (dpb_of f) false v user x current n)
+    unfolding read_random_on_volume
     read_at_fits current n high = reads_in current 0 (place_at (dpb_of f) reading false v user x (target_of no_extent n)) (at_any reading v user x no_extent n user_fits high fit extent)
 
-    pub write_next_fits : (current : ℕ) (bytes : List ℕ) → user ≢ deleted → IsSound (dpb_of f) v user x → AreBytes 128 bytes → OutcomeFits (write_next (dpb_of f) v user x current bytes)
-    unfolding write_next
+    pub write_next_fits : (current : ℕ) (bytes : List ℕ) → user ≢ deleted → IsSound (dpb_of f) v user x → AreBytes 128 bytes → OutcomeFits (write_next_on_volume (dpb_of f) v user x current bytes)
+    unfolding write_next_on_volume
     write_next_fits current bytes ok sound are =
         writes_in false current 1 bytes user (next_place (dpb_of f) writing false v user x current) are (at_next writing v user x current user_fits fit extent) (next_sound v user x current ok sound)
 
-    pub write_at_fits : (current n : ℕ) (bytes : List ℕ) → user ≢ deleted → IsSound (dpb_of f) v user x → n < 65536 → AreBytes 128 bytes → OutcomeFits (write_random (dpb_of f) v user x current n bytes)
-    unfolding write_random
+    pub write_at_fits : (current n : ℕ) (bytes : List ℕ) → user ≢ deleted → IsSound (dpb_of f) v user x → n < 65536 → AreBytes 128 bytes → OutcomeFits (write_random_on_volume (dpb_of f) v user x current n bytes)
+    unfolding write_random_on_volume
     write_at_fits current n bytes ok sound high are =
         writes_in false current 0 bytes user (place_at (dpb_of f) writing false v user x (target_of no_entry_free n)) are (at_any writing v user x no_entry_free n user_fits high fit extent) (any_sound v user x no_entry_free n ok sound high)
 
-    pub write_at_cleared_fits : (current n : ℕ) (bytes : List ℕ) → user ≢ deleted → IsSound (dpb_of f) v user x → n < 65536 → AreBytes 128 bytes → OutcomeFits (write_random_cleared (dpb_of f) v user x current n bytes)
-    unfolding write_random_cleared
+    pub write_at_cleared_fits : (current n : ℕ) (bytes : List ℕ) → user ≢ deleted → IsSound (dpb_of f) v user x → n < 65536 → AreBytes 128 bytes → OutcomeFits (write_random_cleared_on_volume (dpb_of f) v user x current n bytes)
+    unfolding write_random_cleared_on_volume
     write_at_cleared_fits current n bytes ok sound high are =
         writes_in true current 0 bytes user (place_at (dpb_of f) writing false v user x (target_of no_entry_free n)) are (at_any writing v user x no_entry_free n user_fits high fit extent) (any_sound v user x no_entry_free n ok sound high)
 
-    pub close_fits : (index : ℕ) (after : List Entry) (x' : Extent) → close_file (dpb_of f) false v.entries user x ≡ closed index after x' → VolumeFits f (with_entry v index after) × IsOfBytes (dpb_of f) x'
-    unfolding close_file ClosesFit
+    pub close_fits : (index : ℕ) (after : List Entry) (x' : Extent) → close_file_on_volume (dpb_of f) false v.entries user x ≡ closed index after x' → VolumeFits f (with_entry v index after) × IsOfBytes (dpb_of f) x'
+    unfolding close_file_on_volume ClosesFit
     close_fits index after x' h =
         let there = closes false v user x fit extent in
         rw h at there
 
-    pub make_fits : (after : List Entry) (x' : Extent) → make_file v.entries user x ≡ Some (after, x') → VolumeFits f (with_entry v (first_free v.entries) after) × IsOfBytes (dpb_of f) x'
-    unfolding make_file MakesFit
+    pub make_fits : (after : List Entry) (x' : Extent) → make_file_on_volume v.entries user x ≡ Some (after, x') → VolumeFits f (with_entry v (first_free v.entries) after) × IsOfBytes (dpb_of f) x'
+    unfolding make_file_on_volume MakesFit
     make_fits after x' h =
         let there = makes v user x (x.ex % 32) user_fits (omega arith) fit extent in
         rw h at there

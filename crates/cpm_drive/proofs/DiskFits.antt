@@ -8,14 +8,14 @@ use Rattle.cpm_geom.specs.declared.format.Format.TheVariants.{Ibm3740, Large}
 use Rattle.cpm_geom.specs.Geometry.{dpb_of}
 use Rattle.cpm_volume.specs.declared.extent.Extent.{Extent}
 use Rattle.cpm_volume.specs.declared.extent.Entry.{Entry}
-use Rattle.cpm_volume.specs.Files.{extent_number, entry_at, place_of, record_count_of, Volume, Write, entry_put}
+use Rattle.cpm_volume.specs.Files.{extent_number, entry_at, entry_place_of, record_count_of, Volume, DiskWrite, entry_put}
 use Rattle.cpm_volume.specs.Encoding.{place_limit}
-use Rattle.cpm_volume.specs.Operations.{with_entry, merged, closed_entry, opened, made, with_block, counting}
+use Rattle.cpm_volume.specs.Operations.{with_entry, merged, closed_entry, opened_extent, made_extent, with_block, counting}
 use Rattle.cpm_volume.proofs.Entries.{entry_at-set_same, entry_at-set_other}
 use Rattle.cpm_volume.proofs.Closing.{closed_older, closed_newer}
 use Rattle.cpm_drive.specs.Laws.{IsOfBytes, Fits, AllFit}
 
-pub fit_append : (f : Format) (a b : List Write) → AllFit f a → AllFit f b → AllFit f (a ++ b)
+pub fit_append : (f : Format) (a b : List DiskWrite) → AllFit f a → AllFit f b → AllFit f (a ++ b)
 unfolding AllFit
 fit_append f [] b h g = g
 fit_append f (w ∷ a) b h g = (h.0, fit_append f a b h.1 g)
@@ -60,8 +60,8 @@ closed_fits d e x fit with_x =
       | inr ge ↦ rw (closed_newer e x ge) (record { storable = record { name = fit.storable.name; map = with_x.storable.map; numbers = with_x.storable.numbers }; name = fit.name; ex = with_x.ex; s1 = fit.s1; s2 = with_x.s2; records = with_x.records })
     ]
 
-pub made_fits : (d : Dpb) (x : Extent) (number : ℕ) → number < 8192 → IsOfBytes d x → IsOfBytes d (made x number)
-unfolding made
+pub made_fits : (d : Dpb) (x : Extent) (number : ℕ) → number < 8192 → IsOfBytes d x → IsOfBytes d (made_extent x number)
+unfolding made_extent
 made_fits d x number small fit = record {
   storable = record {
     name = fit.storable.name;
@@ -80,8 +80,8 @@ unfolding record_count_of
 counted number own count h =
     cond_both (ltb number own) 128 (cond (eqb number own) count 0) (λ n. n < 256) (λ _. omega arith) (λ _. cond_both (eqb number own) count 0 (λ n. n < 256) (λ _. h) (λ _. omega arith))
 
-pub opened_fits : (d : Dpb) (x : Extent) (number : ℕ) → number < 8192 → IsOfBytes d x → IsOfBytes d (opened x number)
-unfolding opened
+pub opened_fits : (d : Dpb) (x : Extent) (number : ℕ) → number < 8192 → IsOfBytes d x → IsOfBytes d (opened_extent x number)
+unfolding opened_extent
 opened_fits d x number small fit = record {
   storable = record { name = fit.storable.name; map = fit.storable.map; numbers = fit.storable.numbers };
   name = fit.name;
@@ -108,8 +108,8 @@ unfolding dpb_of
 place_in_map Ibm3740 n current h = omega arith
 place_in_map Large n current h = omega arith
 
-pub place_within : (f : Format) (x : Extent) (current : ℕ) → current < 128 → place_of (dpb_of f) x current < ((dpb_of f).extent_mask + 1) * (128 / ((dpb_of f).block_mask + 1))
-unfolding place_of
+pub place_within : (f : Format) (x : Extent) (current : ℕ) → current < 128 → entry_place_of (dpb_of f) x current < ((dpb_of f).extent_mask + 1) * (128 / ((dpb_of f).block_mask + 1))
+unfolding entry_place_of
 place_within f x current h = place_in_map f (extent_number x) current h
 
 -- a block of the drive has room there

@@ -15,11 +15,11 @@ use Rattle.cpm_geom.proofs.SectorLemmas.{put_length}
 use Rattle.cpm_geom.proofs.RecordLemmas.{are_listed, are_records}
 use Rattle.cpm_volume.specs.declared.extent.Extent.{Extent}
 use Rattle.cpm_volume.specs.declared.extent.Entry.{Entry}
-use Rattle.cpm_volume.specs.Files.{entry_at, directory_records, Volume, Write, entry_put, record_put, IsVolume}
-use Rattle.cpm_volume.specs.Encoding.{number_in, extent_of, entry_of, map_byte, extent_byte, entry_byte, entry_bytes, place_limit, IsStorable, AreBytes}
+use Rattle.cpm_volume.specs.Files.{entry_at, directory_records, Volume, DiskWrite, entry_put, record_put, IsVolume}
+use Rattle.cpm_volume.specs.Encoding.{block_number_in, extent_of, entry_of, map_byte, extent_byte, entry_byte, entry_bytes, place_limit, IsStorable, AreBytes}
 use Rattle.cpm_volume.specs.LogLaws.{logged, logged_all}
 use Rattle.cpm_volume.proofs.Entries.{in_use_within}
-use Rattle.cpm_directory.specs.Directory.{slot_bytes, entries_of, with_slot}
+use Rattle.cpm_directory.specs.Directory.{slot_bytes, entries_of, record_with_entry}
 use Rattle.cpm_directory.proofs.DriveLemmas.{entries_length, entry_is, entry_record}
 use Rattle.cpm_directory.proofs.SlotLemmas.{put_in_directory, put_keeps, entry_size, slot_is}
 use Rattle.cpm_volume.proofs.Formats.{each_format}
@@ -51,8 +51,8 @@ append_fits xs ys h g k =
     ]
 
 -- ---- an entry of bytes
-number_fits : (d : Dpb) (bytes : List ℕ) (place : ℕ) → AllBytes bytes → number_in d bytes place < place_limit d place
-unfolding number_in place_limit
+number_fits : (d : Dpb) (bytes : List ℕ) (place : ℕ) → AllBytes bytes → block_number_in d bytes place < place_limit d place
+unfolding block_number_in place_limit
 number_fits d bytes place h =
     elim (cases_lt d.last_block 256) [
       | inl small ↦ rw (lt-ltb _ _ small) (h (16 + place))
@@ -64,15 +64,15 @@ number_fits d bytes place h =
 
 entry_map : (d : Dpb) (bytes : List ℕ) → length (entry_of d bytes).extent.blocks ≡ 16
 unfolding entry_of extent_of
-entry_map d bytes = length-map-range_with_len (number_in d bytes) 0 16
+entry_map d bytes = length-map-range_with_len (block_number_in d bytes) 0 16
 
 pub read_fits : (d : Dpb) (bytes : List ℕ) → 32 ≤ length bytes → AllBytes bytes → IsOfBytes d (entry_of d bytes).extent
 unfolding entry_of extent_of
 read_fits d bytes size h = record {
   storable = record {
     name = simp (length-take, length-drop) (omega arith);
-    map = length-map-range_with_len (number_in d bytes) 0 16;
-    numbers = λ place below. rw (get_or-map-range_with_len (number_in d bytes) 0 16 place place 0 below (omega arith)) (number_fits d bytes place h);
+    map = length-map-range_with_len (block_number_in d bytes) 0 16;
+    numbers = λ place below. rw (get_or-map-range_with_len (block_number_in d bytes) 0 16 place place 0 below (omega arith)) (number_fits d bytes place h);
   };
   name = take_fits 11 (drop 1 bytes) (drop_fits 1 bytes h);
   ex = h 12;
@@ -188,12 +188,12 @@ sector_has_bytes disk place bytes within has fit = record {
   ];
 }
 
-slot_length : (bytes entry : List ℕ) (slot : ℕ) → length bytes ≡ 128 → slot < 4 → length entry ≡ 32 → length (with_slot bytes slot entry) ≡ 128
+slot_length : (bytes entry : List ℕ) (slot : ℕ) → length bytes ≡ 128 → slot < 4 → length entry ≡ 32 → length (record_with_entry bytes slot entry) ≡ 128
 slot_length bytes entry slot size below count =
     rw (← slot_is bytes entry slot) (put_length bytes entry (32 * slot) 32 count (omega arith) ∙ size)
 
-with_slot_fits : (bytes entry : List ℕ) (slot : ℕ) → AllBytes bytes → AllBytes entry → AllBytes (with_slot bytes slot entry)
-unfolding with_slot
+with_slot_fits : (bytes entry : List ℕ) (slot : ℕ) → AllBytes bytes → AllBytes entry → AllBytes (record_with_entry bytes slot entry)
+unfolding record_with_entry
 with_slot_fits bytes entry slot h g =
     append_fits (take (32 * slot) bytes) (entry ++ drop 32 (drop (32 * slot) bytes)) (take_fits (32 * slot) bytes h) (append_fits entry (drop 32 (drop (32 * slot) bytes)) g (drop_fits 32 (drop (32 * slot) bytes) (drop_fits (32 * slot) bytes h)))
 
@@ -268,12 +268,12 @@ module _ (disk : Disk) (v : Volume) (is : IsDisk disk) (bytes_are : HasBytes dis
     }
 
 -- ---- one write after the other
-step : (disk : Disk) (v : Volume) (w : Write) → IsDisk disk → HasBytes disk → Holds disk v → Fits disk.format w → IsDiskOf disk.format (after_write w disk) (logged w v)
+step : (disk : Disk) (v : Volume) (w : DiskWrite) → IsDisk disk → HasBytes disk → Holds disk v → Fits disk.format w → IsDiskOf disk.format (after_write w disk) (logged w v)
 unfolding Fits
 step disk v (entry_put i e) is bytes holds fit = entry_step disk v is bytes holds i e fit.0 fit.1 fit.2
 step disk v (record_put n bs) is bytes holds fit = record_step disk v is bytes holds n bs fit.0 fit.1 fit.2
 
-pub log_reaches : (f : Format) (disk : Disk) (v : Volume) (ws : List Write) → IsDiskOf f disk v → AllFit f ws → IsDiskOf f (after_writes ws disk) (logged_all ws v)
+pub log_reaches : (f : Format) (disk : Disk) (v : Volume) (ws : List DiskWrite) → IsDiskOf f disk v → AllFit f ws → IsDiskOf f (after_writes ws disk) (logged_all ws v)
 unfolding after_writes logged_all AllFit
 log_reaches f disk v [] h fit = h
 log_reaches f disk v (w ∷ ws) h fit =

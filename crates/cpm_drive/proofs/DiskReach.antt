@@ -10,7 +10,7 @@ use Rattle.cpm_volume.specs.declared.extent.Entry.{Entry}
 use Rattle.cpm_volume.specs.Files.{entry_at, Volume}
 use Rattle.cpm_volume.specs.Encoding.{AreBytes}
 use Rattle.cpm_volume.specs.Operations.{Outcome}
-use Rattle.cpm_volume.specs.Names.{is_named, first_named, change_named, named_writes, Named, none_named, file_read_only, named, protects, deletion, renaming, with_attributes, marking, reserved_after, erase_files, rename_files, set_attributes}
+use Rattle.cpm_volume.specs.Names.{is_named, first_named, change_named, named_writes, NameOutcome, none_named, file_read_only, named, protects, deletion, renaming, with_attributes, marking, reserved_after, erase_files_on_volume, rename_files_on_volume, set_attributes_on_volume}
 use Rattle.cpm_volume.specs.LogLaws.{IsLogged}
 use Rattle.cpm_volume.proofs.Logging.{calls_log, named_calls_log}
 use Rattle.cpm_directory.proofs.DriveLemmas.{entries_length}
@@ -83,7 +83,7 @@ named_fit f user pattern change i (e ∷ es) size h =
     ]
 
 module _ (f : Format) (v : Volume) (user : ℕ) (pattern : List ℕ) (fit : VolumeFits f v) where
-  NamedFit : Named → Type 0
+  NamedFit : NameOutcome → Type 0
   NamedFit none_named = ⊤
   NamedFit file_read_only = ⊤
   NamedFit (named first v') = AllFit f v'.written
@@ -97,38 +97,38 @@ module _ (f : Format) (v : Volume) (user : ℕ) (pattern : List ℕ) (fit : Volu
       let count = fit.count in
       fit_append f v.written (named_writes user pattern 0 v.entries (change_named user pattern change v.entries)) fit.log (named_fit f user pattern change 0 v.entries (omega arith) (λ k h. changed (entry_at v.entries k) (entry_there k h)))
 
-  erases : NamedFit (erase_files (dpb_of f) v user pattern)
-  unfolding erase_files NamedFit
+  erases : NamedFit (erase_files_on_volume (dpb_of f) v user pattern)
+  unfolding erase_files_on_volume NamedFit
   erases =
       let after : Volume = record v { entries = change_named user pattern deletion v.entries; reserved = reserved_after (dpb_of f) user pattern v.entries v.reserved; written = v.written ++ named_writes user pattern 0 v.entries (change_named user pattern deletion v.entries) } in
       cond_both (not (ltb (first_named v.entries user pattern) (length v.entries))) none_named _ NamedFit (λ _. tt) (λ _.
       cond_both (list_any (protects user pattern) v.entries) file_read_only (named (first_named v.entries user pattern) after) NamedFit (λ _. tt) (λ _.
       log_fits deletion (deletion_fits f)))
 
-  renames : (name : List ℕ) → AreBytes 11 name → NamedFit (rename_files v user pattern name)
-  unfolding rename_files NamedFit
+  renames : (name : List ℕ) → AreBytes 11 name → NamedFit (rename_files_on_volume v user pattern name)
+  unfolding rename_files_on_volume NamedFit
   renames name are =
       let after : Volume = record v { entries = change_named user pattern (renaming name) v.entries; written = v.written ++ named_writes user pattern 0 v.entries (change_named user pattern (renaming name) v.entries) } in
       cond_both (not (ltb (first_named v.entries user pattern) (length v.entries))) none_named _ NamedFit (λ _. tt) (λ _.
       cond_both (list_any (protects user pattern) v.entries) file_read_only (named (first_named v.entries user pattern) after) NamedFit (λ _. tt) (λ _.
       log_fits (renaming name) (λ e. renaming_fits f name e are)))
 
-  marks : AreBytes 11 pattern → NamedFit (set_attributes v user pattern)
-  unfolding set_attributes NamedFit
+  marks : AreBytes 11 pattern → NamedFit (set_attributes_on_volume v user pattern)
+  unfolding set_attributes_on_volume NamedFit
   marks are =
       let after : Volume = record v { entries = change_named user pattern (marking pattern) v.entries; written = v.written ++ named_writes user pattern 0 v.entries (change_named user pattern (marking pattern) v.entries) } in
       cond_both (not (ltb (first_named v.entries user pattern) (length v.entries))) none_named (named (first_named v.entries user pattern) after) NamedFit (λ _. tt) (λ _.
       log_fits (marking pattern) (λ e. marking_fits f pattern e are))
 
-  erase_fits : (first : ℕ) (v' : Volume) → erase_files (dpb_of f) v user pattern ≡ named first v' → AllFit f v'.written
+  erase_fits : (first : ℕ) (v' : Volume) → erase_files_on_volume (dpb_of f) v user pattern ≡ named first v' → AllFit f v'.written
   unfolding NamedFit
   erase_fits first v' h = (let there = erases in rw h at there)
 
-  rename_fits : (name : List ℕ) (first : ℕ) (v' : Volume) → AreBytes 11 name → rename_files v user pattern name ≡ named first v' → AllFit f v'.written
+  rename_fits : (name : List ℕ) (first : ℕ) (v' : Volume) → AreBytes 11 name → rename_files_on_volume v user pattern name ≡ named first v' → AllFit f v'.written
   unfolding NamedFit
   rename_fits name first v' are h = (let there = renames name are in rw h at there)
 
-  attributes_fit : (first : ℕ) (v' : Volume) → AreBytes 11 pattern → set_attributes v user pattern ≡ named first v' → AllFit f v'.written
+  attributes_fit : (first : ℕ) (v' : Volume) → AreBytes 11 pattern → set_attributes_on_volume v user pattern ≡ named first v' → AllFit f v'.written
   unfolding NamedFit
   attributes_fit first v' are h = (let there = marks are in rw h at there)
 

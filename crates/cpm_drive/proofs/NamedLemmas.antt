@@ -9,8 +9,8 @@ use Rattle.std.proofs.lemmas.Bool.{lt-ltb, le-ltb}
 use Rattle.cpm_geom.specs.declared.dpb.Dpb.{Dpb}
 use Rattle.cpm_volume.specs.declared.extent.Entry.{Entry}
 use Rattle.cpm_volume.specs.declared.answer.Fault.TheVariants.{FileReadOnly}
-use Rattle.cpm_volume.specs.Files.{name_matches, entry_at, no_entry, Write, entry_put, Volume}
-use Rattle.cpm_volume.specs.Names.{is_named, first_named, with_attributes, records_to, compute_size, protects, change_named, named_writes, deletion, renaming, marking, reserved_after, erase_files, rename_files, set_attributes}
+use Rattle.cpm_volume.specs.Files.{name_matches, entry_at, no_entry, DiskWrite, entry_put, Volume}
+use Rattle.cpm_volume.specs.Names.{is_named, first_named, with_attributes, records_to, compute_size_on_volume, protects, change_named, named_writes, deletion, renaming, marking, reserved_after, erase_files_on_volume, rename_files_on_volume, set_attributes_on_volume}
 use Rattle.cpm_geom.specs.Geometry.{dpb_of}
 use Rattle.cpm_geom.specs.Disk.{Disk, records_of}
 use Rattle.cpm_directory.specs.Directory.{entries_of, PutsEntry}
@@ -73,17 +73,17 @@ size_more r n [] h = ap Some h
 size_more r n (x ∷ xs) h = ap Some (h ∙ sym (fold-append max x xs (n ∷ [])))
 
 module _ (es : List Entry) (user : ℕ) (name : List ℕ) (i : ℕ) (d : Entry) (h : i < length es) where
-  pub size_named : (size : Option ℕ) (r : ℕ) → size ≡ compute_size (take i es) user name → is_named user name (get_or es i d) ≡ true → MatchOption size (r ≡ records_to (get_or es i d)) (λ s. r ≡ max s (records_to (get_or es i d))) → Some r ≡ compute_size (take (i + 1) es) user name
-  unfolding compute_size
+  pub size_named : (size : Option ℕ) (r : ℕ) → size ≡ compute_size_on_volume (take i es) user name → is_named user name (get_or es i d) ≡ true → MatchOption size (r ≡ records_to (get_or es i d)) (λ s. r ≡ max s (records_to (get_or es i d))) → Some r ≡ compute_size_on_volume (take (i + 1) es) user name
+  unfolding compute_size_on_volume
   size_named size r is named greater =
       rw (filter_more (is_named user name) es i d h, named, map-append) (size_more r (records_to (get_or es i d)) (map records_to (filter (is_named user name) (take i es))) (rw is at greater))
 
-  pub size_other : is_named user name (get_or es i d) ≡ false → compute_size (take i es) user name ≡ compute_size (take (i + 1) es) user name
-  unfolding compute_size
+  pub size_other : is_named user name (get_or es i d) ≡ false → compute_size_on_volume (take i es) user name ≡ compute_size_on_volume (take (i + 1) es) user name
+  unfolding compute_size_on_volume
   size_other other = rw (filter_more (is_named user name) es i d h, other, append-nil) refl
 
 -- ---- the entries of a name that are still to be written
-abbrev pub left : ℕ → List ℕ → (Entry → Entry) → ℕ → List Entry → List Write
+abbrev pub left : ℕ → List ℕ → (Entry → Entry) → ℕ → List Entry → List DiskWrite
 left user name f i es = named_writes user name i (drop i es) (change_named user name f (drop i es))
 
 module _ (user : ℕ) (name : List ℕ) (f : Entry → Entry) (es : List Entry) (i : ℕ) where
@@ -99,7 +99,7 @@ module _ (user : ℕ) (name : List ℕ) (f : Entry → Entry) (es : List Entry) 
   unfolding named_writes change_named
   left_none h = rw (drop_all i es h) refl
 
-pub one_put : (drive : Drive) (disk : Disk) (i : ℕ) (e : Entry) (rest : List Write) → PutsEntry drive.image i e disk → drive_written (record drive { image = disk }) rest ≡ drive_written drive (entry_put i e ∷ rest)
+pub one_put : (drive : Drive) (disk : Disk) (i : ℕ) (e : Entry) (rest : List DiskWrite) → PutsEntry drive.image i e disk → drive_written (record drive { image = disk }) rest ≡ drive_written drive (entry_put i e ∷ rest)
 unfolding after_writes after_write
 one_put drive disk i e rest puts = rw puts.bytes refl
 
@@ -113,35 +113,35 @@ module _ (drive : Drive) (user : ℕ) (name : List ℕ) where
   unfolding drive_after
   named_after v free = rw free refl
 
-  pub attributes_none : length (entries_of drive.image) ≤ first_named (entries_of drive.image) user name → (Ok None, drive) ≡ after_named drive (set_attributes (volume_of drive.image drive.marks.reserved) user name)
-  unfolding set_attributes volume_of after_named
+  pub attributes_none : length (entries_of drive.image) ≤ first_named (entries_of drive.image) user name → (Ok None, drive) ≡ after_named drive (set_attributes_on_volume (volume_of drive.image drive.marks.reserved) user name)
+  unfolding set_attributes_on_volume volume_of after_named
   attributes_none h = rw (le-ltb _ _ h) refl
 
-  pub erase_none : length (entries_of drive.image) ≤ first_named (entries_of drive.image) user name → (Ok None, drive) ≡ after_named drive (erase_files (dpb_of drive.image.format) (volume_of drive.image drive.marks.reserved) user name)
-  unfolding erase_files volume_of after_named
+  pub erase_none : length (entries_of drive.image) ≤ first_named (entries_of drive.image) user name → (Ok None, drive) ≡ after_named drive (erase_files_on_volume (dpb_of drive.image.format) (volume_of drive.image drive.marks.reserved) user name)
+  unfolding erase_files_on_volume volume_of after_named
   erase_none h = rw (le-ltb _ _ h) refl
 
-  pub rename_none : (new : List ℕ) → length (entries_of drive.image) ≤ first_named (entries_of drive.image) user name → (Ok None, drive) ≡ after_named drive (rename_files (volume_of drive.image drive.marks.reserved) user name new)
-  unfolding rename_files volume_of after_named
+  pub rename_none : (new : List ℕ) → length (entries_of drive.image) ≤ first_named (entries_of drive.image) user name → (Ok None, drive) ≡ after_named drive (rename_files_on_volume (volume_of drive.image drive.marks.reserved) user name new)
+  unfolding rename_files_on_volume volume_of after_named
   rename_none new h = rw (le-ltb _ _ h) refl
 
   module _ (i : ℕ) (is : i ≡ first_named (entries_of drive.image) user name) (h : i < length (entries_of drive.image)) where
-    pub erase_refused : list_any (protects user name) (entries_of drive.image) ≡ true → (Err FileReadOnly, drive) ≡ after_named drive (erase_files (dpb_of drive.image.format) (volume_of drive.image drive.marks.reserved) user name)
-    unfolding erase_files volume_of after_named
+    pub erase_refused : list_any (protects user name) (entries_of drive.image) ≡ true → (Err FileReadOnly, drive) ≡ after_named drive (erase_files_on_volume (dpb_of drive.image.format) (volume_of drive.image drive.marks.reserved) user name)
+    unfolding erase_files_on_volume volume_of after_named
     erase_refused stays = rw (← is, lt-ltb _ _ h, stays) refl
 
-    pub rename_refused : (new : List ℕ) → list_any (protects user name) (entries_of drive.image) ≡ true → (Err FileReadOnly, drive) ≡ after_named drive (rename_files (volume_of drive.image drive.marks.reserved) user name new)
-    unfolding rename_files volume_of after_named
+    pub rename_refused : (new : List ℕ) → list_any (protects user name) (entries_of drive.image) ≡ true → (Err FileReadOnly, drive) ≡ after_named drive (rename_files_on_volume (volume_of drive.image drive.marks.reserved) user name new)
+    unfolding rename_files_on_volume volume_of after_named
     rename_refused new stays = rw (← is, lt-ltb _ _ h, stays) refl
 
-    pub erases : drive.marks.is_protected ≡ false → list_any (protects user name) (entries_of drive.image) ≡ false → (Ok (Some (directory_code i)), drive_written (record drive { marks = record drive.marks { reserved = reserved_after (dpb_of drive.image.format) user name (entries_of drive.image) drive.marks.reserved } }) (named_writes user name 0 (entries_of drive.image) (change_named user name deletion (entries_of drive.image)))) ≡ after_named drive (erase_files (dpb_of drive.image.format) (volume_of drive.image drive.marks.reserved) user name)
-    unfolding erase_files volume_of after_named
+    pub erases : drive.marks.is_protected ≡ false → list_any (protects user name) (entries_of drive.image) ≡ false → (Ok (Some (directory_code i)), drive_written (record drive { marks = record drive.marks { reserved = reserved_after (dpb_of drive.image.format) user name (entries_of drive.image) drive.marks.reserved } }) (named_writes user name 0 (entries_of drive.image) (change_named user name deletion (entries_of drive.image)))) ≡ after_named drive (erase_files_on_volume (dpb_of drive.image.format) (volume_of drive.image drive.marks.reserved) user name)
+    unfolding erase_files_on_volume volume_of after_named
     erases free goes = rw (← is, lt-ltb _ _ h, goes) (ap (λ it. (Ok (Some (directory_code i)), it)) (named_after _ free))
 
-    pub renames : (new : List ℕ) → drive.marks.is_protected ≡ false → list_any (protects user name) (entries_of drive.image) ≡ false → (Ok (Some (directory_code i)), drive_written drive (named_writes user name 0 (entries_of drive.image) (change_named user name (renaming new) (entries_of drive.image)))) ≡ after_named drive (rename_files (volume_of drive.image drive.marks.reserved) user name new)
-    unfolding rename_files volume_of after_named
+    pub renames : (new : List ℕ) → drive.marks.is_protected ≡ false → list_any (protects user name) (entries_of drive.image) ≡ false → (Ok (Some (directory_code i)), drive_written drive (named_writes user name 0 (entries_of drive.image) (change_named user name (renaming new) (entries_of drive.image)))) ≡ after_named drive (rename_files_on_volume (volume_of drive.image drive.marks.reserved) user name new)
+    unfolding rename_files_on_volume volume_of after_named
     renames new free goes = rw (← is, lt-ltb _ _ h, goes) (ap (λ it. (Ok (Some (directory_code i)), it)) (named_after _ free))
 
-    pub marks : drive.marks.is_protected ≡ false → (Ok (Some (directory_code i)), drive_written drive (named_writes user name 0 (entries_of drive.image) (change_named user name (marking name) (entries_of drive.image)))) ≡ after_named drive (set_attributes (volume_of drive.image drive.marks.reserved) user name)
-    unfolding set_attributes volume_of after_named
+    pub marks : drive.marks.is_protected ≡ false → (Ok (Some (directory_code i)), drive_written drive (named_writes user name 0 (entries_of drive.image) (change_named user name (marking name) (entries_of drive.image)))) ≡ after_named drive (set_attributes_on_volume (volume_of drive.image drive.marks.reserved) user name)
+    unfolding set_attributes_on_volume volume_of after_named
     marks free = rw (← is, lt-ltb _ _ h) (ap (λ it. (Ok (Some (directory_code i)), it)) (named_after _ free))

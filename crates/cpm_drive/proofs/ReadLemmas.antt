@@ -11,17 +11,17 @@ use Rattle.cpm_volume.specs.declared.fcb.Fcb.{Fcb}
 use Rattle.cpm_volume.specs.declared.answer.Answer.{Answer}
 use Rattle.cpm_volume.specs.declared.answer.Answer.TheVariants.{Fault as fault, NoRecord as no_record, NoExtent as no_extent, Done as done}
 use Rattle.cpm_volume.specs.declared.answer.Fault.{Fault}
-use Rattle.cpm_volume.specs.Files.{Volume, block_number, place_of, directory_records, open_file_record}
-use Rattle.cpm_volume.specs.Laws.{position, HasRead}
+use Rattle.cpm_volume.specs.Files.{Volume, block_number, entry_place_of, directory_records, open_file_record}
+use Rattle.cpm_volume.specs.Laws.{position, HasReadRecord}
 use Rattle.cpm_volume.proofs.Reading.{reads_next, reads_at}
 use Rattle.cpm_directory.specs.Directory.{entries_of}
-use Rattle.cpm_volume.specs.Operations.{Outcome, ends, gives, get_record, read_in, read_next, read_random, record_in_block}
-use Rattle.cpm_drive.specs.Drive.{volume_of, drive_after, Called, called, after_call, buffer_after}
+use Rattle.cpm_volume.specs.Operations.{Outcome, ends, gives, get_record, read_in, read_next_on_volume, read_random_on_volume, record_in_block}
+use Rattle.cpm_drive.specs.Drive.{volume_of, drive_after, Called, call_result, after_call, buffer_after}
 use Rattle.cpm_drive.specs.declared.drive.Drive.{Drive}
 use Rattle.cpm_drive.specs.declared.change.Change.{Change}
 use Rattle.cpm_drive.specs.declared.place.Arrival.{Arrival}
 use Rattle.cpm_drive.specs.Judged.{with_change, place_by, place_of_arrival}
-use Rattle.cpm_drive.specs.Reads.{RecordRead, record_found, answer_of, read_of, after_record, record_ahead, ahead, drive_read, after_reading, GivesRecord}
+use Rattle.cpm_drive.specs.Reads.{RecordRead, record_found, read_answer_of, read_of, after_record, record_ahead, ahead, drive_read, after_reading, GivesRecord}
 
 -- where a record of a block lies
 pub in_block_small : (f : Format) (b current : ℕ) → b ≤ (dpb_of f).last_block → b * ((dpb_of f).block_mask + 1) + current % ((dpb_of f).block_mask + 1) < 65536
@@ -52,7 +52,7 @@ chain_volume true false false v x current next n = refl
 pub get_volume : (d : Dpb) (v : Volume) (x : Extent) (current next : ℕ) → (get_record d v x current next).volume ≡ v
 unfolding get_record chain
 get_volume d v x current next =
-    chain_volume (ltb current x.record_count) (ltb d.last_block (block_number x (place_of d x current))) (eqb (block_number x (place_of d x current)) 0) v x current next (record_in_block d (block_number x (place_of d x current)) current)
+    chain_volume (ltb current x.record_count) (ltb d.last_block (block_number x (entry_place_of d x current))) (eqb (block_number x (entry_place_of d x current)) 0) v x current next (record_in_block d (block_number x (entry_place_of d x current)) current)
 
 place_volume : (d : Dpb) (v : Volume) (x : Extent) (r : Result ℕ Answer) (current step : ℕ) → (read_in d current step (place_by v x r)).volume ≡ v
 unfolding read_in ends
@@ -68,7 +68,7 @@ read_volume d v a current step none =
 found_is : (drive : Drive) (fcb fcb' : Fcb) (buffer : List ℕ) (found : Result ℕ Answer) (closed : Option Change) (o : Outcome) → record_found found fcb' ≡ after_record fcb o → o.volume ≡ with_change (volume_of drive.image drive.marks.reserved) closed → after_reading drive (record { found = found; closed = closed }) fcb' buffer ≡ after_call drive fcb buffer o
 unfolding after_call after_record after_reading
 found_is drive fcb fcb' buffer found closed o h volume =
-    ap (λ (r : RecordRead). called r.answer (drive_read drive (record { found = found; closed = closed })) r.fcb (buffer_after (drive_read drive (record { found = found; closed = closed })).image r.read buffer)) h ∙ ap (λ v. called o.answer (drive_after drive v) (record fcb { extent = o.extent; current_record = o.current }) (buffer_after (drive_after drive v).image o.read buffer)) (sym volume)
+    ap (λ (r : RecordRead). call_result r.answer (drive_read drive (record { found = found; closed = closed })) r.fcb (buffer_after (drive_read drive (record { found = found; closed = closed })).image r.read buffer)) h ∙ ap (λ v. call_result o.answer (drive_after drive v) (record fcb { extent = o.extent; current_record = o.current }) (buffer_after (drive_after drive v).image o.read buffer)) (sym volume)
 
 pub reading_is : (d : Dpb) (drive : Drive) (fcb fcb' : Fcb) (a : Arrival) (step : ℕ) (found : Result ℕ Answer) (buffer : List ℕ) → a.made ≡ None → record_found found fcb' ≡ after_record fcb (read_in d fcb.current_record step (place_of_arrival (volume_of drive.image drive.marks.reserved) a)) → after_reading drive (record { found = found; closed = a.closed }) fcb' buffer ≡ after_call drive fcb buffer (read_in d fcb.current_record step (place_of_arrival (volume_of drive.image drive.marks.reserved) a))
 reading_is d drive fcb fcb' a step found buffer none h =
@@ -81,15 +81,15 @@ module _ (d : Dpb) (v : Volume) (fcb : Fcb) (next : ℕ) where
   get_past h = rw (le-ltb _ _ h) refl
 
   module _ (counted : fcb.current_record < fcb.extent.record_count) where
-    pub get_bad : d.last_block < block_number fcb.extent (place_of d fcb.extent fcb.current_record) → record_found (Err (fault Fault.BadSector)) fcb ≡ after_record fcb (get_record d v fcb.extent fcb.current_record next)
+    pub get_bad : d.last_block < block_number fcb.extent (entry_place_of d fcb.extent fcb.current_record) → record_found (Err (fault Fault.BadSector)) fcb ≡ after_record fcb (get_record d v fcb.extent fcb.current_record next)
     unfolding after_record get_record ends
     get_bad h = rw (lt-ltb _ _ counted, lt-ltb _ _ h) refl
 
-    pub get_none : (b : ℕ) → b ≡ block_number fcb.extent (place_of d fcb.extent fcb.current_record) → b ≤ d.last_block → b ≡ 0 → record_found (Err no_record) fcb ≡ after_record fcb (get_record d v fcb.extent fcb.current_record next)
+    pub get_none : (b : ℕ) → b ≡ block_number fcb.extent (entry_place_of d fcb.extent fcb.current_record) → b ≤ d.last_block → b ≡ 0 → record_found (Err no_record) fcb ≡ after_record fcb (get_record d v fcb.extent fcb.current_record next)
     unfolding after_record get_record ends
     get_none b is h z = rw (lt-ltb _ _ counted, ← is, le-ltb _ _ h, eq-eqb _ _ z) refl
 
-    pub get_found : (b n : ℕ) → b ≡ block_number fcb.extent (place_of d fcb.extent fcb.current_record) → b ≤ d.last_block → b ≢ 0 → n ≡ record_in_block d b fcb.current_record → record_found (Ok n) (record fcb { current_record = next }) ≡ after_record fcb (get_record d v fcb.extent fcb.current_record next)
+    pub get_found : (b n : ℕ) → b ≡ block_number fcb.extent (entry_place_of d fcb.extent fcb.current_record) → b ≤ d.last_block → b ≢ 0 → n ≡ record_in_block d b fcb.current_record → record_found (Ok n) (record fcb { current_record = next }) ≡ after_record fcb (get_record d v fcb.extent fcb.current_record next)
     unfolding after_record get_record gives
     get_found b n is h other at = rw (lt-ltb _ _ counted, ← is, le-ltb _ _ h, ne_eqb _ _ other, at) refl
 
@@ -114,19 +114,19 @@ pub read_err : (d : Dpb) (v : Volume) (a : Arrival) (answer : Answer) (step : �
 read_err d v a answer step fcb is = rw is (stopped_there d (with_change (with_change v a.closed) a.made) a.extent answer step fcb)
 
 -- a read once its entry is written
-pub taken : (drive now : Drive) (fcb : Fcb) (found : Result ℕ Answer) (closed : Option Change) (answer : Answer) (before after : List ℕ) → answer ≡ answer_of found → now ≡ drive_read drive (record { found = found; closed = closed }) → after ≡ buffer_after now.image (read_of found) before → called answer now fcb after ≡ after_reading drive (record { found = found; closed = closed }) fcb before
+pub taken : (drive now : Drive) (fcb : Fcb) (found : Result ℕ Answer) (closed : Option Change) (answer : Answer) (before after : List ℕ) → answer ≡ read_answer_of found → now ≡ drive_read drive (record { found = found; closed = closed }) → after ≡ buffer_after now.image (read_of found) before → call_result answer now fcb after ≡ after_reading drive (record { found = found; closed = closed }) fcb before
 unfolding after_reading
 taken drive now fcb found closed answer before after is written buffer = rw (is, buffer, written) refl
 
 -- ---- a read that is done gives the file's record
-done_gives : (old new : Drive) (fcb fcb' : Fcb) (before after : List ℕ) (answer : Answer) (o : Outcome) (number : ℕ) → called answer new fcb' after ≡ after_call old fcb before o → o.read ≡ Some number → get_or (records_of new.image) number [] ≡ get_or (records_of old.image) number [] → after ≡ get_or (records_of old.image) number []
+done_gives : (old new : Drive) (fcb fcb' : Fcb) (before after : List ℕ) (answer : Answer) (o : Outcome) (number : ℕ) → call_result answer new fcb' after ≡ after_call old fcb before o → o.read ≡ Some number → get_or (records_of new.image) number [] ≡ get_or (records_of old.image) number [] → after ≡ get_or (records_of old.image) number []
 unfolding after_call
 done_gives old new fcb fcb' before after answer o number value read same =
     let drive : new ≡ drive_after old o.volume = ap (λ (c : Called). c.drive) value in
     let buffer : after ≡ buffer_after (drive_after old o.volume).image o.read before = ap (λ (c : Called). c.buffer) value in
     buffer ∙ rw (read, ← drive) same
 
-call_answer : (old new : Drive) (fcb fcb' : Fcb) (before after : List ℕ) (answer : Answer) (o : Outcome) → called answer new fcb' after ≡ after_call old fcb before o → answer ≡ o.answer
+call_answer : (old new : Drive) (fcb fcb' : Fcb) (before after : List ℕ) (answer : Answer) (o : Outcome) → call_result answer new fcb' after ≡ after_call old fcb before o → answer ≡ o.answer
 unfolding after_call
 call_answer old new fcb fcb' before after answer o value = ap (λ (c : Called). c.answer) value
 
@@ -145,12 +145,12 @@ KeepsFiles old new =
     (n : ℕ) → directory_records (dpb_of old.image.format) ≤ n → get_or (records_of new.image) n [] ≡ get_or (records_of old.image) n []
 
 module _ (old new : Drive) (user : ℕ) (fcb fcb' : Fcb) (before after : List ℕ) (answer : Answer) (keeps : KeepsFiles old new) where
-  has_read : (n : ℕ) (o : Outcome) → called answer new fcb' after ≡ after_call old fcb before o → HasRead (dpb_of old.image.format) user (volume_of old.image old.marks.reserved) fcb.extent n o → open_file_record (dpb_of old.image.format) (entries_of old.image) (records_of old.image) user fcb.extent n ≡ Some after
+  has_read : (n : ℕ) (o : Outcome) → call_result answer new fcb' after ≡ after_call old fcb before o → HasReadRecord (dpb_of old.image.format) user (volume_of old.image old.marks.reserved) fcb.extent n o → open_file_record (dpb_of old.image.format) (entries_of old.image) (records_of old.image) user fcb.extent n ≡ Some after
   unfolding volume_of
   has_read n o value r =
       r.there ∙ ap Some (sym (done_gives old new fcb fcb' before after answer o r.number value r.given (keeps r.number r.outside)))
 
-  pub next_gives : called answer new fcb' after ≡ after_call old fcb before (read_next (dpb_of old.image.format) old.marks.is_protected (volume_of old.image old.marks.reserved) user fcb.extent fcb.current_record) → GivesRecord old user fcb (position fcb.extent fcb.current_record) answer after
+  pub next_gives : call_result answer new fcb' after ≡ after_call old fcb before (read_next_on_volume (dpb_of old.image.format) old.marks.is_protected (volume_of old.image old.marks.reserved) user fcb.extent fcb.current_record) → GivesRecord old user fcb (position fcb.extent fcb.current_record) answer after
   next_gives value user_ok sound small is_done =
       let is = sym (call_answer old new fcb fcb' before after answer _ value) ∙ is_done in
       elim (reads_next (dpb_of old.image.format) user old.marks.is_protected (volume_of old.image old.marks.reserved) fcb.extent fcb.current_record user_ok sound small).2 [
@@ -161,7 +161,7 @@ module _ (old new : Drive) (user : ℕ) (fcb fcb' : Fcb) (before after : List �
         ]
       ]
 
-  pub at_gives : (n : ℕ) → n < 65536 → called answer new fcb' after ≡ after_call old fcb before (read_random (dpb_of old.image.format) old.marks.is_protected (volume_of old.image old.marks.reserved) user fcb.extent fcb.current_record n) → GivesRecord old user fcb n answer after
+  pub at_gives : (n : ℕ) → n < 65536 → call_result answer new fcb' after ≡ after_call old fcb before (read_random_on_volume (dpb_of old.image.format) old.marks.is_protected (volume_of old.image old.marks.reserved) user fcb.extent fcb.current_record n) → GivesRecord old user fcb n answer after
   at_gives n h value user_ok sound small is_done =
       let is = sym (call_answer old new fcb fcb' before after answer _ value) ∙ is_done in
       elim (reads_at (dpb_of old.image.format) user old.marks.is_protected (volume_of old.image old.marks.reserved) fcb.extent fcb.current_record n user_ok sound small h).2 [
@@ -187,7 +187,7 @@ place_small Ibm3740 n current h = omega arith
 place_small Large n current h = omega arith
 
 -- what a read comes to is what it would give
-pub peeked : (drive : Drive) (user : ℕ) (fcb new : Fcb) (found : Result ℕ Answer) → record_found found new ≡ after_record fcb (read_next (dpb_of drive.image.format) drive.marks.is_protected (volume_of drive.image drive.marks.reserved) user fcb.extent fcb.current_record) → record_ahead drive.image (answer_of found) (read_of found) ≡ ahead drive user fcb
+pub peeked : (drive : Drive) (user : ℕ) (fcb new : Fcb) (found : Result ℕ Answer) → record_found found new ≡ after_record fcb (read_next_on_volume (dpb_of drive.image.format) drive.marks.is_protected (volume_of drive.image drive.marks.reserved) user fcb.extent fcb.current_record) → record_ahead drive.image (read_answer_of found) (read_of found) ≡ ahead drive user fcb
 unfolding ahead after_record
 peeked drive user fcb new found h =
     let answers = ap (λ (r : RecordRead). r.answer) h in

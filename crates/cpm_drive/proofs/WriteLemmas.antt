@@ -1,7 +1,7 @@
 -- What is written to a drive, one after the other.
 use Rattle.std.proofs.Common.{◌≡◌, Bool, true, false, cond, List, [], ◌∷◌, ◌++◌, Some, None, Option, refl, ap}
 use Rattle.cpm_geom.specs.Disk.{Disk}
-use Rattle.cpm_volume.specs.Files.{Write}
+use Rattle.cpm_volume.specs.Files.{DiskWrite}
 use Rattle.cpm_directory.specs.Directory.{PutsEntry}
 use Rattle.cpm_drive.specs.declared.drive.Drive.{Drive}
 use Rattle.cpm_drive.specs.declared.change.Change.{Change}
@@ -12,7 +12,7 @@ cond_same : (b : Bool) (disk : Disk) → cond b disk disk ≡ disk
 cond_same true disk = refl
 cond_same false disk = refl
 
-pub writes_append : (a b : List Write) (disk : Disk) → after_writes (a ++ b) disk ≡ after_writes b (after_writes a disk)
+pub writes_append : (a b : List DiskWrite) (disk : Disk) → after_writes (a ++ b) disk ≡ after_writes b (after_writes a disk)
 unfolding after_writes
 writes_append [] b disk = refl
 writes_append (w ∷ a) b disk = writes_append a b (after_write w disk)

@@ -6,9 +6,9 @@ use Rattle.cpm_geom.specs.Disk.{Disk, records_of, sector_at, with_sector}
 use Rattle.cpm_volume.specs.declared.fcb.Fcb.{Fcb}
 use Rattle.cpm_volume.specs.declared.answer.Answer.{Answer}
 use Rattle.cpm_volume.specs.Encoding.{entry_bytes}
-use Rattle.cpm_volume.specs.Files.{Volume, Write, entry_put, record_put}
+use Rattle.cpm_volume.specs.Files.{Volume, DiskWrite, entry_put, record_put}
 use Rattle.cpm_volume.specs.Operations.{Outcome}
-use Rattle.cpm_directory.specs.Directory.{entries_of, with_slot}
+use Rattle.cpm_directory.specs.Directory.{entries_of, record_with_entry}
 use Rattle.cpm_drive.specs.declared.drive.Drive.{Drive}
 use Rattle.cpm_drive.specs.declared.drive.Marks.{Marks}
 
@@ -26,13 +26,13 @@ unfoldable pub volume_of : Disk → List Bool → Volume
 volume_of disk reserved = record { entries = entries_of disk; reserved = reserved; records = records_of disk; written = [] }
 
 -- one entry of the directory, or one record, written to a disk
-unfoldable pub after_write : Write → Disk → Disk
+unfoldable pub after_write : DiskWrite → Disk → Disk
 after_write (entry_put index e) disk =
-    with_sector disk (record_index disk.format (index / 4)) (with_slot (sector_at disk (record_index disk.format (index / 4))) (index % 4) (entry_bytes (dpb_of disk.format) e))
+    with_sector disk (record_index disk.format (index / 4)) (record_with_entry (sector_at disk (record_index disk.format (index / 4))) (index % 4) (entry_bytes (dpb_of disk.format) e))
 after_write (record_put n bytes) disk = with_sector disk (record_index disk.format n) bytes
 
 -- one after the other
-unfoldable pub after_writes : List Write → Disk → Disk
+unfoldable pub after_writes : List DiskWrite → Disk → Disk
 after_writes [] disk = disk
 after_writes (w ∷ ws) disk = after_writes ws (after_write w disk)
 
@@ -48,8 +48,8 @@ pub record Called : Type 0 where
   pub fcb : Fcb
   pub buffer : List ℕ
 
-abbrev pub called : Answer → Drive → Fcb → List ℕ → Called
-called answer drive fcb buffer = record { answer = answer; drive = drive; fcb = fcb; buffer = buffer }
+abbrev pub call_result : Answer → Drive → Fcb → List ℕ → Called
+call_result answer drive fcb buffer = record { answer = answer; drive = drive; fcb = fcb; buffer = buffer }
 
 -- a record that was read lies in the buffer, as the disk has it
 abbrev pub buffer_after : Disk → Option ℕ → List ℕ → List ℕ
@@ -59,4 +59,4 @@ buffer_after disk (Some n) buffer = slice_index_or (records_of disk) n []
 -- by the outcome on the drive's volume: what is written reaches the disk before a record is read
 unfoldable pub after_call : Drive → Fcb → List ℕ → Outcome → Called
 after_call drive fcb buffer o =
-    called o.answer (drive_after drive o.volume) (record fcb { extent = o.extent; current_record = o.current }) (buffer_after (drive_after drive o.volume).image o.read buffer)
+    call_result o.answer (drive_after drive o.volume) (record fcb { extent = o.extent; current_record = o.current }) (buffer_after (drive_after drive o.volume).image o.read buffer)

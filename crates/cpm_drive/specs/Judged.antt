@@ -26,8 +26,8 @@ with_change v (Some c) =
     record v { entries = slice_set v.entries c.index c.entry; written = v.written ++ entry_put c.index c.entry ∷ [] }
 
 -- the entry is one of the directory's
-abbrev pub IsWithin : Dpb → Option Change → Type 0
-IsWithin d change = IfSome change (λ c. c.index ≤ d.last_entry)
+abbrev pub IsEntryWithin : Dpb → Option Change → Type 0
+IsEntryWithin d change = IfSome change (λ c. c.index ≤ d.last_entry)
 
 -- what a close comes to
 abbrev pub close_of : List Entry → Closing → Close
@@ -81,5 +81,5 @@ stopped_in x answer = record { current = Err answer; extent = x; closed = None; 
 
 -- the entries that it writes are the directory's
 pub record IsArrival (d : Dpb) (a : Arrival) : Type 0 where
-  pub closed : IsWithin d a.closed
-  pub made : IsWithin d a.made
+  pub closed : IsEntryWithin d a.closed
+  pub made : IsEntryWithin d a.made

@@ -6,10 +6,10 @@ use Rattle.cpm_geom.specs.Geometry.{dpb_of}
 use Rattle.cpm_geom.specs.Disk.{Disk, IsDisk, record_count, records_of, sector_at}
 use Rattle.cpm_volume.specs.declared.extent.Extent.{Extent}
 use Rattle.cpm_volume.specs.declared.extent.Entry.{Entry}
-use Rattle.cpm_volume.specs.Files.{deleted, directory_records, file_record, open_file_record, Volume, Write, entry_put, record_put, first_free, IsVolume, IsSound, IsSoundDrive}
+use Rattle.cpm_volume.specs.Files.{deleted, directory_records, file_record, open_file_record, Volume, DiskWrite, entry_put, record_put, first_free, IsVolume, IsSound, IsSoundDrive}
 use Rattle.cpm_volume.specs.Encoding.{IsStorable, AreBytes}
-use Rattle.cpm_volume.specs.Operations.{Outcome, with_entry, closed, close_file, make_file, read_next, read_random, write_next, write_random, write_random_cleared}
-use Rattle.cpm_volume.specs.Names.{named, erase_files, rename_files, set_attributes}
+use Rattle.cpm_volume.specs.Operations.{Outcome, with_entry, closed, close_file_on_volume, make_file_on_volume, read_next_on_volume, read_random_on_volume, write_next_on_volume, write_random_on_volume, write_random_cleared_on_volume}
+use Rattle.cpm_volume.specs.Names.{named, erase_files_on_volume, rename_files_on_volume, set_attributes_on_volume}
 use Rattle.cpm_volume.specs.LogLaws.{logged_all}
 use Rattle.cpm_directory.specs.Directory.{entries_of}
 use Rattle.cpm_drive.specs.declared.drive.Drive.{Drive}
@@ -45,12 +45,12 @@ pub record IsOfBytes (d : Dpb) (x : Extent) : Type 0 where
 -- ---- writes
 
 -- own: what may be written to a disk: an entry of its directory that has room in its bytes, or the bytes of a record outside the directory
-unfoldable pub Fits : Format → Write → Type 0
+unfoldable pub Fits : Format → DiskWrite → Type 0
 Fits f (entry_put index e) = (index ≤ (dpb_of f).last_entry) × (e.user < 256) × IsOfBytes (dpb_of f) e.extent
 Fits f (record_put n bytes) = (directory_records (dpb_of f) ≤ n) × (n < record_count f) × AreBytes 128 bytes
 
 -- own: each of them may be written
-unfoldable pub AllFit : Format → List Write → Type 0
+unfoldable pub AllFit : Format → List DiskWrite → Type 0
 AllFit f [] = ⊤
 AllFit f (w ∷ ws) = Fits f w × AllFit f ws
 
@@ -62,7 +62,7 @@ VolumeLaw =
 -- own: what is written to a disk is written in the volume that it holds
 abbrev pub WritesLaw : Type 0
 WritesLaw =
-    (f : Format) (disk : Disk) (v : Volume) (ws : List Write) → IsDiskOf f disk v → AllFit f ws → IsDiskOf f (after_writes ws disk) (logged_all ws v)
+    (f : Format) (disk : Disk) (v : Volume) (ws : List DiskWrite) → IsDiskOf f disk v → AllFit f ws → IsDiskOf f (after_writes ws disk) (logged_all ws v)
 
 -- ---- calls
 
@@ -83,19 +83,19 @@ pub record OutcomeReaches (drive : Drive) (o : Outcome) : Type 0 where
 
 -- own: what a call on a file leaves of the drive's volume is what the disk holds then: a read, a close and a make on any drive, a write on one that agrees with the file control block
 pub record CallsReach (drive : Drive) (d : Dpb) (v : Volume) (user : ℕ) (x : Extent) : Type 0 where
-  pub sequential_read : (current : ℕ) → OutcomeReaches drive (read_next d false v user x current)
-  pub random_read : (current n : ℕ) → n < 65536 → OutcomeReaches drive (read_random d false v user x current n)
-  pub sequential_write : (current : ℕ) (bytes : List ℕ) → user ≢ deleted → IsSound d v user x → AreBytes 128 bytes → OutcomeReaches drive (write_next d v user x current bytes)
-  pub random_write : (current n : ℕ) (bytes : List ℕ) → user ≢ deleted → IsSound d v user x → n < 65536 → AreBytes 128 bytes → OutcomeReaches drive (write_random d v user x current n bytes)
-  pub clearing_write : (current n : ℕ) (bytes : List ℕ) → user ≢ deleted → IsSound d v user x → n < 65536 → AreBytes 128 bytes → OutcomeReaches drive (write_random_cleared d v user x current n bytes)
-  pub close : (index : ℕ) (after : List Entry) (x' : Extent) → close_file d false v.entries user x ≡ closed index after x' → Reaches drive (with_entry v index after) × IsOfBytes d x'
-  pub make : (after : List Entry) (x' : Extent) → make_file v.entries user x ≡ Some (after, x') → Reaches drive (with_entry v (first_free v.entries) after) × IsOfBytes d x'
+  pub sequential_read : (current : ℕ) → OutcomeReaches drive (read_next_on_volume d false v user x current)
+  pub random_read : (current n : ℕ) → n < 65536 → OutcomeReaches drive (read_random_on_volume d false v user x current n)
+  pub sequential_write : (current : ℕ) (bytes : List ℕ) → user ≢ deleted → IsSound d v user x → AreBytes 128 bytes → OutcomeReaches drive (write_next_on_volume d v user x current bytes)
+  pub random_write : (current n : ℕ) (bytes : List ℕ) → user ≢ deleted → IsSound d v user x → n < 65536 → AreBytes 128 bytes → OutcomeReaches drive (write_random_on_volume d v user x current n bytes)
+  pub clearing_write : (current n : ℕ) (bytes : List ℕ) → user ≢ deleted → IsSound d v user x → n < 65536 → AreBytes 128 bytes → OutcomeReaches drive (write_random_cleared_on_volume d v user x current n bytes)
+  pub close : (index : ℕ) (after : List Entry) (x' : Extent) → close_file_on_volume d false v.entries user x ≡ closed index after x' → Reaches drive (with_entry v index after) × IsOfBytes d x'
+  pub make : (after : List Entry) (x' : Extent) → make_file_on_volume v.entries user x ≡ Some (after, x') → Reaches drive (with_entry v (first_free v.entries) after) × IsOfBytes d x'
 
 -- own: so is what a call on all entries of a name leaves
 pub record NamedCallsReach (drive : Drive) (d : Dpb) (v : Volume) (user : ℕ) (pattern : List ℕ) : Type 0 where
-  pub erase : (first : ℕ) (v' : Volume) → erase_files d v user pattern ≡ named first v' → Reaches drive v'
-  pub rename : (name : List ℕ) (first : ℕ) (v' : Volume) → AreBytes 11 name → rename_files v user pattern name ≡ named first v' → Reaches drive v'
-  pub attributes : (first : ℕ) (v' : Volume) → AreBytes 11 pattern → set_attributes v user pattern ≡ named first v' → Reaches drive v'
+  pub erase : (first : ℕ) (v' : Volume) → erase_files_on_volume d v user pattern ≡ named first v' → Reaches drive v'
+  pub rename : (name : List ℕ) (first : ℕ) (v' : Volume) → AreBytes 11 name → rename_files_on_volume v user pattern name ≡ named first v' → Reaches drive v'
+  pub attributes : (first : ℕ) (v' : Volume) → AreBytes 11 pattern → set_attributes_on_volume v user pattern ≡ named first v' → Reaches drive v'
 
 -- own: over all drives that may be written, file control blocks and patterns
 abbrev pub CallsLaw : Type 0

@@ -5,7 +5,7 @@ use Rattle.cpm_geom.specs.Disk.{Disk, records_of}
 use Rattle.cpm_volume.specs.declared.extent.Entry.{Entry}
 use Rattle.cpm_volume.specs.declared.answer.Fault.{Fault}
 use Rattle.cpm_volume.specs.declared.answer.Fault.TheVariants.{FileReadOnly}
-use Rattle.cpm_volume.specs.Names.{Named, none_named, file_read_only, named, deletion, renaming, marking}
+use Rattle.cpm_volume.specs.Names.{NameOutcome, none_named, file_read_only, named, deletion, renaming, marking}
 use Rattle.cpm_directory.specs.declared.pattern.Pattern.{Pattern}
 use Rattle.cpm_directory.specs.Matching.{match_from}
 use Rattle.cpm_directory.specs.Directory.{entries_of}
@@ -21,7 +21,7 @@ altered (Renaming name) e = renaming name e
 altered (Marking name) e = marking name e
 
 -- DELETE FILE, RENAME FILE, SET FILE ATTRIBUTES: the code of the first entry, none where there is none, or a fault; and the drive then
-unfoldable pub after_named : Drive → Named → Result (Option ℕ) Fault × Drive
+unfoldable pub after_named : Drive → NameOutcome → Result (Option ℕ) Fault × Drive
 after_named drive none_named = (Ok None, drive)
 after_named drive file_read_only = (Err FileReadOnly, drive)
 after_named drive (named first v) = (Ok (Some (directory_code first)), drive_after drive v)

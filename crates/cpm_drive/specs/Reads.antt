@@ -6,12 +6,12 @@ use Rattle.cpm_volume.specs.declared.fcb.Fcb.{Fcb}
 use Rattle.cpm_volume.specs.declared.answer.Answer.{Answer}
 use Rattle.cpm_volume.specs.declared.answer.Answer.TheVariants.{Done as done}
 use Rattle.cpm_volume.specs.Files.{deleted, IsSound, open_file_record}
-use Rattle.cpm_volume.specs.Operations.{Outcome, read_next}
+use Rattle.cpm_volume.specs.Operations.{Outcome, read_next_on_volume}
 use Rattle.cpm_directory.specs.Directory.{entries_of}
 use Rattle.cpm_drive.specs.declared.drive.Drive.{Drive}
 use Rattle.cpm_drive.specs.declared.drive.Marks.{Marks}
 use Rattle.cpm_drive.specs.declared.reading.Reading.{Reading}
-use Rattle.cpm_drive.specs.Drive.{volume_of, drive_after, Called, called, buffer_after}
+use Rattle.cpm_drive.specs.Drive.{volume_of, drive_after, Called, call_result, buffer_after}
 use Rattle.cpm_drive.specs.Judged.{with_change}
 
 -- a read that is done on a drive and a file control block that agree with each other gives record n of the file
@@ -31,16 +31,16 @@ after_record fcb o =
     record { answer = o.answer; fcb = record fcb { extent = o.extent; current_record = o.current }; read = o.read }
 
 -- the number of a record that is found, or an answer without one
-abbrev pub answer_of : Result ℕ Answer → Answer
-answer_of (Ok number) = done
-answer_of (Err answer) = answer
+abbrev pub read_answer_of : Result ℕ Answer → Answer
+read_answer_of (Ok number) = done
+read_answer_of (Err answer) = answer
 
 abbrev pub read_of : Result ℕ Answer → Option ℕ
 read_of (Ok number) = Some number
 read_of (Err answer) = None
 
 abbrev pub record_found : Result ℕ Answer → Fcb → RecordRead
-record_found found fcb = record { answer = answer_of found; fcb = fcb; read = read_of found }
+record_found found fcb = record { answer = read_answer_of found; fcb = fcb; read = read_of found }
 
 -- what a sequential read would give now: the record as it lies on the disk, or the answer without one
 abbrev pub record_ahead : Disk → Answer → Option ℕ → Result (List ℕ) Answer
@@ -49,7 +49,7 @@ record_ahead disk answer (Some n) = Ok (slice_index_or (records_of disk) n [])
 
 unfoldable pub ahead : Drive → ℕ → Fcb → Result (List ℕ) Answer
 ahead drive user fcb =
-    let o = read_next (dpb_of drive.image.format) drive.marks.is_protected (volume_of drive.image drive.marks.reserved) user fcb.extent fcb.current_record in
+    let o = read_next_on_volume (dpb_of drive.image.format) drive.marks.is_protected (volume_of drive.image drive.marks.reserved) user fcb.extent fcb.current_record in
     record_ahead drive.image o.answer o.read
 
 -- a drive of an image and marks that are lent
@@ -64,4 +64,4 @@ drive_read drive reading =
 -- what a read leaves then
 unfoldable pub after_reading : Drive → Reading → Fcb → List ℕ → Called
 after_reading drive reading fcb buffer =
-    called (answer_of reading.found) (drive_read drive reading) fcb (buffer_after (drive_read drive reading).image (read_of reading.found) buffer)
+    call_result (read_answer_of reading.found) (drive_read drive reading) fcb (buffer_after (drive_read drive reading).image (read_of reading.found) buffer)

@@ -4,10 +4,10 @@ ghost use Rattle.std.specs.Prelude.{◌≡◌, ◌==◌, ◌&&◌, not, nat_lt, 
 ghost use Rattle.std.specs.List.{list_any, list_all, zip};
 ghost use Rattle.cpm_geom.specs.Geometry.{dpb_of};
 ghost use Rattle.cpm_volume.specs.Files.{group_of};
-ghost use Rattle.cpm_volume.specs.Operations.{close_extent, close_file, merged, agree, has_bad_block, closed_entry, is_unchanged, same_numbers};
+ghost use Rattle.cpm_volume.specs.Operations.{close_extent, close_file_on_volume, merged, agree, has_bad_block, closed_entry, is_unchanged, same_numbers};
 ghost use Rattle.cpm_directory.specs.Directory.{entries_of};
 ghost use Rattle.cpm_drive.specs.Calls.{closed_file, close_answer, after_close};
-ghost use Rattle.cpm_drive.specs.Judged.{close_of, change_of, IsWithin, agreeing};
+ghost use Rattle.cpm_drive.specs.Judged.{close_of, change_of, IsEntryWithin, agreeing};
 
 use crate::change::{Change, first_match};
 use crate::drive::{Drive, directory_code};
@@ -54,7 +54,7 @@ impl Closing {
 
 /// CLOSE FILE on a protected image that is lent: as `Drive::close_file`.
 pub fn close_file_lent(image: &Image, user: u8, fcb: &mut Fcb) -> Result<Option<u8>, Fault>
-    ensures { (result, fcb.new) ≡ close_answer fcb.old (close_file (dpb_of image.now.format) true (entries_of image.now) user fcb.old.extent) }
+    ensures { (result, fcb.new) ≡ close_answer fcb.old (close_file_on_volume (dpb_of image.now.format) true (entries_of image.now) user fcb.old.extent) }
 {
     judge_close(&LentImage::new(image), true, user, &fcb.extent).answer(fcb)
 }
@@ -64,7 +64,7 @@ impl Drive {
     /// entry is of the extent or a place has two different numbers. A block number above the last block is a fault, and
     /// so is a close that would change a protected drive.
     pub fn close_file(&mut self, user: u8, fcb: &mut Fcb) -> Result<Option<u8>, Fault>
-        ensures { closed_file result self.new fcb.new ≡ after_close self.old fcb.old (close_file (dpb_of self.old.image.format) self.old.marks.is_protected (entries_of self.old.image) user fcb.old.extent) }
+        ensures { closed_file result self.new fcb.new ≡ after_close self.old fcb.old (close_file_on_volume (dpb_of self.old.image.format) self.old.marks.is_protected (entries_of self.old.image) user fcb.old.extent) }
     {
         let closing = judge_close(
             &self.image.lent(),
@@ -80,7 +80,7 @@ impl Drive {
 /// What a close of an extent comes to. Nothing is written.
 pub fn judge_close(image: &LentImage<'_>, is_protected: bool, user: u8, extent: &Extent) -> Closing
     ensures value { close_of (entries_of image.now) result ≡ close_extent (dpb_of image.now.format) is_protected (entries_of image.now) user extent.now }
-    ensures within { IsWithin (dpb_of image.now.format) (change_of result) }
+    ensures within { IsEntryWithin (dpb_of image.now.format) (change_of result) }
 {
     let dpb = image.format().dpb();
     let group = group_of(&dpb, extent.number());

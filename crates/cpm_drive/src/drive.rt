@@ -6,7 +6,7 @@ ghost use Rattle.cpm_geom.specs.Disk.{records_of};
 ghost use Rattle.cpm_volume.specs.Files.{directory_records};
 ghost use Rattle.cpm_drive.specs.Calls.{logged_in_marks, logged_in};
 ghost use Rattle.cpm_drive.specs.Drive.{directory_code, new_marks, volume_of, drive_after};
-ghost use Rattle.cpm_drive.specs.Judged.{with_change, IsWithin};
+ghost use Rattle.cpm_drive.specs.Judged.{with_change, IsEntryWithin};
 ghost use Rattle.cpm_drive.specs.Reads.{lent_drive};
 
 use crate::change::Change;
@@ -99,7 +99,7 @@ impl Drive {
 
     /// Writes an entry that a call changes, unless the drive is protected.
     pub(crate) fn write_change(&mut self, change: Option<Change>)
-        requires { IsWithin (dpb_of self.old.image.format) change }
+        requires { IsEntryWithin (dpb_of self.old.image.format) change }
         ensures drive { self.new ≡ drive_after self.old (with_change (volume_of self.old.image self.old.marks.reserved) change) }
         ensures format { self.new.image.format ≡ self.old.image.format }
         ensures records { (n : ℕ) → directory_records (dpb_of self.old.image.format) ≤ n → slice_index_or (records_of self.new.image) n [] ≡ slice_index_or (records_of self.old.image) n [] }

@@ -3,10 +3,10 @@
 ghost use Rattle.std.specs.Prelude.{◌≡◌, ◌<◌, IfSome, Some, None, if◌then◌else◌, nat_lt};
 ghost use Rattle.cpm_geom.specs.Geometry.{dpb_of};
 ghost use Rattle.cpm_volume.specs.Files.{record_count_of, extent_number, first_free};
-ghost use Rattle.cpm_volume.specs.Operations.{opened, open_extent, open_to_read, open_file, made, make_extent, make_file};
+ghost use Rattle.cpm_volume.specs.Operations.{opened_extent, open_extent, open_to_read, open_file_on_volume, made_extent, make_extent, make_file_on_volume};
 ghost use Rattle.cpm_directory.specs.Directory.{entries_of};
 ghost use Rattle.cpm_drive.specs.Calls.{after_open, open_index, made_file, after_make};
-ghost use Rattle.cpm_drive.specs.Judged.{entries_after, make_of, IsWithin};
+ghost use Rattle.cpm_drive.specs.Judged.{entries_after, make_of, IsEntryWithin};
 
 use crate::change::{Change, entry_after, first_free, first_match};
 use crate::closing::group_of;
@@ -16,7 +16,7 @@ use cpm_volume::{Entry, Extent, Fcb};
 
 /// OPEN FILE on an image that is lent: as `Drive::open_file`.
 pub fn open_file_lent(image: &LentImage<'_>, user: u8, fcb: &mut Fcb) -> Option<u8>
-    ensures { (result, fcb.new) ≡ after_open fcb.old (open_index (dpb_of image.now.format) (entries_of image.now) user fcb.old.extent) (open_file (dpb_of image.now.format) (entries_of image.now) user fcb.old.extent) }
+    ensures { (result, fcb.new) ≡ after_open fcb.old (open_index (dpb_of image.now.format) (entries_of image.now) user fcb.old.extent) (open_file_on_volume (dpb_of image.now.format) (entries_of image.now) user fcb.old.extent) }
 {
     let number = u16::from(fcb.extent.ex % 32);
     let group = group_of(&image.format().dpb(), number);
@@ -37,7 +37,7 @@ impl Drive {
     /// OPEN FILE: the file control block takes the extent of its EX, with S2 as 0. The directory code, or none where no
     /// entry is of the extent or the first has a lesser number.
     pub fn open_file(&self, user: u8, fcb: &mut Fcb) -> Option<u8>
-        ensures { (result, fcb.new) ≡ after_open fcb.old (open_index (dpb_of self.now.image.format) (entries_of self.now.image) user fcb.old.extent) (open_file (dpb_of self.now.image.format) (entries_of self.now.image) user fcb.old.extent) }
+        ensures { (result, fcb.new) ≡ after_open fcb.old (open_index (dpb_of self.now.image.format) (entries_of self.now.image) user fcb.old.extent) (open_file_on_volume (dpb_of self.now.image.format) (entries_of self.now.image) user fcb.old.extent) }
     {
         open_file_lent(&self.image.lent(), user, fcb)
     }
@@ -45,7 +45,7 @@ impl Drive {
     /// MAKE FILE: the first entry that is not in use and the file control block become a new extent of its EX, with S2
     /// as 0. The directory code, or none where no entry is free. A protected drive is not written.
     pub fn make_file(&mut self, user: u8, fcb: &mut Fcb) -> Option<u8>
-        ensures { made_file result self.new fcb.new ≡ after_make self.old fcb.old (first_free (entries_of self.old.image)) (make_file (entries_of self.old.image) user fcb.old.extent) }
+        ensures { made_file result self.new fcb.new ≡ after_make self.old fcb.old (first_free (entries_of self.old.image)) (make_file_on_volume (entries_of self.old.image) user fcb.old.extent) }
     {
         let number = u16::from(fcb.extent.ex % 32);
         match make_extent(&self.image.lent(), None, user, &fcb.extent, number) {
@@ -75,9 +75,9 @@ fn record_count_of(number: u16, own: u16, count: u8) -> u8
 
 /// The extent of a number, by the entry of its group.
 #[tactic(auto, unfolding(cpm_volume::specs::Operations::opened))]
-fn opened(stored: &Extent, number: u16) -> Extent
+fn opened_extent(stored: &Extent, number: u16) -> Extent
     requires { number < 512 }
-    ensures { result ≡ opened stored.now number }
+    ensures { result ≡ opened_extent stored.now number }
 {
     Extent {
         ex: (number % 32) as u8,
@@ -90,12 +90,12 @@ fn opened(stored: &Extent, number: u16) -> Extent
 /// The same to read it: none by an entry of a lesser number.
 fn opened_to_read(stored: &Extent, number: u16) -> Option<Extent>
     requires { number < 512 }
-    ensures { result ≡ if nat_lt (extent_number stored.now) number then None else Some (opened stored.now number) }
+    ensures { result ≡ if nat_lt (extent_number stored.now) number then None else Some (opened_extent stored.now number) }
 {
     if stored.number() < number {
         None
     } else {
-        Some(opened(stored, number))
+        Some(opened_extent(stored, number))
     }
 }
 
@@ -112,7 +112,7 @@ pub(crate) fn open_extent(
 {
     let group = group_of(&image.format().dpb(), number);
     match first_match(image, change, user, name, group) {
-        Some(index) => Some(opened(&entry_after(image, change, index).extent, number)),
+        Some(index) => Some(opened_extent(&entry_after(image, change, index).extent, number)),
         None => None,
     }
 }
@@ -137,9 +137,9 @@ pub(crate) fn open_to_read(
 
 /// A new extent of a number.
 #[tactic(auto, unfolding(cpm_volume::specs::Operations::made))]
-fn made(extent: &Extent, number: u16) -> Extent
+fn made_extent(extent: &Extent, number: u16) -> Extent
     requires { number < 512 }
-    ensures { result ≡ made extent.now number }
+    ensures { result ≡ made_extent extent.now number }
 {
     let blocks = [0; 16];
     Extent {
@@ -162,12 +162,12 @@ pub(crate) fn make_extent(
 ) -> Option<Change>
     requires { number < 512 }
     ensures value { make_of (entries_after (entries_of image.now) change) result ≡ make_extent (entries_after (entries_of image.now) change) user extent.now number }
-    ensures within { IsWithin (dpb_of image.now.format) result }
-    ensures first { IfSome result (λ made. made.index ≡ first_free (entries_after (entries_of image.now) change)) }
+    ensures within { IsEntryWithin (dpb_of image.now.format) result }
+    ensures first { IfSome result (λ made_extent. made_extent.index ≡ first_free (entries_after (entries_of image.now) change)) }
 {
     match first_free(image, change) {
         Some(index) => {
-            let extent = made(extent, number);
+            let extent = made_extent(extent, number);
             let entry = Entry { user, extent };
             Some(Change { index, entry })
         }

@@ -4,10 +4,10 @@ ghost use Rattle.std.specs.Prelude.{◌≡◌, ◌+◌, ◌<◌, ◌≤◌, ℕ,
 ghost use Rattle.cpm_geom.specs.Geometry.{dpb_of, IsRecord};
 ghost use Rattle.cpm_volume.specs.Files.{Volume};
 ghost use Rattle.cpm_volume.specs.Laws.{position};
-ghost use Rattle.cpm_volume.specs.Operations.{get_record, read_in, read_next, read_random, record_in_block};
-ghost use Rattle.cpm_drive.specs.Drive.{volume_of, called, after_call, buffer_after};
-ghost use Rattle.cpm_drive.specs.Judged.{IsWithin, place_of_arrival};
-ghost use Rattle.cpm_drive.specs.Reads.{record_found, ahead, answer_of, read_of, after_record, after_reading, lent_drive, GivesRecord};
+ghost use Rattle.cpm_volume.specs.Operations.{get_record, read_in, read_next_on_volume, read_random_on_volume, record_in_block};
+ghost use Rattle.cpm_drive.specs.Drive.{volume_of, call_result, after_call, buffer_after};
+ghost use Rattle.cpm_drive.specs.Judged.{IsEntryWithin, place_of_arrival};
+ghost use Rattle.cpm_drive.specs.Reads.{record_found, ahead, read_answer_of, read_of, after_record, after_reading, lent_drive, GivesRecord};
 
 use crate::change::Change;
 use crate::drive::{Drive, Marks};
@@ -75,7 +75,7 @@ fn find_arrived(format: Format, arrival: &Arrival, step: u8, fcb: &mut Fcb) -> R
 /// Reads the record that was found, if one was.
 fn take_record(image: &Image, found: Result<u16, Answer>, buffer: &mut [u8; 128]) -> Answer
     requires { IfOk found (λ number. IsRecord image.now.format number) }
-    ensures answer { result ≡ answer_of found }
+    ensures answer { result ≡ read_answer_of found }
     ensures buffer { buffer.new ≡ buffer_after image.now (read_of found) buffer.old }
 {
     match found {
@@ -89,9 +89,9 @@ fn take_record(image: &Image, found: Result<u16, Answer>, buffer: &mut [u8; 128]
 
 /// What READ SEQUENTIAL comes to. Nothing is written.
 fn judge_read_next(image: &LentImage<'_>, marks: &Marks, user: u8, fcb: &mut Fcb) -> Reading
-    ensures value { (buffer : List ℕ) → after_reading (lent_drive image.now marks.now) result fcb.new buffer ≡ after_call (lent_drive image.now marks.now) fcb.old buffer (read_next (dpb_of image.now.format) marks.now.is_protected (volume_of image.now marks.now.reserved) user fcb.old.extent fcb.old.current_record) }
-    ensures record { record_found result.found fcb.new ≡ after_record fcb.old (read_next (dpb_of image.now.format) marks.now.is_protected (volume_of image.now marks.now.reserved) user fcb.old.extent fcb.old.current_record) }
-    ensures within { IsWithin (dpb_of image.now.format) result.closed }
+    ensures value { (buffer : List ℕ) → after_reading (lent_drive image.now marks.now) result fcb.new buffer ≡ after_call (lent_drive image.now marks.now) fcb.old buffer (read_next_on_volume (dpb_of image.now.format) marks.now.is_protected (volume_of image.now marks.now.reserved) user fcb.old.extent fcb.old.current_record) }
+    ensures record { record_found result.found fcb.new ≡ after_record fcb.old (read_next_on_volume (dpb_of image.now.format) marks.now.is_protected (volume_of image.now marks.now.reserved) user fcb.old.extent fcb.old.current_record) }
+    ensures within { IsEntryWithin (dpb_of image.now.format) result.closed }
     ensures there { IfOk result.found (λ number. IsRecord image.now.format number) }
 {
     let arrival = next_place(image, marks, Access::Read, user, fcb);
@@ -110,8 +110,8 @@ fn judge_read_random(
     number: u16,
     fcb: &mut Fcb,
 ) -> Reading
-    ensures value { (buffer : List ℕ) → after_reading (lent_drive image.now marks.now) result fcb.new buffer ≡ after_call (lent_drive image.now marks.now) fcb.old buffer (read_random (dpb_of image.now.format) marks.now.is_protected (volume_of image.now marks.now.reserved) user fcb.old.extent fcb.old.current_record number) }
-    ensures within { IsWithin (dpb_of image.now.format) result.closed }
+    ensures value { (buffer : List ℕ) → after_reading (lent_drive image.now marks.now) result fcb.new buffer ≡ after_call (lent_drive image.now marks.now) fcb.old buffer (read_random_on_volume (dpb_of image.now.format) marks.now.is_protected (volume_of image.now marks.now.reserved) user fcb.old.extent fcb.old.current_record number) }
+    ensures within { IsEntryWithin (dpb_of image.now.format) result.closed }
     ensures there { IfOk result.found (λ number. IsRecord image.now.format number) }
 {
     let arrival = place_at(
@@ -157,7 +157,7 @@ pub fn read_next_protected(
     buffer: &mut [u8; 128],
 ) -> Answer
     requires { marks.now.is_protected ≡ true }
-    ensures value { called result (lent_drive image.now marks.now) fcb.new buffer.new ≡ after_call (lent_drive image.now marks.now) fcb.old buffer.old (read_next (dpb_of image.now.format) true (volume_of image.now marks.now.reserved) user fcb.old.extent fcb.old.current_record) }
+    ensures value { call_result result (lent_drive image.now marks.now) fcb.new buffer.new ≡ after_call (lent_drive image.now marks.now) fcb.old buffer.old (read_next_on_volume (dpb_of image.now.format) true (volume_of image.now marks.now.reserved) user fcb.old.extent fcb.old.current_record) }
     ensures file { GivesRecord (lent_drive image.now marks.now) user fcb.old (position fcb.old.extent fcb.old.current_record) result buffer.new }
 {
     let reading = judge_read_next(&LentImage::new(image), marks, user, fcb);
@@ -174,7 +174,7 @@ pub fn read_random_protected(
     buffer: &mut [u8; 128],
 ) -> Answer
     requires { marks.now.is_protected ≡ true }
-    ensures value { called result (lent_drive image.now marks.now) fcb.new buffer.new ≡ after_call (lent_drive image.now marks.now) fcb.old buffer.old (read_random (dpb_of image.now.format) true (volume_of image.now marks.now.reserved) user fcb.old.extent fcb.old.current_record number) }
+    ensures value { call_result result (lent_drive image.now marks.now) fcb.new buffer.new ≡ after_call (lent_drive image.now marks.now) fcb.old buffer.old (read_random_on_volume (dpb_of image.now.format) true (volume_of image.now marks.now.reserved) user fcb.old.extent fcb.old.current_record number) }
     ensures file { GivesRecord (lent_drive image.now marks.now) user fcb.old number result buffer.new }
 {
     let reading = judge_read_random(&LentImage::new(image), marks, user, number, fcb);
@@ -185,7 +185,7 @@ impl Drive {
     /// READ SEQUENTIAL: the record that is next in sequence, for which the extent may be closed and the next one opened.
     /// The answer says whether the buffer has it, as it is on the disk once the entry is closed.
     pub fn read_next(&mut self, user: u8, fcb: &mut Fcb, buffer: &mut [u8; 128]) -> Answer
-        ensures value { called result self.new fcb.new buffer.new ≡ after_call self.old fcb.old buffer.old (read_next (dpb_of self.old.image.format) self.old.marks.is_protected (volume_of self.old.image self.old.marks.reserved) user fcb.old.extent fcb.old.current_record) }
+        ensures value { call_result result self.new fcb.new buffer.new ≡ after_call self.old fcb.old buffer.old (read_next_on_volume (dpb_of self.old.image.format) self.old.marks.is_protected (volume_of self.old.image self.old.marks.reserved) user fcb.old.extent fcb.old.current_record) }
         ensures file { GivesRecord self.old user fcb.old (position fcb.old.extent fcb.old.current_record) result buffer.new }
     {
         let reading = judge_read_next(&self.image.lent(), &self.marks, user, fcb);
@@ -202,7 +202,7 @@ impl Drive {
         fcb: &mut Fcb,
         buffer: &mut [u8; 128],
     ) -> Answer
-        ensures value { called result self.new fcb.new buffer.new ≡ after_call self.old fcb.old buffer.old (read_random (dpb_of self.old.image.format) self.old.marks.is_protected (volume_of self.old.image self.old.marks.reserved) user fcb.old.extent fcb.old.current_record number) }
+        ensures value { call_result result self.new fcb.new buffer.new ≡ after_call self.old fcb.old buffer.old (read_random_on_volume (dpb_of self.old.image.format) self.old.marks.is_protected (volume_of self.old.image self.old.marks.reserved) user fcb.old.extent fcb.old.current_record number) }
         ensures file { GivesRecord self.old user fcb.old number result buffer.new }
     {
         let reading = judge_read_random(&self.image.lent(), &self.marks, user, number, fcb);

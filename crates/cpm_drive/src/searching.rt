@@ -2,7 +2,7 @@
 
 ghost use Rattle.std.specs.Prelude.{◌≡◌, ◌<◌, ◌≤◌, ℕ, IfSome, MatchOption, max};
 ghost use Rattle.cpm_geom.specs.Geometry.{dpb_of};
-ghost use Rattle.cpm_volume.specs.Names.{records_to, compute_size};
+ghost use Rattle.cpm_volume.specs.Names.{records_to, compute_size_on_volume};
 ghost use Rattle.cpm_directory.specs.Directory.{entries_of};
 ghost use Rattle.cpm_drive.specs.Named.{searched};
 
@@ -31,7 +31,7 @@ pub fn search(
 
 /// COMPUTE FILE SIZE: the records up to the end of the last entry of a name, if there is one.
 pub fn compute_size(image: &LentImage<'_>, user: u8, name: &[u8; 11]) -> Option<u32>
-    ensures value { result ≡ compute_size (entries_of image.now) user name.now }
+    ensures value { result ≡ compute_size_on_volume (entries_of image.now) user name.now }
     ensures small { IfSome result (λ size. size < 65664) }
 {
     let mut size = None;

@@ -2,9 +2,9 @@
 
 ghost use Rattle.std.specs.Prelude.{◌≡◌, ◌+◌, ◌<◌, ◌≤◌, IfOk, false, true, [], ◌∷◌};
 ghost use Rattle.cpm_geom.specs.Geometry.{dpb_of};
-ghost use Rattle.cpm_volume.specs.Files.{place_of, record_put};
-ghost use Rattle.cpm_volume.specs.Operations.{writing, place_at, target_of, put_record, taken_writes, record_in_block, with_block, write_in, write_next, write_random, write_random_cleared, counting};
-ghost use Rattle.cpm_drive.specs.Drive.{volume_of, called, after_call};
+ghost use Rattle.cpm_volume.specs.Files.{entry_place_of, record_put};
+ghost use Rattle.cpm_volume.specs.Operations.{writing, place_at, target_of, put_record, taken_writes, record_in_block, with_block, write_in, write_next_on_volume, write_random_on_volume, write_random_cleared_on_volume, counting};
+ghost use Rattle.cpm_drive.specs.Drive.{volume_of, call_result, after_call};
 ghost use Rattle.cpm_drive.specs.Judged.{IsArrival, place_of_arrival};
 ghost use Rattle.cpm_drive.specs.Writes.{drive_written, stood_on};
 
@@ -17,9 +17,9 @@ use cpm_geom::Format;
 
 /// The place of a record of an extent in its map.
 #[tactic(auto, unfolding(cpm_volume::specs::Files::place_of))]
-fn place_of(format: Format, extent: &Extent, current: u8) -> usize
+fn entry_place_of(format: Format, extent: &Extent, current: u8) -> usize
     requires { current < 128 }
-    ensures place { result ≡ place_of (dpb_of format) extent.now current }
+    ensures place { result ≡ entry_place_of (dpb_of format) extent.now current }
     ensures within { result < 16 }
 {
     let dpb = format.dpb();
@@ -94,7 +94,7 @@ impl Drive {
         requires current { fcb.old.current_record < 128 }
         requires step { step ≤ 1 }
         requires writable { self.old.marks.is_protected ≡ false }
-        ensures { called result self.new fcb.new bytes.now ≡ after_call self.old fcb.old bytes.now (put_record (dpb_of self.old.image.format) clears (volume_of self.old.image self.old.marks.reserved) fcb.old.extent fcb.old.current_record (fcb.old.current_record + step) bytes.now) }
+        ensures { call_result result self.new fcb.new bytes.now ≡ after_call self.old fcb.old bytes.now (put_record (dpb_of self.old.image.format) clears (volume_of self.old.image self.old.marks.reserved) fcb.old.extent fcb.old.current_record (fcb.old.current_record + step) bytes.now) }
     {
         let format = self.image.format();
         let dpb = format.dpb();
@@ -111,7 +111,7 @@ impl Drive {
             Err(_) => return Answer::NoBlock,
         };
         self.clear_taken(clears, block);
-        let place = place_of(format, &fcb.extent, fcb.current_record);
+        let place = entry_place_of(format, &fcb.extent, fcb.current_record);
         fcb.extent = with_block(&fcb.extent, place, block);
         self.write_record(block, step, fcb, bytes);
         Answer::Done
@@ -130,7 +130,7 @@ impl Drive {
         requires step { step ≤ 1 }
         requires within { IsArrival (dpb_of self.old.image.format) arrival.now }
         requires writable { self.old.marks.is_protected ≡ false }
-        ensures { called result self.new fcb.new bytes.now ≡ after_call self.old fcb.old bytes.now (write_in (dpb_of self.old.image.format) clears fcb.old.current_record step bytes.now (place_of_arrival (volume_of self.old.image self.old.marks.reserved) arrival.now)) }
+        ensures { call_result result self.new fcb.new bytes.now ≡ after_call self.old fcb.old bytes.now (write_in (dpb_of self.old.image.format) clears fcb.old.current_record step bytes.now (place_of_arrival (volume_of self.old.image self.old.marks.reserved) arrival.now)) }
     {
         self.write_change(arrival.closed);
         self.write_change(arrival.made);
@@ -148,7 +148,7 @@ impl Drive {
     /// or made.
     pub fn write_next(&mut self, user: u8, fcb: &mut Fcb, bytes: &[u8; 128]) -> Answer
         requires { self.old.marks.is_protected ≡ false }
-        ensures { called result self.new fcb.new bytes.now ≡ after_call self.old fcb.old bytes.now (write_next (dpb_of self.old.image.format) (volume_of self.old.image self.old.marks.reserved) user fcb.old.extent fcb.old.current_record bytes.now) }
+        ensures { call_result result self.new fcb.new bytes.now ≡ after_call self.old fcb.old bytes.now (write_next_on_volume (dpb_of self.old.image.format) (volume_of self.old.image self.old.marks.reserved) user fcb.old.extent fcb.old.current_record bytes.now) }
     {
         let arrival = next_place(&self.image.lent(), &self.marks, Access::Write, user, fcb);
         self.write_arrived(false, &arrival, 1, fcb, bytes)
@@ -164,7 +164,7 @@ impl Drive {
         bytes: &[u8; 128],
     ) -> Answer
         requires { self.old.marks.is_protected ≡ false }
-        ensures { called result self.new fcb.new bytes.now ≡ after_call self.old fcb.old bytes.now (write_in (dpb_of self.old.image.format) clears fcb.old.current_record 0 bytes.now (place_at (dpb_of self.old.image.format) writing false (volume_of self.old.image self.old.marks.reserved) user fcb.old.extent (target_of Answer.NoEntryFree number))) }
+        ensures { call_result result self.new fcb.new bytes.now ≡ after_call self.old fcb.old bytes.now (write_in (dpb_of self.old.image.format) clears fcb.old.current_record 0 bytes.now (place_at (dpb_of self.old.image.format) writing false (volume_of self.old.image self.old.marks.reserved) user fcb.old.extent (target_of Answer.NoEntryFree number))) }
     {
         let arrival = place_at(
             &self.image.lent(),
@@ -188,7 +188,7 @@ impl Drive {
         bytes: &[u8; 128],
     ) -> Answer
         requires { self.old.marks.is_protected ≡ false }
-        ensures { called result self.new fcb.new bytes.now ≡ after_call self.old fcb.old bytes.now (write_random (dpb_of self.old.image.format) (volume_of self.old.image self.old.marks.reserved) user fcb.old.extent fcb.old.current_record number bytes.now) }
+        ensures { call_result result self.new fcb.new bytes.now ≡ after_call self.old fcb.old bytes.now (write_random_on_volume (dpb_of self.old.image.format) (volume_of self.old.image self.old.marks.reserved) user fcb.old.extent fcb.old.current_record number bytes.now) }
     {
         self.write_numbered(false, user, number, fcb, bytes)
     }
@@ -203,7 +203,7 @@ impl Drive {
         bytes: &[u8; 128],
     ) -> Answer
         requires { self.old.marks.is_protected ≡ false }
-        ensures { called result self.new fcb.new bytes.now ≡ after_call self.old fcb.old bytes.now (write_random_cleared (dpb_of self.old.image.format) (volume_of self.old.image self.old.marks.reserved) user fcb.old.extent fcb.old.current_record number bytes.now) }
+        ensures { call_result result self.new fcb.new bytes.now ≡ after_call self.old fcb.old bytes.now (write_random_cleared_on_volume (dpb_of self.old.image.format) (volume_of self.old.image self.old.marks.reserved) user fcb.old.extent fcb.old.current_record number bytes.now) }
     {
         self.write_numbered(true, user, number, fcb, bytes)
     }

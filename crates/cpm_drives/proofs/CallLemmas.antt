@@ -4,7 +4,7 @@ use Rattle.cpm_geom.specs.Disk.{Disk}
 use Rattle.cpm_volume.specs.declared.fcb.Fcb.{Fcb}
 use Rattle.cpm_volume.specs.declared.answer.Fault.{Fault}
 use Rattle.cpm_volume.specs.declared.answer.Fault.TheVariants.{Select, ReadOnly}
-use Rattle.cpm_volume.specs.Names.{is_read_only, Named, none_named, file_read_only, named}
+use Rattle.cpm_volume.specs.Names.{is_read_only, NameOutcome, none_named, file_read_only, named}
 use Rattle.cpm_volume.specs.Names as names
 use Rattle.cpm_volume.specs.Operations.{Close, refused, close_fault, closed, with_entry}
 use Rattle.cpm_volume.specs.Operations as operations
@@ -25,13 +25,13 @@ use Rattle.cpm_drives.proofs.DriveLemmas.{is_own_drive, not_own, system_is_prote
 use Rattle.cpm_drives.specs.Files.{open_file, open_file_on, by_open, compute_size, compute_size_on, set_random_record, set_random_record_on, with_random, by_named, by_close, unless_past}
 
 -- a call on all entries of a name
-named_as : (drive : Drive) (fcb : Fcb) (buffer : List ℕ) (n : Named) → on_drive (code_or_fault (after_named drive n).0) (after_named drive n).1 fcb buffer ≡ by_named drive fcb buffer n
+named_as : (drive : Drive) (fcb : Fcb) (buffer : List ℕ) (n : NameOutcome) → on_drive (code_or_fault (after_named drive n).0) (after_named drive n).1 fcb buffer ≡ by_named drive fcb buffer n
 unfolding after_named
 named_as drive fcb buffer none_named = refl
 named_as drive fcb buffer file_read_only = refl
 named_as drive fcb buffer (named first volume) = refl
 
-pub named_call : (drive new : Drive) (fcb : Fcb) (buffer : List ℕ) (n : Named) (r : Result (Option ℕ) Fault) → ◌≡◌ {A = Result (Option ℕ) Fault × Drive} (r, new) (after_named drive n) → on_drive (code_or_fault r) new fcb buffer ≡ by_named drive fcb buffer n
+pub named_call : (drive new : Drive) (fcb : Fcb) (buffer : List ℕ) (n : NameOutcome) (r : Result (Option ℕ) Fault) → ◌≡◌ {A = Result (Option ℕ) Fault × Drive} (r, new) (after_named drive n) → on_drive (code_or_fault r) new fcb buffer ≡ by_named drive fcb buffer n
 named_call drive new fcb buffer n r e =
     ap (λ (p : Result (Option ℕ) Fault × Drive). on_drive (code_or_fault p.0) p.1 fcb buffer) e ∙ named_as drive fcb buffer n
 

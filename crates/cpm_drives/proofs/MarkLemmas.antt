@@ -6,7 +6,7 @@ use Rattle.std.specs.List.{slice_get}
 use Rattle.cpm_geom.specs.Disk.{Disk}
 use Rattle.cpm_drive.specs.declared.drive.Drive.{Drive}
 use Rattle.cpm_drives.specs.Disks.{new_drive, image_of}
-use Rattle.cpm_drives.specs.Selecting.{has_bit, drive_unmarked, reset_from}
+use Rattle.cpm_drives.specs.Selecting.{has_drive_bit, drive_unmarked, reset_from}
 
 -- the four elements of an array
 pub four : {A : Type 0} (xs : List A) (d : A) → length xs ≡ 4 → xs ≡ get_or xs 0 d ∷ get_or xs 1 d ∷ get_or xs 2 d ∷ get_or xs 3 d ∷ []
@@ -23,7 +23,7 @@ unfolding reset_from
 all_reset drives h = rw (four drives None h) refl
 
 -- one more of them
-pub reset_step : (vector i : ℕ) (drives : List (Option Drive)) (o new : Option Drive) → i < length drives → new ≡ (if has_bit vector i then drive_unmarked (get_or drives i o) else get_or drives i o) → take (i + 1) (set drives i new) ++ reset_from vector (i + 1) (drop (i + 1) (set drives i new)) ≡ take i drives ++ reset_from vector i (drop i drives)
+pub reset_step : (vector i : ℕ) (drives : List (Option Drive)) (o new : Option Drive) → i < length drives → new ≡ (if has_drive_bit vector i then drive_unmarked (get_or drives i o) else get_or drives i o) → take (i + 1) (set drives i new) ++ reset_from vector (i + 1) (drop (i + 1) (set drives i new)) ≡ take i drives ++ reset_from vector i (drop i drives)
 unfolding reset_from
 reset_step vector i drives o new h e =
     let part : drop i drives ≡ get_or drives i o ∷ drop (i + 1) drives = drop-cons drives i o h ∙ ap (λ k. get_or drives i o ∷ drop k drives) (let k : suc i ≡ i + 1 = omega arith in k) in

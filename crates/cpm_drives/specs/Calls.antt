@@ -10,7 +10,7 @@ use Rattle.cpm_volume.specs.Names.{is_read_only}
 use Rattle.cpm_drive.specs.declared.drive.Drive.{Drive}
 use Rattle.cpm_drives.specs.declared.disks.Disks.{Disks}
 use Rattle.cpm_drives.specs.Disks.{own_drive, is_there, drive_at, with_drive}
-use Rattle.cpm_drives.specs.Selecting.{ready, used}
+use Rattle.cpm_drives.specs.Selecting.{ready, drive_in_use}
 
 -- CP/M 2.2 Operating System Manual, section 5.2, Operating System Call Conventions: the code of a record's call; own: where the manual leaves them open
 abbrev pub code_of_answer : Answer → Result ℕ Fault
@@ -77,7 +77,7 @@ RefusesProtected call fcb buffer =
 
 -- the number of the drive that the file control block names, which is there, once it is used
 abbrev pub IsNamed : Disks → Disks → Disk → Fcb → ℕ → Type 0
-IsNamed disks now system fcb n = (n ≡ drive_named disks fcb.drive) × (is_there disks n ≡ true) × (now ≡ used disks system n)
+IsNamed disks now system fcb n = (n ≡ drive_named disks fcb.drive) × (is_there disks n ≡ true) × (now ≡ drive_in_use disks system n)
 
 -- the same of an own drive, whose number is its place among A to D
 abbrev pub IsOwnPlace : Disks → Disks → Disk → Fcb → ℕ → Type 0

@@ -9,7 +9,7 @@ use Rattle.cpm_volume.specs.declared.answer.Answer.{Answer}
 use Rattle.cpm_volume.specs.declared.answer.Answer.TheVariants as answer
 use Rattle.cpm_volume.specs.Files.{extent_number, first_free}
 use Rattle.cpm_volume.specs.Operations as operations
-use Rattle.cpm_volume.specs.Names.{Named, none_named, file_read_only, named}
+use Rattle.cpm_volume.specs.Names.{NameOutcome, none_named, file_read_only, named}
 use Rattle.cpm_volume.specs.Names as names
 use Rattle.cpm_directory.specs.Directory.{entries_of}
 use Rattle.cpm_drive.specs.declared.drive.Drive.{Drive}
@@ -47,7 +47,7 @@ make_file_on user fcb buffer drive =
     unless_protected drive fcb buffer (by_make buffer (after_make drive fcb (first_free (entries_of drive.image)) (operations.make_file (entries_of drive.image) user fcb.extent)))
 
 -- a call on all entries of a name
-abbrev pub by_named : Drive → Fcb → List ℕ → Named → OnDrive
+abbrev pub by_named : Drive → Fcb → List ℕ → NameOutcome → OnDrive
 by_named drive fcb buffer none_named = on_drive (Ok 0xFF) drive fcb buffer
 by_named drive fcb buffer file_read_only = on_drive (Err FileReadOnly) drive fcb buffer
 by_named drive fcb buffer (named first volume) = on_drive (Ok (first % 4)) (drive_after drive volume) fcb buffer

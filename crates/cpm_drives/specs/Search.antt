@@ -16,7 +16,7 @@ use Rattle.cpm_drive.specs.Named.{searched}
 use Rattle.cpm_drives.specs.declared.disks.Disks.{Disks}
 use Rattle.cpm_drives.specs.declared.search.Search.{Search}
 use Rattle.cpm_drives.specs.Disks.{is_there, drive_at}
-use Rattle.cpm_drives.specs.Selecting.{used}
+use Rattle.cpm_drives.specs.Selecting.{drive_in_use}
 use Rattle.cpm_drives.specs.Calls.{FileCall, file_call, drive_named}
 
 -- a `?` as the extent: any extent, else that extent's group; own: with S2 as 0
@@ -44,7 +44,7 @@ search_from drive sought disks fcb buffer =
 -- and uses that drive
 unfoldable pub search_on : Search → Disks → Disk → Fcb → List ℕ → FileCall
 search_on sought disks system fcb buffer =
-    search_from (drive_at disks system sought.drive) sought (used disks system sought.drive) fcb buffer
+    search_from (drive_at disks system sought.drive) sought (drive_in_use disks system sought.drive) fcb buffer
 
 -- SEARCH FOR FIRST: a `?` as the drive is every entry of the current drive; own: it is kept until the next one, or a warm boot
 unfoldable pub search_of : Disks → Fcb → Search

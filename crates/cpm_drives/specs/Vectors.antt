@@ -9,18 +9,18 @@ use Rattle.cpm_drive.specs.declared.drive.Drive.{Drive}
 use Rattle.cpm_drive.specs.declared.drive.Marks.{Marks}
 use Rattle.cpm_drives.specs.declared.disks.Disks.{Disks}
 
-abbrev pub bit : Bool → ℕ → ℕ
-bit set n = if set then 2 ^ n else 0
+abbrev pub drive_bit : Bool → ℕ → ℕ
+drive_bit set n = if set then 2 ^ n else 0
 
 -- a bit for each drive whose marks are such, A's the lowest
 unfoldable pub vector_from : (Marks → Bool) → ℕ → List (Option Drive) → ℕ
 vector_from test n [] = 0
 vector_from test n (None ∷ drives) = vector_from test (n + 1) drives
-vector_from test n (Some drive ∷ drives) = bit (test drive.marks) n + vector_from test (n + 1) drives
+vector_from test n (Some drive ∷ drives) = drive_bit (test drive.marks) n + vector_from test (n + 1) drives
 
 -- RETURN LOGIN VECTOR
 unfoldable pub login_vector : Disks → ℕ
-login_vector disks = vector_from (λ marks. marks.is_logged_in) 0 disks.drives + bit disks.system.is_logged_in 15
+login_vector disks = vector_from (λ marks. marks.is_logged_in) 0 disks.drives + drive_bit disks.system.is_logged_in 15
 
 -- GET READ-ONLY VECTOR: own: the system drive is always in it
 unfoldable pub read_only_vector : Disks → ℕ
@@ -32,7 +32,7 @@ is_reserved_block d reserved b = nat_le b d.last_block && is_reserved reserved b
 
 -- eight blocks as a byte, the first as its highest bit
 abbrev pub allocation_bit : Dpb → List Bool → ℕ → ℕ → ℕ
-allocation_bit d reserved k place = bit (is_reserved_block d reserved (8 * k + place)) (7 - place)
+allocation_bit d reserved k place = drive_bit (is_reserved_block d reserved (8 * k + place)) (7 - place)
 
 abbrev pub allocation_byte : Dpb → List Bool → ℕ → ℕ
 allocation_byte d reserved k = sum (map (allocation_bit d reserved k) (range_with_len 0 8))

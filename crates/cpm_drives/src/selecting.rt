@@ -4,7 +4,7 @@ ghost use Rattle.std.specs.Prelude.{◌≡◌, true, false, IsTrue, MatchResult,
 ghost use Rattle.cpm_drive.specs.Reads.{lent_drive};
 ghost use Rattle.cpm_drives.specs.Calls.{drive_named};
 ghost use Rattle.cpm_drives.specs.Disks.{own_drive, is_there, drive_at};
-ghost use Rattle.cpm_drives.specs.Selecting.{ready, used, select, choice, unmarked, drive_unmarked, has_bit, reset_from, reset, rebooted_disks, drives_reset, protect};
+ghost use Rattle.cpm_drives.specs.Selecting.{ready, drive_in_use, select, choice, unmarked, drive_unmarked, has_drive_bit, reset_from, reset, rebooted_disks, drives_reset, protect};
 
 use crate::disks::{Disks, drive_in, is_in};
 use cpm_directory::LentImage;
@@ -59,7 +59,7 @@ impl Disks {
 
     /// Uses a drive that is there: it is logged in, unless it was before.
     pub fn use_drive(&mut self, system: &Image, drive: u8)
-        ensures { self.new ≡ used self.old system.now drive }
+        ensures { self.new ≡ drive_in_use self.old system.now drive }
     {
         if !self.is_own(drive) {
             make_lent_ready(system, &mut self.system);
@@ -71,7 +71,7 @@ impl Disks {
     /// Uses the drive that a file control block names. Its number, or the fault that there is no such drive.
     pub(crate) fn use_named(&mut self, system: &Image, name: u8) -> Result<u8, Fault>
         ensures { MatchResult result
-            (λ n. (n ≡ drive_named self.old name) × (is_there self.old n ≡ true) × (self.new ≡ used self.old system.now n))
+            (λ n. (n ≡ drive_named self.old name) × (is_there self.old n ≡ true) × (self.new ≡ drive_in_use self.old system.now n))
             (λ e. (e ≡ Fault.Select) × (is_there self.old (drive_named self.old name) ≡ false) × (self.new ≡ self.old)) }
     {
         let drive = self.drive_named(name);
@@ -127,7 +127,7 @@ impl Disks {
         ensures { self.new ≡ drives_reset self.old vector }
     {
         unmark_drives(&mut self.drives, vector);
-        if has_bit(vector, SYSTEM) {
+        if has_drive_bit(vector, SYSTEM) {
             unmark(&mut self.system);
         }
     }
@@ -173,9 +173,9 @@ fn unmark(marks: &mut Marks)
 }
 
 /// Whether a vector has the bit of a drive.
-fn has_bit(vector: u16, drive: u8) -> bool
+fn has_drive_bit(vector: u16, drive: u8) -> bool
     requires { drive < 16 }
-    ensures { result ≡ has_bit vector drive }
+    ensures { result ≡ has_drive_bit vector drive }
 {
     (vector >> drive) % 2 == 1
 }
@@ -200,6 +200,6 @@ fn unmark_drives(drives: &mut [Option<Drive>; 4], vector: u16)
     ensures { drives.new ≡ reset_from vector 0 drives.old }
 {
     for (number, drive) in drives.iter_mut().enumerate() {
-        unmark_drive(drive, has_bit(vector, number as u8));
+        unmark_drive(drive, has_drive_bit(vector, number as u8));
     }
 }

@@ -3,7 +3,7 @@
 ghost use Rattle.std.specs.Prelude.{◌≡◌, ◌≤◌, ◌<◌, ◌+◌, ◌^◌, false, MatchOption, length};
 ghost use Rattle.cpm_geom.specs.Geometry.{dpb_of};
 ghost use Rattle.cpm_drives.specs.Disks.{drive_at};
-ghost use Rattle.cpm_drives.specs.Vectors.{bit, login_vector, read_only_vector, is_reserved_block, allocation_byte, allocation_vector, allocation_of};
+ghost use Rattle.cpm_drives.specs.Vectors.{drive_bit, login_vector, read_only_vector, is_reserved_block, allocation_byte, allocation_vector, allocation_of};
 
 use crate::disks::Disks;
 use crate::selecting::SYSTEM;
@@ -23,7 +23,7 @@ impl Disks {
             is_logged_in(&self.drives[2]),
             is_logged_in(&self.drives[3]),
         );
-        own + bit(self.system.is_logged_in, SYSTEM)
+        own + drive_bit(self.system.is_logged_in, SYSTEM)
     }
 
     /// GET READ-ONLY VECTOR: a bit for each drive that is protected, A's the lowest.
@@ -36,7 +36,7 @@ impl Disks {
             is_protected(&self.drives[2]),
             is_protected(&self.drives[3]),
         );
-        own + bit(true, SYSTEM)
+        own + drive_bit(true, SYSTEM)
     }
 
     /// The allocation vector of the current drive: a bit for each block, the highest of a byte first, set where the
@@ -78,16 +78,16 @@ fn is_protected(drive: &Option<Drive>) -> bool
 
 /// The vector of those of the drives A to D that are such.
 fn vector_of(a: bool, b: bool, c: bool, d: bool) -> u16
-    ensures value { result ≡ bit a 0 + (bit b 1 + (bit c 2 + bit d 3)) }
+    ensures value { result ≡ drive_bit a 0 + (drive_bit b 1 + (drive_bit c 2 + drive_bit d 3)) }
     ensures small { result < 16 }
 {
-    bit(a, 0) + (bit(b, 1) + (bit(c, 2) + bit(d, 3)))
+    drive_bit(a, 0) + (drive_bit(b, 1) + (drive_bit(c, 2) + drive_bit(d, 3)))
 }
 
 /// The bit of a drive in a vector, if it is set.
-fn bit(set: bool, drive: u8) -> u16
+fn drive_bit(set: bool, drive: u8) -> u16
     requires { drive < 16 }
-    ensures value { result ≡ bit set drive }
+    ensures value { result ≡ drive_bit set drive }
     ensures small { result ≤ 2 ^ drive }
 {
     if set { 1 << drive } else { 0 }
@@ -113,7 +113,7 @@ fn allocation_byte(format: Format, reserved: &Reserved, place: u16) -> u8
     let mut byte = 0;
     for offset in 0..8u8 {
         let block = 8 * place + u16::from(offset);
-        byte += bit(is_reserved(format, reserved, block), 7 - offset);
+        byte += drive_bit(is_reserved(format, reserved, block), 7 - offset);
     }
     byte as u8
 }

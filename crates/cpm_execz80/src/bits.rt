@@ -2,7 +2,7 @@
 ghost use Rattle.std.specs.Prelude.{◌≡◌, bit_or};
 ghost use Rattle.cpm_memory.specs.Contents.{Contents, after_sets};
 ghost use Rattle.cpm_memory.specs.Room.{HasRoom};
-ghost use Rattle.cpm_execz80.specs.Bits.{shifted, shifted_out, bit_mask, has_bit_at, cleared, applied, is_test, meaning_bits};
+ghost use Rattle.cpm_execz80.specs.Bits.{shifted, shifted_out, bit_mask, has_bit_at, bit_cleared, applied, is_test, meaning_bits};
 
 use cpm_decode::{BitOp, ByteOperand, Shift};
 use cpm_exec8080::operands::{read_place, write_place};
@@ -65,7 +65,7 @@ pub fn with_bit(byte: u8, bit: u8) -> u8
 /// Zilog Z80 CPU User Manual, "RES b, m".
 #[inline(always)]
 pub fn without_bit(byte: u8, bit: u8) -> u8
-    ensures { result ≡ cleared byte bit }
+    ensures { result ≡ bit_cleared byte bit }
 {
     byte & !1u8.wrapping_shl(u32::from(bit))
 }

@@ -7,7 +7,7 @@ use Rattle.std.proofs.lemmas.List.Splits.{slice_split_first, slice_split_none}
 use Rattle.std.specs.List.{slice_split}
 use Rattle.memchr.specs.Find.{IsFirstByte, is_byte}
 use Rattle.cpm_asm.proofs.LineLemmas.{place-found}
-use Rattle.cpm_host.specs.Asm.{line_of, lines_in}
+use Rattle.cpm_host.specs.Asm.{listed_source_line, lines_in}
 
 -- a newline ends the first line
 pub first_and_rest : (text : List ℕ) (end : ℕ) → end < length text → IsFirstByte (is_byte 10) text (Some end) → lines_in text ≡ take end text ∷ lines_in (drop (end + 1) text)
@@ -33,7 +33,7 @@ lines_behind text rest line behind passed more is h parts k =
     ap (λ (ps : List (List ℕ)). get_or ps (suc k) []) (sym parts) ∙ h (suc k) ∙ ap (λ (i : ℕ). get_or (lines_in text) i []) same
 
 -- no line has the number
-pub no_line : (text rest : List ℕ) (passed number : ℕ) → passed + 1 < number → AreLinesBehind text passed rest → lines_in rest ≡ rest ∷ [] → [] ≡ line_of text number
+pub no_line : (text rest : List ℕ) (passed number : ℕ) → passed + 1 < number → AreLinesBehind text passed rest → lines_in rest ≡ rest ∷ [] → [] ≡ listed_source_line text number
 no_line text rest passed number below h one =
     let k = number - 1 - passed in
     let same : passed + k ≡ number - 1 = omega (arith, below) in
@@ -41,7 +41,7 @@ no_line text rest passed number below h one =
     sym (get_or_past (lines_in rest) k [] past) ∙ h k ∙ ap (λ (i : ℕ). get_or (lines_in text) i []) same
 
 -- the line of the number is the first of what is left
-pub line_here : (text rest line : List ℕ) (passed number : ℕ) → passed ≡ number - 1 → AreLinesBehind text passed rest → line ≡ get_or (lines_in rest) 0 [] → line ≡ line_of text number
+pub line_here : (text rest line : List ℕ) (passed number : ℕ) → passed ≡ number - 1 → AreLinesBehind text passed rest → line ≡ get_or (lines_in rest) 0 [] → line ≡ listed_source_line text number
 line_here text rest line passed number is h first =
     let same : passed + 0 ≡ number - 1 = omega (arith, is) in
     first ∙ h 0 ∙ ap (λ (i : ℕ). get_or (lines_in text) i []) same

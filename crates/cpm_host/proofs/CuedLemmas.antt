@@ -2,7 +2,7 @@
 use Rattle.std.proofs.Common.{◌≡◌, ◌≤◌, ◌<◌, ℕ, Bool, true, false, List, [], ◌∷◌, ◌++◌, Ok, IfOk, Vec, cond, length, map, arith, refl, ap, ◌∙◌, sym, subst, nat_lt}
 use Rattle.std.specs.declared.alloc.Global.{Global}
 use Rattle.std.proofs.lemmas.List.{map-append}
-use Rattle.cpm_script.specs.Cues.{Counted, all_said, cues, keys_in, said}
+use Rattle.cpm_script.specs.Cues.{Counted, all_said, cues, cued_key_count, cue_text}
 use Rattle.cpm_script.specs.Fork.{forked_cues, keys_before}
 use Rattle.cpm_script.specs.Laws.{AreInOrder, AreOwn, CuesInOrder, ForkedCuesInOrder, KeysAreAscii, MeansTheSame, PlainScripts}
 use Rattle.cpm_script.specs.Script.{script}
@@ -15,12 +15,12 @@ use Rattle.cpm_host.specs.Cued.{AreFit}
 
 -- ---- keys as cues
 
-said-counted : (keys : List Key) → map said (map Timed keys) ≡ map Counted keys
+said-counted : (keys : List Key) → map cue_text (map Timed keys) ≡ map Counted keys
 said-counted [] = refl
 said-counted (k ∷ ks) = ap (λ cs. Counted k ∷ cs) (said-counted ks)
 
 pub joined-said : (keys : List Key) (own all : Vec Cue Global) → all.items ≡ map Timed keys ++ own.items → all_said all ≡ map Counted keys ++ all_said own
-joined-said keys own all is = ap (map said) is ∙ map-append said (map Timed keys) own.items ∙ ap (λ cs. cs ++ all_said own) (said-counted keys)
+joined-said keys own all is = ap (map cue_text) is ∙ map-append cue_text (map Timed keys) own.items ∙ ap (λ cs. cs ++ all_said own) (said-counted keys)
 
 -- those that are left of keys below 80h
 ascii-kept : (t : Bool) (k : Key) (kept : List Key) → k.byte < 128 → KeysAreAscii (map Counted kept) → KeysAreAscii (map Counted (cond t (k ∷ kept) kept))
@@ -48,5 +48,5 @@ module _ (plain : PlainScripts) (order : CuesInOrder) (forked : ForkedCuesInOrde
       let said_all = joined-said (keys_before at keys) own all is in
       record {
         ascii = subst KeysAreAscii (sym said_all) (ascii-append (map Counted (keys_before at keys)) (all_said own) (ascii-before at keys parents.ascii) good.in_order.ascii);
-        few = let room = good.room in omega (arith, room, ap keys_in said_all, keys_in-append (map Counted (keys_before at keys)) (all_said own), counted-keys (keys_before at keys));
+        few = let room = good.room in omega (arith, room, ap cued_key_count said_all, keys_in-append (map Counted (keys_before at keys)) (all_said own), counted-keys (keys_before at keys));
       }

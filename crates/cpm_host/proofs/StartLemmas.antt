@@ -2,11 +2,11 @@
 use Rattle.std.proofs.Common.{◌≡◌, ◌∙◌, ap, sym, subst, refl, ℕ, ◌<◌, ◌≤◌, Bool, true, false, ◌||◌, cond, ltb, eqb, not, List, [], ◌∷◌, Option, Some, None, length, arith}
 use Rattle.std.proofs.lemmas.Bool.{ltb-true, ltb-false, le-ltb, ne_eqb}
 use Rattle.cpm_geom.specs.Disk.{Disk}
-use Rattle.cpm_machine.specs.Opening.{IsRefusal, drives_fault, first_fault, program_fault}
+use Rattle.cpm_machine.specs.Opening.{IsRefusal, drives_fault, fault_else, program_fault}
 use Rattle.cpm_machine.specs.declared.opening.OpenError.{OpenError}
 use Rattle.cpm_machine.specs.declared.opening.OpenError.TheVariants as opening
 use Rattle.cpm_machine.specs.declared.opening.Opening.{Opening}
-use Rattle.cpm_host.specs.Com.{Given, IsStartRefusal, drives_or_blank}
+use Rattle.cpm_host.specs.Com.{Given, IsProgramRefusal, drives_or_blank}
 use Rattle.cpm_host.specs.Refusals.{host_error_of_opening}
 
 some_drives : (ds : List Disk) → 4 < length (drives_or_blank ds) → 4 < length ds
@@ -25,7 +25,7 @@ fault_of_some (d ∷ ds) =
 
 -- how a machine is refused that may write all pages and has these drives
 pub start_refused : (g : Given) (o : Opening) (program : List ℕ) (fault : OpenError) → o.quota ≡ 256 → o.drives.items ≡ drives_or_blank g.drives → program ≡ g.program
-    → length g.program ≤ 58112 → IsRefusal (program_fault o program) fault → IsStartRefusal g (host_error_of_opening fault)
+    → length g.program ≤ 58112 → IsRefusal (program_fault o program) fault → IsProgramRefusal g (host_error_of_opening fault)
 start_refused g o program fault quota drives same short h =
     go (ltb 4 (length (drives_or_blank g.drives))) refl (subst (λ f. IsRefusal f fault) found h)
   where
@@ -35,17 +35,17 @@ start_refused g o program fault quota drives same short h =
     long : ltb 58112 (length g.program) ≡ false
     long = le-ltb _ _ short
 
-    found : program_fault o program ≡ first_fault few None
-    found = ap (λ q. cond (not (eqb q 256)) (Some opening.BadQuota) (first_fault (drives_fault (length o.drives.items)) (cond (ltb 58112 (length program)) (Some opening.ProgramTooLong) None))) quota
-        ∙ ap (λ ds. first_fault (drives_fault (length ds)) (cond (ltb 58112 (length program)) (Some opening.ProgramTooLong) None)) drives
-        ∙ ap (λ f. first_fault f (cond (ltb 58112 (length program)) (Some opening.ProgramTooLong) None)) (fault_of_some g.drives)
-        ∙ ap (λ xs. first_fault few (cond (ltb 58112 (length xs)) (Some opening.ProgramTooLong) None)) same
-        ∙ ap (λ b. first_fault few (cond b (Some opening.ProgramTooLong) None)) long
+    found : program_fault o program ≡ fault_else few None
+    found = ap (λ q. cond (not (eqb q 256)) (Some opening.BadQuota) (fault_else (drives_fault (length o.drives.items)) (cond (ltb 58112 (length program)) (Some opening.ProgramTooLong) None))) quota
+        ∙ ap (λ ds. fault_else (drives_fault (length ds)) (cond (ltb 58112 (length program)) (Some opening.ProgramTooLong) None)) drives
+        ∙ ap (λ f. fault_else f (cond (ltb 58112 (length program)) (Some opening.ProgramTooLong) None)) (fault_of_some g.drives)
+        ∙ ap (λ xs. fault_else few (cond (ltb 58112 (length xs)) (Some opening.ProgramTooLong) None)) same
+        ∙ ap (λ b. fault_else few (cond b (Some opening.ProgramTooLong) None)) long
 
-    go : (b : Bool) → ltb 4 (length (drives_or_blank g.drives)) ≡ b → IsRefusal (first_fault few None) fault → IsStartRefusal g (host_error_of_opening fault)
+    go : (b : Bool) → ltb 4 (length (drives_or_blank g.drives)) ≡ b → IsRefusal (fault_else few None) fault → IsProgramRefusal g (host_error_of_opening fault)
     go true many r =
-        let is : fault ≡ opening.BadDrives = subst (λ b. IsRefusal (first_fault (cond b (Some opening.BadDrives) None) None) fault) many r in
-        subst (λ f. IsStartRefusal g (host_error_of_opening f)) (sym is) (short, some_drives g.drives (ltb-true 4 _ many), refl)
+        let is : fault ≡ opening.BadDrives = subst (λ b. IsRefusal (fault_else (cond b (Some opening.BadDrives) None) None) fault) many r in
+        subst (λ f. IsProgramRefusal g (host_error_of_opening f)) (sym is) (short, some_drives g.drives (ltb-true 4 _ many), refl)
     go false many r =
-        let is : fault ≡ opening.OutOfMemory = subst (λ b. IsRefusal (first_fault (cond b (Some opening.BadDrives) None) None) fault) many r in
-        subst (λ f. IsStartRefusal g (host_error_of_opening f)) (sym is) (short, few_given g.drives (ltb-false 4 _ many))
+        let is : fault ≡ opening.OutOfMemory = subst (λ b. IsRefusal (fault_else (cond b (Some opening.BadDrives) None) None) fault) many r in
+        subst (λ f. IsProgramRefusal g (host_error_of_opening f)) (sym is) (short, few_given g.drives (ltb-false 4 _ many))

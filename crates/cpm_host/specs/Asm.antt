@@ -11,12 +11,12 @@ abbrev pub lines_in : List ℕ → List (List ℕ)
 lines_in text = slice_split (λ b. b == 0x0A) text
 
 -- own: the line of this number, from 1 on; nothing where there is none
-abbrev pub line_of : List ℕ → ℕ → List ℕ
-line_of text number = slice_index_or (lines_in text) (number - 1) []
+abbrev pub listed_source_line : List ℕ → ℕ → List ℕ
+listed_source_line text number = slice_index_or (lines_in text) (number - 1) []
 
 -- its fault is the answered one of the two passes, and the line of the fault is shown; or memory is refused
 abbrev pub IsAsmRefusal : List ℕ → HostError → Type 0
 IsAsmRefusal source (SourceRefused line kind found) =
-    (both_passes source ≡ Err (record { line = line; kind = kind })) × (found.bytes ≡ shown_of (characters_of (line_of source line)))
+    (both_passes source ≡ Err (record { line = line; kind = kind })) × (found.bytes ≡ shown_of (characters_of (listed_source_line source line)))
 IsAsmRefusal source OutOfMemory = ⊤
 IsAsmRefusal source _ = ⊥

@@ -23,8 +23,8 @@ cells_of image (p ∷ ps) = cells_at (p.address % 65536) (bytes_at image p) ++ c
 -- ---- a line
 
 -- an address in four digits, a space on each side
-abbrev pub at_address : ℕ → List ℕ
-at_address a = 0x20 ∷ four_digits a ++ 0x20 ∷ []
+abbrev pub address_column : ℕ → List ℕ
+address_column a = 0x20 ∷ four_digits a ++ 0x20 ∷ []
 
 -- bytes in two digits each
 abbrev pub digits_of : List Cell → List ℕ
@@ -33,8 +33,8 @@ digits_of (c ∷ cs) = two_digits c.byte ++ digits_of cs
 
 -- the address of the first byte, else that of the first place, if there is one
 abbrev pub head : List Cell → List Placement → List ℕ
-head (c ∷ cs) ps = at_address c.address
-head [] (p ∷ ps) = at_address (p.address % 65536)
+head (c ∷ cs) ps = address_column c.address
+head [] (p ∷ ps) = address_column (p.address % 65536)
 head [] [] = []
 
 -- What stands before a line: an address and the first eight bytes, in 24 columns. Tabs stop at each eighth column.
@@ -43,7 +43,7 @@ front cells ps = padded 24 (head cells ps ++ digits_of (take 8 cells))
 
 -- a row begins where the one before it has room for no more bytes
 abbrev pub row_start : ℕ → Cell → List ℕ
-row_start zero c = 0x0A ∷ at_address c.address
+row_start zero c = 0x0A ∷ address_column c.address
 row_start (suc left) c = []
 
 abbrev pub left_after : ℕ → ℕ

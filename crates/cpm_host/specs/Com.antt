@@ -23,8 +23,8 @@ use Rattle.cpm_host.specs.declared.error.HostError.TheVariants.{OpeningRefused, 
 use Rattle.cpm_run.specs.declared.error.RunError.TheVariants.{FileRefused}
 
 -- the console bytes of a machine from which none was taken
-abbrev pub text_of : MachineState → List ℕ
-text_of s = s.session.console.screen
+abbrev pub console_text : MachineState → List ℕ
+console_text s = s.session.console.screen
 
 abbrev pub ending_of : MachineState → Ending
 ending_of s = record { ended = s.ended; count = s.count; pc = s.session.regs.pc; at_pc = bytes_at_pc s }
@@ -57,8 +57,8 @@ pub record Given : Type 0 where
   pub tail : Option (List ℕ)
   pub drives : List Disk
 
-abbrev pub given : ProgramStart → Given
-given start = record {
+abbrev pub program_given : ProgramStart → Given
+program_given start = record {
   cpu = start.cpu;
   program = start.program.items;
   tail = start.tail;
@@ -97,17 +97,17 @@ IsScriptRefusal script OutOfMemory = ⊤
 IsScriptRefusal script _ = ⊥
 
 -- how the machine of a program is refused: the program is too long, then there are too many drives, then memory is refused
-abbrev pub IsStartRefusal : Given → HostError → Type 0
-IsStartRefusal g (ProgramTooLong count) = (58112 < length g.program) × (count ≡ length g.program)
-IsStartRefusal g (OpeningRefused fault) = (length g.program ≤ 58112) × (4 < length g.drives) × (fault ≡ BadDrives)
-IsStartRefusal g OutOfMemory = (length g.program ≤ 58112) × (length g.drives ≤ 4)
-IsStartRefusal g _ = ⊥
+abbrev pub IsProgramRefusal : Given → HostError → Type 0
+IsProgramRefusal g (ProgramTooLong count) = (58112 < length g.program) × (count ≡ length g.program)
+IsProgramRefusal g (OpeningRefused fault) = (length g.program ≤ 58112) × (4 < length g.drives) × (fault ≡ BadDrives)
+IsProgramRefusal g OutOfMemory = (length g.program ≤ 58112) × (length g.drives ≤ 4)
+IsProgramRefusal g _ = ⊥
 
 -- When a program that runs for so many steps is refused: it is too long, it has too many drives, a line of its script is wrong, memory is refused, or the
 -- writer refuses some of its text. The writer is as it was, but where it failed itself.
 abbrev pub IsComRefusal : {W : Type 0} → Given → Option Script → ℕ → HostError → W → W → Type 0
-IsComRefusal {W} g script steps (ProgramTooLong count) old new = IsStartRefusal g (ProgramTooLong count) × (new ≡ old)
-IsComRefusal {W} g script steps (OpeningRefused fault) old new = IsStartRefusal g (OpeningRefused fault) × (new ≡ old)
+IsComRefusal {W} g script steps (ProgramTooLong count) old new = IsProgramRefusal g (ProgramTooLong count) × (new ≡ old)
+IsComRefusal {W} g script steps (OpeningRefused fault) old new = IsProgramRefusal g (OpeningRefused fault) × (new ≡ old)
 IsComRefusal {W} g script steps (RunRefused (FileRefused (read.Script shown line fault))) old new =
     (length g.program ≤ 58112) × (length g.drives ≤ 4) × IsBadLine script shown.bytes line fault × (new ≡ old)
 IsComRefusal {W} g script steps OutOfMemory old new = (length g.program ≤ 58112) × (length g.drives ≤ 4) × (new ≡ old)

@@ -6,7 +6,7 @@ use Rattle.cpm_command_line.specs.Shown.{shown_of}
 use Rattle.cpm_drives.specs.Disks.{images_of}
 use Rattle.cpm_geom.specs.Disk.{Disk, blank_disk}
 use Rattle.cpm_geom.specs.declared.format.Format.TheVariants.{Ibm3740}
-use Rattle.cpm_script.specs.Cues.{Counted, Said, all_said, cues}
+use Rattle.cpm_script.specs.Cues.{Counted, CueText, all_said, cues}
 use Rattle.cpm_script.specs.Fork.{forked_cues, keys_before}
 use Rattle.cpm_script.specs.Recording.{recorded}
 use Rattle.cpm_script.specs.Script.{script}
@@ -19,8 +19,8 @@ use Rattle.cpm_play.specs.Live.{AreGiven}
 use Rattle.cpm_play.specs.Playing.{alone_by}
 use Rattle.cpm_play.specs.declared.cued.CuedKeys.{CuedKeys}
 use Rattle.cpm_play.specs.declared.live.LiveError.{LiveError}
-use Rattle.cpm_host.specs.Com.{Given, IsStartRefusal, ending_of, machine_of, text_of}
-use Rattle.cpm_host.specs.Live.{IsOpeningRefused, begun}
+use Rattle.cpm_host.specs.Com.{Given, IsProgramRefusal, ending_of, machine_of, console_text}
+use Rattle.cpm_host.specs.Live.{IsOpeningRefused, opened_live}
 use Rattle.cpm_host.specs.Refusals.{host_error_of_live}
 use Rattle.cpm_host.specs.declared.com.Script.{Script}
 use Rattle.cpm_host.specs.declared.cued.ForkedCues.{ForkedCues}
@@ -47,7 +47,7 @@ pub record AreForked (parent own : List ℕ) (at : ℕ) (f : ForkedCues) : Type 
   pub keys : List Key
   pub given : script parent ≡ Ok keys
   pub before : f.before ≡ length (keys_before at keys)
-  pub said : List Said
+  pub said : List CueText
   pub read : forked_cues at f.before own ≡ Ok said
   pub joined : all_said f.cues ≡ map Counted (keys_before at keys) ++ said
 
@@ -74,7 +74,7 @@ pub record IsRehearsed (system : Disk) (start : MachineState) (steps : ℕ) (c :
 -- and what it showed, and its keys as lines of a script, went to two writers
 pub record IsPlayedCued (system : Disk) (start : MachineState) (steps : ℕ) (c : CuedKeys) (t : LiveResult) (before written unrecorded record_now : Option (List ℕ)) : Type 0 where
   pub rehearsed : IsRehearsed system start steps c t
-  pub text : Appends before written (text_of (alone_by system t.keys.items t.steps start))
+  pub text : Appends before written (console_text (alone_by system t.keys.items t.steps start))
   pub lines : Appends unrecorded record_now (recorded t.keys.items)
 
 -- it was not played to its end, and this is told of it
@@ -87,7 +87,7 @@ pub record IsCutCued (system : Disk) (start : MachineState) (steps : ℕ) (c : C
 -- how such a program is refused: its machine is, as of a program that doesn't wait, or memory was refused for the system drive; or it was cut short
 abbrev pub IsWaitingRefusal : Given → ℕ → CuedKeys → (before written unrecorded record_now : Option (List ℕ)) → HostError → Type 0
 IsWaitingRefusal g steps c before written unrecorded record_now e =
-    IsStartRefusal g e ⊎ IsCutCued (blank_disk Ibm3740) (machine_of g) steps c before written unrecorded record_now e
+    IsProgramRefusal g e ⊎ IsCutCued (blank_disk Ibm3740) (machine_of g) steps c before written unrecorded record_now e
 
 -- a session that was played by itself was cut short, whatever became of what it showed and of its keys
 pub record IsRehearsalCut (system : Disk) (start : MachineState) (steps : ℕ) (c : CuedKeys) (e : HostError) : Type 0 where
@@ -99,4 +99,4 @@ pub record IsRehearsalCut (system : Disk) (start : MachineState) (steps : ℕ) (
 
 -- how such a session is refused: its opening is, or it was cut short
 abbrev pub IsRehearsalRefusal : Disk → SessionStart → CuedKeys → HostError → Type 0
-IsRehearsalRefusal system s c e = IsOpeningRefused s.name.now (opening_fault s.opening) e ⊎ IsRehearsalCut system (begun s) s.steps c e
+IsRehearsalRefusal system s c e = IsOpeningRefused s.name.now (opening_fault s.opening) e ⊎ IsRehearsalCut system (opened_live s) s.steps c e

@@ -22,6 +22,6 @@ listing cpu place zero (b ∷ bs) =
 listing cpu place (suc left) (b ∷ bs) = listing cpu (suc place) left bs
 
 -- when a listing is refused: the writer refused it, where there was something to write
-abbrev pub IsListRefusal : List ℕ → HostError → Type 0
-IsListRefusal bytes (OutputUnwritable reason) = bytes ≢ []
-IsListRefusal bytes _ = ⊥
+abbrev pub IsListingRefusal : List ℕ → HostError → Type 0
+IsListingRefusal bytes (OutputUnwritable reason) = bytes ≢ []
+IsListingRefusal bytes _ = ⊥

@@ -11,10 +11,10 @@ use Rattle.cpm_machine.specs.MachineState.{MachineState, opened_machine}
 use Rattle.cpm_machine.specs.Opening.{opening_fault}
 use Rattle.cpm_machine.specs.declared.opening.OpenError.{OpenError}
 use Rattle.cpm_play.specs.Cued.{waits_at}
-use Rattle.cpm_play.specs.Live.{AreGiven, AreRead, IsCutShort}
+use Rattle.cpm_play.specs.Live.{AreGiven, AreTypedKeysRead, IsCutShort}
 use Rattle.cpm_play.specs.Playing.{alone_by}
 use Rattle.cpm_play.specs.declared.live.LiveError.{LiveError}
-use Rattle.cpm_host.specs.Com.{Given, IsStartRefusal, ending_of, machine_of, text_of}
+use Rattle.cpm_host.specs.Com.{Given, IsProgramRefusal, ending_of, machine_of, console_text}
 use Rattle.cpm_host.specs.Refusals.{host_error_of_live}
 use Rattle.cpm_host.specs.declared.live.SessionStart.{SessionStart}
 use Rattle.cpm_host.specs.declared.live.LiveResult.{LiveResult}
@@ -47,8 +47,8 @@ streams unread left before written unrecorded record_now = record {
 pub record IsPlayedLive (system : Disk) (start : MachineState) (steps most : ℕ) (t : LiveResult) (io : Streams) : Type 0 where
   pub within : t.steps ≤ steps
   pub given : AreGiven most t.steps t.keys.items
-  pub read : AreRead io.unread io.left t.keys.items
-  pub text : Appends io.before io.written (text_of (alone_by system t.keys.items t.steps start))
+  pub read : AreTypedKeysRead io.unread io.left t.keys.items
+  pub text : Appends io.before io.written (console_text (alone_by system t.keys.items t.steps start))
   pub ending : t.ran.ending ≡ ending_of (alone_by system t.keys.items t.steps start)
   pub drives : t.ran.drives ≡ images_of (alone_by system t.keys.items t.steps start).session.disks
   pub waits : t.waits ≡ waits_at system start t.keys.items t.steps
@@ -56,7 +56,7 @@ pub record IsPlayedLive (system : Disk) (start : MachineState) (steps most : ℕ
   pub replays : most ≤ 4096 → script (recorded t.keys.items) ≡ Ok t.keys.items
 
 -- it was not played to its end, and this is told of it
-pub record IsCut (system : Disk) (start : MachineState) (steps most : ℕ) (io : Streams) (e : HostError) : Type 0 where
+pub record IsLiveCut (system : Disk) (start : MachineState) (steps most : ℕ) (io : Streams) (e : HostError) : Type 0 where
   pub error : LiveError
   pub told : e ≡ host_error_of_live error
   pub now : MachineState
@@ -64,11 +64,11 @@ pub record IsCut (system : Disk) (start : MachineState) (steps most : ℕ) (io :
 
 -- how a live program is refused: its machine is, as of a program that isn't, or memory was refused for the system drive; or it was cut short
 abbrev pub IsLiveRefusal : Given → (steps most : ℕ) → Streams → HostError → Type 0
-IsLiveRefusal g steps most io e = IsStartRefusal g e ⊎ IsCut (blank_disk Ibm3740) (machine_of g) steps most io e
+IsLiveRefusal g steps most io e = IsProgramRefusal g e ⊎ IsLiveCut (blank_disk Ibm3740) (machine_of g) steps most io e
 
 -- the machine of a session at its opening
-abbrev pub begun : SessionStart → MachineState
-begun s = opened_machine s.opening.cpu s.opening.quota s.opening.drives.items
+abbrev pub opened_live : SessionStart → MachineState
+opened_live s = opened_machine s.opening.cpu s.opening.quota s.opening.drives.items
 
 -- the opening of a session of this name has such a fault, or memory was refused
 abbrev pub IsOpeningRefused : (name : List ℕ) → Option OpenError → HostError → Type 0
@@ -77,5 +77,5 @@ IsOpeningRefused name fault OutOfMemory = ⊤
 IsOpeningRefused name fault _ = ⊥
 
 -- how a live session is refused
-abbrev pub IsSessionRefusal : Disk → SessionStart → ℕ → Streams → HostError → Type 0
-IsSessionRefusal system s most io e = IsOpeningRefused s.name.now (opening_fault s.opening) e ⊎ IsCut system (begun s) s.steps most io e
+abbrev pub IsTypedRefusal : Disk → SessionStart → ℕ → Streams → HostError → Type 0
+IsTypedRefusal system s most io e = IsOpeningRefused s.name.now (opening_fault s.opening) e ⊎ IsLiveCut system (opened_live s) s.steps most io e

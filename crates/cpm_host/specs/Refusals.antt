@@ -4,17 +4,17 @@ use Rattle.cpm_command_line.specs.declared.fault.UsageError.{UsageError}
 use Rattle.cpm_command_line.specs.declared.fault.UsageError.TheVariants as usage
 use Rattle.cpm_host.specs.declared.error.HostError.{HostError}
 use Rattle.cpm_host.specs.declared.error.HostError.TheVariants.{Usage, NotText, CheckRefused, DiskRefused, FileUnreadable, FileUnwritable, InputUnreadable, NoSession, NotAFolder, NotOpened, OutputUnwritable, SourceRefused, OutOfMemory, OpeningRefused, ProgramTooLong, RecordUnwritable, RunRefused, TailRefused}
-use Rattle.cpm_check.specs.Check.{status_of as status_of_check}
+use Rattle.cpm_check.specs.Check.{check_status_of as status_of_check}
 use Rattle.cpm_check.specs.declared.error.CheckError.{CheckError}
 use Rattle.cpm_check.specs.declared.error.CheckError.TheVariants as check
 use Rattle.cpm_config.specs.declared.fault.ConfigError.{ConfigError}
 use Rattle.cpm_config.specs.declared.fault.ConfigError.TheVariants as config
 use Rattle.cpm_debug.specs.declared.error.DebugError.{DebugError}
 use Rattle.cpm_debug.specs.declared.error.DebugError.TheVariants as debug
-use Rattle.cpm_disk_commands.specs.Refusals.{status_of as status_of_filing}
+use Rattle.cpm_disk_commands.specs.Refusals.{filing_status_of as status_of_filing}
 use Rattle.cpm_disk_commands.specs.declared.error.FilingError.{FilingError}
 use Rattle.cpm_disk_commands.specs.declared.error.FilingError.TheVariants as filing
-use Rattle.cpm_run.specs.Refusals.{status_of as status_of_run}
+use Rattle.cpm_run.specs.Refusals.{run_status_of as status_of_run}
 use Rattle.cpm_run.specs.declared.error.RunError.{RunError}
 use Rattle.cpm_run.specs.declared.error.RunError.TheVariants as run
 use Rattle.cpm_machine.specs.declared.opening.OpenError.{OpenError}

@@ -11,17 +11,17 @@ abbrev pub is_typed : ℕ → Bool
 is_typed c = nat_le 0x20 c && nat_lt c 0x7F
 
 -- own: a word may stand behind a tail: there is room for it and its blank, 126 bytes in all
-unfoldable pub fits : List ℕ → List ℕ → Bool
-fits tail word = list_all is_typed word && nat_lt (length tail + length word) 126
+unfoldable pub fits_tail : List ℕ → List ℕ → Bool
+fits_tail tail word = list_all is_typed word && nat_lt (length tail + length word) 126
 
 -- CP/M 2.2 Operating System Manual, section 1.6, Transient Commands: the tail with one more word, behind a blank and in capitals
-abbrev pub with_word : List ℕ → List ℕ → List ℕ
-with_word tail word = tail ++ 0x20 ∷ map capital word
+abbrev pub tail_with_word : List ℕ → List ℕ → List ℕ
+tail_with_word tail word = tail ++ 0x20 ∷ map capital word
 
 -- the tail with more words, or the first that may not stand there
 abbrev pub tail_from : List ℕ → List (List ℕ) → Result (List ℕ) (List ℕ)
 tail_from tail [] = Ok tail
-tail_from tail (word ∷ words) = if fits tail word then tail_from (with_word tail word) words else Err word
+tail_from tail (word ∷ words) = if fits_tail tail word then tail_from (tail_with_word tail word) words else Err word
 
 -- how words that make no tail are refused
 abbrev pub IsTailRefusal : List (List ℕ) → HostError → Type 0

@@ -4,7 +4,7 @@ ghost use Rattle.cpm_asm.specs.Assembled.{Assembled};
 ghost use Rattle.cpm_asm.specs.Passes.{both_passes};
 ghost use Rattle.cpm_asm.specs.Placing.{places};
 ghost use Rattle.cpm_asm.specs.declared.error.AsmErrorKind.TheVariants as kinds;
-ghost use Rattle.cpm_host.specs.Asm.{IsAsmRefusal, line_of, lines_in};
+ghost use Rattle.cpm_host.specs.Asm.{IsAsmRefusal, listed_source_line, lines_in};
 ghost use Rattle.cpm_host.specs.AsmListing.{listing};
 
 use crate::asm_listing::listing;
@@ -35,7 +35,7 @@ fn first_line(text: &[u8]) -> &[u8]
 
 /// The line of a text with this number, from 1 on; nothing where there is none.
 fn line_at(text: &[u8], number: u64) -> &[u8]
-    ensures { result.now ≡ line_of text.now number }
+    ensures { result.now ≡ listed_source_line text.now number }
 {
     let mut rest = text;
     for _before in 1..number {

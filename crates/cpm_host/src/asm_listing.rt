@@ -3,7 +3,7 @@ ghost use Rattle.std.specs.Prelude.{◌≡◌, ◌-◌, ◌++◌, ◌<◌, ◌�
 ghost use Rattle.std.specs.List.{position};
 ghost use Rattle.cpm_listing.specs.Digits.{hexadecimal, two_digits};
 ghost use Rattle.cpm_asm.specs.Placing.{bytes_at};
-ghost use Rattle.cpm_host.specs.AsmListing.{at_address, cells_at, cells_of, digits_of, front, further_rows, head, is_behind, later_places, left_after, line_text, listing, own_places, row_start};
+ghost use Rattle.cpm_host.specs.AsmListing.{address_column, cells_at, cells_of, digits_of, front, further_rows, head, is_behind, later_places, left_after, line_text, listing, own_places, row_start};
 
 use cpm_asm::{Assembly, Placement, first_line, source_text};
 use std::alloc::{AllocError, Global};
@@ -82,7 +82,7 @@ fn add_byte(text: &mut Vec<u8>, byte: u8) -> Result<(), AllocError>
 /// Adds an address in four digits, a space on each side.
 #[tactic(auto, unfolding(cpm_listing::specs::Digits::four_digits))]
 fn add_address(text: &mut Vec<u8>, address: u16) -> Result<(), AllocError>
-    ensures { OnOk result (text.new.items ≡ text.old.items ++ at_address address) }
+    ensures { OnOk result (text.new.items ≡ text.old.items ++ address_column address) }
 {
     let [high, low] = address.to_be_bytes();
     text.push(b' ')?;

@@ -5,7 +5,7 @@ ghost use Rattle.cpm_drives.specs.Disks.{images_of};
 ghost use Rattle.cpm_machine.specs.MachineState.{opened_with};
 ghost use Rattle.cpm_machine.specs.Opening.{program_fault, IsRefusal};
 ghost use Rattle.cpm_play.specs.Playing.{IsFresh};
-ghost use Rattle.cpm_host.specs.Com.{HasScript, IsComRefusal, IsScriptRefusal, IsScriptTold, IsStartRefusal, drives_or_blank, ending_of, given, keys_given, machine_of, ran_alone, text_of, with_tail_if_any};
+ghost use Rattle.cpm_host.specs.Com.{HasScript, IsComRefusal, IsScriptRefusal, IsScriptTold, IsProgramRefusal, drives_or_blank, ending_of, program_given, keys_given, machine_of, ran_alone, console_text, with_tail_if_any};
 
 use crate::ending::Ending;
 use crate::error::HostError;
@@ -72,8 +72,8 @@ pub struct ProgramStart {
 impl ProgramStart {
     /// Refuses a program that no machine runs: `ProgramTooLong`, then `OpeningRefused` for more than four drives.
     pub fn check(&self) -> Result<(), HostError>
-        ensures fits { OnOk result ((length (given self.now).program ≤ 58112) × (length (given self.now).drives ≤ 4)) }
-        ensures refusal { IfErr result (λ e. IsStartRefusal (given self.now) e × (e ≢ HostError.OutOfMemory)) }
+        ensures fits { OnOk result ((length (program_given self.now).program ≤ 58112) × (length (program_given self.now).drives ≤ 4)) }
+        ensures refusal { IfErr result (λ e. IsProgramRefusal (program_given self.now) e × (e ≢ HostError.OutOfMemory)) }
     {
         if self.program.len() > MOST_PROGRAM {
             return Err(HostError::ProgramTooLong(self.program.len()));
@@ -108,10 +108,10 @@ fn drives_or_blank(alloc: Global, drives: Vec<Image>) -> Result<Vec<Image>, Host
 
 /// The machine that begins a program.
 pub(crate) fn machine_of(alloc: Global, start: ProgramStart) -> Result<Machine, HostError>
-    ensures made { IfOk result (λ m. m ≡ machine_of (given start)) }
+    ensures made { IfOk result (λ m. m ≡ machine_of (program_given start)) }
     ensures fresh { IfOk result IsFresh }
-    ensures fits { OnOk result ((length (given start).program ≤ 58112) × (length (given start).drives ≤ 4)) }
-    ensures refusal { IfErr result (IsStartRefusal (given start)) }
+    ensures fits { OnOk result ((length (program_given start).program ≤ 58112) × (length (program_given start).drives ≤ 4)) }
+    ensures refusal { IfErr result (IsProgramRefusal (program_given start)) }
 {
     start.check()?;
     let ProgramStart {
@@ -164,15 +164,15 @@ pub fn run_com<W: Write, T: Watcher>(
 ) -> Result<ProgramResult, HostError>
     // Text, ending and drives are those of the machine run alone.
     ensures text { OnOk result (Appends (W.contents out.old) (W.contents out.new)
-        (text_of (ran_alone (given start) (keys_given script.entry) steps))) }
-    ensures ending { IfOk result (λ r. r.ending ≡ ending_of (ran_alone (given start) (keys_given script.entry) steps)) }
-    ensures drives { IfOk result (λ r. r.drives ≡ images_of (ran_alone (given start) (keys_given script.entry) steps).session.disks) }
+        (console_text (ran_alone (program_given start) (keys_given script.entry) steps))) }
+    ensures ending { IfOk result (λ r. r.ending ≡ ending_of (ran_alone (program_given start) (keys_given script.entry) steps)) }
+    ensures drives { IfOk result (λ r. r.drives ≡ images_of (ran_alone (program_given start) (keys_given script.entry) steps).session.disks) }
     ensures script { IfOk result (λ _. HasScript script.entry (keys_given script.entry)) }
 
-    ensures fits { OnOk result ((length (given start).program ≤ 58112) × (length (given start).drives ≤ 4)) }
-    ensures too_long { IsErrOf result (HostError.ProgramTooLong (length (given start).program))
-        ↔ (58112 < length (given start).program) }
-    ensures refusal { IfErr result (λ e. IsComRefusal (given start) script.entry steps e out.old out.new) }
+    ensures fits { OnOk result ((length (program_given start).program ≤ 58112) × (length (program_given start).drives ≤ 4)) }
+    ensures too_long { IsErrOf result (HostError.ProgramTooLong (length (program_given start).program))
+        ↔ (58112 < length (program_given start).program) }
+    ensures refusal { IfErr result (λ e. IsComRefusal (program_given start) script.entry steps e out.old out.new) }
 {
     let mut machine = machine_of(alloc, start)?;
     let keys = keys_of(alloc, script)?;

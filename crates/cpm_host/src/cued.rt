@@ -6,9 +6,9 @@ ghost use Rattle.cpm_geom.specs.declared.format.Format.TheVariants.{Ibm3740};
 ghost use Rattle.cpm_script.specs.Cues.{all_said, cues};
 ghost use Rattle.cpm_script.specs.declared.cue.Cue.TheVariants.{Key as Timed};
 ghost use Rattle.cpm_play.specs.Playing.{IsFresh};
-ghost use Rattle.cpm_host.specs.Com.{given, machine_of};
+ghost use Rattle.cpm_host.specs.Com.{program_given, machine_of};
 ghost use Rattle.cpm_host.specs.Cued.{AreFit, AreForked, IsCueRefusal, IsCutCued, IsForkedRefusal, IsPlayedCued, IsRehearsalRefusal, IsRehearsed, IsWaitingRefusal};
-ghost use Rattle.cpm_host.specs.Live.{begun};
+ghost use Rattle.cpm_host.specs.Live.{opened_live};
 
 use crate::com::{Script, ProgramStart, keys_of, left_of, machine_of, script_refused};
 use crate::error::HostError;
@@ -144,9 +144,9 @@ pub fn run_waiting<W: Write, S: Write, T: Watcher>(
     watcher: &mut T,
 ) -> Result<LiveResult, HostError>
     requires fit { AreFit cued.cues.now }
-    ensures played { IfOk result (λ t. IsPlayedCued (blank_disk Ibm3740) (machine_of (given start)) steps cued.entry t (W.contents out.old) (W.contents out.new) (S.contents «record».old) (S.contents «record».new)) }
-    ensures fits { OnOk result ((length (given start).program ≤ 58112) × (length (given start).drives ≤ 4)) }
-    ensures refusal { IfErr result (IsWaitingRefusal (given start) steps cued.entry (W.contents out.old) (W.contents out.new) (S.contents «record».old) (S.contents «record».new)) }
+    ensures played { IfOk result (λ t. IsPlayedCued (blank_disk Ibm3740) (machine_of (program_given start)) steps cued.entry t (W.contents out.old) (W.contents out.new) (S.contents «record».old) (S.contents «record».new)) }
+    ensures fits { OnOk result ((length (program_given start).program ≤ 58112) × (length (program_given start).drives ≤ 4)) }
+    ensures refusal { IfErr result (IsWaitingRefusal (program_given start) steps cued.entry (W.contents out.old) (W.contents out.new) (S.contents «record».old) (S.contents «record».new)) }
 {
     let machine = machine_of(alloc, start)?;
     let system = Image::blank(alloc, Format::Ibm3740)?;
@@ -165,7 +165,7 @@ pub fn rehearse_session<T: Watcher>(
     watcher: &mut T,
 ) -> Result<LiveResult, HostError>
     requires fit { AreFit cued.cues.now }
-    ensures played { IfOk result (λ t. IsRehearsed system.now (begun start.entry) start.entry.steps cued.entry t) }
+    ensures played { IfOk result (λ t. IsRehearsed system.now (opened_live start.entry) start.entry.steps cued.entry t) }
     ensures refusal { IfErr result (IsRehearsalRefusal system.now start.entry cued.entry) }
 {
     let SessionStart {

@@ -1,7 +1,7 @@
 //! The command `list`.
 ghost use Rattle.std.specs.Prelude.{◌≡◌, ◌++◌, ◌∷◌, [], IfErr, OnOk};
 ghost use Rattle.std.specs.Io.KnownBytes.{Appends};
-ghost use Rattle.cpm_host.specs.Listing.{IsListRefusal, four, listing};
+ghost use Rattle.cpm_host.specs.Listing.{IsListingRefusal, four, listing};
 
 use crate::error::HostError;
 use cpm_flags::Cpu;
@@ -57,7 +57,7 @@ fn write_listing<W: Write>(cpu: Cpu, bytes: &[u8], out: &mut W) -> io::Result<()
 /// `OutputUnwritable` has the writer's error, who may have got the beginning. It comes only where there is something to write.
 pub fn run_list<W: Write>(cpu: Cpu, program: &[u8], out: &mut W) -> Result<(), HostError>
     ensures text { OnOk result (Appends (W.contents out.old) (W.contents out.new) (listing cpu 256 0 program.now)) }
-    ensures refusal { IfErr result (IsListRefusal program.now) }
+    ensures refusal { IfErr result (IsListingRefusal program.now) }
 {
     if program.is_empty() {
         return Ok(());

@@ -5,8 +5,8 @@ ghost use Rattle.cpm_geom.specs.Disk.{blank_disk};
 ghost use Rattle.cpm_machine.specs.Opening.{IsRefusal};
 ghost use Rattle.cpm_machine.specs.declared.opening.OpenError.{OpenError as OpenErrorValue};
 ghost use Rattle.cpm_play.specs.Playing.{IsFresh};
-ghost use Rattle.cpm_host.specs.Com.{given, machine_of};
-ghost use Rattle.cpm_host.specs.Live.{IsCut, IsLiveRefusal, IsOpeningRefused, IsPlayedLive, IsSessionRefusal, begun, streams};
+ghost use Rattle.cpm_host.specs.Com.{program_given, machine_of};
+ghost use Rattle.cpm_host.specs.Live.{IsLiveCut, IsLiveRefusal, IsOpeningRefused, IsPlayedLive, IsTypedRefusal, opened_live, streams};
 
 use crate::com::{ProgramResult, ProgramStart, left_of, machine_of};
 use crate::error::HostError;
@@ -46,7 +46,7 @@ fn play_typed<I: Read, W: Write, S: Write>(
 ) -> Result<LiveResult, HostError>
     requires { IsFresh machine }
     ensures played { IfOk result (λ t. IsPlayedLive system.now machine steps most_keys t (streams (I.remaining input.old) (I.remaining input.new) (W.contents out.old) (W.contents out.new) (S.contents «record».old) (S.contents «record».new))) }
-    ensures refusal { IfErr result (IsCut system.now machine steps most_keys (streams (I.remaining input.old) (I.remaining input.new) (W.contents out.old) (W.contents out.new) (S.contents «record».old) (S.contents «record».new))) }
+    ensures refusal { IfErr result (IsLiveCut system.now machine steps most_keys (streams (I.remaining input.old) (I.remaining input.new) (W.contents out.old) (W.contents out.new) (S.contents «record».old) (S.contents «record».new))) }
 {
     recorded_keys();
     let mut machine = machine;
@@ -84,9 +84,9 @@ pub fn run_live<I: Read, W: Write, S: Write>(
     out: &mut W,
     record: &mut S,
 ) -> Result<LiveResult, HostError>
-    ensures played { IfOk result (λ t. IsPlayedLive (blank_disk Format.Ibm3740) (machine_of (given start)) steps most_keys t (streams (I.remaining input.old) (I.remaining input.new) (W.contents out.old) (W.contents out.new) (S.contents «record».old) (S.contents «record».new))) }
-    ensures fits { OnOk result ((length (given start).program ≤ 58112) × (length (given start).drives ≤ 4)) }
-    ensures refusal { IfErr result (IsLiveRefusal (given start) steps most_keys (streams (I.remaining input.old) (I.remaining input.new) (W.contents out.old) (W.contents out.new) (S.contents «record».old) (S.contents «record».new))) }
+    ensures played { IfOk result (λ t. IsPlayedLive (blank_disk Format.Ibm3740) (machine_of (program_given start)) steps most_keys t (streams (I.remaining input.old) (I.remaining input.new) (W.contents out.old) (W.contents out.new) (S.contents «record».old) (S.contents «record».new))) }
+    ensures fits { OnOk result ((length (program_given start).program ≤ 58112) × (length (program_given start).drives ≤ 4)) }
+    ensures refusal { IfErr result (IsLiveRefusal (program_given start) steps most_keys (streams (I.remaining input.old) (I.remaining input.new) (W.contents out.old) (W.contents out.new) (S.contents «record».old) (S.contents «record».new))) }
 {
     let machine = machine_of(alloc, start)?;
     let system = Image::blank(alloc, Format::Ibm3740)?;
@@ -128,8 +128,8 @@ pub fn type_session<I: Read, W: Write, S: Write>(
     out: &mut W,
     record: &mut S,
 ) -> Result<LiveResult, HostError>
-    ensures played { IfOk result (λ t. IsPlayedLive system.now (begun start.entry) start.entry.steps 4096 t (streams (I.remaining input.old) (I.remaining input.new) (W.contents out.old) (W.contents out.new) (S.contents «record».old) (S.contents «record».new))) }
-    ensures refusal { IfErr result (IsSessionRefusal system.now start.entry 4096 (streams (I.remaining input.old) (I.remaining input.new) (W.contents out.old) (W.contents out.new) (S.contents «record».old) (S.contents «record».new))) }
+    ensures played { IfOk result (λ t. IsPlayedLive system.now (opened_live start.entry) start.entry.steps 4096 t (streams (I.remaining input.old) (I.remaining input.new) (W.contents out.old) (W.contents out.new) (S.contents «record».old) (S.contents «record».new))) }
+    ensures refusal { IfErr result (IsTypedRefusal system.now start.entry 4096 (streams (I.remaining input.old) (I.remaining input.new) (W.contents out.old) (W.contents out.new) (S.contents «record».old) (S.contents «record».new))) }
 {
     let SessionStart {
         name,

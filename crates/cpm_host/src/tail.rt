@@ -2,7 +2,7 @@
 
 ghost use Rattle.std.specs.Prelude.{◌≡◌, ◌≤◌, [], MatchResult, Ok, OnOk, length, map};
 ghost use Rattle.std.specs.List.{list_all};
-ghost use Rattle.cpm_host.specs.Tails.{fits, is_typed, tail_from, with_word, IsTailRefusal};
+ghost use Rattle.cpm_host.specs.Tails.{fits_tail, is_typed, tail_from, tail_with_word, IsTailRefusal};
 
 use crate::error::HostError;
 use cpm_command_line::shown;
@@ -21,7 +21,7 @@ pub fn tail_of(alloc: Global, words: &[&str]) -> Result<Tail, HostError>
 {
     let mut text = Vec::new(alloc);
     for word in words {
-        if !fits(&text, word) {
+        if !fits_tail(&text, word) {
             return Err(HostError::TailRefused(shown(word)));
         }
         add_word(&mut text, word)?;
@@ -31,9 +31,9 @@ pub fn tail_of(alloc: Global, words: &[&str]) -> Result<Tail, HostError>
 
 /// Whether a word may stand behind this tail.
 #[tactic(auto, unfolding(crate::specs::Tails::fits))]
-fn fits(text: &[u8], word: &str) -> bool
+fn fits_tail(text: &[u8], word: &str) -> bool
     requires { length text.now ≤ 126 }
-    ensures { result ≡ fits text.now word.now }
+    ensures { result ≡ fits_tail text.now word.now }
 {
     is_typed(word.as_bytes()) && word.len() < MOST_TAIL - text.len()
 }
@@ -47,7 +47,7 @@ fn is_typed(word: &[u8]) -> bool
 
 /// Adds a word behind a blank, in capitals.
 fn add_word(text: &mut Vec<u8>, word: &str) -> Result<(), AllocError>
-    ensures { OnOk result (text.new.items ≡ with_word text.old.items word.now) }
+    ensures { OnOk result (text.new.items ≡ tail_with_word text.old.items word.now) }
 {
     text.push(b' ')?;
     for c in word.as_bytes() {

@@ -12,9 +12,9 @@ use Rattle.cpm_volume.specs.Names.{protects, reserved_after}
 use Rattle.cpm_directory.specs.Login.{reserved_at_login}
 use Rattle.cpm_image_files.specs.declared.refusal.FileRefusal.{FileRefusal}
 use Rattle.cpm_image_files.specs.declared.refusal.FileRefusal.TheVariants.{ReadOnly, DirectoryFull, DiskFull}
-use Rattle.cpm_image_files.specs.Shelf.{entries_for, blocks_for, free_entries, free_blocks, refusal_of}
+use Rattle.cpm_image_files.specs.Shelf.{entries_for, blocks_for, free_entries, free_blocks, file_refusal_of}
 use Rattle.cpm_image_files.specs.Appending.{entries_begun, blocks_begun}
-use Rattle.cpm_image_files.specs.Writing.{HasRoom}
+use Rattle.cpm_image_files.specs.Writing.{HasRoomForFile}
 use Rattle.cpm_image_files.proofs.FreeLemmas.{login_length, after_length}
 
 -- ---- one record more
@@ -85,13 +85,13 @@ free_below d user name es =
     let all = login_length d es in
     omega arith
 
-pub room_small : (f : Format) (es : List Entry) (user : ℕ) (name : List ℕ) (n : ℕ) → HasRoom (dpb_of f) es user name n → n < 65536
+pub room_small : (f : Format) (es : List Entry) (user : ℕ) (name : List ℕ) (n : ℕ) → HasRoomForFile (dpb_of f) es user name n → n < 65536
 room_small f es user name n room =
     let most = free_below (dpb_of f) user name es in
     let need = room.blocks in
     blocks_small f n (omega arith)
 
-pub room_less : (f : Format) (es : List Entry) (user : ℕ) (name : List ℕ) (m n : ℕ) → HasRoom (dpb_of f) es user name n → m ≤ n → HasRoom (dpb_of f) es user name m
+pub room_less : (f : Format) (es : List Entry) (user : ℕ) (name : List ℕ) (m n : ℕ) → HasRoomForFile (dpb_of f) es user name n → m ≤ n → HasRoomForFile (dpb_of f) es user name m
 room_less f es user name m n room h =
     let entries = entries_less f m n h in
     let blocks = blocks_less f m n h in
@@ -104,8 +104,8 @@ room_less f es user name m n room h =
 refused : (r : FileRefusal) → Some r ≢ None
 refused r e = cc
 
-pub room_of : (d : Dpb) (es : List Entry) (user : ℕ) (name : List ℕ) (n : ℕ) → refusal_of d es user name n ≡ None → HasRoom d es user name n
-unfolding refusal_of
+pub room_of : (d : Dpb) (es : List Entry) (user : ℕ) (name : List ℕ) (n : ℕ) → file_refusal_of d es user name n ≡ None → HasRoomForFile d es user name n
+unfolding file_refusal_of
 room_of d es user name n h =
     elim (cases_Bool (list_any (protects user name) es)) [
       | inl t ↦ absurd (refused ReadOnly (rw t at h))

@@ -4,7 +4,7 @@ use Rattle.std.proofs.lemmas.Bool.{cases_eq, cases_lt, lt-ltb, cond-true, eq-eqb
 use Rattle.cpm_geom.specs.declared.dpb.Dpb.{Dpb}
 use Rattle.cpm_volume.specs.declared.extent.Extent.{Extent}
 use Rattle.cpm_volume.specs.Files.{deleted, extent_number, group_of, IsFormat, IsSound, Volume}
-use Rattle.cpm_volume.specs.Operations.{Outcome, next_place, put_record, write_in, write_next}
+use Rattle.cpm_volume.specs.Operations.{Outcome, next_place, put_record, write_in, write_next_on_volume}
 use Rattle.cpm_volume.specs.Laws.{position}
 use Rattle.cpm_image_files.specs.Appending.{unused, entries_begun, IsAtEnd, IsAppending, IsAppended, LacksEntry, LacksBlock}
 use Rattle.cpm_image_files.specs.Laws.{AppendingLaw}
@@ -26,8 +26,8 @@ module _ (d : Dpb) (user : ℕ) (name : List ℕ) (v : Volume) (x : Extent) (cur
     stored = λ s h. (sound.kept.stored s h).within;
   }
 
-  answer : write_next d v user x current bytes ≡ put_record d false v x current (current + 1) bytes
-  unfolding write_next write_in next_place
+  answer : write_next_on_volume d v user x current bytes ≡ put_record d false v x current (current + 1) bytes
+  unfolding write_next_on_volume write_in next_place
   answer = rw (lt-ltb _ _ small) refl
 
   put_within : (o : Outcome) → PutsAtEnd d user name v current o → IsAppended d user name v (position x current) o
@@ -46,7 +46,7 @@ module _ (d : Dpb) (user : ℕ) (name : List ℕ) (v : Volume) (x : Extent) (cur
     none = lacks.none;
   }
 
-  appends_within : Appends d user name v (position x current) (write_next d v user x current bytes)
+  appends_within : Appends d user name v (position x current) (write_next_on_volume d v user x current bytes)
   appends_within =
       elim (puts_at_end d user name v x current bytes format ready appending.at_end small) [
         | inl puts ↦ rw answer (inl (put_within _ puts))
@@ -73,14 +73,14 @@ module _ (d : Dpb) (user : ℕ) (name : List ℕ) (v : Volume) (x : Extent) (byt
     none = (let none = lacks.none in rw moves.reserved at none);
   }
 
-  appends_there : (v' : Volume) (x' : Extent) → MovesToEnd d user name v x bytes v' x' → unused v'.entries + entries_begun d (position x 128) ≡ unused v.entries → Appends d user name v (position x 128) (write_next d v user x 128 bytes)
+  appends_there : (v' : Volume) (x' : Extent) → MovesToEnd d user name v x bytes v' x' → unused v'.entries + entries_begun d (position x 128) ≡ unused v.entries → Appends d user name v (position x 128) (write_next_on_volume d v user x 128 bytes)
   appends_there v' x' moves entries =
       elim (puts_at_end d user name v' x' 0 bytes format moves.ready moves.at_end (omega arith)) [
         | inl puts ↦ rw moves.answer (inl (put_behind v' x' moves entries _ puts))
         | inr lacks ↦ rw moves.answer (inr (inr (lacks_behind v' x' moves _ lacks)))
       ]
 
-  appends_behind : Appends d user name v (position x 128) (write_next d v user x 128 bytes)
+  appends_behind : Appends d user name v (position x 128) (write_next_on_volume d v user x 128 bytes)
   appends_behind =
       elim (cases_eq (group_of d (extent_number x + 1)) (group_of d (extent_number x))) [
         | inl same ↦

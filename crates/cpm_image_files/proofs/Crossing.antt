@@ -9,7 +9,7 @@ use Rattle.cpm_volume.specs.declared.answer.Answer.TheVariants.{NoRecord as no_r
 use Rattle.cpm_volume.specs.Reserved.{is_reserved}
 use Rattle.cpm_volume.specs.Files.{deleted, extent_number, group_of, has_wildcard, entry_at, is_of, first_of, first_free, block_number, IsFormat, IsWellFormed, IsSound, Volume}
 use Rattle.cpm_volume.specs.Names.{is_named}
-use Rattle.cpm_volume.specs.Operations.{Outcome, ends, with_entry, closed, closed_entry, close_extent, opened, open_extent, made, make_extent, made_in, opened_or_made, have_extent, closed_in, cross, next_target, next_place, put_record, write_in, write_next}
+use Rattle.cpm_volume.specs.Operations.{Outcome, ends, with_entry, closed, closed_entry, close_extent, opened_extent, open_extent, made_extent, make_extent, made_in, opened_or_made, have_extent, closed_in, cross, next_target, next_place, put_record, write_in, write_next_on_volume}
 use Rattle.cpm_volume.proofs.Entries.{entry_at-set_same, in_use_within, is_of_parts, is_of_from, first_of_passes}
 use Rattle.cpm_volume.proofs.NameLemmas.{first_match_plain, same_name-refl}
 use Rattle.cpm_volume.proofs.Closing as closing
@@ -24,7 +24,7 @@ use Rattle.cpm_image_files.proofs.PutLemmas.{IsReady}
 
 -- the extent that was moved to: the record is put there, at the end of the file
 pub record MovesToEnd (d : Dpb) (user : ℕ) (name : List ℕ) (v : Volume) (x : Extent) (bytes : List ℕ) (v' : Volume) (x' : Extent) : Type 0 where
-  pub answer : write_next d v user x 128 bytes ≡ put_record d false v' x' 0 (0 + 1) bytes
+  pub answer : write_next_on_volume d v user x 128 bytes ≡ put_record d false v' x' 0 (0 + 1) bytes
   pub ready : IsReady d v' x'
   pub at_end : IsAtEnd d user name v' x' 0
   pub reserved : v'.reserved ≡ v.reserved
@@ -112,7 +112,7 @@ module _ (d : Dpb) (user : ℕ) (name : List ℕ) (v : Volume) (x : Extent) (cur
     -- ---- the next extent is in the entry
     module _ (same : group_of d (extent_number x + 1) ≡ group_of d (extent_number x)) where
       next_extent : Extent
-      next_extent = opened (entry_at entries_now sound.kept.index).extent (extent_number x + 1)
+      next_extent = opened_extent (entry_at entries_now sound.kept.index).extent (extent_number x + 1)
 
       next_volume : Volume
       next_volume = with_entry v sound.kept.index entries_now
@@ -141,7 +141,7 @@ module _ (d : Dpb) (user : ℕ) (name : List ℕ) (v : Volume) (x : Extent) (cur
           ap length (opening.opened_map (entry_at entries_now sound.kept.index).extent (extent_number x + 1) ∙ (ap (λ (e : Entry). e.extent.blocks) at_now ∙ closed_map (entry_at v.entries sound.kept.index) x)) ∙ sound.map
 
       next_named : next_extent.name ≡ name
-      unfolding next_extent opened
+      unfolding next_extent opened_extent
       next_named = ap (λ (e : Entry). e.extent.name) at_now ∙ now_name
 
       next_count : next_extent.record_count ≡ 0
@@ -174,8 +174,8 @@ module _ (d : Dpb) (user : ℕ) (name : List ℕ) (v : Volume) (x : Extent) (cur
         stored = λ s h. rw (next_blocks s) (sound.kept.stored s (λ z. h (next_blocks s ∙ z))).within;
       }
 
-      next_answer : write_next d v user x 128 bytes ≡ put_record d false next_volume next_extent 0 (0 + 1) bytes
-      unfolding write_next write_in next_place next_target cross closed_in have_extent opened_or_made next_volume with_entry
+      next_answer : write_next_on_volume d v user x 128 bytes ≡ put_record d false next_volume next_extent 0 (0 + 1) bytes
+      unfolding write_next_on_volume write_in next_place next_target cross closed_in have_extent opened_or_made next_volume with_entry
       next_answer = rw (ne_eqb (extent_number x) 511 not_last, closes, opens) refl
 
       pub moves_on : (v' : Volume) × (x' : Extent) × MovesToEnd d user name v x bytes v' x' × (unused v'.entries ≡ unused v.entries)
@@ -212,7 +212,7 @@ module _ (d : Dpb) (user : ℕ) (name : List ℕ) (v : Volume) (x : Extent) (cur
 
       module _ (free : first_free entries_now < length entries_now) where
         new_entry : Entry
-        new_entry = record { user = user; extent = made x (extent_number x + 1) }
+        new_entry = record { user = user; extent = made_extent x (extent_number x + 1) }
 
         new_entries : List Entry
         new_entries = set entries_now (first_free entries_now) new_entry
@@ -220,11 +220,11 @@ module _ (d : Dpb) (user : ℕ) (name : List ℕ) (v : Volume) (x : Extent) (cur
         new_volume : Volume
         new_volume = with_entry (with_entry v sound.kept.index entries_now) (first_free entries_now) new_entries
 
-        makes : make_extent entries_now user x (extent_number x + 1) ≡ Some (new_entries, made x (extent_number x + 1))
+        makes : make_extent entries_now user x (extent_number x + 1) ≡ Some (new_entries, made_extent x (extent_number x + 1))
         unfolding make_extent new_entries new_entry
         makes = rw (lt-ltb _ _ free) refl
 
-        new_number : extent_number (made x (extent_number x + 1)) ≡ extent_number x + 1
+        new_number : extent_number (made_extent x (extent_number x + 1)) ≡ extent_number x + 1
         new_number = made_number x (extent_number x + 1) (omega arith)
 
         new_name : new_entry.extent.name ≡ name
@@ -233,12 +233,12 @@ module _ (d : Dpb) (user : ℕ) (name : List ℕ) (v : Volume) (x : Extent) (cur
 
         new_named : is_named user name new_entry ≡ true
         unfolding new_entry
-        new_named = named_from user name (record { user = user; extent = made x (extent_number x + 1) }) plain_name refl (made_name x (extent_number x + 1) ∙ end.name_is)
+        new_named = named_from user name (record { user = user; extent = made_extent x (extent_number x + 1) }) plain_name refl (made_name x (extent_number x + 1) ∙ end.name_is)
 
         new_last : (j : ℕ) → is_named user name (entry_at new_entries j) ≡ true → extent_number (entry_at new_entries j).extent ≤ extent_number x + 1
         unfolding new_entries new_entry
         new_last =
-            last_after user name entries_now (first_free entries_now) (record { user = user; extent = made x (extent_number x + 1) }) free new_named (extent_number x + 1) (let e = new_number in omega arith) (λ j h. let low = last_now j h in omega arith)
+            last_after user name entries_now (first_free entries_now) (record { user = user; extent = made_extent x (extent_number x + 1) }) free new_named (extent_number x + 1) (let e = new_number in omega arith) (λ j h. let low = last_now j h in omega arith)
 
         new_names : (j : ℕ) → is_named user name (entry_at new_entries j) ≡ true → (entry_at new_entries j).extent.name ≡ name
         unfolding new_entries
@@ -246,20 +246,20 @@ module _ (d : Dpb) (user : ℕ) (name : List ℕ) (v : Volume) (x : Extent) (cur
 
         new_unused : unused new_entries + 1 ≡ unused v.entries
         unfolding new_entries new_entry
-        new_unused = unused-taken entries_now (first_free entries_now) (record { user = user; extent = made x (extent_number x + 1) }) free (free_user entries_now free) user_ok ∙ unused_now
+        new_unused = unused-taken entries_now (first_free entries_now) (record { user = user; extent = made_extent x (extent_number x + 1) }) free (free_user entries_now free) user_ok ∙ unused_now
 
         new_keeps : KeepsEntries user name v.entries new_entries
         unfolding new_entries
         new_keeps = keeps-trans user name v.entries entries_now (set entries_now (first_free entries_now) new_entry) keeps_now (keeps_entries user name entries_now (first_free entries_now) new_entry free new_named (λ used. absurd (used.used (free_user entries_now free))))
 
-        new_records : records_in_entry d (made x (extent_number x + 1)) 0 ≡ 0
+        new_records : records_in_entry d (made_extent x (extent_number x + 1)) 0 ≡ 0
         new_records = let first = next_is_first d x other in rw new_number (omega arith)
 
-        new_count : (made x (extent_number x + 1)).record_count ≡ 0
-        unfolding made
+        new_count : (made_extent x (extent_number x + 1)).record_count ≡ 0
+        unfolding made_extent
         new_count = refl
 
-        new_at_end : IsAtEnd d user name new_volume (made x (extent_number x + 1)) 0
+        new_at_end : IsAtEnd d user name new_volume (made_extent x (extent_number x + 1)) 0
         unfolding new_volume with_entry
         new_at_end = record {
           name_is = made_name x (extent_number x + 1) ∙ end.name_is;
@@ -271,8 +271,8 @@ module _ (d : Dpb) (user : ℕ) (name : List ℕ) (v : Volume) (x : Extent) (cur
           rest = λ s h. made_blocks x (extent_number x + 1) s;
         }
 
-        new_ready : IsReady d new_volume (made x (extent_number x + 1))
-        unfolding new_volume with_entry made
+        new_ready : IsReady d new_volume (made_extent x (extent_number x + 1))
+        unfolding new_volume with_entry made_extent
         new_ready = record {
           map = length-replicate {A = ℕ} 16 0;
           blocks = sound.volume.blocks;
@@ -280,25 +280,25 @@ module _ (d : Dpb) (user : ℕ) (name : List ℕ) (v : Volume) (x : Extent) (cur
           stored = λ s h. absurd (h (made_blocks x (extent_number x + 1) s));
         }
 
-        new_answer : write_next d v user x 128 bytes ≡ put_record d false new_volume (made x (extent_number x + 1)) 0 (0 + 1) bytes
-        unfolding write_next write_in next_place next_target cross closed_in have_extent opened_or_made made_in new_volume with_entry
+        new_answer : write_next_on_volume d v user x 128 bytes ≡ put_record d false new_volume (made_extent x (extent_number x + 1)) 0 (0 + 1) bytes
+        unfolding write_next_on_volume write_in next_place next_target cross closed_in have_extent opened_or_made made_in new_volume with_entry
         new_answer = rw (ne_eqb (extent_number x) 511 not_last, closes, opens_none, makes) refl
 
         moves_new : (v' : Volume) × (x' : Extent) × MovesToEnd d user name v x bytes v' x' × (unused v'.entries + 1 ≡ unused v.entries)
         unfolding new_volume with_entry
         moves_new = (
           new_volume,
-          made x (extent_number x + 1),
+          made_extent x (extent_number x + 1),
           record { answer = new_answer; ready = new_ready; at_end = new_at_end; reserved = refl; others = new_keeps },
           new_unused,
         )
 
-      stops_answer : length entries_now ≤ first_free entries_now → write_next d v user x 128 bytes ≡ ends no_record (with_entry v sound.kept.index entries_now) x 128
-      unfolding write_next write_in next_place next_target cross closed_in have_extent opened_or_made made_in make_extent with_entry
+      stops_answer : length entries_now ≤ first_free entries_now → write_next_on_volume d v user x 128 bytes ≡ ends no_record (with_entry v sound.kept.index entries_now) x 128
+      unfolding write_next_on_volume write_in next_place next_target cross closed_in have_extent opened_or_made made_in make_extent with_entry
       stops_answer full =
           rw (ne_eqb (extent_number x) 511 not_last, closes, opens_none, le-ltb (first_free entries_now) (length entries_now) full) refl
 
-      pub moves_or_stops : ((v' : Volume) × (x' : Extent) × MovesToEnd d user name v x bytes v' x' × (unused v'.entries + 1 ≡ unused v.entries)) ⊎ (((write_next d v user x 128 bytes).answer ≡ no_record) × (unused v.entries ≡ 0))
+      pub moves_or_stops : ((v' : Volume) × (x' : Extent) × MovesToEnd d user name v x bytes v' x' × (unused v'.entries + 1 ≡ unused v.entries)) ⊎ (((write_next_on_volume d v user x 128 bytes).answer ≡ no_record) × (unused v.entries ≡ 0))
       unfolding ends
       moves_or_stops =
           elim (cases_lt (first_free entries_now) (length entries_now)) [

@@ -11,7 +11,7 @@ use Rattle.cpm_volume.specs.declared.fcb.Fcb.{Fcb}
 use Rattle.cpm_volume.specs.declared.answer.Fault.{Fault}
 use Rattle.cpm_volume.specs.Files.{deleted, same_name, entry_at, file_block, file_record, open_file_block, open_file_record, record_in, IsFormat, IsWellFormed, IsSoundDrive, Volume}
 use Rattle.cpm_volume.specs.Names.{is_named}
-use Rattle.cpm_volume.specs.Operations.{with_entry, closed, close_file}
+use Rattle.cpm_volume.specs.Operations.{with_entry, closed, close_file_on_volume}
 use Rattle.cpm_volume.proofs.Formats.{each_format}
 use Rattle.cpm_volume.proofs.Closing as closing
 use Rattle.cpm_volume.proofs.Closing.{after as entries_closed}
@@ -24,7 +24,7 @@ use Rattle.cpm_drive.specs.Drive.{volume_of, drive_after, directory_code}
 use Rattle.cpm_drive.specs.Calls.{ClosedFile, closed_file, close_answer, drive_closed, after_close}
 use Rattle.cpm_drive.specs.Laws.{IsOfBytes, CallsReach, Reaches}
 use Rattle.cpm_drive.proofs.DiskReach.{calls_reach}
-use Rattle.cpm_image_files.specs.Shelf.{record_of, records_for, record_on, refusal_of, IsSoundDisk, IsPut}
+use Rattle.cpm_image_files.specs.Shelf.{record_of_bytes, records_for, record_on, file_refusal_of, IsSoundDisk, IsPut}
 use Rattle.cpm_image_files.specs.Appending.{KeepsEntries}
 use Rattle.cpm_image_files.specs.Writing.{KeepsDisk, IsWriting}
 use Rattle.cpm_image_files.proofs.RecordLemmas.{no_record_of}
@@ -44,7 +44,7 @@ logged_in_sound d es reserved format wf =
       apart = wf.apart;
     }
 
-module _ (old : Disk) (user : ℕ) (name bytes : List ℕ) (drive : Drive) (fcb : Fcb) (user_ok : user < 16) (writing : IsWriting old user name bytes (records_for (length bytes)) drive fcb) (sound_before : IsSoundDisk old) (allowed : refusal_of (dpb_of old.format) (entries_of old) user name (records_for (length bytes)) ≡ None) where
+module _ (old : Disk) (user : ℕ) (name bytes : List ℕ) (drive : Drive) (fcb : Fcb) (user_ok : user < 16) (writing : IsWriting old user name bytes (records_for (length bytes)) drive fcb) (sound_before : IsSoundDisk old) (allowed : file_refusal_of (dpb_of old.format) (entries_of old) user name (records_for (length bytes)) ≡ None) where
   live : user ≢ deleted
   live e = absurd (omega arith)
 
@@ -57,8 +57,8 @@ module _ (old : Disk) (user : ℕ) (name bytes : List ℕ) (drive : Drive) (fcb 
   volume_now : Volume
   volume_now = with_entry (volume_of drive.image drive.marks.reserved) writing.sound.kept.index after
 
-  answer : close_file (dpb_of old.format) false (entries_of drive.image) user fcb.extent ≡ closed writing.sound.kept.index after fcb.extent
-  unfolding close_file after volume_of
+  answer : close_file_on_volume (dpb_of old.format) false (entries_of drive.image) user fcb.extent ≡ closed writing.sound.kept.index after fcb.extent
+  unfolding close_file_on_volume after volume_of
   answer = crossing.closes (dpb_of old.format) user name (volume_of drive.image drive.marks.reserved) fcb.extent fcb.current_record live writing.sound writing.appending.at_end
 
   keeps_now : KeepsEntries user name (entries_of drive.image) after
@@ -110,7 +110,7 @@ module _ (old : Disk) (user : ℕ) (name bytes : List ℕ) (drive : Drive) (fcb 
   no_more m past =
       no_more_records (dpb_of old.format) user name (volume_of drive.image drive.marks.reserved) fcb.extent fcb.current_record live writing.sound.kept.plain writing.appending.at_end m (let at = writing.count_is in omega arith)
 
-  its_record : (m : ℕ) → open_file_record (dpb_of old.format) (entries_of drive.image) (records_of drive.image) user fcb.extent m ≡ record_of bytes m
+  its_record : (m : ℕ) → open_file_record (dpb_of old.format) (entries_of drive.image) (records_of drive.image) user fcb.extent m ≡ record_of_bytes bytes m
   its_record m =
       elim (cases_lt m (records_for (length bytes))) [
         | inl lt ↦ writing.records m lt
@@ -136,7 +136,7 @@ module _ (old : Disk) (user : ℕ) (name bytes : List ℕ) (drive : Drive) (fcb 
   unfolding volume_now with_entry
   keeps = keeps_on old user name drive volume_now writing.keeps has keeps_now sound_now others
 
-  on_disk : (m : ℕ) → record_on (drive_after drive volume_now).image user name m ≡ record_of bytes m
+  on_disk : (m : ℕ) → record_on (drive_after drive volume_now).image user name m ≡ record_of_bytes bytes m
   unfolding volume_now with_entry volume_of
   on_disk m = has.listed user name m live sound_now ∙ (own_record m ∙ its_record m)
 
@@ -165,9 +165,9 @@ module _ (old : Disk) (user : ℕ) (name bytes : List ℕ) (drive : Drive) (fcb 
     sound = sound_after;
   }
 
-  pub closes_put : (code : Result (Option ℕ) Fault) (drive' : Drive) (fcb' : Fcb) → closed_file code drive' fcb' ≡ after_close drive fcb (close_file (dpb_of drive.image.format) drive.marks.is_protected (entries_of drive.image) user fcb.extent) → (is_ok code ≡ true) × IsPut old user name bytes drive'.image
+  pub closes_put : (code : Result (Option ℕ) Fault) (drive' : Drive) (fcb' : Fcb) → closed_file code drive' fcb' ≡ after_close drive fcb (close_file_on_volume (dpb_of drive.image.format) drive.marks.is_protected (entries_of drive.image) user fcb.extent) → (is_ok code ≡ true) × IsPut old user name bytes drive'.image
   unfolding after_close close_answer drive_closed volume_now
   closes_put code drive' fcb' e =
-      let answered : close_file (dpb_of drive.image.format) drive.marks.is_protected (entries_of drive.image) user fcb.extent ≡ closed writing.sound.kept.index after fcb.extent = subst (λ (g : Format). close_file (dpb_of g) drive.marks.is_protected (entries_of drive.image) user fcb.extent ≡ closed writing.sound.kept.index after fcb.extent) (sym writing.keeps.format) (ap (λ p. close_file (dpb_of old.format) p (entries_of drive.image) user fcb.extent) writing.keeps.writable.free ∙ answer) in
+      let answered : close_file_on_volume (dpb_of drive.image.format) drive.marks.is_protected (entries_of drive.image) user fcb.extent ≡ closed writing.sound.kept.index after fcb.extent = subst (λ (g : Format). close_file_on_volume (dpb_of g) drive.marks.is_protected (entries_of drive.image) user fcb.extent ≡ closed writing.sound.kept.index after fcb.extent) (sym writing.keeps.format) (ap (λ p. close_file_on_volume (dpb_of old.format) p (entries_of drive.image) user fcb.extent) writing.keeps.writable.free ∙ answer) in
       let is : closed_file code drive' fcb' ≡ closed_file (Ok (Some (directory_code writing.sound.kept.index))) (drive_after drive volume_now) (record fcb { extent = fcb.extent }) = rw answered at e in
       (ap (λ (c : ClosedFile). is_ok c.code) is, subst (λ (c : ClosedFile). IsPut old user name bytes c.drive.image) (sym is) put)

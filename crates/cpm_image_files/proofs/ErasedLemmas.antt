@@ -13,7 +13,7 @@ use Rattle.cpm_volume.specs.declared.extent.Entry.{Entry}
 use Rattle.cpm_volume.specs.declared.answer.Fault.{Fault}
 use Rattle.cpm_volume.specs.Reserved.{is_reserved, is_directory_block}
 use Rattle.cpm_volume.specs.Files.{deleted, has_wildcard, same_name, no_entry, entry_at, InUse, file_record, Volume, IsSoundDrive}
-use Rattle.cpm_volume.specs.Names.{is_named, first_named, is_read_only, change_named, named_writes, Named, none_named, file_read_only, named, protects, deletion, is_erased, reserved_after, erase_files}
+use Rattle.cpm_volume.specs.Names.{is_named, first_named, is_read_only, change_named, named_writes, NameOutcome, none_named, file_read_only, named, protects, deletion, is_erased, reserved_after, erase_files_on_volume}
 use Rattle.cpm_volume.specs.NameLaws.{ErasesFiles}
 use Rattle.cpm_volume.proofs.Entries.{in_use_within, any_index}
 use Rattle.cpm_volume.proofs.Formats.{each_format}
@@ -169,7 +169,7 @@ module _ (user : ℕ) (name : List ℕ) (es : List Entry) (user_ok : user ≢ de
 
 -- ---- the call
 -- the volume that a call leaves
-volume_in : Volume → Named → Volume
+volume_in : Volume → NameOutcome → Volume
 volume_in v none_named = v
 volume_in v file_read_only = v
 volume_in v (named first v') = v'
@@ -213,15 +213,15 @@ module _ (drive : Drive) (user : ℕ) (name : List ℕ) (user_ok : user < 16) (p
   volume_now =
       record v { entries = change_named user name deletion v.entries; reserved = reserved_after (dpb_of drive.image.format) user name v.entries v.reserved; written = v.written ++ named_writes user name 0 v.entries (change_named user name deletion v.entries) }
 
-  erase_is : (first : ℕ) (v' : Volume) → erase_files (dpb_of drive.image.format) v user name ≡ named first v' → v' ≡ volume_now
-  unfolding erase_files v volume_of volume_in volume_now
+  erase_is : (first : ℕ) (v' : Volume) → erase_files_on_volume (dpb_of drive.image.format) v user name ≡ named first v' → v' ≡ volume_now
+  unfolding erase_files_on_volume v volume_of volume_in volume_now
   erase_is first v' e =
       elim (cases_lt (first_named (entries_of drive.image) user name) (length (entries_of drive.image))) [
         | inl there ↦ sym (ap (volume_in (volume_of drive.image drive.marks.reserved)) (rw (lt-ltb _ _ there, unprotected) at e))
         | inr past ↦ absurd (not_none first v' (rw (le-ltb _ _ past) at e))
       ]
 
-  module _ (first : ℕ) (v' : Volume) (answer : erase_files (dpb_of drive.image.format) v user name ≡ named first v') (erasing : ErasesFiles (dpb_of drive.image.format) user v name v') where
+  module _ (first : ℕ) (v' : Volume) (answer : erase_files_on_volume (dpb_of drive.image.format) v user name ≡ named first v') (erasing : ErasesFiles (dpb_of drive.image.format) user v name v') where
     has : HasVolume drive.image.format (drive_after drive v') v'
     unfolding v
     has = has_volume drive.image.format drive v' refl writable.free (((calls_reach drive writable).1 user name).erase first v' answer)
@@ -254,7 +254,7 @@ module _ (drive : Drive) (user : ℕ) (name : List ℕ) (user_ok : user < 16) (p
       let within = in_use_within (entries_of drive.image) i (λ z. live (sym (named_parts user name (entry_at (entries_of drive.image) i) plain t).0 ∙ z)) in
       false≢true (sym unprotected ∙ list_any_at (protects user name) (entries_of drive.image) i no_entry within (and_from _ _ t w))
 
-  pub erased : (result : Result (Option ℕ) Fault) (drive' : Drive) → (result, drive') ≡ after_named drive (erase_files (dpb_of drive.image.format) (volume_of drive.image drive.marks.reserved) user name) → ((code : Option ℕ) × (result ≡ Ok code)) × IsCleared drive.image user name drive'
+  pub erased : (result : Result (Option ℕ) Fault) (drive' : Drive) → (result, drive') ≡ after_named drive (erase_files_on_volume (dpb_of drive.image.format) (volume_of drive.image drive.marks.reserved) user name) → ((code : Option ℕ) × (result ≡ Ok code)) × IsCleared drive.image user name drive'
   unfolding after_named v volume_of
   erased result drive' e =
       elim (erases (dpb_of drive.image.format) user (volume_of drive.image drive.marks.reserved) name live (each_format drive.image.format) sound_drive) [

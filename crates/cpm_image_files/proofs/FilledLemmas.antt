@@ -3,7 +3,7 @@ use Rattle.std.proofs.Common.{◌≡◌, ℕ, ◌+◌, ◌-◌, ◌*◌, ◌/◌
 use Rattle.std.proofs.lemmas.List.{length-append, length-drop, length-replicate, replicate-append-replicate, append_assoc, drop-append-le, take-append-le, get_or-take, get_or-drop, same_lists}
 use Rattle.std.proofs.lemmas.Bool.{cases_lt, lt-ltb, le-ltb}
 use Rattle.cpm_geom.specs.Disk.{Disk}
-use Rattle.cpm_image_files.specs.Shelf.{filler, record_of, records_for, HasFile}
+use Rattle.cpm_image_files.specs.Shelf.{filler, record_of_bytes, records_for, DiskHasFile}
 use Rattle.cpm_image_files.specs.Taken.{taken_record, HasRecords, AreBytesOf}
 use Rattle.cpm_image_files.specs.Filled.{filled, FilledLaw}
 
@@ -23,12 +23,12 @@ same_cut xs ys count a b same =
 
 -- ---- the records of bytes
 
-record_there : (bytes : List ℕ) (m : ℕ) → 128 * m < length bytes → record_of bytes m ≡ Some (take 128 (drop (128 * m) bytes ++ replicate 128 filler))
-unfolding record_of
+record_there : (bytes : List ℕ) (m : ℕ) → 128 * m < length bytes → record_of_bytes bytes m ≡ Some (take 128 (drop (128 * m) bytes ++ replicate 128 filler))
+unfolding record_of_bytes
 record_there bytes m h = rw (lt-ltb _ _ h) refl
 
-record_none : (bytes : List ℕ) (m : ℕ) → length bytes ≤ 128 * m → record_of bytes m ≡ None
-unfolding record_of
+record_none : (bytes : List ℕ) (m : ℕ) → length bytes ≤ 128 * m → record_of_bytes bytes m ≡ None
+unfolding record_of_bytes
 record_none bytes m h = rw (le-ltb _ _ h) refl
 
 filled_length : (bytes : List ℕ) → length (filled bytes) ≡ 128 * records_for (length bytes)
@@ -43,7 +43,7 @@ filled_further xs pad small enough =
     let more : replicate 128 filler ≡ replicate pad filler ++ replicate (128 - pad) filler = ap (λ n. replicate n filler) (sym whole) ∙ sym (replicate-append-replicate pad (128 - pad) filler) in
     sym (ap (λ ys. take 128 (xs ++ ys)) more ∙ (ap (take 128) (sym (append_assoc xs (replicate pad filler) (replicate (128 - pad) filler))) ∙ take-append-le 128 (xs ++ replicate pad filler) (replicate (128 - pad) filler) size))
 
-filled_record : (bytes : List ℕ) (m : ℕ) → m < records_for (length bytes) → take 128 (drop (128 * m) (filled bytes)) ≡ taken_record (record_of bytes m)
+filled_record : (bytes : List ℕ) (m : ℕ) → m < records_for (length bytes) → take 128 (drop (128 * m) (filled bytes)) ≡ taken_record (record_of_bytes bytes m)
 filled_record bytes m h =
     let front : 128 * m < length bytes = omega arith in
     let pad : 128 * records_for (length bytes) - length bytes ≤ 128 = omega arith in
@@ -65,7 +65,7 @@ one_count disk user name a b p q =
           absurd (p.last (omega arith) (q.none (a - 1) last))
     ]
 
-module _ (disk : Disk) (user : ℕ) (name bytes : List ℕ) (has : HasFile disk user name bytes) where
+module _ (disk : Disk) (user : ℕ) (name bytes : List ℕ) (has : DiskHasFile disk user name bytes) where
   filled_records : HasRecords disk user name (records_for (length bytes))
   filled_records = record {
     last = λ some e.

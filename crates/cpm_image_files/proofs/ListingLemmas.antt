@@ -15,7 +15,7 @@ use Rattle.cpm_image_files.specs.declared.listing.DiskFile.{DiskFile}
 use Rattle.cpm_image_files.specs.Shelf.{entry_on}
 use Rattle.cpm_image_files.specs.Taken.{HasRecords}
 use Rattle.cpm_image_files.specs.Reach.{is_of_file}
-use Rattle.cpm_image_files.specs.Listing.{lists, file_at, first_listed, IsListedFile, AreListed}
+use Rattle.cpm_image_files.specs.Listing.{lists, listed_file_at, first_listed, IsListedFile, AreListed}
 use Rattle.cpm_image_files.proofs.CountLemmas.{is_of_file_parts}
 
 no_file : DiskFile
@@ -45,7 +45,7 @@ none_listed disk = record {
 pub unused_entry : (disk : Disk) (index : ℕ) (files : List DiskFile) → AreListed disk index files → (entry_on disk index).user ≡ deleted → AreListed disk (index + 1) files
 unused_entry disk index files so_far unused = record {
   each = so_far.each;
-  before = λ k h. later index (first_listed disk (file_at files k)) (so_far.before k h);
+  before = λ k h. later index (first_listed disk (listed_file_at files k)) (so_far.before k h);
   order = so_far.order;
   found = λ i h used. elim (cases_eq i index) [
     | inl e ↦ absurd (used.used (ap (λ k. (entry_on disk k).user) e ∙ unused))
@@ -58,7 +58,7 @@ pub listed_entry : (disk : Disk) (index : ℕ) (files : List DiskFile) → AreLi
 unfolding no_file
 listed_entry disk index files so_far there = record {
   each = so_far.each;
-  before = λ k h. later index (first_listed disk (file_at files k)) (so_far.before k h);
+  before = λ k h. later index (first_listed disk (listed_file_at files k)) (so_far.before k h);
   order = so_far.order;
   found = λ i h used. elim (cases_eq i index) [
     | inl e ↦ rw e (any_index (lists (entry_on disk index)) files no_file there)
@@ -72,10 +72,10 @@ module _ (disk : Disk) (index : ℕ) (files : List DiskFile) (file : DiskFile) (
   size : length (files ++ file ∷ []) ≡ length files + 1
   size = length_push files file
 
-  old_file : (k : ℕ) → k < length files → file_at (files ++ file ∷ []) k ≡ file_at files k
+  old_file : (k : ℕ) → k < length files → listed_file_at (files ++ file ∷ []) k ≡ listed_file_at files k
   old_file k h = get_or_append_left files (file ∷ []) (record { user = deleted; name = []; records = 0 }) k h
 
-  last_file : (k : ℕ) → k ≡ length files → file_at (files ++ file ∷ []) k ≡ file
+  last_file : (k : ℕ) → k ≡ length files → listed_file_at (files ++ file ∷ []) k ≡ file
   last_file k e = get_or_push files file (record { user = deleted; name = []; records = 0 }) k (sym e)
 
   own : lists (entry_on disk index) file ≡ true
@@ -83,14 +83,14 @@ module _ (disk : Disk) (index : ℕ) (files : List DiskFile) (file : DiskFile) (
       is_of_file_from file.user file.name (entry_on disk index) (sym user_is) (rw name_is (same_name-refl (entry_on disk index).extent.name))
 
   -- no entry is of the new file and of one before it
-  not_both : (e : Entry) (k : ℕ) → k < length files → lists e file ≡ true → lists e (file_at files k) ≡ true → ⊥
+  not_both : (e : Entry) (k : ℕ) → k < length files → lists e file ≡ true → lists e (listed_file_at files k) ≡ true → ⊥
   unfolding no_file
   not_both e k h a b =
       let p = is_of_file_parts file.user file.name e a in
-      let q = is_of_file_parts (file_at files k).user (file_at files k).name e b in
-      let user : (entry_on disk index).user ≡ (file_at files k).user = sym user_is ∙ (sym p.0 ∙ q.0) in
-      let name : same_name (file_at files k).name (entry_on disk index).extent.name ≡ true = rw (sym name_is) (same_name-trans (file_at files k).name file.name e.extent.name q.1 p.1) in
-      false≢true (sym apart ∙ list_any_at (lists (entry_on disk index)) files k no_file h (is_of_file_from (file_at files k).user (file_at files k).name (entry_on disk index) user name))
+      let q = is_of_file_parts (listed_file_at files k).user (listed_file_at files k).name e b in
+      let user : (entry_on disk index).user ≡ (listed_file_at files k).user = sym user_is ∙ (sym p.0 ∙ q.0) in
+      let name : same_name (listed_file_at files k).name (entry_on disk index).extent.name ≡ true = rw (sym name_is) (same_name-trans (listed_file_at files k).name file.name e.extent.name q.1 p.1) in
+      false≢true (sym apart ∙ list_any_at (lists (entry_on disk index)) files k no_file h (is_of_file_from (listed_file_at files k).user (listed_file_at files k).name (entry_on disk index) user name))
 
   -- no entry before is of the new file
   not_before : (k : ℕ) → k < index → lists (entry_on disk k) file ≡ false
@@ -105,10 +105,10 @@ module _ (disk : Disk) (index : ℕ) (files : List DiskFile) (file : DiskFile) (
       let within = in_use_within (entries_of disk) index used.used in
       first_listed_is disk file index (omega arith) not_before (λ h. own)
 
-  first_old : (k : ℕ) → k < length files → first_listed disk (file_at (files ++ file ∷ []) k) ≡ first_listed disk (file_at files k)
+  first_old : (k : ℕ) → k < length files → first_listed disk (listed_file_at (files ++ file ∷ []) k) ≡ first_listed disk (listed_file_at files k)
   first_old k h = ap (first_listed disk) (old_file k h)
 
-  first_last : (k : ℕ) → k ≡ length files → first_listed disk (file_at (files ++ file ∷ []) k) ≡ index
+  first_last : (k : ℕ) → k ≡ length files → first_listed disk (listed_file_at (files ++ file ∷ []) k) ≡ index
   first_last k e = ap (first_listed disk) (last_file k e) ∙ first_is
 
   listed_here : IsListedFile disk file
@@ -119,7 +119,7 @@ module _ (disk : Disk) (index : ℕ) (files : List DiskFile) (file : DiskFile) (
     records = records;
   }
 
-  new_each : (k : ℕ) → k < length (files ++ file ∷ []) → IsListedFile disk (file_at (files ++ file ∷ []) k)
+  new_each : (k : ℕ) → k < length (files ++ file ∷ []) → IsListedFile disk (listed_file_at (files ++ file ∷ []) k)
   new_each k h =
       let below : k < length files + 1 = rw (sym size) h in
       elim (cases_eq k (length files)) [
@@ -127,7 +127,7 @@ module _ (disk : Disk) (index : ℕ) (files : List DiskFile) (file : DiskFile) (
         | inr other ↦ rw (old_file k (omega arith)) (so_far.each k (omega arith))
       ]
 
-  new_before : (k : ℕ) → k < length (files ++ file ∷ []) → first_listed disk (file_at (files ++ file ∷ []) k) < index + 1
+  new_before : (k : ℕ) → k < length (files ++ file ∷ []) → first_listed disk (listed_file_at (files ++ file ∷ []) k) < index + 1
   new_before k h =
       let below : k < length files + 1 = rw (sym size) h in
       elim (cases_eq k (length files)) [
@@ -135,7 +135,7 @@ module _ (disk : Disk) (index : ℕ) (files : List DiskFile) (file : DiskFile) (
         | inr other ↦ rw (first_old k (omega arith)) (later index _ (so_far.before k (omega arith)))
       ]
 
-  new_order : (j k : ℕ) → j < k → k < length (files ++ file ∷ []) → first_listed disk (file_at (files ++ file ∷ []) j) < first_listed disk (file_at (files ++ file ∷ []) k)
+  new_order : (j k : ℕ) → j < k → k < length (files ++ file ∷ []) → first_listed disk (listed_file_at (files ++ file ∷ []) j) < first_listed disk (listed_file_at (files ++ file ∷ []) k)
   new_order j k g h =
       let below : k < length files + 1 = rw (sym size) h in
       elim (cases_eq k (length files)) [
@@ -143,19 +143,19 @@ module _ (disk : Disk) (index : ℕ) (files : List DiskFile) (file : DiskFile) (
         | inr other ↦ rw (first_old j (omega arith), first_old k (omega arith)) (so_far.order j k g (omega arith))
       ]
 
-  new_found : (i : ℕ) → i < index + 1 → InUse (entries_of disk) i → (k : ℕ) × (k < length (files ++ file ∷ [])) × (lists (entry_on disk i) (file_at (files ++ file ∷ []) k) ≡ true)
+  new_found : (i : ℕ) → i < index + 1 → InUse (entries_of disk) i → (k : ℕ) × (k < length (files ++ file ∷ [])) × (lists (entry_on disk i) (listed_file_at (files ++ file ∷ []) k) ≡ true)
   new_found i h is_used =
       elim (cases_eq i index) [
         | inl e ↦
-            let here : lists (entry_on disk i) (file_at (files ++ file ∷ []) (length files)) ≡ true = rw (e, last_file (length files) refl) own in
+            let here : lists (entry_on disk i) (listed_file_at (files ++ file ∷ []) (length files)) ≡ true = rw (e, last_file (length files) refl) own in
             (length files, rw size (omega arith), here)
         | inr other ↦
             let was = so_far.found i (omega arith) is_used in
-            let here : lists (entry_on disk i) (file_at (files ++ file ∷ []) was.0) ≡ true = rw (old_file was.0 was.1) was.2 in
+            let here : lists (entry_on disk i) (listed_file_at (files ++ file ∷ []) was.0) ≡ true = rw (old_file was.0 was.1) was.2 in
             (was.0, rw size (omega (arith, was.1)), here)
       ]
 
-  new_once : (e : Entry) (j k : ℕ) → j < length (files ++ file ∷ []) → k < length (files ++ file ∷ []) → lists e (file_at (files ++ file ∷ []) j) ≡ true → lists e (file_at (files ++ file ∷ []) k) ≡ true → j ≡ k
+  new_once : (e : Entry) (j k : ℕ) → j < length (files ++ file ∷ []) → k < length (files ++ file ∷ []) → lists e (listed_file_at (files ++ file ∷ []) j) ≡ true → lists e (listed_file_at (files ++ file ∷ []) k) ≡ true → j ≡ k
   new_once e j k h g a b =
       let below : j < length files + 1 = rw (sym size) h in
       let under : k < length files + 1 = rw (sym size) g in

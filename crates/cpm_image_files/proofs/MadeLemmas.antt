@@ -12,7 +12,7 @@ use Rattle.cpm_volume.specs.declared.fcb.Fcb.{Fcb}
 use Rattle.cpm_volume.specs.Files.{deleted, extent_number, group_of, has_wildcard, same_name, entry_at, is_of, first_free, file_block, file_record, IsWellFormed, record_in, Volume, IsSound}
 use Rattle.cpm_volume.specs.Names.{is_named}
 use Rattle.cpm_volume.specs.Encoding.{AreBytes, place_limit}
-use Rattle.cpm_volume.specs.Operations.{with_entry, made, make_extent, make_file}
+use Rattle.cpm_volume.specs.Operations.{with_entry, made_extent, make_extent, make_file_on_volume}
 use Rattle.cpm_volume.specs.Laws.{position}
 use Rattle.cpm_volume.proofs.Making as making
 use Rattle.cpm_volume.proofs.Making.{made_number, made_name, made_blocks, after as entries_made}
@@ -72,16 +72,16 @@ module _ (old : Disk) (user : ℕ) (name : List ℕ) (drive : Drive) (user_ok : 
       ]
 
   new_entry : Entry
-  new_entry = record { user = user; extent = made (new_fcb name).extent 0 }
+  new_entry = record { user = user; extent = made_extent (new_fcb name).extent 0 }
 
   new_entries : List Entry
-  new_entries = set (entries_of drive.image) (first_free (entries_of drive.image)) (record { user = user; extent = made (new_fcb name).extent 0 })
+  new_entries = set (entries_of drive.image) (first_free (entries_of drive.image)) (record { user = user; extent = made_extent (new_fcb name).extent 0 })
 
   new_volume : Volume
   new_volume = with_entry (volume_of drive.image drive.marks.reserved) (first_free (entries_of drive.image)) new_entries
 
-  answer : make_file (entries_of drive.image) user (new_fcb name).extent ≡ Some (new_entries, made (new_fcb name).extent 0)
-  unfolding make_file make_extent new_entries
+  answer : make_file_on_volume (entries_of drive.image) user (new_fcb name).extent ≡ Some (new_entries, made_extent (new_fcb name).extent 0)
+  unfolding make_file_on_volume make_extent new_entries
   answer = rw (lt-ltb _ _ free) refl
 
   none : (j : ℕ) → is_of (dpb_of old.format) user name (group_of (dpb_of old.format) 0) (entry_at (entries_of drive.image) j) ≡ false
@@ -92,8 +92,8 @@ module _ (old : Disk) (user : ℕ) (name : List ℕ) (drive : Drive) (user_ok : 
   unfolding volume_of
   well_formed = cleared.sound.well_formed
 
-  sound : IsSound (dpb_of old.format) new_volume user (made (new_fcb name).extent 0)
-  unfolding new_volume with_entry volume_of new_entries entries_made made
+  sound : IsSound (dpb_of old.format) new_volume user (made_extent (new_fcb name).extent 0)
+  unfolding new_volume with_entry volume_of new_entries entries_made made_extent
   sound = record {
     volume = record {
       blocks = cleared.sound.volume.blocks;
@@ -110,37 +110,37 @@ module _ (old : Disk) (user : ℕ) (name : List ℕ) (drive : Drive) (user_ok : 
   same_files other other_name m ok = making.make_files (dpb_of old.format) (entries_of drive.image) drive.marks.reserved user (new_fcb name).extent 0 live plain (omega arith) well_formed none free other other_name m ok
 
   -- ---- the entries
-  number : extent_number (made (new_fcb name).extent 0) ≡ 0
+  number : extent_number (made_extent (new_fcb name).extent 0) ≡ 0
   number = made_number (new_fcb name).extent 0 (omega arith)
 
-  named_new : is_named user name (record { user = user; extent = made (new_fcb name).extent 0 }) ≡ true
-  named_new = named_from user name (record { user = user; extent = made (new_fcb name).extent 0 }) plain refl (made_name (new_fcb name).extent 0)
+  named_new : is_named user name (record { user = user; extent = made_extent (new_fcb name).extent 0 }) ≡ true
+  named_new = named_from user name (record { user = user; extent = made_extent (new_fcb name).extent 0 }) plain refl (made_name (new_fcb name).extent 0)
 
   keeps_new : KeepsEntries user name (entries_of drive.image) new_entries
   unfolding new_entries
   keeps_new =
-      keeps_entries user name (entries_of drive.image) (first_free (entries_of drive.image)) (record { user = user; extent = made (new_fcb name).extent 0 }) free named_new (λ used. absurd (used.used (free_user (entries_of drive.image) free)))
+      keeps_entries user name (entries_of drive.image) (first_free (entries_of drive.image)) (record { user = user; extent = made_extent (new_fcb name).extent 0 }) free named_new (λ used. absurd (used.used (free_user (entries_of drive.image) free)))
 
   unused_new : unused new_entries + 1 ≡ unused (entries_of drive.image)
   unfolding new_entries
   unused_new =
-      unused-taken (entries_of drive.image) (first_free (entries_of drive.image)) (record { user = user; extent = made (new_fcb name).extent 0 }) free (free_user (entries_of drive.image) free) live
+      unused-taken (entries_of drive.image) (first_free (entries_of drive.image)) (record { user = user; extent = made_extent (new_fcb name).extent 0 }) free (free_user (entries_of drive.image) free) live
 
   names_new : (j : ℕ) → is_named user name (entry_at new_entries j) ≡ true → (entry_at new_entries j).extent.name ≡ name
   unfolding new_entries
   names_new =
-      names_after user name (entries_of drive.image) (first_free (entries_of drive.image)) (record { user = user; extent = made (new_fcb name).extent 0 }) free named_new (made_name (new_fcb name).extent 0) (λ j t. absurd (false≢true (sym (cleared.gone j) ∙ t)))
+      names_after user name (entries_of drive.image) (first_free (entries_of drive.image)) (record { user = user; extent = made_extent (new_fcb name).extent 0 }) free named_new (made_name (new_fcb name).extent 0) (λ j t. absurd (false≢true (sym (cleared.gone j) ∙ t)))
 
   last_new : (j : ℕ) → is_named user name (entry_at new_entries j) ≡ true → extent_number (entry_at new_entries j).extent ≤ 0
   unfolding new_entries
   last_new =
-      last_after user name (entries_of drive.image) (first_free (entries_of drive.image)) (record { user = user; extent = made (new_fcb name).extent 0 }) free named_new 0 (let zero = number in omega arith) (λ j t. absurd (false≢true (sym (cleared.gone j) ∙ t)))
+      last_after user name (entries_of drive.image) (first_free (entries_of drive.image)) (record { user = user; extent = made_extent (new_fcb name).extent 0 }) free named_new 0 (let zero = number in omega arith) (λ j t. absurd (false≢true (sym (cleared.gone j) ∙ t)))
 
-  count : (made (new_fcb name).extent 0).record_count ≡ 0
-  unfolding made
+  count : (made_extent (new_fcb name).extent 0).record_count ≡ 0
+  unfolding made_extent
   count = refl
 
-  appending : IsAppending (dpb_of old.format) user name new_volume (made (new_fcb name).extent 0) 0
+  appending : IsAppending (dpb_of old.format) user name new_volume (made_extent (new_fcb name).extent 0) 0
   unfolding new_volume with_entry
   appending = record {
     at_end = record {
@@ -156,11 +156,11 @@ module _ (old : Disk) (user : ℕ) (name : List ℕ) (drive : Drive) (user_ok : 
   }
 
   -- ---- the disk has it
-  reaches : Reaches drive new_volume × IsOfBytes (dpb_of old.format) (made (new_fcb name).extent 0)
+  reaches : Reaches drive new_volume × IsOfBytes (dpb_of old.format) (made_extent (new_fcb name).extent 0)
   unfolding new_volume volume_of
   reaches =
       let calls : CallsReach drive (dpb_of old.format) (volume_of drive.image drive.marks.reserved) user (new_fcb name).extent = subst (λ (g : Format). CallsReach drive (dpb_of g) (volume_of drive.image drive.marks.reserved) user (new_fcb name).extent) cleared.keeps.format ((calls_reach drive cleared.keeps.writable).0 user (new_fcb name).extent (omega arith) (new_fits (dpb_of drive.image.format) name are)) in
-      calls.make new_entries (made (new_fcb name).extent 0) answer
+      calls.make new_entries (made_extent (new_fcb name).extent 0) answer
 
   has : HasVolume old.format (drive_after drive new_volume) new_volume
   has = has_volume old.format drive new_volume cleared.keeps.format cleared.keeps.writable.free reaches.0
@@ -171,9 +171,9 @@ module _ (old : Disk) (user : ℕ) (name : List ℕ) (drive : Drive) (user_ok : 
       ap (λ b. record_in (dpb_of old.format) (records_of drive.image) b m) (same_files other other_name m ok)
 
   made_fcb : Fcb
-  made_fcb = record (new_fcb name) { extent = made (new_fcb name).extent 0 }
+  made_fcb = record (new_fcb name) { extent = made_extent (new_fcb name).extent 0 }
 
-  starts_at : position (made (new_fcb name).extent 0) 0 ≡ 0
+  starts_at : position (made_extent (new_fcb name).extent 0) 0 ≡ 0
   unfolding position
   starts_at = let zero = number in omega arith
 
@@ -203,15 +203,15 @@ module _ (old : Disk) (user : ℕ) (name : List ℕ) (drive : Drive) (user_ok : 
   begins bytes = record {
     keeps = keeps;
     fits = reaches.1;
-    sound = has.sound user (made (new_fcb name).extent 0) sound;
-    appending = appending_on (dpb_of old.format) user name new_volume (volume_of (drive_after drive new_volume).image (drive_after drive new_volume).marks.reserved) (made (new_fcb name).extent 0) 0 (volume_entries (drive_after drive new_volume).image (drive_after drive new_volume).marks.reserved ∙ has.entries) appending;
+    sound = has.sound user (made_extent (new_fcb name).extent 0) sound;
+    appending = appending_on (dpb_of old.format) user name new_volume (volume_of (drive_after drive new_volume).image (drive_after drive new_volume).marks.reserved) (made_extent (new_fcb name).extent 0) 0 (volume_entries (drive_after drive new_volume).image (drive_after drive new_volume).marks.reserved ∙ has.entries) appending;
     count_is = starts_at;
     records = λ m h. absurd (omega arith);
     entries_left = entries_left;
     blocks_left = blocks_left;
   }
 
-  pub makes : (code : Option ℕ) (drive' : Drive) (fcb' : Fcb) → made_file code drive' fcb' ≡ after_make drive (new_fcb name) (first_free (entries_of drive.image)) (make_file (entries_of drive.image) user (new_fcb name).extent) → ((k : ℕ) × (code ≡ Some k)) × ((bytes : List ℕ) → IsWriting old user name bytes 0 drive' fcb')
+  pub makes : (code : Option ℕ) (drive' : Drive) (fcb' : Fcb) → made_file code drive' fcb' ≡ after_make drive (new_fcb name) (first_free (entries_of drive.image)) (make_file_on_volume (entries_of drive.image) user (new_fcb name).extent) → ((k : ℕ) × (code ≡ Some k)) × ((bytes : List ℕ) → IsWriting old user name bytes 0 drive' fcb')
   unfolding after_make made_fcb new_volume
   makes code drive' fcb' e =
       let is : made_file code drive' fcb' ≡ made_file (Some (directory_code (first_free (entries_of drive.image)))) (drive_after drive new_volume) made_fcb = rw answer at e in

@@ -5,7 +5,7 @@ use Rattle.std.proofs.lemmas.Nat.{div-add-mod', div-mul-add, mod-mul-add, mod_be
 use Rattle.std.proofs.lemmas.Bool.{eq-eqb, ne_eqb, lt-ltb, cases_eq, cases_lt}
 use Rattle.cpm_geom.specs.declared.dpb.Dpb.{Dpb}
 use Rattle.cpm_volume.specs.declared.extent.Extent.{Extent}
-use Rattle.cpm_volume.specs.Files.{extent_number, group_of, place_of, IsFormat}
+use Rattle.cpm_volume.specs.Files.{extent_number, group_of, entry_place_of, IsFormat}
 use Rattle.cpm_volume.specs.Laws.{position}
 use Rattle.cpm_image_files.specs.Appending.{records_in_entry, entries_begun, blocks_begun}
 
@@ -25,8 +25,8 @@ placed r q w k c e f =
     omega arith
 
 -- the place of a record in its entry's map
-pub place_starts : (d : Dpb) (x : Extent) (current : ℕ) → IsFormat d → place_of d x current * (d.block_mask + 1) + current % (d.block_mask + 1) ≡ records_in_entry d x current
-unfolding place_of
+pub place_starts : (d : Dpb) (x : Extent) (current : ℕ) → IsFormat d → entry_place_of d x current * (d.block_mask + 1) + current % (d.block_mask + 1) ≡ records_in_entry d x current
+unfolding entry_place_of
 place_starts d x current format =
     placed (extent_number x % (d.extent_mask + 1)) (128 / (d.block_mask + 1)) (d.block_mask + 1) (current / (d.block_mask + 1)) current format.whole_blocks (div-add-mod' current (d.block_mask + 1))
 

@@ -7,7 +7,7 @@ use Rattle.cpm_geom.specs.declared.dpb.Dpb.{Dpb}
 use Rattle.cpm_volume.specs.declared.extent.Extent.{Extent}
 use Rattle.cpm_volume.specs.declared.answer.Answer.TheVariants.{Done as done, NoBlock as no_block}
 use Rattle.cpm_volume.specs.Reserved.{is_reserved, least_free}
-use Rattle.cpm_volume.specs.Files.{extent_number, place_of, map_place, block_number, IsFormat, Volume, record_put}
+use Rattle.cpm_volume.specs.Files.{extent_number, entry_place_of, map_place, block_number, IsFormat, Volume, record_put}
 use Rattle.cpm_volume.specs.Operations.{Outcome, ends, with_block, block_to_write, counting, record_in_block, put_found, put_record, taken_records, taken_writes}
 use Rattle.cpm_volume.proofs.Records.{place_back, place_below}
 use Rattle.cpm_image_files.specs.Appending.{unreserved, records_in_entry, IsAtEnd}
@@ -36,36 +36,36 @@ pub record IsReady (d : Dpb) (v : Volume) (x : Extent) : Type 0 where
   pub stored : (s : ℕ) → block_number x s ≢ 0 → block_number x s ≤ d.last_block
 
 module _ (d : Dpb) (user : ℕ) (name : List ℕ) (v : Volume) (x : Extent) (current : ℕ) (bytes : List ℕ) (format : IsFormat d) (ready : IsReady d v x) (end : IsAtEnd d user name v x current) (small : current < 128) where
-  starts : place_of d x current * (d.block_mask + 1) + current % (d.block_mask + 1) ≡ records_in_entry d x current
+  starts : entry_place_of d x current * (d.block_mask + 1) + current % (d.block_mask + 1) ≡ records_in_entry d x current
   starts = place_starts d x current format
 
   below : current % (d.block_mask + 1) < d.block_mask + 1
   below = mod_below _ _ (omega arith)
 
   -- the place is one of the map's sixteen
-  place_within : place_of d x current < 16
+  place_within : entry_place_of d x current < 16
   place_within =
       let here : (128 * extent_number x + current) % 128 ≡ current = omega arith in
-      let same : place_of d x current ≡ map_place d (128 * extent_number x + current) = ap (place_of d x) (sym here) ∙ place_back d x (128 * extent_number x + current) (omega arith) in
+      let same : entry_place_of d x current ≡ map_place d (128 * extent_number x + current) = ap (entry_place_of d x) (sym here) ∙ place_back d x (128 * extent_number x + current) (omega arith) in
       rw same (place_below d (128 * extent_number x + current) format)
 
   -- another place whose records begin at the new one is none
-  other_start : (s : ℕ) → s ≢ place_of d x current → s * (d.block_mask + 1) ≢ records_in_entry d x current
+  other_start : (s : ℕ) → s ≢ entry_place_of d x current → s * (d.block_mask + 1) ≢ records_in_entry d x current
   other_start s other e =
       elim (cases_eq (current % (d.block_mask + 1)) 0) [
-        | inl z ↦ other (same_factor s (place_of d x current) (d.block_mask + 1) (omega arith) (let p = starts in omega arith))
-        | inr some ↦ apart_from s (place_of d x current) (current % (d.block_mask + 1)) (d.block_mask + 1) below some (let p = starts in omega arith)
+        | inl z ↦ other (same_factor s (entry_place_of d x current) (d.block_mask + 1) (omega arith) (let p = starts in omega arith))
+        | inr some ↦ apart_from s (entry_place_of d x current) (current % (d.block_mask + 1)) (d.block_mask + 1) below some (let p = starts in omega arith)
       ]
 
   -- the extent once it counts the record, with a block at its place
-  ends_after : (v' : Volume) (x' : Extent) → v'.entries ≡ v.entries → x'.name ≡ x.name → extent_number x' ≡ extent_number x → x'.record_count ≡ max x.record_count (current + 1) → block_number x' (place_of d x current) ≢ 0 → ((s : ℕ) → s ≢ place_of d x current → block_number x' s ≡ block_number x s) → IsAtEnd d user name v' x' (current + 1)
+  ends_after : (v' : Volume) (x' : Extent) → v'.entries ≡ v.entries → x'.name ≡ x.name → extent_number x' ≡ extent_number x → x'.record_count ≡ max x.record_count (current + 1) → block_number x' (entry_place_of d x current) ≢ 0 → ((s : ℕ) → s ≢ entry_place_of d x current → block_number x' s ≡ block_number x s) → IsAtEnd d user name v' x' (current + 1)
   ends_after v' x' entries named number count there others = record {
     name_is = named ∙ end.name_is;
     names = rw entries end.names;
     last = rw (entries, number) end.last;
     count = (let was = end.count in count ∙ omega arith);
     small = omega arith;
-    taken = λ s h. elim (cases_eq s (place_of d x current)) [
+    taken = λ s h. elim (cases_eq s (entry_place_of d x current)) [
       | inl same ↦ rw same there
       | inr other ↦
           let not_there = other_start s other in
@@ -81,20 +81,20 @@ module _ (d : Dpb) (user : ℕ) (name : List ℕ) (v : Volume) (x : Extent) (cur
   -- ---- a record that begins no block is in that of the record before it
   old_volume : Volume
   old_volume =
-      record v { records = set v.records (record_in_block d (block_number x (place_of d x current)) current) bytes; written = v.written ++ record_put (record_in_block d (block_number x (place_of d x current)) current) bytes ∷ [] }
+      record v { records = set v.records (record_in_block d (block_number x (entry_place_of d x current)) current) bytes; written = v.written ++ record_put (record_in_block d (block_number x (entry_place_of d x current)) current) bytes ∷ [] }
 
-  old_answer : block_number x (place_of d x current) ≢ 0 → put_record d false v x current (current + 1) bytes ≡ ends done old_volume (counting x current) (current + 1)
+  old_answer : block_number x (entry_place_of d x current) ≢ 0 → put_record d false v x current (current + 1) bytes ≡ ends done old_volume (counting x current) (current + 1)
   unfolding put_record put_found block_to_write old_volume
-  old_answer there = rw (le-ltb _ _ (ready.stored (place_of d x current) there), ne_eqb _ _ there) refl
+  old_answer there = rw (le-ltb _ _ (ready.stored (entry_place_of d x current) there), ne_eqb _ _ there) refl
 
-  old_ends : block_number x (place_of d x current) ≢ 0 → IsAtEnd d user name old_volume (counting x current) (current + 1)
+  old_ends : block_number x (entry_place_of d x current) ≢ 0 → IsAtEnd d user name old_volume (counting x current) (current + 1)
   unfolding old_volume counting block_number extent_number
   old_ends there = ends_after old_volume (counting x current) refl refl refl refl there (λ s other. refl)
 
   puts_old : current % (d.block_mask + 1) ≢ 0 → PutsAtEnd d user name v current (put_record d false v x current (current + 1) bytes)
   unfolding ends old_volume
   puts_old within =
-      let there : block_number x (place_of d x current) ≢ 0 = end.taken (place_of d x current) (let p = starts in omega arith) in
+      let there : block_number x (entry_place_of d x current) ≢ 0 = end.taken (entry_place_of d x current) (let p = starts in omega arith) in
       rw (old_answer there) (record {
         answer = refl;
         at_end = old_ends there;
@@ -104,31 +104,31 @@ module _ (d : Dpb) (user : ℕ) (name : List ℕ) (v : Volume) (x : Extent) (cur
       })
 
   -- ---- a record that begins a block takes the least that is free
-  none_there : current % (d.block_mask + 1) ≡ 0 → block_number x (place_of d x current) ≡ 0
-  none_there begins = end.rest (place_of d x current) (let p = starts in omega arith)
+  none_there : current % (d.block_mask + 1) ≡ 0 → block_number x (entry_place_of d x current) ≡ 0
+  none_there begins = end.rest (entry_place_of d x current) (let p = starts in omega arith)
 
   new_volume : Volume
   new_volume =
       record v { reserved = set v.reserved (least_free v.reserved) true; records = set v.records (record_in_block d (least_free v.reserved) current) bytes; written = (v.written ++ []) ++ record_put (record_in_block d (least_free v.reserved) current) bytes ∷ [] }
 
   new_extent : Extent
-  new_extent = counting (with_block x (place_of d x current) (least_free v.reserved)) current
+  new_extent = counting (with_block x (entry_place_of d x current) (least_free v.reserved)) current
 
-  new_answer : block_number x (place_of d x current) ≡ 0 → least_free v.reserved < length v.reserved → put_record d false v x current (current + 1) bytes ≡ ends done new_volume new_extent (current + 1)
+  new_answer : block_number x (entry_place_of d x current) ≡ 0 → least_free v.reserved < length v.reserved → put_record d false v x current (current + 1) bytes ≡ ends done new_volume new_extent (current + 1)
   unfolding put_record put_found block_to_write taken_records taken_writes new_volume new_extent
   new_answer none free =
       let size = ready.blocks in
       rw (none, le-ltb d.last_block 0 (omega arith), lt-ltb (least_free v.reserved) (length v.reserved) free, lt-ltb (least_free v.reserved) (d.last_block + 1) (omega arith)) refl
 
-  new_there : least_free v.reserved < length v.reserved → block_number new_extent (place_of d x current) ≢ 0
+  new_there : least_free v.reserved < length v.reserved → block_number new_extent (entry_place_of d x current) ≢ 0
   unfolding new_extent counting with_block block_number
   new_there free z =
-      let block : least_free v.reserved ≡ 0 = sym (get_or-set_same x.blocks (place_of d x current) (least_free v.reserved) 0 (rw ready.map place_within)) ∙ z in
+      let block : least_free v.reserved ≡ 0 = sym (get_or-set_same x.blocks (entry_place_of d x current) (least_free v.reserved) 0 (rw ready.map place_within)) ∙ z in
       false≢true (sym (least_is_free v.reserved free) ∙ rw block ready.zero)
 
-  new_others : (s : ℕ) → s ≢ place_of d x current → block_number new_extent s ≡ block_number x s
+  new_others : (s : ℕ) → s ≢ entry_place_of d x current → block_number new_extent s ≡ block_number x s
   unfolding new_extent counting with_block block_number
-  new_others s other = get_or-set_other x.blocks (place_of d x current) s (least_free v.reserved) 0 other
+  new_others s other = get_or-set_other x.blocks (entry_place_of d x current) s (least_free v.reserved) 0 other
 
   new_ends : least_free v.reserved < length v.reserved → IsAtEnd d user name new_volume new_extent (current + 1)
   unfolding new_volume new_extent counting with_block extent_number
@@ -145,7 +145,7 @@ module _ (d : Dpb) (user : ℕ) (name : List ℕ) (v : Volume) (x : Extent) (cur
         blocks = rw (eq-eqb _ _ begins) (unreserved-taken v.reserved free);
       })
 
-  lacks_answer : block_number x (place_of d x current) ≡ 0 → length v.reserved ≤ least_free v.reserved → put_record d false v x current (current + 1) bytes ≡ ends no_block v x current
+  lacks_answer : block_number x (entry_place_of d x current) ≡ 0 → length v.reserved ≤ least_free v.reserved → put_record d false v x current (current + 1) bytes ≡ ends no_block v x current
   unfolding put_record put_found block_to_write
   lacks_answer none full =
       rw (none, le-ltb d.last_block 0 (omega arith), le-ltb (least_free v.reserved) (length v.reserved) full) refl

@@ -4,7 +4,7 @@ use Rattle.std.proofs.Math.Seq.{take-append-add, take-length}
 use Rattle.std.proofs.lemmas.List.{take-append-le, take-replicate, drop-replicate, length-drop, length-replicate, get_or-take, get_or-drop, get_or_past, get_or_append_left, get_or-append-add, get_or-replicate}
 use Rattle.std.proofs.lemmas.Bool.{cases_lt, lt-ltb, le-ltb}
 use Rattle.cpm_volume.specs.Encoding.{AreBytes}
-use Rattle.cpm_image_files.specs.Shelf.{record_of, records_for}
+use Rattle.cpm_image_files.specs.Shelf.{record_of_bytes, records_for}
 
 -- what a record is filled up with
 filling : List ℕ
@@ -33,8 +33,8 @@ filled xs size e =
           rw (all, no_filling, take-append-le 128 xs filling long) (append-nil (take 128 xs))
     ]
 
-pub record_made : (bytes : List ℕ) (m size : ℕ) (front : List ℕ) → 128 * m < length bytes → size ≡ min (length bytes - 128 * m) 128 → front ≡ take size (drop (128 * m) bytes) → Some (front ++ drop size (replicate 128 0x1A)) ≡ record_of bytes m
-unfolding record_of filling
+pub record_made : (bytes : List ℕ) (m size : ℕ) (front : List ℕ) → 128 * m < length bytes → size ≡ min (length bytes - 128 * m) 128 → front ≡ take size (drop (128 * m) bytes) → Some (front ++ drop size (replicate 128 0x1A)) ≡ record_of_bytes bytes m
+unfolding record_of_bytes filling
 record_made bytes m size front within e is =
     let left = length-drop (128 * m) bytes in
     rw (lt-ltb _ _ within, is) (ap Some (filled (drop (128 * m) bytes) size (omega arith)))
@@ -42,15 +42,15 @@ record_made bytes m size front within e is =
 pub record_there : (count m : ℕ) → m < records_for count → 128 * m < count
 record_there count m h = omega arith
 
-pub no_record_of : (bytes : List ℕ) (m : ℕ) → records_for (length bytes) ≤ m → record_of bytes m ≡ None
-unfolding record_of
+pub no_record_of : (bytes : List ℕ) (m : ℕ) → records_for (length bytes) ≤ m → record_of_bytes bytes m ≡ None
+unfolding record_of_bytes
 no_record_of bytes m h = rw (le-ltb (128 * m) (length bytes) (omega arith)) refl
 
 some_not_none : (xs : List ℕ) → Some xs ≢ None
 some_not_none xs e = cc
 
-pub is_record : (bytes : List ℕ) (m : ℕ) → m < records_for (length bytes) → record_of bytes m ≢ None
-unfolding record_of
+pub is_record : (bytes : List ℕ) (m : ℕ) → m < records_for (length bytes) → record_of_bytes bytes m ≢ None
+unfolding record_of_bytes
 is_record bytes m h e =
     some_not_none _ (rw (lt-ltb (128 * m) (length bytes) (omega arith)) at e)
 
@@ -91,8 +91,8 @@ filler_fits n k =
 some_same : (xs ys : List ℕ) → Some xs ≡ Some ys → xs ≡ ys
 some_same xs ys e = cc
 
-pub record_fits : (bytes : List ℕ) (m : ℕ) (now : List ℕ) → 128 * m < length bytes → AllBytes bytes → Some now ≡ record_of bytes m → AreBytes 128 now
-unfolding record_of
+pub record_fits : (bytes : List ℕ) (m : ℕ) (now : List ℕ) → 128 * m < length bytes → AllBytes bytes → Some now ≡ record_of_bytes bytes m → AreBytes 128 now
+unfolding record_of_bytes
 record_fits bytes m now within h e =
     let is : now ≡ take 128 (drop (128 * m) bytes ++ replicate 128 0x1A) = some_same _ _ (rw (lt-ltb _ _ within) at e) in
     rw is (record {

@@ -11,7 +11,7 @@ use Rattle.cpm_geom.specs.Disk.{Disk, IsDisk}
 use Rattle.cpm_volume.specs.declared.extent.Entry.{Entry}
 use Rattle.cpm_volume.specs.declared.answer.Fault.{Fault}
 use Rattle.cpm_volume.specs.Files.{deleted, has_wildcard, no_entry, entry_at, InUse, IsWellFormed, Volume}
-use Rattle.cpm_volume.specs.Names.{is_named, first_named, protects, Named, none_named, file_read_only, named, erase_files}
+use Rattle.cpm_volume.specs.Names.{is_named, first_named, protects, NameOutcome, none_named, file_read_only, named, erase_files_on_volume}
 use Rattle.cpm_volume.proofs.Formats.{each_format}
 use Rattle.cpm_directory.specs.Directory.{entries_of}
 use Rattle.cpm_directory.specs.Login.{reserved_at_login}
@@ -23,7 +23,7 @@ use Rattle.cpm_drive.specs.Calls.{logged_in}
 use Rattle.cpm_drive.specs.Reads.{lent_drive}
 use Rattle.cpm_drive.specs.Named.{after_named}
 use Rattle.cpm_drive.specs.Laws.{IsWritable, HasBytes}
-use Rattle.cpm_image_files.specs.Shelf.{IsSoundDisk, KeepsOthers}
+use Rattle.cpm_image_files.specs.Shelf.{IsSoundDisk, KeepsOtherFiles}
 use Rattle.cpm_image_files.specs.Writing.{IsCleared}
 use Rattle.cpm_image_files.specs.Taken.{fresh_volume, IsLeftBy, IsRemovable, IsRemoved}
 use Rattle.cpm_image_files.proofs.ErasedLemmas.{erased}
@@ -86,7 +86,7 @@ Answered = Result (Option ℕ) Fault × Drive
 
 -- ---- the disk then
 
-pub others_kept : (old : Disk) (user : ℕ) (name : List ℕ) (drive : Drive) → IsCleared old user name drive → KeepsOthers user name old drive.image
+pub others_kept : (old : Disk) (user : ℕ) (name : List ℕ) (drive : Drive) → IsCleared old user name drive → KeepsOtherFiles user name old drive.image
 others_kept old user name drive cleared = record {
   format = cleared.keeps.format;
   entries = cleared.keeps.entries.stay;
@@ -115,11 +115,11 @@ fresh image made drive a b = b ∙ ap logged_in a
 pub writable : (image : Disk) → IsDisk image → HasBytes image → IsWritable (fresh_drive image)
 writable image whole bytes = record { disk = whole; bytes = bytes; free = refl }
 
-pub answered : (image : Disk) (drive : Drive) (u user : ℕ) (n name : List ℕ) (answer : Answered) → drive ≡ fresh_drive image → u ≡ user → n ≡ name → answer ≡ after_named drive (erase_files (dpb_of drive.image.format) (volume_of drive.image drive.marks.reserved) u n) → answer ≡ after_named (fresh_drive image) (erase_files (dpb_of image.format) (volume_of image (reserved_at_login (dpb_of image.format) (entries_of image))) user name)
+pub answered : (image : Disk) (drive : Drive) (u user : ℕ) (n name : List ℕ) (answer : Answered) → drive ≡ fresh_drive image → u ≡ user → n ≡ name → answer ≡ after_named drive (erase_files_on_volume (dpb_of drive.image.format) (volume_of drive.image drive.marks.reserved) u n) → answer ≡ after_named (fresh_drive image) (erase_files_on_volume (dpb_of image.format) (volume_of image (reserved_at_login (dpb_of image.format) (entries_of image))) user name)
 answered image drive u user n name answer a b c e = e ∙ rw (a, b, c) refl
 
 -- ---- the disk that a call leaves
-pub left_by : (image : Disk) (called : Named) (answer : Answered) → (called ≡ none_named → ⊥) → (called ≡ file_read_only → ⊥) → answer ≡ after_named (fresh_drive image) called → IsLeftBy called image answer.1.image
+pub left_by : (image : Disk) (called : NameOutcome) (answer : Answered) → (called ≡ none_named → ⊥) → (called ≡ file_read_only → ⊥) → answer ≡ after_named (fresh_drive image) called → IsLeftBy called image answer.1.image
 unfolding after_named drive_after
 left_by image none_named answer some free e = absurd (some refl)
 left_by image file_read_only answer some free e = absurd (free refl)
@@ -132,18 +132,18 @@ done_not_read_only : (first : ℕ) (v : Volume) → named first v ≡ file_read_
 done_not_read_only first v e = cc
 
 module _ (image : Disk) (user : ℕ) (name : List ℕ) (there : first_named (entries_of image) user name < length (entries_of image)) (unprotected : list_any (protects user name) (entries_of image) ≡ false) where
-  erase_some : erase_files (dpb_of image.format) (fresh_volume image) user name ≡ none_named → ⊥
-  unfolding erase_files volume_of
+  erase_some : erase_files_on_volume (dpb_of image.format) (fresh_volume image) user name ≡ none_named → ⊥
+  unfolding erase_files_on_volume volume_of
   erase_some e = done_not_none _ _ (rw (lt-ltb _ _ there, unprotected) at e)
 
-  erase_free : erase_files (dpb_of image.format) (fresh_volume image) user name ≡ file_read_only → ⊥
-  unfolding erase_files volume_of
+  erase_free : erase_files_on_volume (dpb_of image.format) (fresh_volume image) user name ≡ file_read_only → ⊥
+  unfolding erase_files_on_volume volume_of
   erase_free e = done_not_read_only _ _ (rw (lt-ltb _ _ there, unprotected) at e)
 
-  left_erased : (answer : Answered) → answer ≡ after_named (fresh_drive image) (erase_files (dpb_of image.format) (fresh_volume image) user name) → IsLeftBy (erase_files (dpb_of image.format) (fresh_volume image) user name) image answer.1.image
-  left_erased answer e = left_by image (erase_files (dpb_of image.format) (fresh_volume image) user name) answer erase_some erase_free e
+  left_erased : (answer : Answered) → answer ≡ after_named (fresh_drive image) (erase_files_on_volume (dpb_of image.format) (fresh_volume image) user name) → IsLeftBy (erase_files_on_volume (dpb_of image.format) (fresh_volume image) user name) image answer.1.image
+  left_erased answer e = left_by image (erase_files_on_volume (dpb_of image.format) (fresh_volume image) user name) answer erase_some erase_free e
 
-pub removed : (image : Disk) (user : ℕ) (name : List ℕ) (result : Result (Option ℕ) Fault) (drive' : Drive) → user < 16 → has_wildcard name ≡ false → IsDisk image → HasBytes image → IsSoundDisk image → IsRemovable image user name → (result, drive') ≡ after_named (fresh_drive image) (erase_files (dpb_of image.format) (volume_of image (reserved_at_login (dpb_of image.format) (entries_of image))) user name) → ((code : Option ℕ) × (result ≡ Ok code)) × IsRemoved image user name drive'.image
+pub removed : (image : Disk) (user : ℕ) (name : List ℕ) (result : Result (Option ℕ) Fault) (drive' : Drive) → user < 16 → has_wildcard name ≡ false → IsDisk image → HasBytes image → IsSoundDisk image → IsRemovable image user name → (result, drive') ≡ after_named (fresh_drive image) (erase_files_on_volume (dpb_of image.format) (volume_of image (reserved_at_login (dpb_of image.format) (entries_of image))) user name) → ((code : Option ℕ) × (result ≡ Ok code)) × IsRemoved image user name drive'.image
 removed image user name result drive' small plain whole bytes sound removable e =
     let live : user ≢ deleted = λ z. absurd (omega arith) in
     let there = first_below (entries_of image) user name removable.0.0 live removable.0.2 in

@@ -11,7 +11,7 @@ use Rattle.cpm_volume.specs.declared.extent.Entry.{Entry}
 use Rattle.cpm_volume.specs.declared.answer.Fault.{Fault}
 use Rattle.cpm_volume.specs.Encoding.{AreBytes}
 use Rattle.cpm_volume.specs.Files.{deleted, has_wildcard, same_name, no_entry, entry_at, file_block, file_record, record_in, IsWellFormed, IsVolume, IsSoundDrive, Volume}
-use Rattle.cpm_volume.specs.Names.{is_named, first_named, protects, change_named, named_writes, renaming, rename_files, named}
+use Rattle.cpm_volume.specs.Names.{is_named, first_named, protects, change_named, named_writes, renaming, rename_files_on_volume, named}
 use Rattle.cpm_volume.proofs.NameLemmas.{name_matches_plain, same_name_as, same_name-sym, same_name-trans, file_block_same}
 use Rattle.cpm_directory.specs.Directory.{entries_of}
 use Rattle.cpm_directory.specs.Login.{reserved_at_login}
@@ -46,16 +46,16 @@ module _ (drive : Drive) (user : ℕ) (name kept : List ℕ) where
   volume_now =
       record (volume_of drive.image drive.marks.reserved) { entries = change_named user name (renaming kept) (entries_of drive.image); written = (volume_of drive.image drive.marks.reserved).written ++ named_writes user name 0 (entries_of drive.image) (change_named user name (renaming kept) (entries_of drive.image)) }
 
-  pub answer_is : first_named (entries_of drive.image) user name < length (entries_of drive.image) → list_any (protects user name) (entries_of drive.image) ≡ false → rename_files (volume_of drive.image drive.marks.reserved) user name kept ≡ named (first_named (entries_of drive.image) user name) volume_now
-  unfolding rename_files volume_of volume_now
+  pub answer_is : first_named (entries_of drive.image) user name < length (entries_of drive.image) → list_any (protects user name) (entries_of drive.image) ≡ false → rename_files_on_volume (volume_of drive.image drive.marks.reserved) user name kept ≡ named (first_named (entries_of drive.image) user name) volume_now
+  unfolding rename_files_on_volume volume_of volume_now
   answer_is there free = rw (lt-ltb _ _ there, free) refl
 
-  pub drive_is : (answer : Answered) → first_named (entries_of drive.image) user name < length (entries_of drive.image) → list_any (protects user name) (entries_of drive.image) ≡ false → answer ≡ after_named drive (rename_files (volume_of drive.image drive.marks.reserved) user name kept) → answer ≡ (Ok (Some (directory_code (first_named (entries_of drive.image) user name))), drive_after drive volume_now)
+  pub drive_is : (answer : Answered) → first_named (entries_of drive.image) user name < length (entries_of drive.image) → list_any (protects user name) (entries_of drive.image) ≡ false → answer ≡ after_named drive (rename_files_on_volume (volume_of drive.image drive.marks.reserved) user name kept) → answer ≡ (Ok (Some (directory_code (first_named (entries_of drive.image) user name))), drive_after drive volume_now)
   unfolding after_named
   drive_is answer there free e = rw (answer_is there free) at e
 
 -- ---- the disk then
-pub fresh_answer : (image : Disk) (drive : Drive) (u user : ℕ) (n name kept : List ℕ) (answer : Answered) → drive ≡ fresh_drive image → u ≡ user → n ≡ name → answer ≡ after_named drive (rename_files (volume_of drive.image drive.marks.reserved) u n kept) → answer ≡ after_named (fresh_drive image) (rename_files (volume_of image (reserved_at_login (dpb_of image.format) (entries_of image))) user name kept)
+pub fresh_answer : (image : Disk) (drive : Drive) (u user : ℕ) (n name kept : List ℕ) (answer : Answered) → drive ≡ fresh_drive image → u ≡ user → n ≡ name → answer ≡ after_named drive (rename_files_on_volume (volume_of drive.image drive.marks.reserved) u n kept) → answer ≡ after_named (fresh_drive image) (rename_files_on_volume (volume_of image (reserved_at_login (dpb_of image.format) (entries_of image))) user name kept)
 fresh_answer image drive u user n name kept answer a b c e = e ∙ rw (a, b, c) refl
 
 not_both : (b : Bool) → b ≡ true → b ≡ false → ⊥
@@ -169,7 +169,7 @@ module _ (image : Disk) (user : ℕ) (name new_name kept : List ℕ) (small : us
   unfolding now
   system place h = system_after (fresh_drive image) (volume_now (fresh_drive image) user name kept) place refl h
 
-  left : IsLeftBy (rename_files (fresh_volume image) user name (kept_name image user name new_name)) image now.image
+  left : IsLeftBy (rename_files_on_volume (fresh_volume image) user name (kept_name image user name new_name)) image now.image
   unfolding now drive_after
   left = rw (sym kept_is, answer_is (fresh_drive image) user name kept there unprotected) refl
 
@@ -193,7 +193,7 @@ module _ (image : Disk) (user : ℕ) (name new_name kept : List ℕ) (small : us
     sound = sound_after;
   }
 
-pub renamed_by : (image : Disk) (user : ℕ) (name new_name kept : List ℕ) (result : Result (Option ℕ) Fault) (drive' : Drive) → user < 16 → has_wildcard name ≡ false → has_wildcard new_name ≡ false → AreBytes 11 kept → IsDisk image → HasBytes image → IsSoundDisk image → IsRenamable image user name new_name → kept ≡ kept_name image user name new_name → (result, drive') ≡ after_named (fresh_drive image) (rename_files (volume_of image (reserved_at_login (dpb_of image.format) (entries_of image))) user name kept) → ((code : Option ℕ) × (result ≡ Ok code)) × IsRenamed image user name new_name drive'.image
+pub renamed_by : (image : Disk) (user : ℕ) (name new_name kept : List ℕ) (result : Result (Option ℕ) Fault) (drive' : Drive) → user < 16 → has_wildcard name ≡ false → has_wildcard new_name ≡ false → AreBytes 11 kept → IsDisk image → HasBytes image → IsSoundDisk image → IsRenamable image user name new_name → kept ≡ kept_name image user name new_name → (result, drive') ≡ after_named (fresh_drive image) (rename_files_on_volume (volume_of image (reserved_at_login (dpb_of image.format) (entries_of image))) user name kept) → ((code : Option ℕ) × (result ≡ Ok code)) × IsRenamed image user name new_name drive'.image
 unfolding now
 renamed_by image user name new_name kept result drive' small plain new_plain bytes whole has_bytes sound renamable kept_is e =
     let live : user ≢ deleted = λ z. absurd (omega arith) in

@@ -9,8 +9,8 @@ use Rattle.cpm_drive.specs.Drive.{new_marks}
 use Rattle.cpm_drive.specs.Calls.{logged_in}
 use Rattle.cpm_drive.specs.Reads.{lent_drive}
 use Rattle.cpm_drive.specs.Laws.{HasBytes, IsWritable}
-use Rattle.cpm_image_files.specs.Shelf.{records_for, refusal_of}
-use Rattle.cpm_image_files.specs.Writing.{HasRoom, IsWriting}
+use Rattle.cpm_image_files.specs.Shelf.{records_for, file_refusal_of}
+use Rattle.cpm_image_files.specs.Writing.{HasRoomForFile, IsWriting}
 use Rattle.cpm_image_files.proofs.Amounts.{room_of, room_less}
 
 module _ (old image : Disk) (same : image ≡ old) (bytes_of : HasBytes image) (whole : IsDisk old) (new drive : Drive) (is_new : new ≡ lent_drive image (new_marks image.format false)) (is : drive ≡ logged_in new) where
@@ -24,9 +24,9 @@ module _ (old image : Disk) (same : image ≡ old) (bytes_of : HasBytes image) (
     free = ap (λ (d : Drive). d.marks.is_protected) is ∙ ap (λ (d : Drive). d.marks.is_protected) is_new;
   }
 
-  pub has_room : (user : ℕ) (name bytes : List ℕ) → refusal_of (dpb_of old.format) (entries_of old) user name (records_for (length bytes)) ≡ None → HasRoom (dpb_of drive.image.format) (entries_of drive.image) user name 0
+  pub has_room : (user : ℕ) (name bytes : List ℕ) → file_refusal_of (dpb_of old.format) (entries_of old) user name (records_for (length bytes)) ≡ None → HasRoomForFile (dpb_of drive.image.format) (entries_of drive.image) user name 0
   has_room user name bytes allowed =
-      subst (λ (disk : Disk). HasRoom (dpb_of disk.format) (entries_of disk) user name 0) (sym image_is) (room_less old.format (entries_of old) user name 0 (records_for (length bytes)) (room_of (dpb_of old.format) (entries_of old) user name (records_for (length bytes)) allowed) (omega arith))
+      subst (λ (disk : Disk). HasRoomForFile (dpb_of disk.format) (entries_of disk) user name 0) (sym image_is) (room_less old.format (entries_of old) user name 0 (records_for (length bytes)) (room_of (dpb_of old.format) (entries_of old) user name (records_for (length bytes)) allowed) (omega arith))
 
   pub is_started : (user : ℕ) (name bytes : List ℕ) (begun : Drive) (fcb : Fcb) → ((bytes : List ℕ) → IsWriting drive.image user name bytes 0 begun fcb) → IsWriting old user name bytes 0 begun fcb
   is_started user name bytes begun fcb h =

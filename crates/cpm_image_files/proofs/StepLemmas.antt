@@ -11,18 +11,18 @@ use Rattle.cpm_volume.specs.declared.answer.Answer.{Answer}
 use Rattle.cpm_volume.specs.declared.answer.Answer.TheVariants.{Done as done, NoRecord as no_record, NoBlock as no_block}
 use Rattle.cpm_volume.specs.Files.{deleted, same_name, file_record, open_file_record, Volume}
 use Rattle.cpm_volume.specs.Encoding.{AreBytes}
-use Rattle.cpm_volume.specs.Operations.{Outcome, write_next}
+use Rattle.cpm_volume.specs.Operations.{Outcome, write_next_on_volume}
 use Rattle.cpm_volume.specs.Laws.{position, HasDone, StaysSound}
 use Rattle.cpm_volume.proofs.Formats.{each_format}
 use Rattle.cpm_volume.proofs.Sequential.{writes_next}
 use Rattle.cpm_directory.specs.Directory.{entries_of}
 use Rattle.cpm_drive.specs.declared.drive.Drive.{Drive}
-use Rattle.cpm_drive.specs.Drive.{volume_of, drive_after, Called, called, after_call}
+use Rattle.cpm_drive.specs.Drive.{volume_of, drive_after, Called, call_result, after_call}
 use Rattle.cpm_drive.specs.Laws.{IsOfBytes, CallsReach, OutcomeReaches}
 use Rattle.cpm_drive.proofs.DiskReach.{calls_reach}
-use Rattle.cpm_image_files.specs.Shelf.{record_of, records_for, entries_for, blocks_for, free_entries, free_blocks}
+use Rattle.cpm_image_files.specs.Shelf.{record_of_bytes, records_for, entries_for, blocks_for, free_entries, free_blocks}
 use Rattle.cpm_image_files.specs.Appending.{unused, unreserved, entries_begun, blocks_begun, IsAppending, IsAppended}
-use Rattle.cpm_image_files.specs.Writing.{HasRoom, IsWriting}
+use Rattle.cpm_image_files.specs.Writing.{HasRoomForFile, IsWriting}
 use Rattle.cpm_image_files.proofs.Amounts.{entries_grow, blocks_grow, entries_less, blocks_less, room_small}
 use Rattle.cpm_image_files.proofs.RecordLemmas.{is_record}
 use Rattle.cpm_image_files.proofs.DiskLemmas.{HasVolume, has_volume, keeps_on}
@@ -49,7 +49,7 @@ not_no_record e = cc
 not_no_block : done ≢ no_block
 not_no_block e = cc
 
-module _ (old : Disk) (user : ℕ) (name bytes : List ℕ) (count : ℕ) (drive : Drive) (fcb : Fcb) (record_bytes : List ℕ) (user_ok : user < 16) (writing : IsWriting old user name bytes count drive fcb) (room : HasRoom (dpb_of old.format) (entries_of old) user name (records_for (length bytes))) (more : count < records_for (length bytes)) (is : Some record_bytes ≡ record_of bytes count) (are : AreBytes 128 record_bytes) where
+module _ (old : Disk) (user : ℕ) (name bytes : List ℕ) (count : ℕ) (drive : Drive) (fcb : Fcb) (record_bytes : List ℕ) (user_ok : user < 16) (writing : IsWriting old user name bytes count drive fcb) (room : HasRoomForFile (dpb_of old.format) (entries_of old) user name (records_for (length bytes))) (more : count < records_for (length bytes)) (is : Some record_bytes ≡ record_of_bytes bytes count) (are : AreBytes 128 record_bytes) where
   live : user ≢ deleted
   live e = absurd (omega arith)
 
@@ -57,7 +57,7 @@ module _ (old : Disk) (user : ℕ) (name bytes : List ℕ) (count : ℕ) (drive 
   v = volume_of drive.image drive.marks.reserved
 
   o : Outcome
-  o = write_next (dpb_of old.format) v user fcb.extent fcb.current_record record_bytes
+  o = write_next_on_volume (dpb_of old.format) v user fcb.extent fcb.current_record record_bytes
 
   -- ---- it is done
   entries_due : entries_for (dpb_of old.format) count + entries_begun (dpb_of old.format) count ≤ free_entries user name (entries_of old)
@@ -118,16 +118,16 @@ module _ (old : Disk) (user : ℕ) (name bytes : List ℕ) (count : ℕ) (drive 
   others other other_name m ok apart =
       written.0.others.stay other other_name m ok (λ u same. apart u (ap (same_name other_name) (sym writing.appending.at_end.name_is) ∙ same))
 
-  old_record : (m : ℕ) → m < count → open_file_record (dpb_of old.format) v.entries v.records user fcb.extent m ≡ record_of bytes m
+  old_record : (m : ℕ) → m < count → open_file_record (dpb_of old.format) v.entries v.records user fcb.extent m ≡ record_of_bytes bytes m
   unfolding v volume_of
   old_record m h = writing.records m h
 
-  new_record : (m : ℕ) → m < count + 1 → open_file_record (dpb_of old.format) o.volume.entries o.volume.records user o.extent m ≡ record_of bytes m
+  new_record : (m : ℕ) → m < count + 1 → open_file_record (dpb_of old.format) o.volume.entries o.volume.records user o.extent m ≡ record_of_bytes bytes m
   new_record m h =
       elim (cases_eq m count) [
         | inl same ↦
             let at : m ≡ position fcb.extent fcb.current_record = same ∙ sym writing.count_is in
-            ap (λ k. open_file_record (dpb_of old.format) o.volume.entries o.volume.records user o.extent k) at ∙ (written.1.written.there ∙ (is ∙ ap (record_of bytes) (sym same)))
+            ap (λ k. open_file_record (dpb_of old.format) o.volume.entries o.volume.records user o.extent k) at ∙ (written.1.written.there ∙ (is ∙ ap (record_of_bytes bytes) (sym same)))
         | inr other ↦
             let before : m < count = omega arith in
             let was = old_record m before in
@@ -162,8 +162,8 @@ module _ (old : Disk) (user : ℕ) (name bytes : List ℕ) (count : ℕ) (drive 
         omega arith);
   }
 
-  pub wrote : (answer : Answer) (drive' : Drive) (fcb' : Fcb) → called answer drive' fcb' record_bytes ≡ after_call drive fcb record_bytes (write_next (dpb_of drive.image.format) (volume_of drive.image drive.marks.reserved) user fcb.extent fcb.current_record record_bytes) → (answer ≡ done) × IsWriting old user name bytes (count + 1) drive' fcb'
+  pub wrote : (answer : Answer) (drive' : Drive) (fcb' : Fcb) → call_result answer drive' fcb' record_bytes ≡ after_call drive fcb record_bytes (write_next_on_volume (dpb_of drive.image.format) (volume_of drive.image drive.marks.reserved) user fcb.extent fcb.current_record record_bytes) → (answer ≡ done) × IsWriting old user name bytes (count + 1) drive' fcb'
   unfolding after_call after_fcb v o
   wrote answer drive' fcb' e =
-      let same : called answer drive' fcb' record_bytes ≡ after_call drive fcb record_bytes (write_next (dpb_of old.format) (volume_of drive.image drive.marks.reserved) user fcb.extent fcb.current_record record_bytes) = subst (λ (g : Format). called answer drive' fcb' record_bytes ≡ after_call drive fcb record_bytes (write_next (dpb_of g) (volume_of drive.image drive.marks.reserved) user fcb.extent fcb.current_record record_bytes)) writing.keeps.format e in
+      let same : call_result answer drive' fcb' record_bytes ≡ after_call drive fcb record_bytes (write_next_on_volume (dpb_of old.format) (volume_of drive.image drive.marks.reserved) user fcb.extent fcb.current_record record_bytes) = subst (λ (g : Format). call_result answer drive' fcb' record_bytes ≡ after_call drive fcb record_bytes (write_next_on_volume (dpb_of g) (volume_of drive.image drive.marks.reserved) user fcb.extent fcb.current_record record_bytes)) writing.keeps.format e in
       (ap (λ (c : Called). c.answer) same ∙ appended.answer, subst (λ (c : Called). IsWriting old user name bytes (count + 1) c.drive c.fcb) (sym same) next)

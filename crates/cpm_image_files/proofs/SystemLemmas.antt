@@ -5,7 +5,7 @@ use Rattle.cpm_geom.specs.declared.format.Format.{Format}
 use Rattle.cpm_geom.specs.declared.format.Format.TheVariants.{Ibm3740, Large}
 use Rattle.cpm_geom.specs.Geometry.{dpb_of, sectors_per_track, sector_index, track_of, record_index}
 use Rattle.cpm_geom.specs.Disk.{Disk, sector_at}
-use Rattle.cpm_volume.specs.Files.{Volume, Write, entry_put, record_put}
+use Rattle.cpm_volume.specs.Files.{Volume, DiskWrite, entry_put, record_put}
 use Rattle.cpm_drive.specs.declared.drive.Drive.{Drive}
 use Rattle.cpm_drive.specs.Drive.{after_write, after_writes, drive_after}
 use Rattle.cpm_image_files.specs.Shelf.{system_sectors}
@@ -15,7 +15,7 @@ unfolding dpb_of sectors_per_track sector_index track_of record_index
 record_behind Ibm3740 n = omega arith
 record_behind Large n = omega arith
 
-written_format : (w : Write) (disk : Disk) → (after_write w disk).format ≡ disk.format
+written_format : (w : DiskWrite) (disk : Disk) → (after_write w disk).format ≡ disk.format
 unfolding after_write
 written_format (entry_put index e) disk = refl
 written_format (record_put n bytes) disk = refl
@@ -25,12 +25,12 @@ other_sector disk n bytes place h =
     let behind = record_behind disk.format n in
     get_or-set_other disk.sectors (record_index disk.format n) place bytes [] (λ e. absurd (omega arith))
 
-system_stays : (w : Write) (disk : Disk) (place : ℕ) → place < system_sectors disk.format → sector_at (after_write w disk) place ≡ sector_at disk place
+system_stays : (w : DiskWrite) (disk : Disk) (place : ℕ) → place < system_sectors disk.format → sector_at (after_write w disk) place ≡ sector_at disk place
 unfolding after_write
 system_stays (entry_put index e) disk place h = other_sector disk (index / 4) _ place h
 system_stays (record_put n bytes) disk place h = other_sector disk n bytes place h
 
-all_stay : (ws : List Write) (disk : Disk) (place : ℕ) → place < system_sectors disk.format → sector_at (after_writes ws disk) place ≡ sector_at disk place
+all_stay : (ws : List DiskWrite) (disk : Disk) (place : ℕ) → place < system_sectors disk.format → sector_at (after_writes ws disk) place ≡ sector_at disk place
 unfolding after_writes
 all_stay [] disk place h = refl
 all_stay (w ∷ ws) disk place h =

@@ -3,7 +3,7 @@ use Rattle.std.specs.Prelude.{◌≡◌, ◌≢◌, ◌⊎◌, ℕ, ◌<◌, ◌
 use Rattle.cpm_geom.specs.declared.dpb.Dpb.{Dpb}
 use Rattle.cpm_volume.specs.declared.extent.Extent.{Extent}
 use Rattle.cpm_volume.specs.Files.{deleted, open_file_record, IsFormat, IsSound, Volume}
-use Rattle.cpm_volume.specs.Operations.{write_next}
+use Rattle.cpm_volume.specs.Operations.{write_next_on_volume}
 use Rattle.cpm_volume.specs.Laws.{position}
 use Rattle.cpm_image_files.specs.Appending.{IsAppending, IsAppended, LacksEntry, LacksBlock}
 
@@ -14,5 +14,5 @@ AppendingLaw =
     → IsAppending d user name v x current
     → ((m : ℕ) → position x current ≤ m → open_file_record d v.entries v.records user x m ≡ None)
     × (position x current < 65536
-    → IsAppended d user name v (position x current) (write_next d v user x current bytes)
-    ⊎ (LacksEntry d v (position x current) (write_next d v user x current bytes) ⊎ LacksBlock d v (position x current) (write_next d v user x current bytes)))
+    → IsAppended d user name v (position x current) (write_next_on_volume d v user x current bytes)
+    ⊎ (LacksEntry d v (position x current) (write_next_on_volume d v user x current bytes) ⊎ LacksBlock d v (position x current) (write_next_on_volume d v user x current bytes)))

@@ -22,8 +22,8 @@ abbrev pub lists : Entry → DiskFile → Bool
 lists e file = is_of_file file.user file.name e
 
 -- the file at a place of a list; past the end one of no user (own)
-abbrev pub file_at : List DiskFile → ℕ → DiskFile
-file_at files k = slice_index_or files k (record { user = deleted; name = []; records = 0 })
+abbrev pub listed_file_at : List DiskFile → ℕ → DiskFile
+listed_file_at files k = slice_index_or files k (record { user = deleted; name = []; records = 0 })
 
 -- the index of a file's first entry; the number of entries where it has none (own)
 abbrev pub first_listed : Disk → DiskFile → ℕ
@@ -38,11 +38,11 @@ pub record IsListedFile (disk : Disk) (file : DiskFile) : Type 0 where
 
 -- Each file of the list is on the disk, with its first entry before an index, and they are in the order of these; each entry in use before the index is of exactly one of them. (own)
 pub record AreListed (disk : Disk) (index : ℕ) (files : List DiskFile) : Type 0 where
-  pub each : (k : ℕ) → k < length files → IsListedFile disk (file_at files k)
-  pub before : (k : ℕ) → k < length files → first_listed disk (file_at files k) < index
-  pub order : (j k : ℕ) → j < k → k < length files → first_listed disk (file_at files j) < first_listed disk (file_at files k)
-  pub found : (i : ℕ) → i < index → InUse (entries_of disk) i → (k : ℕ) × (k < length files) × (lists (entry_on disk i) (file_at files k) ≡ true)
-  pub once : (e : Entry) (j k : ℕ) → j < length files → k < length files → lists e (file_at files j) ≡ true → lists e (file_at files k) ≡ true → j ≡ k
+  pub each : (k : ℕ) → k < length files → IsListedFile disk (listed_file_at files k)
+  pub before : (k : ℕ) → k < length files → first_listed disk (listed_file_at files k) < index
+  pub order : (j k : ℕ) → j < k → k < length files → first_listed disk (listed_file_at files j) < first_listed disk (listed_file_at files k)
+  pub found : (i : ℕ) → i < index → InUse (entries_of disk) i → (k : ℕ) × (k < length files) × (lists (entry_on disk i) (listed_file_at files k) ≡ true)
+  pub once : (e : Entry) (j k : ℕ) → j < length files → k < length files → lists e (listed_file_at files j) ≡ true → lists e (listed_file_at files k) ≡ true → j ≡ k
 
 -- The list of a sound disk: all its files, each once, in the order of their first entries; and how many blocks are free. (own)
 pub record IsListed (disk : Disk) (shelf : Shelf) : Type 0 where

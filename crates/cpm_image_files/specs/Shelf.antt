@@ -24,8 +24,8 @@ abbrev pub filler : ℕ
 filler = 0x1A
 
 -- record m of a file of these bytes, if it has so many: whole records of 128, the last filled up (own)
-unfoldable pub record_of : List ℕ → ℕ → Option (List ℕ)
-record_of bytes m =
+unfoldable pub record_of_bytes : List ℕ → ℕ → Option (List ℕ)
+record_of_bytes bytes m =
     if nat_lt (128 * m) (length bytes) then Some (take 128 (drop (128 * m) bytes ++ replicate 128 filler)) else None
 
 -- record m of the file of a user and a name on a disk, if it is there (own)
@@ -41,10 +41,10 @@ abbrev pub IsSoundDisk : Disk → Type 0
 IsSoundDisk disk = (i : ℕ) → fault_of (dpb_of disk.format) (entries_of disk) i ≡ None
 
 -- A disk has the file, of these bytes: entries with the attributes of the name that was given, its records, and no others. (own)
-pub record HasFile (disk : Disk) (user : ℕ) (name bytes : List ℕ) : Type 0 where
+pub record DiskHasFile (disk : Disk) (user : ℕ) (name bytes : List ℕ) : Type 0 where
   pub there : (i : ℕ) × (is_named user name (entry_on disk i) ≡ true)
   pub attributes : (i : ℕ) → is_named user name (entry_on disk i) ≡ true → (entry_on disk i).extent.name ≡ name
-  pub records : (m : ℕ) → record_on disk user name m ≡ record_of bytes m
+  pub records : (m : ℕ) → record_on disk user name m ≡ record_of_bytes bytes m
 
 -- the sectors of the tracks before a disk's first record, which the system is in
 -- CP/M 2.2 Operating System Manual, section 6.10, Disk Parameter Tables: OFF is the number of reserved tracks
@@ -52,7 +52,7 @@ abbrev pub system_sectors : Format → ℕ
 system_sectors f = (dpb_of f).track_offset * sectors_per_track f
 
 -- Each file but that of this user and name has what it had, and its entries are as they were; so is the system. (own)
-pub record KeepsOthers (user : ℕ) (name : List ℕ) (old new : Disk) : Type 0 where
+pub record KeepsOtherFiles (user : ℕ) (name : List ℕ) (old new : Disk) : Type 0 where
   pub format : new.format ≡ old.format
   pub entries : (i : ℕ) → InUse (entries_of old) i → is_named user name (entry_on old i) ≡ false → entry_on new i ≡ entry_on old i
   pub no_more : (i : ℕ) → InUse (entries_of new) i → is_named user name (entry_on new i) ≡ false → entry_on old i ≡ entry_on new i
@@ -87,8 +87,8 @@ unfoldable pub free_blocks : Dpb → ℕ → List ℕ → List Entry → ℕ
 free_blocks d user name es = count_by not (reserved_after d user name es (reserved_at_login d es))
 
 -- why a file of so many records is not put into a directory: the first reason that there is (own)
-unfoldable pub refusal_of : Dpb → List Entry → ℕ → List ℕ → ℕ → Option FileRefusal
-refusal_of d es user name records =
+unfoldable pub file_refusal_of : Dpb → List Entry → ℕ → List ℕ → ℕ → Option FileRefusal
+file_refusal_of d es user name records =
     if list_any (protects user name) es then Some ReadOnly
     else if nat_lt (free_entries user name es) (entries_for d records) then Some DirectoryFull
     else if nat_lt (free_blocks d user name es) (blocks_for d records) then Some DiskFull
@@ -97,15 +97,15 @@ refusal_of d es user name records =
 -- A disk once a file was put on it: there was no reason against it, the file is there, each other is as it was, and no entry has a fault. (own)
 pub record IsPut (old : Disk) (user : ℕ) (name bytes : List ℕ) (new : Disk) : Type 0 where
   pub sound_before : IsSoundDisk old
-  pub allowed : refusal_of (dpb_of old.format) (entries_of old) user name (records_for (length bytes)) ≡ None
-  pub file : HasFile new user name bytes
-  pub others : KeepsOthers user name old new
+  pub allowed : file_refusal_of (dpb_of old.format) (entries_of old) user name (records_for (length bytes)) ≡ None
+  pub file : DiskHasFile new user name bytes
+  pub others : KeepsOtherFiles user name old new
   pub sound : IsSoundDisk new
 
 -- Why a file of so many records is not put on a disk: the fault of the first entry that has one; or the disk is sound, and this is the first reason against it; or there is none, but no memory. (own)
 abbrev pub IsPutRefusal : Disk → ℕ → List ℕ → ℕ → ShelfError → Type 0
 IsPutRefusal old user name records (Damaged fault) = IsChecked (dpb_of old.format) (entries_of old) (Err fault)
 IsPutRefusal old user name records (Refused refusal) =
-    IsSoundDisk old × (refusal_of (dpb_of old.format) (entries_of old) user name records ≡ Some refusal)
+    IsSoundDisk old × (file_refusal_of (dpb_of old.format) (entries_of old) user name records ≡ Some refusal)
 IsPutRefusal old user name records OutOfMemory =
-    IsSoundDisk old × (refusal_of (dpb_of old.format) (entries_of old) user name records ≡ None)
+    IsSoundDisk old × (file_refusal_of (dpb_of old.format) (entries_of old) user name records ≡ None)

@@ -5,12 +5,12 @@ use Rattle.cpm_geom.specs.Geometry.{dpb_of}
 use Rattle.cpm_geom.specs.Disk.{Disk, sector_at}
 use Rattle.cpm_volume.specs.declared.extent.Entry.{Entry}
 use Rattle.cpm_volume.specs.Files.{deleted, same_name, InUse, Volume}
-use Rattle.cpm_volume.specs.Names.{is_named, first_named, protects, with_attributes, Named, none_named, file_read_only, named, erase_files, rename_files}
+use Rattle.cpm_volume.specs.Names.{is_named, first_named, protects, with_attributes, NameOutcome, none_named, file_read_only, named, erase_files_on_volume, rename_files_on_volume}
 use Rattle.cpm_directory.specs.Directory.{entries_of}
 use Rattle.cpm_directory.specs.Login.{reserved_at_login}
 use Rattle.cpm_directory.specs.WellFormed.{IsChecked}
 use Rattle.cpm_drive.specs.Drive.{volume_of, after_writes}
-use Rattle.cpm_image_files.specs.Shelf.{record_on, entry_on, system_sectors, IsSoundDisk, KeepsOthers}
+use Rattle.cpm_image_files.specs.Shelf.{record_on, entry_on, system_sectors, IsSoundDisk, KeepsOtherFiles}
 use Rattle.cpm_image_files.specs.declared.refusal.FileRefusal.{FileRefusal}
 use Rattle.cpm_image_files.specs.declared.refusal.FileRefusal.TheVariants.{ReadOnly, DirectoryFull, DiskFull, NoFile, Exists}
 use Rattle.cpm_image_files.specs.declared.refusal.ShelfError.{ShelfError}
@@ -68,7 +68,7 @@ abbrev pub fresh_volume : Disk → Volume
 fresh_volume disk = volume_of disk (reserved_at_login (dpb_of disk.format) (entries_of disk))
 
 -- The call is done, and the new disk is the old one with what it writes, and nothing else. (own)
-abbrev pub IsLeftBy : Named → Disk → Disk → Type 0
+abbrev pub IsLeftBy : NameOutcome → Disk → Disk → Type 0
 IsLeftBy none_named old new = ⊥
 IsLeftBy file_read_only old new = ⊥
 IsLeftBy (named first v) old new = new ≡ after_writes v.written old
@@ -81,9 +81,9 @@ pub record IsRemoved (old : Disk) (user : ℕ) (name : List ℕ) (new : Disk) : 
   pub sound_before : IsSoundDisk old
   pub there : IsThere old user name
   pub unprotected : list_any (protects user name) (entries_of old) ≡ false
-  pub call : IsLeftBy (erase_files (dpb_of old.format) (fresh_volume old) user name) old new
+  pub call : IsLeftBy (erase_files_on_volume (dpb_of old.format) (fresh_volume old) user name) old new
   pub absent : IsAbsent new user name
-  pub others : KeepsOthers user name old new
+  pub others : KeepsOtherFiles user name old new
   pub sound : IsSoundDisk new
 
 -- nothing is against it that a file is taken from a sound disk: it is there, and no entry of it is read-only (own)
@@ -125,7 +125,7 @@ pub record IsRenamed (old : Disk) (user : ℕ) (name new_name : List ℕ) (new :
   pub there_before : IsThere old user name
   pub free : IsFreeName old user name new_name
   pub unprotected : list_any (protects user name) (entries_of old) ≡ false
-  pub call : IsLeftBy (rename_files (fresh_volume old) user name (kept_name old user name new_name)) old new
+  pub call : IsLeftBy (rename_files_on_volume (fresh_volume old) user name (kept_name old user name new_name)) old new
   pub there : IsThere new user new_name
   pub attributes : (i : ℕ) → is_named user new_name (entry_on new i) ≡ true → (entry_on new i).extent.name ≡ kept_name old user name new_name
   pub file : (m : ℕ) → record_on new user new_name m ≡ record_on old user name m

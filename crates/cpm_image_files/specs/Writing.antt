@@ -13,7 +13,7 @@ use Rattle.cpm_directory.specs.Directory.{entries_of}
 use Rattle.cpm_drive.specs.declared.drive.Drive.{Drive}
 use Rattle.cpm_drive.specs.Drive.{volume_of}
 use Rattle.cpm_drive.specs.Laws.{IsWritable, IsOfBytes}
-use Rattle.cpm_image_files.specs.Shelf.{record_of, record_on, system_sectors, entries_for, blocks_for, free_entries, free_blocks}
+use Rattle.cpm_image_files.specs.Shelf.{record_of_bytes, record_on, system_sectors, entries_for, blocks_for, free_entries, free_blocks}
 use Rattle.cpm_image_files.specs.Appending.{unused, unreserved, IsAppending, KeepsEntries}
 
 -- the file control block of a name that stands before its first record (own)
@@ -27,7 +27,7 @@ new_fcb name =
     }
 
 -- There is no reason against a file of so many records. (own)
-pub record HasRoom (d : Dpb) (es : List Entry) (user : ℕ) (name : List ℕ) (records : ℕ) : Type 0 where
+pub record HasRoomForFile (d : Dpb) (es : List Entry) (user : ℕ) (name : List ℕ) (records : ℕ) : Type 0 where
   pub unprotected : list_any (protects user name) es ≡ false
   pub entries : entries_for d records ≤ free_entries user name es
   pub blocks : blocks_for d records ≤ free_blocks d user name es
@@ -56,6 +56,6 @@ pub record IsWriting (old : Disk) (user : ℕ) (name bytes : List ℕ) (count : 
   pub sound : IsSound (dpb_of old.format) (volume_of drive.image drive.marks.reserved) user fcb.extent
   pub appending : IsAppending (dpb_of old.format) user name (volume_of drive.image drive.marks.reserved) fcb.extent fcb.current_record
   pub count_is : position fcb.extent fcb.current_record ≡ count
-  pub records : (m : ℕ) → m < count → open_file_record (dpb_of old.format) (entries_of drive.image) (records_of drive.image) user fcb.extent m ≡ record_of bytes m
+  pub records : (m : ℕ) → m < count → open_file_record (dpb_of old.format) (entries_of drive.image) (records_of drive.image) user fcb.extent m ≡ record_of_bytes bytes m
   pub entries_left : unused (entries_of drive.image) + entries_for (dpb_of old.format) count ≡ free_entries user name (entries_of old)
   pub blocks_left : unreserved drive.marks.reserved + blocks_for (dpb_of old.format) count ≡ free_blocks (dpb_of old.format) user name (entries_of old)

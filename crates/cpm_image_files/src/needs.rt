@@ -6,7 +6,7 @@ ghost use Rattle.cpm_geom.specs.Geometry.{dpb_of};
 ghost use Rattle.cpm_geom.specs.Disk.{IsDisk};
 ghost use Rattle.cpm_volume.specs.Names.{protects};
 ghost use Rattle.cpm_directory.specs.Directory.{entries_of};
-ghost use Rattle.cpm_image_files.specs.Shelf.{records_for, blocks_for, entries_for, free_entries, free_blocks, refusal_of, is_free_for};
+ghost use Rattle.cpm_image_files.specs.Shelf.{records_for, blocks_for, entries_for, free_entries, free_blocks, file_refusal_of, is_free_for};
 
 use crate::name::FileName;
 use crate::refusal::FileRefusal;
@@ -33,10 +33,10 @@ pub(crate) fn records_for(bytes: &[u8]) -> usize
 
 /// Why a file of so many records is not put on a disk: the first reason that there is.
 #[tactic(auto, unfolding(crate::specs::Shelf::refusal_of))]
-pub(crate) fn refusal_of(image: &LentImage<'_>, file: &FileName, records: usize) -> Option<FileRefusal>
+pub(crate) fn file_refusal_of(image: &LentImage<'_>, file: &FileName, records: usize) -> Option<FileRefusal>
     requires { records < 2 ^ 60 }
     ensures whole { IsDisk image.now }
-    ensures value { result ≡ refusal_of (dpb_of image.now.format) (entries_of image.now) file.now.user file.now.name records }
+    ensures value { result ≡ file_refusal_of (dpb_of image.now.format) (entries_of image.now) file.now.user file.now.name records }
 {
     let dpb = image.format().dpb();
     if is_protected(image, file) {

@@ -7,12 +7,12 @@ ghost use Rattle.cpm_volume.specs.Encoding.{AreBytes};
 ghost use Rattle.cpm_directory.specs.Directory.{entries_of};
 ghost use Rattle.cpm_directory.specs.Login.{reserved_at_login};
 ghost use Rattle.cpm_drive.specs.Laws.{IsWritable};
-ghost use Rattle.cpm_image_files.specs.Shelf.{record_of, records_for, refusal_of, IsSoundDisk, IsPut, IsPutRefusal};
-ghost use Rattle.cpm_image_files.specs.Writing.{HasRoom, IsWriting, new_fcb};
+ghost use Rattle.cpm_image_files.specs.Shelf.{record_of_bytes, records_for, file_refusal_of, IsSoundDisk, IsPut, IsPutRefusal};
+ghost use Rattle.cpm_image_files.specs.Writing.{HasRoomForFile, IsWriting, new_fcb};
 
 use crate::copies::of_bytes;
 use crate::name::FileName;
-use crate::needs::{RECORD_SIZE, records_for, refusal_of};
+use crate::needs::{RECORD_SIZE, records_for, file_refusal_of};
 use crate::refusal::ShelfError;
 use cpm_directory::{LentImage, well_formed};
 use cpm_drive::Drive;
@@ -33,7 +33,7 @@ pub fn put(alloc: Global, image: &Image, file: &FileName, bytes: &[u8]) -> Resul
     if let Err(fault) = well_formed(image) {
         return Err(ShelfError::Damaged(fault));
     }
-    if let Some(refusal) = refusal_of(&LentImage::new(image), file, records_for(bytes)) {
+    if let Some(refusal) = file_refusal_of(&LentImage::new(image), file, records_for(bytes)) {
         return Err(ShelfError::Refused(refusal));
     }
     match image.copy(alloc) {
@@ -46,7 +46,7 @@ pub fn put(alloc: Global, image: &Image, file: &FileName, bytes: &[u8]) -> Resul
 fn written(image: Image, file: &FileName, bytes: &[u8]) -> Image
     requires whole { IsDisk image }
     requires sound { IsSoundDisk image }
-    requires room { refusal_of (dpb_of image.format) (entries_of image) file.now.user file.now.name (records_for (length bytes.now)) ≡ None }
+    requires room { file_refusal_of (dpb_of image.format) (entries_of image) file.now.user file.now.name (records_for (length bytes.now)) ≡ None }
     ensures { IsPut image file.now.user file.now.name bytes.now result }
 {
     let user = file.user();
@@ -54,7 +54,7 @@ fn written(image: Image, file: &FileName, bytes: &[u8]) -> Image
     drive.log_in();
     let mut fcb = begin(&mut drive, file);
     for number in 0..records_for(bytes) {
-        let record = record_of(bytes, number);
+        let record = record_of_bytes(bytes, number);
         match drive.write_next(user, &mut fcb, &record) {
             Answer::Done => {}
             _ => unreachable!(),
@@ -69,7 +69,7 @@ fn begin(drive: &mut Drive, file: &FileName) -> Fcb
     requires writable { IsWritable drive.old }
     requires sound { IsSoundDisk drive.old.image }
     requires fresh { drive.old.marks.reserved ≡ reserved_at_login (dpb_of drive.old.image.format) (entries_of drive.old.image) }
-    requires room { HasRoom (dpb_of drive.old.image.format) (entries_of drive.old.image) file.now.user file.now.name 0 }
+    requires room { HasRoomForFile (dpb_of drive.old.image.format) (entries_of drive.old.image) file.now.user file.now.name 0 }
     ensures { (bytes : List ℕ) → IsWriting drive.old.image file.now.user file.now.name bytes 0 drive.new result }
 {
     let user = file.user();
@@ -100,9 +100,9 @@ fn fcb_of(name: &[u8; 11]) -> Fcb
 }
 
 /// A record of a file of these bytes, the last one filled up.
-fn record_of(bytes: &[u8], number: usize) -> [u8; RECORD_SIZE]
+fn record_of_bytes(bytes: &[u8], number: usize) -> [u8; RECORD_SIZE]
     requires { 128 * number < length bytes.now }
-    ensures value { Some result ≡ record_of bytes.now number }
+    ensures value { Some result ≡ record_of_bytes bytes.now number }
     ensures bytes { AreBytes 128 result }
 {
     let start = RECORD_SIZE * number;

@@ -3,7 +3,7 @@ use Rattle.std.proofs.Common.{◌≡◌, ◌&&◌, subst, ℕ, ◌≤◌, Bool, 
 use Rattle.std.proofs.Math.Facts.{leb_yes, and_yes}
 use Rattle.std.proofs.Math.Dec.{T}
 use Rattle.cpm_decode.specs.declared.operation.Decoded.{Decoded}
-use Rattle.cpm_decode.specs.Pattern.{fits}
+use Rattle.cpm_decode.specs.Pattern.{fits_pattern}
 use Rattle.cpm_decode.specs.Rows8080.{Row, rows8080, first_row, decoded_by, decoded8080}
 use Rattle.cpm_listing.specs.Instruction.{length_of}
 
@@ -15,7 +15,7 @@ first_has : (rows : List Row) (opcode low high : ℕ) → T (have_bytes rows) �
 first_has [] opcode low high h = leb_yes tt
 first_has (r ∷ rows) opcode low high h =
     let both = and_yes (leb 1 r.length) (have_bytes rows) h in
-    elim (fits r.pattern opcode) as (λ b. 1 ≤ length_of (elim b [ true ↦ Some (decoded_by r opcode low high) | false ↦ first_row rows opcode low high ])) [ true ↦ leb_yes both.0 | false ↦ first_has rows opcode low high both.1 ]
+    elim (fits_pattern r.pattern opcode) as (λ b. 1 ≤ length_of (elim b [ true ↦ Some (decoded_by r opcode low high) | false ↦ first_row rows opcode low high ])) [ true ↦ leb_yes both.0 | false ↦ first_has rows opcode low high both.1 ]
 
 row_has_bytes : (opcode low high : ℕ) → 1 ≤ length_of (decoded8080 opcode low high)
 unfolding decoded8080

@@ -7,13 +7,13 @@ use Rattle.cpm_decode.specs.declared.operation.Decoded.{Decoded}
 use Rattle.cpm_decode.specs.declared.operation_z80.IndexRegister.{IndexRegister}
 use Rattle.cpm_decode.specs.declared.operation_z80.IndexRegister.TheVariants.{Ix, Iy}
 use Rattle.cpm_decode.specs.declared.operation_z80.DecodedZ80.{DecodedZ80}
-use Rattle.cpm_decode.specs.Pattern.{fits, field}
+use Rattle.cpm_decode.specs.Pattern.{fits_pattern, field}
 use Rattle.cpm_decode.specs.Rows8080.{Row, rows8080, first_row, decoded_by, decoded8080}
 use Rattle.cpm_decode.specs.PageZ80.{RowZ80, first_row_z80, decoded_with}
 use Rattle.cpm_decode.specs.RowsZ80Bits.{bit_rows, indexed_bit_rows, decoded_bits, decoded_indexed_bits}
 use Rattle.cpm_decode.specs.RowsZ80Extended.{extended_rows, decoded_extended}
 use Rattle.cpm_decode.specs.RowsZ80Index.{is_replaced, displaced_rows, with_index, decoded_displaced, decoded_index}
-use Rattle.cpm_decode.specs.RowsZ80.{own_rows, decoded_own, shared, decoded_shared, decoded_plain, decoded_prefixed, decodedz80}
+use Rattle.cpm_decode.specs.RowsZ80.{own_rows, decoded_own, row_of_8080, decoded_shared, decoded_plain, decoded_prefixed, decodedz80}
 
 -- an instruction has one to four bytes
 abbrev is_short : ℕ → Bool
@@ -37,12 +37,12 @@ first_has : (test : ℕ → Bool) (rows : List Row) (opcode low high : ℕ) → 
 first_has test [] opcode low high h = tt
 first_has test (r ∷ rows) opcode low high h =
     let both = and_yes (test r.length) (all_have test rows) h in
-    elim (fits r.pattern opcode) as (λ b. Has test (elim b [ true ↦ Some (decoded_by r opcode low high) | false ↦ first_row rows opcode low high ])) [ true ↦ both.0 | false ↦ first_has test rows opcode low high both.1 ]
+    elim (fits_pattern r.pattern opcode) as (λ b. Has test (elim b [ true ↦ Some (decoded_by r opcode low high) | false ↦ first_row rows opcode low high ])) [ true ↦ both.0 | false ↦ first_has test rows opcode low high both.1 ]
 
 short_shared : (opcode low high : ℕ) → IsShort (decoded_shared opcode low high)
 unfolding decoded8080
 short_shared opcode low high =
-    elim (first_row rows8080 opcode low high) as (λ o. Has is_short o → IsShort (option_map shared o)) [ Some d ↦ λ h. h | None ↦ λ h. tt ] (first_has is_short rows8080 opcode low high tt)
+    elim (first_row rows8080 opcode low high) as (λ o. Has is_short o → IsShort (option_map row_of_8080 o)) [ Some d ↦ λ h. h | None ↦ λ h. tt ] (first_has is_short rows8080 opcode low high tt)
 
 -- a row of the 8080 behind a prefix
 abbrev is_short_behind : ℕ → Bool
@@ -61,7 +61,7 @@ AreShort (r ∷ rows) = ((f : ℕ → ℕ) (low high : ℕ) → IsShort (option_
 first_is_short_z80 : (rows : List RowZ80) (opcode low high : ℕ) → AreShort rows → IsShort (first_row_z80 rows opcode low high)
 first_is_short_z80 [] opcode low high h = tt
 first_is_short_z80 (r ∷ rows) opcode low high h =
-    elim (fits r.pattern opcode) as (λ b. IsShort (elim b [ true ↦ option_map (decoded_with r.length) (r.operation (field r.pattern opcode) low high) | false ↦ first_row_z80 rows opcode low high ])) [
+    elim (fits_pattern r.pattern opcode) as (λ b. IsShort (elim b [ true ↦ option_map (decoded_with r.length) (r.operation (field r.pattern opcode) low high) | false ↦ first_row_z80 rows opcode low high ])) [
       | true ↦ h.0 (field r.pattern opcode) low high
       | false ↦ first_is_short_z80 rows opcode low high h.1
     ]

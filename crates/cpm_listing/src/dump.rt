@@ -1,13 +1,13 @@
 //! Sixteen bytes of memory on a line.
 ghost use Rattle.std.specs.Prelude.{◌≡◌, ◌<◌, ◌≤◌, ◌+◌, ◌++◌, length, map};
-ghost use Rattle.cpm_listing.specs.Dump.{dump_line, shown};
+ghost use Rattle.cpm_listing.specs.Dump.{dump_line, dump_character};
 
 use crate::digits::{ListingLine, add_character, add_spaced, add_text, add_word};
 use arrayvec::ArrayString;
 
 /// A byte as a character; a full stop stands for what doesn't print.
-fn shown(byte: u8) -> char
-    ensures value { result ≡ shown byte }
+fn dump_character(byte: u8) -> char
+    ensures value { result ≡ dump_character byte }
     ensures ascii { result < 128 }
 {
     match byte {
@@ -19,11 +19,11 @@ fn shown(byte: u8) -> char
 /// Adds each byte as a character.
 fn add_shown(line: &mut ListingLine, bytes: &[u8])
     requires { length line.old.bytes + length bytes.now ≤ 96 }
-    ensures text { line.new.bytes ≡ line.old.bytes ++ map shown bytes.now }
+    ensures text { line.new.bytes ≡ line.old.bytes ++ map dump_character bytes.now }
     ensures length { length line.new.bytes ≡ length line.old.bytes + length bytes.now }
 {
     for byte in bytes {
-        add_character(line, shown(*byte));
+        add_character(line, dump_character(*byte));
     }
 }
 

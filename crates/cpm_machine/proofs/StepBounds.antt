@@ -24,7 +24,7 @@ use Rattle.cpm_machine.specs.declared.trap.Trap.TheVariants.{CommandProcessor, B
 use Rattle.cpm_machine.specs.Trap.{trap_at}
 use Rattle.cpm_machine.specs.MachineState.{MachineState}
 use Rattle.cpm_machine.specs.Step.{Part, part, part_in, at_trap, by_call, step_if, is_running, step}
-use Rattle.cpm_machine.specs.Laws.{IsBounded}
+use Rattle.cpm_machine.specs.Laws.{IsStepBounded}
 
 few_stores : (cpu : Cpu) (m : Contents) (regs : Regs) → length (effect_at cpu m regs).stores ≤ 2
 few_stores I8080 m regs = few_stores_8080 m regs
@@ -63,15 +63,15 @@ bounded_part : (system : Disk) (cpu : Cpu) (with_program : Bool) (s : Session) (
 unfolding part
 bounded_part system cpu with_program s m fit = bounded_mode system cpu with_program s.mode s m fit
 
-bounded_if : (system : Disk) (b : Bool) (s : MachineState) → IsFit s.session → IsBounded s (step_if system b s)
+bounded_if : (system : Disk) (b : Bool) (s : MachineState) → IsFit s.session → IsStepBounded s (step_if system b s)
 bounded_if system true s fit = let x = bounded_part system s.cpu s.with_program s.session s.memory fit in record { pages = x.pages; output = x.output }
 bounded_if system false s fit = record { pages = omega arith; output = IsWithin-same 4096 s.session.console }
 
-pub IsBounded-step : (system : Disk) (s : MachineState) → IsFit s.session → IsBounded s (step system s)
+pub IsBounded-step : (system : Disk) (s : MachineState) → IsFit s.session → IsStepBounded s (step system s)
 unfolding step
 IsBounded-step system s fit = bounded_if system (is_running s.ended) s fit
 
 -- a step that is made, or not
-pub IsBounded-once : (system : Disk) (b : Bool) (s : MachineState) → IsFit s.session → IsBounded s (if b then step system s else s)
+pub IsBounded-once : (system : Disk) (b : Bool) (s : MachineState) → IsFit s.session → IsStepBounded s (if b then step system s else s)
 IsBounded-once system true s fit = IsBounded-step system s fit
 IsBounded-once system false s fit = record { pages = omega arith; output = IsWithin-same 4096 s.session.console }

@@ -24,7 +24,7 @@ use Rattle.cpm_machine.specs.declared.trap.Trap.TheVariants.{CommandProcessor, B
 use Rattle.cpm_machine.specs.Trap.{trap_at}
 use Rattle.cpm_machine.specs.MachineState.{MachineState}
 use Rattle.cpm_machine.specs.Serve.{look_of}
-use Rattle.cpm_machine.specs.Step.{Part, part, part_in, at_trap, instruction, by_call, made, after_part, step_if, is_running, step}
+use Rattle.cpm_machine.specs.Step.{Part, part, part_in, at_trap, instruction, by_call, part_made, after_part, step_if, is_running, step}
 use Rattle.cpm_machine.specs.Waits.{call_at, call_of, is_wait, is_waiting_call, WaitsWhereItSays}
 
 went-waits : (w : Went) → (w ≡ Waits → ⊥) → false ≡ is_wait w
@@ -115,14 +115,14 @@ call-part system cpu with_program Line s m d h = let same : bdos system s m ≡ 
 call-part system cpu with_program (Hold held) s m d h = let same : bdos system s m ≡ d = cc in ap by_call same
 call-part system cpu with_program Fault s m d h = let same : bdos system s m ≡ d = cc in ap by_call same
 
-trap-other : (system : Disk) (cpu : Cpu) (with_program : Bool) (t : Option Trap) (s : Session) (m : Contents) → call_at system with_program t s m ≡ None → (at_trap system cpu with_program t s m ≡ instruction cpu s m) ⊎ (at_trap system cpu with_program t s m ≡ made s m outcome.Exits)
+trap-other : (system : Disk) (cpu : Cpu) (with_program : Bool) (t : Option Trap) (s : Session) (m : Contents) → call_at system with_program t s m ≡ None → (at_trap system cpu with_program t s m ≡ instruction cpu s m) ⊎ (at_trap system cpu with_program t s m ≡ part_made s m outcome.Exits)
 trap-other system cpu with_program None s m h = inl refl
 trap-other system cpu true (Some CommandProcessor) s m h = inr refl
 trap-other system cpu false (Some CommandProcessor) s m h = absurd cc
 trap-other system cpu with_program (Some Bdos) s m h = absurd cc
 trap-other system cpu with_program (Some (Bios number)) s m h = absurd cc
 
-call-other : (system : Disk) (cpu : Cpu) (with_program : Bool) (mode : Mode) (s : Session) (m : Contents) → call_of system with_program mode s m ≡ None → (part_in system cpu with_program mode s m ≡ instruction cpu s m) ⊎ (part_in system cpu with_program mode s m ≡ made s m outcome.Exits)
+call-other : (system : Disk) (cpu : Cpu) (with_program : Bool) (mode : Mode) (s : Session) (m : Contents) → call_of system with_program mode s m ≡ None → (part_in system cpu with_program mode s m ≡ instruction cpu s m) ⊎ (part_in system cpu with_program mode s m ≡ part_made s m outcome.Exits)
 call-other system cpu with_program Program s m h = trap-other system cpu with_program (trap_at s.regs.pc) s m h
 call-other system cpu with_program (Command part) s m h = absurd cc
 call-other system cpu with_program (Text next) s m h = absurd cc
@@ -155,6 +155,6 @@ waits-exactly system s = record {
   call = λ d runs h. step-is system s (by_call d) runs (call-part system s.cpu s.with_program s.session.mode s.session s.memory d h);
   other = λ runs h.
       let now = part_in system s.cpu s.with_program s.session.mode s.session s.memory in
-      either-step system s (instruction s.cpu s.session s.memory) (made s.session s.memory outcome.Exits) now (step-is system s now runs refl)
+      either-step system s (instruction s.cpu s.session s.memory) (part_made s.session s.memory outcome.Exits) now (step-is system s now runs refl)
       (call-other system s.cpu s.with_program s.session.mode s.session s.memory h);
 }

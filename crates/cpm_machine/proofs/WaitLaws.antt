@@ -25,8 +25,8 @@ use Rattle.cpm_machine.specs.declared.trap.Trap.TheVariants.{CommandProcessor, B
 use Rattle.cpm_machine.specs.Trap.{trap_at}
 use Rattle.cpm_machine.specs.MachineState.{MachineState}
 use Rattle.cpm_machine.specs.Serve.{look_of}
-use Rattle.cpm_machine.specs.Runner.{IsSound, IsRun}
-use Rattle.cpm_machine.specs.Step.{part, part_in, at_trap, by_call, made, end_of, after_part, step_if, is_running, step, after, can_step}
+use Rattle.cpm_machine.specs.Runner.{IsRunnerSound, IsRun}
+use Rattle.cpm_machine.specs.Step.{part, part_in, at_trap, by_call, part_made, end_of, after_part, step_if, is_running, step, after, can_step}
 
 -- the call that PC names is that of the trap there
 call-at_trap : (system : Disk) (cpu : Cpu) (with_program : Bool) (s : Session) (m : Contents) (d : Did) → call_in Program system s m ≡ Some d → at_trap system cpu with_program (trap_at s.regs.pc) s m ≡ by_call d
@@ -53,12 +53,12 @@ call-part_in system cpu with_program Fault s m d h = let same : bdos system s m 
 call-part_in system cpu with_program (Command part) s m d h = absurd cc
 
 -- a call that waits changes nothing
-by_call-waits : (system : Disk) (cpu : Cpu) (with_program : Bool) (mode : Mode) (s : Session) (m : Contents) → s.mode ≡ mode → is_command mode ≡ false → is_waiting s m ≡ true → part_in system cpu with_program mode s m ≡ made s m outcome.GoesOn
+by_call-waits : (system : Disk) (cpu : Cpu) (with_program : Bool) (mode : Mode) (s : Session) (m : Contents) → s.mode ≡ mode → is_command mode ≡ false → is_waiting s m ≡ true → part_in system cpu with_program mode s m ≡ part_made s m outcome.GoesOn
 by_call-waits system cpu with_program mode s m e plain h =
     call-part_in system cpu with_program mode s m (did s m Waits) (ap (λ mode. call_in mode system s m) (sym e) ∙ (IsWaiting-now s m).changes_nothing h (ap is_command e ∙ plain) system)
 
 -- and neither does a part of the command processor
-part-waits_in : (system : Disk) (cpu : Cpu) (with_program : Bool) (mode : Mode) (s : Session) (m : Contents) → s.mode ≡ mode → is_waiting s m ≡ true → part_in system cpu with_program mode s m ≡ made s m outcome.GoesOn
+part-waits_in : (system : Disk) (cpu : Cpu) (with_program : Bool) (mode : Mode) (s : Session) (m : Contents) → s.mode ≡ mode → is_waiting s m ≡ true → part_in system cpu with_program mode s m ≡ part_made s m outcome.GoesOn
 part-waits_in system cpu with_program (Command part) s m e h = ap by_call ((WaitsForKeys-now system s m).changes_nothing (ap is_command e) h)
 part-waits_in system cpu with_program Program s m e h = by_call-waits system cpu with_program Program s m e refl h
 part-waits_in system cpu with_program (Text next) s m e h = by_call-waits system cpu with_program (Text next) s m e refl h
@@ -66,11 +66,11 @@ part-waits_in system cpu with_program Line s m e h = by_call-waits system cpu wi
 part-waits_in system cpu with_program (Hold held) s m e h = by_call-waits system cpu with_program (Hold held) s m e refl h
 part-waits_in system cpu with_program Fault s m e h = by_call-waits system cpu with_program Fault s m e refl h
 
-part-waits : (system : Disk) (cpu : Cpu) (with_program : Bool) (s : Session) (m : Contents) → is_waiting s m ≡ true → part system cpu with_program s m ≡ made s m outcome.GoesOn
+part-waits : (system : Disk) (cpu : Cpu) (with_program : Bool) (s : Session) (m : Contents) → is_waiting s m ≡ true → part system cpu with_program s m ≡ part_made s m outcome.GoesOn
 unfolding part
 part-waits system cpu with_program s m h = part-waits_in system cpu with_program s.mode s m refl h
 
-pub step-waits : (system : Disk) (s : MachineState) → (look_of s).waiting ≡ true → step system s ≡ after_part s (made s.session s.memory outcome.GoesOn)
+pub step-waits : (system : Disk) (s : MachineState) → (look_of s).waiting ≡ true → step system s ≡ after_part s (part_made s.session s.memory outcome.GoesOn)
 unfolding look_of step
 step-waits system s h =
     let runs : is_running s.ended ≡ true = and-left (is_running s.ended) (is_waiting s.session s.memory) h in
@@ -92,12 +92,12 @@ goes-by_tests false true n m below room e f =
 goes-by_tests false false n m below room e f = refl
 
 -- a part that writes nothing leaves the room for a step, and so ends a session by its count alone
-goes_on : (n : ℕ) (s : MachineState) → IsSound s → is_running s.ended ≡ true → n < 18446744073709551615 → end_of outcome.GoesOn n (touched_of s.memory) s.quota ≡ Running
+goes_on : (n : ℕ) (s : MachineState) → IsRunnerSound s → is_running s.ended ≡ true → n < 18446744073709551615 → end_of outcome.GoesOn n (touched_of s.memory) s.quota ≡ Running
 goes_on n s sound h below =
     subst (λ q. end_of outcome.GoesOn n (touched_of s.memory) q ≡ Running) sound.limit (goes-by_tests (n == 18446744073709551615) (nat_lt s.memory.limit 256 && nat_lt s.memory.limit (touched_of s.memory + 8)) n s.memory below (sound.room h) refl refl)
 
 -- a session that waits does so up to the greatest count
-pub after-waits : (system : Disk) (k : ℕ) (s : MachineState) → IsSound s → is_running s.ended ≡ true → is_waiting s.session s.memory ≡ true → s.count + k ≤ 18446744073709551615 → after system k s ≡ waited s k
+pub after-waits : (system : Disk) (k : ℕ) (s : MachineState) → IsRunnerSound s → is_running s.ended ≡ true → is_waiting s.session s.memory ≡ true → s.count + k ≤ 18446744073709551615 → after system k s ≡ waited s k
 unfolding look_of
 after-waits system zero s sound h waits most =
     sym (ap (λ (e : End). record s { count = s.count + 0; ended = e }) (goes_on (s.count + 0) s sound h (omega (arith, sound.count h)))
@@ -111,7 +111,7 @@ after-waits system (suc k) s sound h waits most =
     ∙ ap (λ n. record s { count = n; ended = end_of outcome.GoesOn n (touched_of s.memory) s.quota }) next
 
 -- and each of these steps may be made
-pub IsRun-waits : (system : Disk) (k : ℕ) (s : MachineState) → IsSound s → can_step s ≡ true → is_waiting s.session s.memory ≡ true → s.count + k ≤ 18446744073709551615 → IsRun system k s (waited s k)
+pub IsRun-waits : (system : Disk) (k : ℕ) (s : MachineState) → IsRunnerSound s → can_step s ≡ true → is_waiting s.session s.memory ≡ true → s.count + k ≤ 18446744073709551615 → IsRun system k s (waited s k)
 IsRun-waits system k s sound can waits most = record {
   now_is = sym (after-waits system k s sound (runs s can) waits most);
   each = λ i below. ap can_step (after-waits system i s sound (runs s can) waits (omega arith))

@@ -7,7 +7,7 @@ use Rattle.cpm_bdos.specs.Bounds.{IsFit}
 use Rattle.cpm_bdos.specs.KeysTaken.{IsFromFront}
 use Rattle.cpm_machine.specs.declared.steps.Outcome.TheVariants as outcome
 use Rattle.cpm_machine.specs.MachineState.{MachineState}
-use Rattle.cpm_machine.specs.Step.{step, after, can_step, after_part, made}
+use Rattle.cpm_machine.specs.Step.{step, after, can_step, after_part, part_made}
 use Rattle.cpm_machine.specs.Serve.{executed, look_of}
 use Rattle.cpm_machine.specs.ToWait.{can_work, executed_to_wait}
 use Rattle.cpm_machine.specs.Waits.{WaitsWhereItSays}
@@ -36,12 +36,12 @@ Cutting = (system : Disk) (a b : ℕ) (s : MachineState) →
     (executed system (a + b) s ≡ k + l) × (after system (k + l) s ≡ after system l (after system k s))
 
 -- a step newly writes at most 8 pages, and puts at most 4,096 bytes on each device
-pub record IsBounded (old new : MachineState) : Type 0 where
+pub record IsStepBounded (old new : MachineState) : Type 0 where
   pub pages : touched_of new.memory ≤ touched_of old.memory + 8
   pub output : IsWithin 4096 old.session.console new.session.console
 
 abbrev pub Bounded : Type 0
-Bounded = (system : Disk) (s : MachineState) → IsFit s.session → IsBounded s (step system s)
+Bounded = (system : Disk) (s : MachineState) → IsFit s.session → IsStepBounded s (step system s)
 
 -- a step takes pending keys from the front alone, and adds none
 abbrev pub KeysLeave : Type 0
@@ -59,7 +59,7 @@ Alone = (system : Disk) (calls : List Call) (start : MachineState) →
 
 -- a step of a machine that waits for a key changes its count alone, and its end by that
 abbrev pub Waiting : Type 0
-Waiting = (system : Disk) (s : MachineState) → (look_of s).waiting ≡ true → step system s ≡ after_part s (made s.session s.memory outcome.GoesOn)
+Waiting = (system : Disk) (s : MachineState) → (look_of s).waiting ≡ true → step system s ≡ after_part s (part_made s.session s.memory outcome.GoesOn)
 
 -- And it is said to wait nowhere else: exactly where its next step is that of a call which needs a key and finds none.
 abbrev pub WaitsExactly : Type 0

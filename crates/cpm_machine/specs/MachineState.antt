@@ -5,8 +5,8 @@ use Rattle.cpm_geom.specs.Disk.{Disk}
 use Rattle.cpm_memory.specs.Contents.{Contents, Write, run_puts, word_puts, after_sets}
 use Rattle.cpm_memory.specs.Layout.{command_processor_address, program_address, stack_address}
 use Rattle.cpm_memory.specs.Opening.{opening}
-use Rattle.cpm_console.specs.Terminal.{blank}
-use Rattle.cpm_bdos.specs.Step.{opened}
+use Rattle.cpm_console.specs.Terminal.{blank_terminal}
+use Rattle.cpm_bdos.specs.Step.{opened_session}
 use Rattle.cpm_bdos.specs.declared.session.Session.{Session}
 use Rattle.cpm_ccp.specs.Loading.{memory_started}
 use Rattle.cpm_machine.specs.declared.reply.End.{End}
@@ -34,7 +34,7 @@ program_puts program = run_puts program_address program ++ word_puts stack_addre
 abbrev pub opened_machine : Cpu → ℕ → List Disk → MachineState
 opened_machine cpu quota drives = record {
   cpu = cpu;
-  session = opened blank drives;
+  session = opened_session blank_terminal drives;
   memory = opening quota;
   quota = quota;
   count = 0;
@@ -43,8 +43,8 @@ opened_machine cpu quota drives = record {
 }
 
 -- own: with a program it is the same but for those stores, and begins at 0100h
-abbrev pub loaded : List ℕ → MachineState → MachineState
-loaded program s =
+abbrev pub program_loaded : List ℕ → MachineState → MachineState
+program_loaded program s =
     record s {
       session = record s.session { regs = record s.session.regs { pc = program_address } };
       memory = after_sets s.memory (program_puts program);
@@ -53,7 +53,7 @@ loaded program s =
 
 -- own: a machine made with a program, which may write all pages
 abbrev pub opened_with : Cpu → List Disk → List ℕ → MachineState
-opened_with cpu drives program = loaded program (opened_machine cpu 256 drives)
+opened_with cpu drives program = program_loaded program (opened_machine cpu 256 drives)
 
 -- own: a machine with a program and the tail of its command, which lies where the command processor would leave it
 abbrev pub with_tail : List ℕ → MachineState → MachineState

@@ -13,14 +13,14 @@ abbrev pub opening_fault : Opening → Option OpenError
 opening_fault o = if nat_lt o.quota 16 || nat_lt 256 o.quota then Some BadQuota else drives_fault (length o.drives.items)
 
 -- own: the second fault where the first is none
-abbrev pub first_fault : Option OpenError → Option OpenError → Option OpenError
-first_fault None second = second
-first_fault (Some fault) second = Some fault
+abbrev pub fault_else : Option OpenError → Option OpenError → Option OpenError
+fault_else None second = second
+fault_else (Some fault) second = Some fault
 
 -- own: with a program it may write all pages, and the program must end below the command processor at E400h
 abbrev pub program_fault : Opening → List ℕ → Option OpenError
 program_fault o program =
-    if not (o.quota == 256) then Some BadQuota else first_fault (drives_fault (length o.drives.items)) (if nat_lt 58112 (length program) then Some ProgramTooLong else None)
+    if not (o.quota == 256) then Some BadQuota else fault_else (drives_fault (length o.drives.items)) (if nat_lt 58112 (length program) then Some ProgramTooLong else None)
 
 -- a refusal names the fault, and where there is none the want of memory
 abbrev pub IsRefusal : Option OpenError → OpenError → Type 0

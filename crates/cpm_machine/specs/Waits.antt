@@ -16,7 +16,7 @@ use Rattle.cpm_machine.specs.declared.trap.Trap.TheVariants.{CommandProcessor, B
 use Rattle.cpm_machine.specs.Trap.{trap_at}
 use Rattle.cpm_machine.specs.MachineState.{MachineState}
 use Rattle.cpm_machine.specs.Serve.{look_of}
-use Rattle.cpm_machine.specs.Step.{made, instruction, part, by_call, after_part, is_running, step}
+use Rattle.cpm_machine.specs.Step.{part_made, instruction, part, by_call, after_part, is_running, step}
 
 -- a machine made with a program ends at the command processor, which is no call (own)
 abbrev pub call_at_prompt : Disk → Bool → Session → Contents → Option Did
@@ -60,4 +60,4 @@ pub record WaitsWhereItSays (system : Disk) (s : MachineState) : Type 0 where
   -- the step is that call
   pub call : (d : Did) → is_running s.ended ≡ true → next_call system s ≡ Some d → step system s ≡ after_part s (by_call d)
   -- where there is none it is an instruction, or the end of a machine made with a program
-  pub other : is_running s.ended ≡ true → next_call system s ≡ None → (step system s ≡ after_part s (instruction s.cpu s.session s.memory)) ⊎ (step system s ≡ after_part s (made s.session s.memory outcome.Exits))
+  pub other : is_running s.ended ≡ true → next_call system s ≡ None → (step system s ≡ after_part s (instruction s.cpu s.session s.memory)) ⊎ (step system s ≡ after_part s (part_made s.session s.memory outcome.Exits))

@@ -3,9 +3,9 @@
 ghost use Rattle.std.specs.Prelude.{◌≡◌, true, false, ◌++◌, ◌≤◌, length, take, drop, min, IfOk, IfErr, None, if◌then◌else◌};
 ghost use Rattle.cpm_memory.specs.Contents.{byte_at};
 ghost use Rattle.cpm_drives.specs.Disks.{images_of};
-ghost use Rattle.cpm_machine.specs.MachineState.{loaded, opened_machine, opened_with, with_tail};
+ghost use Rattle.cpm_machine.specs.MachineState.{program_loaded, opened_machine, opened_with, with_tail};
 ghost use Rattle.cpm_machine.specs.Step.{can_step, step, after};
-ghost use Rattle.cpm_machine.specs.Laws.{IsBounded};
+ghost use Rattle.cpm_machine.specs.Laws.{IsStepBounded};
 ghost use Rattle.cpm_machine.specs.Serve.{executed, why, look_of, taken, taken_list, takes_key, keyed};
 ghost use Rattle.cpm_machine.specs.Until.{executed_until, why_until};
 ghost use Rattle.cpm_machine.specs.ToWait.{executed_to_wait};
@@ -45,7 +45,7 @@ impl Model for Machine {
     ghost use Rattle.cpm_decode.specs.Cache.{IsRightFor};
     ghost use Rattle.cpm_memory.specs.Flat.{flat_contents, flat_stamps};
     ghost use Rattle.cpm_machine.specs.MachineState.{MachineState};
-    ghost use Rattle.cpm_machine.specs.Runner.{state_of, IsSound};
+    ghost use Rattle.cpm_machine.specs.Runner.{state_of, IsRunnerSound};
 
     ghost Value = { MachineState };
 
@@ -142,7 +142,7 @@ impl Machine {
     /// Loads a program, which the machine then begins.
     fn load(&mut self, program: &[u8])
         requires { self.old.quota ≡ 256 }
-        ensures { self.new ≡ loaded program.now self.old }
+        ensures { self.new ≡ program_loaded program.now self.old }
     {
         self.runner.session.regs.pc = PROGRAM;
         self.runner.with_program = true;
@@ -163,7 +163,7 @@ impl Machine {
     pub fn step(&mut self, system: &Image) -> bool
         ensures stepped { result ≡ can_step self.old }
         ensures state { self.new ≡ (if result then step system.now self.old else self.old) }
-        ensures bounds { IsBounded self.old self.new }
+        ensures bounds { IsStepBounded self.old self.new }
     {
         self.runner.session.numbers_fit();
         self.grant(system, 1).executed == 1

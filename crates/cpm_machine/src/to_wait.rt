@@ -2,7 +2,7 @@
 
 ghost use Rattle.std.specs.Prelude.{◌≡◌, ◌≤◌};
 ghost use Rattle.cpm_decode.specs.Cache.{IsRightFor};
-ghost use Rattle.cpm_machine.specs.Runner.{state_of, IsSound};
+ghost use Rattle.cpm_machine.specs.Runner.{state_of, IsRunnerSound};
 ghost use Rattle.cpm_machine.specs.Step.{after};
 ghost use Rattle.cpm_machine.specs.ToWait.{can_work, executed_to_wait};
 
@@ -25,12 +25,12 @@ pub fn grant_to_wait<M: Memory>(
     memory: &mut M,
     steps: u64,
 ) -> u64
-    requires sound { IsSound (state_of runner.old (M.contents memory.old)) }
+    requires sound { IsRunnerSound (state_of runner.old (M.contents memory.old)) }
     requires right { IsRightFor (M.contents memory.old) (M.stamps memory.old) runner.old.cache }
     ensures executed { result ≡ executed_to_wait system.now steps (state_of runner.old (M.contents memory.old)) }
     ensures within { result ≤ steps }
     ensures state { state_of runner.new (M.contents memory.new) ≡ after system.now result (state_of runner.old (M.contents memory.old)) }
-    ensures sound { IsSound (state_of runner.new (M.contents memory.new)) }
+    ensures sound { IsRunnerSound (state_of runner.new (M.contents memory.new)) }
     ensures right { IsRightFor (M.contents memory.new) (M.stamps memory.new) runner.new.cache }
     ensures leads { M.Leads memory.old memory.new }
 {

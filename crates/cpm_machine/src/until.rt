@@ -2,7 +2,7 @@
 
 ghost use Rattle.std.specs.Prelude.{◌≡◌, ◌≤◌};
 ghost use Rattle.cpm_decode.specs.Cache.{IsRightFor};
-ghost use Rattle.cpm_machine.specs.Runner.{state_of, IsSound};
+ghost use Rattle.cpm_machine.specs.Runner.{state_of, IsRunnerSound};
 ghost use Rattle.cpm_machine.specs.Step.{after};
 ghost use Rattle.cpm_machine.specs.Until.{begins_at, can_go_on, executed_until, why_until};
 
@@ -51,13 +51,13 @@ pub fn grant_until<M: Memory>(
     steps: u64,
     pc: u16,
 ) -> Granted
-    requires sound { IsSound (state_of runner.old (M.contents memory.old)) }
+    requires sound { IsRunnerSound (state_of runner.old (M.contents memory.old)) }
     requires right { IsRightFor (M.contents memory.old) (M.stamps memory.old) runner.old.cache }
     ensures executed { result.executed ≡ executed_until system.now pc steps (state_of runner.old (M.contents memory.old)) }
     ensures within { result.executed ≤ steps }
     ensures why { result.why ≡ why_until pc steps result.executed (state_of runner.new (M.contents memory.new)) }
     ensures state { state_of runner.new (M.contents memory.new) ≡ after system.now result.executed (state_of runner.old (M.contents memory.old)) }
-    ensures sound { IsSound (state_of runner.new (M.contents memory.new)) }
+    ensures sound { IsRunnerSound (state_of runner.new (M.contents memory.new)) }
     ensures right { IsRightFor (M.contents memory.new) (M.stamps memory.new) runner.new.cache }
     ensures leads { M.Leads memory.old memory.new }
 {

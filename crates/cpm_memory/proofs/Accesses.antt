@@ -3,7 +3,7 @@ use Rattle.std.proofs.Common.{◌≡◌, ◌≢◌, ℕ, ◌+◌, ◌<◌, ◌�
 use Rattle.std.proofs.lemmas.List.{get_or-set_same, get_or-set_other}
 use Rattle.std.proofs.lemmas.Bool.{cases_eq}
 use Rattle.cpm_memory.specs.Contents.{touched_of, byte_at}
-use Rattle.cpm_memory.specs.Frames.{Frames, IsSound, IsAlone, HasReservation, ChangesTable, KeepsStamps, MovesAtMost, stamps_at, table_at, frame_of, place_of, memory_of, reserved_by}
+use Rattle.cpm_memory.specs.Frames.{Frames, IsStoreSound, IsAlone, HasReservation, ChangesTable, KeepsStamps, MovesAtMost, stamps_at, table_at, frame_of, frame_of_page, memory_of, reserved_by}
 use Rattle.cpm_memory.specs.Kept.{with_byte, with_stamp}
 use Rattle.cpm_memory.specs.Stamps.{after_stamp}
 use Rattle.cpm_memory.specs.Memories.{IsContents-memory_of}
@@ -18,20 +18,20 @@ pub limit-kept : (s s' : Frames) (t limit : ℕ) → ChangesTable s s' t → lim
 limit-kept s s' t limit h e = e ∙ sym (ap (λ o. unwrap_or o 0) h.reservation)
 
 -- a byte is read where its page is
-pub byte-placed : (s : Frames) (t address frame : ℕ) (bytes : List ℕ) → address < 65536 → frame ≡ place_of s t (address / 256) → bytes ≡ frame_of s frame → get_or bytes (address % 256) 0 ≡ byte_at (memory_of s t) address
+pub byte-placed : (s : Frames) (t address frame : ℕ) (bytes : List ℕ) → address < 65536 → frame ≡ frame_of_page s t (address / 256) → bytes ≡ frame_of s frame → get_or bytes (address % 256) 0 ≡ byte_at (memory_of s t) address
 byte-placed s t address frame bytes l e b =
     ap (λ xs. get_or xs (address % 256) 0) b
     ∙ ap (λ f. get_or (frame_of s f) (address % 256) 0) e
     ∙ sym (byte_at-table s t address l)
 
 -- the frame of a page is one of the store's
-pub frame-within : (s : Frames) (t page frame : ℕ) → IsSound s → frame ≡ place_of s t page → frame < s.private + 4
+pub frame-within : (s : Frames) (t page frame : ℕ) → IsStoreSound s → frame ≡ frame_of_page s t page → frame < s.private + 4
 frame-within s t page frame ok e = omega (arith, e, place_of-lt s ok t page)
 
 -- what a byte that is stored in a private frame leaves
 pub record Stored (s s' : Frames) (t address value : ℕ) : Type 0 where
   pub written : Written s s' t address value
-  pub places : (t' page : ℕ) → place_of s' t' page ≡ place_of s t' page
+  pub places : (t' page : ℕ) → frame_of_page s' t' page ≡ frame_of_page s t' page
   pub alone : (page : ℕ) → IsAlone s t page → IsAlone s' t page
   pub touched : touched_of (memory_of s' t) ≡ touched_of (memory_of s t)
 
@@ -39,20 +39,20 @@ stays : (s : Frames) (t f offset value : ℕ) → touched_of (memory_of (with_by
 unfolding touched_of
 stays s t f offset value = refl
 
-pub Stored-from : (s s' : Frames) (t address frame value : ℕ) → IsSound s → address < 65536 → frame ≡ place_of s t (address / 256) → IsAlone s t (address / 256) → s' ≡ with_byte s frame (address % 256) value → Stored s s' t address value
+pub Stored-from : (s s' : Frames) (t address frame value : ℕ) → IsStoreSound s → address < 65536 → frame ≡ frame_of_page s t (address / 256) → IsAlone s t (address / 256) → s' ≡ with_byte s frame (address % 256) value → Stored s s' t address value
 Stored-from s s' t address frame value ok la e alone q = record {
   written = Written-from s s' t address frame value ok alone la (place_of-cases s t (address / 256) frame (omega (arith, e, alone.private)) (sym e)) q;
-  places = λ t' page. ap (λ x. place_of x t' page) q;
+  places = λ t' page. ap (λ x. frame_of_page x t' page) q;
   alone = λ page h. subst (λ x. IsAlone x t page) (sym q) (record { private = h.private; alone = h.alone });
   touched = ap (λ x. touched_of (memory_of x t)) q ∙ stays s t frame (address % 256) value;
 }
 
 -- the places after a page moved
-pub placed-after : (s s' : Frames) (t page place : ℕ) (places : List ℕ) → length places ≡ 256 → page < 256 → ((k : ℕ) → k < 256 → get_or places k 0 ≡ place_of s t k) → MovesAtMost s s' t page → place ≡ place_of s' t page
-    → (k : ℕ) → k < 256 → get_or (set places page place) k 0 ≡ place_of s' t k
+pub placed-after : (s s' : Frames) (t page place : ℕ) (places : List ℕ) → length places ≡ 256 → page < 256 → ((k : ℕ) → k < 256 → get_or places k 0 ≡ frame_of_page s t k) → MovesAtMost s s' t page → place ≡ frame_of_page s' t page
+    → (k : ℕ) → k < 256 → get_or (set places page place) k 0 ≡ frame_of_page s' t k
 placed-after s s' t page place places size lp placed moves here k l =
     ⊎_elim
-    (λ (q : k ≡ page). ap (λ x. get_or (set places page place) x 0) q ∙ get_or-set_same places page place 0 (omega (arith, size, lp)) ∙ here ∙ ap (place_of s' t) (sym q))
+    (λ (q : k ≡ page). ap (λ x. get_or (set places page place) x 0) q ∙ get_or-set_same places page place 0 (omega (arith, size, lp)) ∙ here ∙ ap (frame_of_page s' t) (sym q))
     (λ (q : k ≢ page). get_or-set_other places page k place 0 q ∙ placed k l ∙ sym (moves t k (λ _ e. q e)))
     (cases_eq k page)
 
@@ -62,18 +62,18 @@ alone-moved s s' t page k moves same here alone =
     ⊎_elim
     (λ (q : k ≡ page). subst (IsAlone s' t) (sym q) here)
     (λ (q : k ≢ page).
-    let stays : place_of s' t k ≡ place_of s t k = moves t k (λ _ e. q e) in
+    let stays : frame_of_page s' t k ≡ frame_of_page s t k = moves t k (λ _ e. q e) in
     record {
       private = omega (arith, stays, same, alone.private);
       alone = λ t' k' e. other q stays t' k' e;
     })
     (cases_eq k page)
   where
-    other : k ≢ page → place_of s' t k ≡ place_of s t k → (t' k' : ℕ) → place_of s' t' k' ≡ place_of s' t k → (t' ≡ t) × (k' ≡ k)
+    other : k ≢ page → frame_of_page s' t k ≡ frame_of_page s t k → (t' k' : ℕ) → frame_of_page s' t' k' ≡ frame_of_page s' t k → (t' ≡ t) × (k' ≡ k)
     other q stays t' k' e =
         ⊎_elim
         (λ (u : t' ≡ t). ⊎_elim
-        (λ (r : k' ≡ page). absurd (q (here.alone t k (sym e ∙ ap (λ x. place_of s' x k') u ∙ ap (place_of s' t) r)).1))
+        (λ (r : k' ≡ page). absurd (q (here.alone t k (sym e ∙ ap (λ x. frame_of_page s' x k') u ∙ ap (frame_of_page s' t) r)).1))
         (λ (r : k' ≢ page). alone.alone t' k' (sym (moves t' k' (λ _ z. r z)) ∙ e ∙ stays))
         (cases_eq k' page))
         (λ (u : t' ≢ t). alone.alone t' k' (sym (moves t' k' (λ z _. u z)) ∙ e ∙ stays))
@@ -89,7 +89,7 @@ alone-marked s s' t page owned size lp moves same here before k l marked =
     (cases_eq k page)
 
 -- no more pages are written than may be, and than there are
-pub touched-within : (s : Frames) (t touched limit : ℕ) → IsSound s → t < 64 → touched ≡ touched_of (memory_of s t) → limit ≡ reserved_by (table_at s t) → (touched ≤ limit) × (limit ≤ 256)
+pub touched-within : (s : Frames) (t touched limit : ℕ) → IsStoreSound s → t < 64 → touched ≡ touched_of (memory_of s t) → limit ≡ reserved_by (table_at s t) → (touched ≤ limit) × (limit ≤ 256)
 touched-within s t touched limit ok lt counted limited =
     (omega (arith, counted, limited, (IsContents-memory_of s t ok lt).within), omega (arith, limited, (IsContents-memory_of s t ok lt).limit))
 
@@ -98,7 +98,7 @@ pub record Raised (s s' : Frames) (t page : ℕ) : Type 0 where
   pub stamps : stamps_at s' t ≡ after_stamp (stamps_at s t) page
   pub others : KeepsStamps s s' t
 
-pub Raised-from : (s s' s'' : Frames) (t page : ℕ) → IsSound s → t < 64 → s'.stamps ≡ s.stamps → s'' ≡ with_stamp s' t page → Raised s s'' t page
+pub Raised-from : (s s' s'' : Frames) (t page : ℕ) → IsStoreSound s → t < 64 → s'.stamps ≡ s.stamps → s'' ≡ with_stamp s' t page → Raised s s'' t page
 Raised-from s s' s'' t page ok lt e q = record {
   stamps =
       ap (λ (x : Frames). get_or x.stamps t []) q

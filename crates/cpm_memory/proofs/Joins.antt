@@ -6,8 +6,8 @@ use Rattle.std.proofs.lemmas.Option.{same_Some}
 use Rattle.std.proofs.lemmas.Bool.{cases_eq, cases_lt, false≢true}
 use Rattle.cpm_memory.specs.Contents.{Contents}
 use Rattle.cpm_memory.specs.Tabulated.{tabulated, tabulated-set, same_as_tabulated, length-tabulated, get_or-tabulated}
-use Rattle.cpm_memory.specs.Frames.{Frames, Table, IsSound, IsTaken, HasReservation, KeepsPlaces, blank_table, empty_table, table_at, private_at, place_of, frame_of, boot_of, names, owners_of, used_by, reserved_by, memory_of, memory_at, memories}
-use Rattle.cpm_memory.specs.Kept.{IsKept, with_place, with_table, with_reservation}
+use Rattle.cpm_memory.specs.Frames.{Frames, Table, IsStoreSound, IsTableTaken, HasReservation, KeepsPlaces, blank_table, empty_table, table_at, private_at, frame_of_page, frame_of, boot_of, is_frame, owners_of, used_by, reserved_by, memory_of, memory_at, memories}
+use Rattle.cpm_memory.specs.Kept.{IsKept, table_with_frame, with_table, with_reservation}
 use Rattle.cpm_memory.proofs.Places.{owners_of-moved, used_by-moved, used-moved}
 use Rattle.cpm_memory.proofs.NewStore.{owners_of-le}
 use Rattle.cpm_memory.proofs.Counting.{sum_by_le_at, sums_lt}
@@ -18,11 +18,11 @@ use Rattle.cpm_memory.proofs.Reservations.{none_pass, memories-with_table}
 -- ---- one page is made of a frame that another page has
 
 module _ (s : Frames) (counts : List ℕ) (reservations t page t' page' f : ℕ) (kept : IsKept s counts reservations) (lt : t < 64) (lp : page < 256) (none : private_at s t page ≡ None) (at : private_at s t' page' ≡ Some f) (room : used_by (table_at s t) < reserved_by (table_at s t)) where
-  abbrev ok : IsSound s
+  abbrev ok : IsStoreSound s
   ok = kept.sound
 
   abbrev joined : Table
-  joined = with_place (table_at s t) page (Some f)
+  joined = table_with_frame (table_at s t) page (Some f)
 
   in_tables : t < length s.tables
   in_tables = omega (arith, ok.tables)
@@ -34,7 +34,7 @@ module _ (s : Frames) (counts : List ℕ) (reservations t page t' page' f : ℕ)
   private = ok.numbers t' page' f at
 
   owners-after : (g : ℕ) → owners_of (with_table s t joined) g ≡ owners_of s g + cond (f == g) 1 0
-  owners-after g = omega (arith, owners_of-moved s t page (Some f) g in_tables in_pages, ap (λ o. cond {A = ℕ} (names g o) 1 0) none)
+  owners-after g = omega (arith, owners_of-moved s t page (Some f) g in_tables in_pages, ap (λ o. cond {A = ℕ} (is_frame g o) 1 0) none)
 
   used-after : used_by joined ≡ used_by (table_at s t) + 1
   used-after = omega (arith, used_by-moved s t page (Some f) in_pages, ap (λ o. cond {A = ℕ} (is_some o) 1 0) none)
@@ -51,7 +51,7 @@ module _ (s : Frames) (counts : List ℕ) (reservations t page t' page' f : ℕ)
   no_room : (table : Table) → used_by table < reserved_by table → table.reservation ≡ None → ⊥
   no_room table l e = absurd (omega (arith, l, ap (λ (o : Option ℕ). unwrap_or o 0) e))
 
-  IsSound-joined : IsSound (with_table s t joined)
+  IsSound-joined : IsStoreSound (with_table s t joined)
   IsSound-joined = record {
     bound = ok.bound;
     tables = length-set s.tables t joined ∙ ok.tables;
@@ -92,7 +92,7 @@ module _ (s : Frames) (counts : List ℕ) (reservations t page t' page' f : ℕ)
 
 -- So many pages of a table are made of the frames of the other table's, the rest of boot frames, and nothing else has changed.
 pub record Shares (first s : Frames) (t u n : ℕ) : Type 0 where
-  pub sound : IsSound s
+  pub sound : IsStoreSound s
   pub private : s.private ≡ first.private
   pub frames : s.frames ≡ first.frames
   pub stamps : s.stamps ≡ first.stamps
@@ -109,7 +109,7 @@ some-reservation : (o : Option ℕ) → is_some o ≡ true → o ≡ Some (unwra
 some-reservation None e = absurd (false≢true e)
 some-reservation (Some n) e = refl
 
-module _ (old first : Frames) (t u pages : ℕ) (ok : IsSound old) (lt : t < 64) (lu : u < 64) (free : memory_at old t ≡ None) (taken : HasReservation old u) (count : pages ≡ reserved_by (table_at old u)) (e : first ≡ with_reservation old t (Some pages)) where
+module _ (old first : Frames) (t u pages : ℕ) (ok : IsStoreSound old) (lt : t < 64) (lu : u < 64) (free : memory_at old t ≡ None) (taken : HasReservation old u) (count : pages ≡ reserved_by (table_at old u)) (e : first ≡ with_reservation old t (Some pages)) where
   blank : (table_at old t).reservation ≡ None
   blank = no-reservation (memory_of old t) (table_at old t).reservation free
 
@@ -125,7 +125,7 @@ module _ (old first : Frames) (t u pages : ℕ) (ok : IsSound old) (lt : t < 64)
   there : table_at first u ≡ table_at old u
   there = ap (λ x. table_at x u) e ∙ table_at-other old t u (record (table_at old t) { reservation = Some pages }) apart
 
-  pub Shares-none : IsSound first → Shares first first t u 0
+  pub Shares-none : IsStoreSound first → Shares first first t u 0
   Shares-none sound = record {
     sound = sound;
     private = refl;
@@ -169,7 +169,7 @@ module _ (old first : Frames) (t u pages : ℕ) (ok : IsSound old) (lt : t < 64)
         ∙ ap (λ xs. record { private = old.private; frames = old.frames; tables = set old.tables t (table_at old u); stamps = xs }) (all.stamps ∙ ap (λ (x : Frames). x.stamps) e)
 
 module _ (first s : Frames) (t u n : ℕ) (lt : t < 64) (lu : u < 64) (ln : n < 256) (other : u ≢ t) (so_far : Shares first s t u n) where
-  sound : IsSound s
+  sound : IsStoreSound s
   sound = so_far.sound
 
   within_store : t < length s.tables
@@ -204,17 +204,17 @@ module _ (first s : Frames) (t u n : ℕ) (lt : t < 64) (lu : u < 64) (ln : n < 
       sums_lt bit (table_at s t).places (table_at s u).places n None (sound.pages t lt ∙ sym (sound.pages u lu)) (λ k _. no-more k) within_table (omega (arith, ap bit (so_far.rest n (omega arith)), ap bit at)) in
       omega (arith, fewer, sound.within u, ap reserved_by source, ap (λ o. unwrap_or o 0) so_far.reservation)
 
-  pub Shares-more : (s' : Frames) → IsSound s' → s' ≡ with_table s t (with_place (table_at s t) n (private_at s u n)) → Shares first s' t u (n + 1)
+  pub Shares-more : (s' : Frames) → IsStoreSound s' → s' ≡ with_table s t (table_with_frame (table_at s t) n (private_at s u n)) → Shares first s' t u (n + 1)
   Shares-more s' sound' e = record {
     sound = sound';
     private = ap (λ (x : Frames). x.private) e ∙ so_far.private;
     frames = ap (λ (x : Frames). x.frames) e ∙ so_far.frames;
     stamps = ap (λ (x : Frames). x.stamps) e ∙ so_far.stamps;
-    others = ap (λ (x : Frames). set x.tables t empty_table) e ∙ set-set s.tables t (with_place (table_at s t) n (private_at s u n)) empty_table ∙ so_far.others;
-    reservation = ap (λ x. (table_at x t).reservation) e ∙ ap (λ (x : Table). x.reservation) (table_at-same s t (with_place (table_at s t) n (private_at s u n)) within_store) ∙ so_far.reservation;
+    others = ap (λ (x : Frames). set x.tables t empty_table) e ∙ set-set s.tables t (table_with_frame (table_at s t) n (private_at s u n)) empty_table ∙ so_far.others;
+    reservation = ap (λ x. (table_at x t).reservation) e ∙ ap (λ (x : Table). x.reservation) (table_at-same s t (table_with_frame (table_at s t) n (private_at s u n)) within_store) ∙ so_far.reservation;
     joined = λ k l. ap (λ x. private_at x t k) e
         ∙ ⊎_elim
-        (λ (q : k ≡ n). ap (private_at (with_table s t (with_place (table_at s t) n (private_at s u n))) t) q ∙ private_at-same s t n (private_at s u n) within_store within_table ∙ source-page n ∙ ap (private_at first u) (sym q))
+        (λ (q : k ≡ n). ap (private_at (with_table s t (table_with_frame (table_at s t) n (private_at s u n))) t) q ∙ private_at-same s t n (private_at s u n) within_store within_table ∙ source-page n ∙ ap (private_at first u) (sym q))
         (λ (q : k ≢ n). private_at-other_page s t n k (private_at s u n) within_store q ∙ so_far.joined k (omega (arith, l, q)))
         (cases_eq k n);
     rest = λ k l. ap (λ x. private_at x t k) e ∙ private_at-other_page s t n k (private_at s u n) within_store (λ q. absurd (omega (arith, l, q))) ∙ so_far.rest k (omega (arith, l));
@@ -222,7 +222,7 @@ module _ (first s : Frames) (t u n : ℕ) (lt : t < 64) (lu : u < 64) (ln : n < 
 
 -- ---- the store in which a table is the same as another
 
-module _ (s : Frames) (t u : ℕ) (ok : IsSound s) (lt : t < 64) (taken : HasReservation s u) where
+module _ (s : Frames) (t u : ℕ) (ok : IsStoreSound s) (lt : t < 64) (taken : HasReservation s u) where
   in_order : t < length s.tables
   in_order = omega (arith, ok.tables)
 
@@ -232,7 +232,7 @@ module _ (s : Frames) (t u : ℕ) (ok : IsSound s) (lt : t < 64) (taken : HasRes
   same : table_at both t ≡ table_at s u
   same = table_at-same s t (table_at s u) in_order
 
-  pub places-shared : (page : ℕ) → place_of both t page ≡ place_of s u page
+  pub places-shared : (page : ℕ) → frame_of_page both t page ≡ frame_of_page s u page
   places-shared page = ap (λ (x : Table). unwrap_or (get_or x.places page None) (s.private + boot_of page)) same
 
   pub others-shared : KeepsPlaces s both t
@@ -251,5 +251,5 @@ module _ (s : Frames) (t u : ℕ) (ok : IsSound s) (lt : t < 64) (taken : HasRes
       memories-with_table s t (table_at s u) (Some (memory_of s u)) lt
       (ap (λ (x : Table). option_map (λ _. memory_of both t) x.reservation) same ∙ some (table_at s u).reservation (memory_of both t) taken ∙ ap Some memory)
 
-  pub taken-shared : IsTaken both t
+  pub taken-shared : IsTableTaken both t
   taken-shared = ap (λ m. is_some (get_or m t None)) memories-shared ∙ ap is_some (get_or-set_same (memories s) t (Some (memory_of s u)) None (omega (arith, lt, length-tabulated 64 (memory_at s))))

@@ -9,7 +9,7 @@ use Rattle.std.proofs.lemmas.Bool.Decides.{nat_tests}
 use Rattle.cpm_memory.specs.Opening.{opening_byte, base_byte, jumps_byte}
 use Rattle.cpm_memory.specs.DiskTables.{disk_table_byte}
 use Rattle.cpm_memory.specs.Tabulated.{tabulated, length-tabulated, get_or-tabulated, same_as_tabulated, same_tabulated}
-use Rattle.cpm_memory.specs.Frames.{Frames, Table, IsSound, IsBlank, AreTablesStamps, AreNewFrames, blank_table, table_at, frame_of, boot_of, names, pages_on, owners_of, used_by, reserved_by, reserved_of, memory_of, memory_at, memories}
+use Rattle.cpm_memory.specs.Frames.{Frames, Table, IsStoreSound, IsBlank, AreTablesStamps, AreNewFrames, blank_table, table_at, frame_of, boot_of, is_frame, pages_on, owners_of, used_by, reserved_by, reserved_of, memory_of, memory_at, memories}
 use Rattle.cpm_memory.specs.Kept.{IsKept}
 use Rattle.cpm_memory.proofs.Places.{owners_of-at}
 
@@ -19,7 +19,7 @@ zero_sum f [] d h = refl
 zero_sum f (x ∷ xs) d h = sum_by-cons f x xs ∙ omega (arith, h 0 (omega arith), zero_sum f xs d (λ k l. h (suc k) (omega arith)))
 
 -- no frame has more pages than all have
-named-le : (g : ℕ) (o : Option ℕ) → cond {A = ℕ} (names g o) 1 0 ≤ cond (is_some o) 1 0
+named-le : (g : ℕ) (o : Option ℕ) → cond {A = ℕ} (is_frame g o) 1 0 ≤ cond (is_some o) 1 0
 named-le g None = omega arith
 named-le g (Some f) = bit-le (eqb f g)
   where
@@ -28,7 +28,7 @@ named-le g (Some f) = bit-le (eqb f g)
     bit-le false = omega arith
 
 pub owners_of-le : (s : Frames) (g : ℕ) → owners_of s g ≤ sum_by used_by s.tables
-owners_of-le s g = sum_by-le-sum_by (pages_on g) used_by s.tables (λ t. sum_by-le-sum_by (λ o. cond {A = ℕ} (names g o) 1 0) (λ o. cond {A = ℕ} (is_some o) 1 0) t.places (named-le g))
+owners_of-le s g = sum_by-le-sum_by (pages_on g) used_by s.tables (λ t. sum_by-le-sum_by (λ o. cond {A = ℕ} (is_frame g o) 1 0) (λ o. cond {A = ℕ} (is_some o) 1 0) t.places (named-le g))
 
 module _ (n : ℕ) (z b j d : List ℕ) (ez : z ≡ tabulated 256 (opening_byte 1)) (eb : b ≡ tabulated 256 (opening_byte 0)) (ej : j ≡ tabulated 256 (opening_byte 250)) (ed : d ≡ tabulated 256 (opening_byte 252)) where
   abbrev l0 : List (List ℕ)
@@ -155,7 +155,7 @@ module _ (s : Frames) (most : s.private ≤ 16384) (new : AreNewFrames s.frames 
       (cases_eq page 250))
       (cases_eq page 0)
 
-  pub IsSound-new : IsSound s
+  pub IsSound-new : IsStoreSound s
   IsSound-new = record {
     bound = most;
     tables = count;

@@ -7,8 +7,8 @@ use Rattle.std.proofs.lemmas.Bool.{cases_eq}
 use Rattle.cpm_memory.specs.Contents.{Contents}
 use Rattle.cpm_memory.specs.Opening.{opening, opening_byte}
 use Rattle.cpm_memory.specs.Tabulated.{tabulated, tabulated-set, length-tabulated, get_or-tabulated, same_tabulated, same_as_tabulated, count_by-tabulated_none}
-use Rattle.cpm_memory.specs.Frames.{Frames, Table, IsSound, blank_table, empty_table, table_at, private_at, frame_of, boot_of, names, pages_on, owners_of, used_by, reserved_by, reserved_of, table_byte, memory_of, memory_at, memories}
-use Rattle.cpm_memory.specs.Kept.{IsKept, with_place, with_table, with_shared, with_reservation}
+use Rattle.cpm_memory.specs.Frames.{Frames, Table, IsStoreSound, blank_table, empty_table, table_at, private_at, frame_of, boot_of, is_frame, pages_on, owners_of, used_by, reserved_by, reserved_of, table_byte, memory_of, memory_at, memories}
+use Rattle.cpm_memory.specs.Kept.{IsKept, table_with_frame, with_table, with_shared, with_reservation}
 use Rattle.cpm_memory.proofs.Places.{owners_of-moved, used_by-moved, used-moved}
 use Rattle.cpm_memory.proofs.Bytes.{table_at-same, table_at-other, private_at-same, private_at-other_page, memory_of-same}
 use Rattle.cpm_memory.proofs.Copies.{each_table}
@@ -43,7 +43,7 @@ count_none (x ∷ xs) h =
     sum_by-cons (λ (o : Option ℕ). cond {A = ℕ} (is_some o) 1 0) x xs ∙ omega (arith, ap (λ (o : Option ℕ). cond {A = ℕ} (is_some o) 1 0) (h 0 (omega arith)), count_none xs (λ k l. h (suc k) (omega arith)))
 
 -- its memory is that at opening
-pub memory_of-blank : (s : Frames) (t limit : ℕ) → IsSound s → t < 64 → used_by (table_at s t) ≡ 0 → unwrap_or (table_at s t).reservation 0 ≡ limit → memory_of s t ≡ opening limit
+pub memory_of-blank : (s : Frames) (t limit : ℕ) → IsStoreSound s → t < 64 → used_by (table_at s t) ≡ 0 → unwrap_or (table_at s t).reservation 0 ≡ limit → memory_of s t ≡ opening limit
 memory_of-blank s t limit ok lt blank e =
     ap (λ xs. record { bytes = xs; written = map is_some (table_at s t).places; limit = unwrap_or (table_at s t).reservation 0 })
     (same_tabulated 65536 (table_byte s t) (λ a. opening_byte (a / 256) (a % 256)) 0
@@ -55,7 +55,7 @@ memory_of-blank s t limit ok lt blank e =
 
 -- ---- a reservation
 
-module _ (s : Frames) (t : ℕ) (pages : Option ℕ) (ok : IsSound s) (lt : t < 64) (blank : used_by (table_at s t) ≡ 0) (most : unwrap_or pages 0 ≤ 256) (fits : reserved_of s + unwrap_or pages 0 ≤ s.private + reserved_by (table_at s t)) where
+module _ (s : Frames) (t : ℕ) (pages : Option ℕ) (ok : IsStoreSound s) (lt : t < 64) (blank : used_by (table_at s t) ≡ 0) (most : unwrap_or pages 0 ≤ 256) (fits : reserved_of s + unwrap_or pages 0 ≤ s.private + reserved_by (table_at s t)) where
   abbrev reserving : Table
   reserving = record (table_at s t) { reservation = pages }
 
@@ -68,7 +68,7 @@ module _ (s : Frames) (t : ℕ) (pages : Option ℕ) (ok : IsSound s) (lt : t < 
   reserved-after : reserved_of (with_reservation s t pages) + reserved_by (table_at s t) ≡ reserved_of s + unwrap_or pages 0
   reserved-after = sum_by-set reserved_by s.tables t reserving blank_table in_tables
 
-  pub IsSound-reservation : IsSound (with_reservation s t pages)
+  pub IsSound-reservation : IsStoreSound (with_reservation s t pages)
   IsSound-reservation = record {
     bound = ok.bound;
     tables = length-set s.tables t reserving ∙ ok.tables;
@@ -101,9 +101,9 @@ module _ (s : Frames) (t : ℕ) (pages : Option ℕ) (ok : IsSound s) (lt : t < 
 
 -- ---- a page that is made of its boot frame again
 
-module _ (s : Frames) (t page : ℕ) (ok : IsSound s) (lt : t < 64) (lp : page < 256) where
+module _ (s : Frames) (t page : ℕ) (ok : IsStoreSound s) (lt : t < 64) (lp : page < 256) where
   abbrev cleared : Table
-  cleared = with_place (table_at s t) page None
+  cleared = table_with_frame (table_at s t) page None
 
   in_range : t < length s.tables
   in_range = omega (arith, ok.tables)
@@ -114,7 +114,7 @@ module _ (s : Frames) (t page : ℕ) (ok : IsSound s) (lt : t < 64) (lp : page <
   used-cleared : used_by cleared ≤ used_by (table_at s t)
   used-cleared = omega (arith, used_by-moved s t page None in_pages)
 
-  owners-cleared : (g : ℕ) → owners_of (with_shared s t page) g + cond (names g (private_at s t page)) 1 0 ≡ owners_of s g
+  owners-cleared : (g : ℕ) → owners_of (with_shared s t page) g + cond (is_frame g (private_at s t page)) 1 0 ≡ owners_of s g
   owners-cleared g = omega (arith, owners_of-moved s t page None g in_range in_pages)
 
   numbers-cleared : (page' g : ℕ) → get_or cleared.places page' None ≡ Some g → g < s.private
@@ -124,7 +124,7 @@ module _ (s : Frames) (t page : ℕ) (ok : IsSound s) (lt : t < 64) (lp : page <
       (λ (q : page' ≢ page). ok.numbers t page' g (sym (get_or-set_other (table_at s t).places page page' None None q) ∙ e))
       (cases_eq page' page)
 
-  pub IsSound-shared : IsSound (with_shared s t page)
+  pub IsSound-shared : IsStoreSound (with_shared s t page)
   IsSound-shared = record {
     bound = ok.bound;
     tables = length-set s.tables t cleared ∙ ok.tables;
@@ -152,7 +152,7 @@ module _ (s : Frames) (t page : ℕ) (ok : IsSound s) (lt : t < 64) (lp : page <
     count-is = ap (λ xs. get_or xs f 0) kept.owners ∙ get_or-tabulated s.private (owners_of s) f 0 (ok.numbers t page f e)
 
     owner-less : owners_of (with_shared s t page) f + 1 ≡ owners_of s f
-    owner-less = omega (arith, owners-cleared f, ap (λ o. cond {A = ℕ} (names f o) 1 0) e, itself)
+    owner-less = omega (arith, owners-cleared f, ap (λ o. cond {A = ℕ} (is_frame f o) 1 0) e, itself)
 
     counts-length : length counts ≡ s.private
     counts-length = ap length kept.owners ∙ length-tabulated s.private (owners_of s)
@@ -161,14 +161,14 @@ module _ (s : Frames) (t page : ℕ) (ok : IsSound s) (lt : t < 64) (lp : page <
     IsKept-shared_some = record {
       sound = IsSound-shared;
       owners = ap (λ xs. set xs f (get_or counts f 0 - 1)) kept.owners ∙ sym (tabulated-set s.private (owners_of s) (owners_of (with_shared s t page)) f (get_or counts f 0 - 1) 0 (ok.numbers t page f e) (omega (arith, owner-less, count-is))
-          (λ k l ne. omega (arith, owners-cleared k, ap (λ o. cond {A = ℕ} (names k o) 1 0) e, another k ne)));
+          (λ k l ne. omega (arith, owners-cleared k, ap (λ o. cond {A = ℕ} (is_frame k o) 1 0) e, another k ne)));
       total = omega (arith, kept.total, count-is, owner-less, sum_by-set (λ x. x) counts f (get_or counts f 0 - 1) 0 (omega (arith, counts-length, ok.numbers t page f e)), used-moved s t page None in_range in_pages, ap (λ o. cond {A = ℕ} (is_some o) 1 0) e);
       reserved = omega (arith, kept.reserved, sum_by-set reserved_by s.tables t cleared blank_table in_range);
     }
 
 -- ---- the loop that gives a table's frames up
 
-pub private_at-shared : (s : Frames) (t page k : ℕ) → IsSound s → t < 64 → page < 256 → (k ≢ page → private_at s t k ≡ None) → private_at (with_shared s t page) t k ≡ None
+pub private_at-shared : (s : Frames) (t page k : ℕ) → IsStoreSound s → t < 64 → page < 256 → (k ≢ page → private_at s t k ≡ None) → private_at (with_shared s t page) t k ≡ None
 private_at-shared s t page k ok lt lp h =
     ⊎_elim
     (λ (q : k ≡ page). ap (private_at (with_shared s t page) t) q ∙ private_at-same s t page None (omega (arith, ok.tables)) (omega (arith, ok.pages t lt)))
@@ -176,15 +176,15 @@ private_at-shared s t page k ok lt lp h =
     (cases_eq k page)
 
 -- a table of which no page has a private frame uses none
-pub used-none : (s : Frames) (t : ℕ) → IsSound s → t < 64 → ((k : ℕ) → k < 256 → private_at s t k ≡ None) → used_by (table_at s t) ≡ 0
+pub used-none : (s : Frames) (t : ℕ) → IsStoreSound s → t < 64 → ((k : ℕ) → k < 256 → private_at s t k ≡ None) → used_by (table_at s t) ≡ 0
 used-none s t ok lt h = count_none (table_at s t).places (λ k l. h k (omega (arith, ok.pages t lt)))
 
-pub reserved_by-le : (s : Frames) (t : ℕ) → IsSound s → t < 64 → reserved_by (table_at s t) ≤ reserved_of s
+pub reserved_by-le : (s : Frames) (t : ℕ) → IsStoreSound s → t < 64 → reserved_by (table_at s t) ≤ reserved_of s
 reserved_by-le s t ok lt = get_or-le-sum_by reserved_by s.tables t blank_table (omega (arith, ok.tables))
 
 -- ---- a table that is given up
 
-module _ (s : Frames) (t : ℕ) (ok : IsSound s) (lt : t < 64) where
+module _ (s : Frames) (t : ℕ) (ok : IsStoreSound s) (lt : t < 64) where
   in_store : t < length s.tables
   in_store = omega (arith, ok.tables)
 
@@ -195,7 +195,7 @@ module _ (s : Frames) (t : ℕ) (ok : IsSound s) (lt : t < 64) where
   -- each frame loses the pages of the table, and no other
   pub owners_of-released : (f : ℕ) → owners_of (with_table s t empty_table) f + pages_on f (table_at s t) ≡ owners_of s f
   owners_of-released f =
-      omega (arith, sum_by-set (pages_on f) s.tables t empty_table blank_table in_store, count_by-tabulated_none {X = Option ℕ} (names f) 256 (λ _. None) (λ _. refl))
+      omega (arith, sum_by-set (pages_on f) s.tables t empty_table blank_table in_store, count_by-tabulated_none {X = Option ℕ} (is_frame f) 256 (λ _. None) (λ _. refl))
 
   -- a table of which no page has a private frame, without its reservation
   pub empty-from : (table : Table) → ((k : ℕ) → k < 256 → private_at s t k ≡ None) → table ≡ record (table_at s t) { reservation = None } → table ≡ empty_table

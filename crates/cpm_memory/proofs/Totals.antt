@@ -3,7 +3,7 @@ use Rattle.std.proofs.Common.{◌≡◌, ℕ, suc, ◌+◌, ◌-◌, ◌<◌, �
 use Rattle.std.proofs.lemmas.List.Sums.{sum_by-cons}
 use Rattle.cpm_memory.specs.Contents.{Contents, touched_of}
 use Rattle.cpm_memory.specs.Tabulated.{length-tabulated, get_or-tabulated}
-use Rattle.cpm_memory.specs.Frames.{Frames, Table, IsSound, blank_table, table_at, memory_of, memory_at, memories, is_taken, used_by, reserved_by, reserved_of}
+use Rattle.cpm_memory.specs.Frames.{Frames, Table, IsStoreSound, blank_table, table_at, memory_of, memory_at, memories, is_table_taken, used_by, reserved_by, reserved_of}
 use Rattle.cpm_memory.specs.Memories.{touched_of-table}
 use Rattle.cpm_memory.specs.Reserved.{limit_at, touched_at, room_at, taken_in, reserved_in, touched_in, unused_in}
 
@@ -15,7 +15,7 @@ same_sum f h (x ∷ xs) [] d e l same = absurd (omega (arith, l))
 same_sum f h (x ∷ xs) (y ∷ ys) d e l same =
     omega (arith, sum_by-cons f x xs, sum_by-cons h y ys, same 0 (omega arith), same_sum f h xs ys d e (omega (arith, l)) (λ k m. same (suc k) (omega (arith, m))))
 
-module _ (s : Frames) (ok : IsSound s) where
+module _ (s : Frames) (ok : IsStoreSound s) where
   -- a sum over the memories is one over the tables
   over_tables : (f : Option Contents → ℕ) (h : Table → ℕ) → ((k : ℕ) → k < 64 → f (memory_at s k) ≡ h (table_at s k)) → sum_by f (memories s) ≡ sum_by h s.tables
   over_tables f h same =
@@ -26,9 +26,9 @@ module _ (s : Frames) (ok : IsSound s) where
   taken-at c None = refl
   taken-at c (Some n) = refl
 
-  pub taken_in-tables : taken_in (memories s) ≡ count_by is_taken s.tables
+  pub taken_in-tables : taken_in (memories s) ≡ count_by is_table_taken s.tables
   taken_in-tables =
-      over_tables (λ m. cond {A = ℕ} (is_some m) 1 0) (λ t. cond {A = ℕ} (is_taken t) 1 0) (λ k _. taken-at (memory_of s k) (table_at s k).reservation)
+      over_tables (λ m. cond {A = ℕ} (is_some m) 1 0) (λ t. cond {A = ℕ} (is_table_taken t) 1 0) (λ k _. taken-at (memory_of s k) (table_at s k).reservation)
 
   limit-at : (c : Contents) (o : Option ℕ) → c.limit ≡ unwrap_or o 0 → limit_at (option_map (λ _. c) o) ≡ unwrap_or o 0
   limit-at c None e = refl

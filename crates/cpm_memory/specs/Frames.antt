@@ -38,8 +38,8 @@ abbrev pub boot_of : ℕ → ℕ
 boot_of page = (if page == 0 then 1 else (if page == 0xFA then 2 else (if page == 0xFC then 3 else 0)))
 
 -- the frame that a table's page is made of: its private one, else its boot frame (own)
-abbrev pub place_of : Frames → ℕ → ℕ → ℕ
-place_of s t page = unwrap_or (private_at s t page) (s.private + boot_of page)
+abbrev pub frame_of_page : Frames → ℕ → ℕ → ℕ
+frame_of_page s t page = unwrap_or (private_at s t page) (s.private + boot_of page)
 
 -- the 256 bytes of a frame (own)
 abbrev pub frame_of : Frames → ℕ → List ℕ
@@ -47,7 +47,7 @@ frame_of s frame = slice_index_or s.frames frame []
 
 -- a table's byte at an address lies in the frame of the address's page (own)
 abbrev pub table_byte : Frames → ℕ → ℕ → ℕ
-table_byte s t address = slice_index (frame_of s (place_of s t (address / 256))) (address % 256)
+table_byte s t address = slice_index (frame_of s (frame_of_page s t (address / 256))) (address % 256)
 
 -- the memory that a table's frames make (own)
 abbrev pub memory_of : Frames → ℕ → Contents
@@ -66,17 +66,17 @@ abbrev pub memories : Frames → List (Option Contents)
 memories s = tabulated 64 (memory_at s)
 
 -- The table is taken: it has a memory. (own)
-abbrev pub IsTaken : Frames → ℕ → Type 0
-IsTaken s t = is_some (slice_index_or (memories s) t None) ≡ true
+abbrev pub IsTableTaken : Frames → ℕ → Type 0
+IsTableTaken s t = is_some (slice_index_or (memories s) t None) ≡ true
 
 -- whether this is the frame's number (own)
-abbrev pub names : ℕ → Option ℕ → Bool
-names frame None = false
-names frame (Some f) = f == frame
+abbrev pub is_frame : ℕ → Option ℕ → Bool
+is_frame frame None = false
+is_frame frame (Some f) = f == frame
 
 -- how many pages of one table are made of a private frame (own)
 abbrev pub pages_on : ℕ → Table → ℕ
-pages_on frame t = count_by (names frame) t.places
+pages_on frame t = count_by (is_frame frame) t.places
 
 -- how many pages of all tables are made of a private frame (own)
 abbrev pub owners_of : Frames → ℕ → ℕ
@@ -88,8 +88,8 @@ owners_at s t page = unwrap_or (option_map (owners_of s) (private_at s t page)) 
 
 -- A page is made of a private frame, of which no other page of any table is made. (own)
 pub record IsAlone (s : Frames) (t page : ℕ) : Type 0 where
-  pub private : place_of s t page < s.private
-  pub alone : (t' page' : ℕ) → place_of s t' page' ≡ place_of s t page → (t' ≡ t) × (page' ≡ page)
+  pub private : frame_of_page s t page < s.private
+  pub alone : (t' page' : ℕ) → frame_of_page s t' page' ≡ frame_of_page s t page → (t' ≡ t) × (page' ≡ page)
 
 -- how many pages of a table are made of private frames (own)
 abbrev pub used_by : Table → ℕ
@@ -109,7 +109,7 @@ pub record AreTablesStamps (stamps : List (List ℕ)) : Type 0 where
   pub each : (t : ℕ) → t < 64 → AreStamps (slice_index_or stamps t [])
 
 -- What holds of a store at all times. (own)
-pub record IsSound (s : Frames) : Type 0 where
+pub record IsStoreSound (s : Frames) : Type 0 where
   pub bound : s.private ≤ 16384
   pub tables : length s.tables ≡ 64
   pub frames : length s.frames ≡ s.private + 4
@@ -134,7 +134,7 @@ pub record ChangesTable (old new : Frames) (t : ℕ) : Type 0 where
 
 -- No page of another table moves. (own)
 abbrev pub KeepsPlaces : Frames → Frames → ℕ → Type 0
-KeepsPlaces old new t = (t' page : ℕ) → t' ≢ t → place_of new t' page ≡ place_of old t' page
+KeepsPlaces old new t = (t' page : ℕ) → t' ≢ t → frame_of_page new t' page ≡ frame_of_page old t' page
 
 -- No stamp of another table is raised. (own)
 abbrev pub KeepsStamps : Frames → Frames → ℕ → Type 0
@@ -142,11 +142,11 @@ KeepsStamps old new t = (t' : ℕ) → t' ≢ t → stamps_at new t' ≡ stamps_
 
 -- No page but this one of the table moves. (own)
 abbrev pub MovesAtMost : Frames → Frames → ℕ → ℕ → Type 0
-MovesAtMost old new t page = (t' page' : ℕ) → (t' ≡ t → page' ≡ page → ⊥) → place_of new t' page' ≡ place_of old t' page'
+MovesAtMost old new t page = (t' page' : ℕ) → (t' ≡ t → page' ≡ page → ⊥) → frame_of_page new t' page' ≡ frame_of_page old t' page'
 
 -- whether a table is taken (own)
-abbrev pub is_taken : Table → Bool
-is_taken t = is_some t.reservation
+abbrev pub is_table_taken : Table → Bool
+is_table_taken t = is_some t.reservation
 
 -- a table that is not taken: each page is made of its boot frame (own)
 abbrev pub empty_table : Table

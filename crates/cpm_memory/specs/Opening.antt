@@ -14,12 +14,12 @@ abbrev pub jump_byte : ℕ → ℕ → ℕ
 jump_byte k part = (if part == 0 then 0xC3 else (if part == 1 then k else 0xFB))
 
 -- two blank file names, at 5Ch and 6Ch
-abbrev pub is_name_byte : ℕ → Bool
-is_name_byte offset = nat_lt 0 ((offset - 0x5C) % 16) && nat_lt ((offset - 0x5C) % 16) 12 && nat_lt 0x5C offset && nat_lt offset 0x78
+abbrev pub is_blank_name_byte : ℕ → Bool
+is_blank_name_byte offset = nat_lt 0 ((offset - 0x5C) % 16) && nat_lt ((offset - 0x5C) % 16) 12 && nat_lt 0x5C offset && nat_lt offset 0x78
 
 -- page 00h
 abbrev pub base_byte : ℕ → ℕ
-base_byte offset = (if nat_lt offset 8 then slice_index base_page offset else (if is_name_byte offset then 0x20 else 0))
+base_byte offset = (if nat_lt offset 8 then slice_index base_page offset else (if is_blank_name_byte offset then 0x20 else 0))
 
 -- page FAh
 abbrev pub jumps_byte : ℕ → ℕ

@@ -2,7 +2,7 @@
 
 ghost use Rattle.std.specs.Prelude.{◌≡◌, ◌/◌, Some, slice_set};
 ghost use Rattle.cpm_memory.specs.Contents.{CanSet, after_set, page_of};
-ghost use Rattle.cpm_memory.specs.Frames.{IsSound, IsTaken, MovesAtMost, memories, memory_of};
+ghost use Rattle.cpm_memory.specs.Frames.{IsStoreSound, IsTableTaken, MovesAtMost, memories, memory_of};
 ghost use Rattle.cpm_memory.specs.Laws.{OpensBlank, OpensWithDiskTables, FramesMakeMemories, ViewsChangeOwnTable};
 
 use crate::memory::Memory;
@@ -31,11 +31,11 @@ pub fn views_change_own_table()
 
 /// Stores one byte through a view, which is dropped.
 pub fn set_through_view(store: &mut FrameStore, table: TableId, address: u16, value: u8)
-    requires taken { IsTaken store.old table }
+    requires taken { IsTableTaken store.old table }
     requires room { CanSet (memory_of store.old table) address }
     ensures memories { memories store.new ≡ slice_set (memories store.old) table (Some (after_set (memory_of store.old table) address value)) }
     ensures moves { MovesAtMost store.old store.new table (page_of address) }
-    ensures sound { IsSound store.new }
+    ensures sound { IsStoreSound store.new }
 {
     let mut view = store.view(table);
     view.set(address, value);

@@ -2,7 +2,7 @@
 
 ghost use Rattle.std.specs.Prelude.{◌≡◌, ℕ, ◌<◌, Option, Some, None, length, count_by, is_some, slice_index_or, IfOk};
 ghost use Rattle.cpm_memory.specs.Stamps.{AreStamps};
-ghost use Rattle.cpm_memory.specs.Frames.{is_taken, blank_table, AreTablesStamps, IsBlank};
+ghost use Rattle.cpm_memory.specs.Frames.{is_table_taken, blank_table, AreTablesStamps, IsBlank};
 
 use std::alloc::{AllocError, Global};
 use std::marker::Model;
@@ -64,7 +64,7 @@ impl Model for PageTable {
 
 impl PageTable {
     ghost use Rattle.cpm_memory.specs.Frames.{used_by, reserved_by, IsBlank};
-    ghost use Rattle.cpm_memory.specs.Kept.{with_place};
+    ghost use Rattle.cpm_memory.specs.Kept.{table_with_frame};
 
     /// A table that is not taken.
     pub fn new() -> PageTable
@@ -102,7 +102,7 @@ impl PageTable {
     /// Makes a page of a private frame.
     pub fn put(&mut self, page: u8, frame: u16)
         requires { slice_index_or self.old.places page None ≡ None }
-        ensures { self.new ≡ with_place self.old page (Some frame) }
+        ensures { self.new ≡ table_with_frame self.old page (Some frame) }
     {
         self.used += 1;
         self.places[page as usize] = Some(frame);
@@ -111,7 +111,7 @@ impl PageTable {
     /// Makes a page of its boot frame, and answers the frame that it had.
     pub fn clear(&mut self, page: u8) -> Option<u16>
         ensures place { result ≡ slice_index_or self.old.places page None }
-        ensures cleared { self.new ≡ with_place self.old page None }
+        ensures cleared { self.new ≡ table_with_frame self.old page None }
     {
         let place = self.places[page as usize];
         if place.is_some() {
@@ -169,7 +169,7 @@ pub fn new_stamps(alloc: Global) -> Result<Vec<[u64; 256]>, AllocError>
 
 /// The first table that is not taken.
 pub fn find_free_table(tables: &[PageTable]) -> usize
-    requires { count_by is_taken tables.now < length tables.now }
+    requires { count_by is_table_taken tables.now < length tables.now }
     ensures within { result < length tables.now }
     ensures blank { (slice_index_or tables.now result blank_table).reservation ≡ None }
 {
@@ -183,7 +183,7 @@ pub fn find_free_table(tables: &[PageTable]) -> usize
 
 /// How many tables are taken.
 pub fn count_taken(tables: &[PageTable]) -> usize
-    ensures { result ≡ count_by is_taken tables.now }
+    ensures { result ≡ count_by is_table_taken tables.now }
 {
     tables
         .iter()

@@ -2,7 +2,7 @@
 
 ghost use Rattle.std.specs.Prelude.{◌≡◌, ◌<◌, ◌+◌, ◌%◌, ℕ, true, false, length, slice_index, slice_index_or};
 ghost use Rattle.cpm_memory.specs.Contents.{next, touched_of};
-ghost use Rattle.cpm_memory.specs.Frames.{IsSound, IsAlone, HasReservation, memory_of, place_of, reserved_by, table_at};
+ghost use Rattle.cpm_memory.specs.Frames.{IsStoreSound, IsAlone, HasReservation, memory_of, frame_of_page, reserved_by, table_at};
 
 use crate::memory::Memory;
 use crate::pages::TableId;
@@ -37,7 +37,7 @@ impl View<'_> {
     ghost use Rattle.std.specs.Prelude.{◌/◌};
     ghost use Rattle.cpm_memory.specs.Contents.{CanSet, after_set, page_of};
     ghost use Rattle.cpm_memory.specs.Frames.{MovesAtMost};
-    ghost use Rattle.cpm_memory.specs.View.{contents_of, stamps_of, store_of, table_of, ViewLeads};
+    ghost use Rattle.cpm_memory.specs.View.{contents_of, stamps_of, store_of, view_table, ViewLeads};
     ghost use Rattle.cpm_memory.specs.Stamps.{after_stamp};
 
     /// Stores its first byte of a page, which is copied into a frame of its own, if it has none.
@@ -47,7 +47,7 @@ impl View<'_> {
         requires { CanSet (contents_of self.old) address }
         ensures contents { contents_of self.new ≡ after_set (contents_of self.old) address value }
         ensures stamps { stamps_of self.new ≡ after_stamp (stamps_of self.old) (page_of address) }
-        ensures moves { MovesAtMost (store_of self.old) (store_of self.new) (table_of self.old) (page_of address) }
+        ensures moves { MovesAtMost (store_of self.old) (store_of self.new) (view_table self.old) (page_of address) }
         ensures leads { ViewLeads self.old self.new }
     {
         let page = (address / 256) as u8;
@@ -73,7 +73,7 @@ impl Memory for View<'_> {
     ghost use Rattle.cpm_memory.specs.Contents.{CanSet, after_set, page_of};
     ghost use Rattle.cpm_memory.specs.Stamps.{after_stamp};
     ghost use Rattle.cpm_memory.specs.Frames.{MovesAtMost};
-    ghost use Rattle.cpm_memory.specs.View.{contents_of, stamps_of, surroundings_of, store_of, table_of, ViewLeads, ViewLeads-none, ViewLeads-on, IsContents-view, AreStamps-view};
+    ghost use Rattle.cpm_memory.specs.View.{contents_of, stamps_of, surroundings_of, store_of, view_table, ViewLeads, ViewLeads-none, ViewLeads-on, IsContents-view, AreStamps-view};
 
     ghost contents = { contents_of };
 
@@ -93,7 +93,7 @@ impl Memory for View<'_> {
         requires { CanSet (contents_of self.old) address }
         ensures contents { contents_of self.new ≡ after_set (contents_of self.old) address value }
         ensures stamps { stamps_of self.new ≡ after_stamp (stamps_of self.old) (page_of address) }
-        ensures moves { MovesAtMost (store_of self.old) (store_of self.new) (table_of self.old) (page_of address) }
+        ensures moves { MovesAtMost (store_of self.old) (store_of self.new) (view_table self.old) (page_of address) }
         ensures leads { ViewLeads self.old self.new }
     {
         let page = (address / 256) as usize;

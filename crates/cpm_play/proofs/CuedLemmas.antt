@@ -15,7 +15,7 @@ use Rattle.cpm_machine.specs.declared.reply.Look.{Look}
 use Rattle.cpm_machine.specs.Step.{after, is_running}
 use Rattle.cpm_machine.proofs.AloneLaws.{after-behind}
 use Rattle.cpm_machine.proofs.PressLaws.{alone-add}
-use Rattle.cpm_play.specs.Cued.{HasEndedCued, HasIdled, HasMissed, HasNoWait, HasPressed, HasRun, HasStopped, IsCutOff, IsPressCut, IsRunCut, last_count, runs_at, screen_at, waits_at}
+use Rattle.cpm_play.specs.Cued.{HasEndedCued, HasIdled, HasMissed, HasNoWait, HasPressed, HasExecuted, HasStopped, IsCutOff, IsPressCut, IsRunCut, last_count, runs_at, screen_at, waits_at}
 use Rattle.cpm_play.specs.Live.{IsGoing}
 use Rattle.cpm_play.specs.declared.live.LiveError.{LiveError}
 use Rattle.cpm_play.specs.declared.live.LiveError.TheVariants.{Unreadable, Unwritable, Unrecorded, OutOfMemory}
@@ -45,7 +45,7 @@ not-running Quota other = refl
 not-running CountEnd other = refl
 not-running Exited other = refl
 
-module _ (system : Disk) (k : ℕ) (old now : MachineState) (before written : Option (List ℕ)) (run : HasRun system k old now before written) where
+module _ (system : Disk) (k : ℕ) (old now : MachineState) (before written : Option (List ℕ)) (run : HasExecuted system k old now before written) where
   pub takes-later : takes_key old ≡ true → takes_key now ≡ true
   takes-later takes =
       let left_it = after-pending system k old in
@@ -62,7 +62,7 @@ module _ (system : Disk) (k : ℕ) (old now : MachineState) (before written : Op
       HasMissed system key steps done done_now old now before written
   missed-ended key steps done done_now low within fits at ended =
       let count : k ≡ done_now - done = omega arith in
-      let P : ℕ → Type 0 = λ n. HasRun system n old now before written in
+      let P : ℕ → Type 0 = λ n. HasExecuted system n old now before written in
       record { low = omega arith; run = subst P count run; why = inr (within, omega arith, ended) }
 
   pub pressed-there : (key : Key) (done : ℕ) (next : MachineState) (unrecorded record_now : Option (List ℕ)) → done ≤ key.count → done + k ≡ key.count → is_running now.ended ≡ true → next ≡ keyed key.byte now →
@@ -99,7 +99,7 @@ module _ {system : Disk} {steps most : ℕ} {start now : MachineState} {before w
       ∙ ap (λ xs. xs ++ (after system i now).session.console.screen) (going-screen system steps most start now before written unrecorded record_now keys done going)
 
   -- steps whose text is taken
-  pub going-run : (k : ℕ) (next : MachineState) (written_then : Option (List ℕ)) → k ≤ steps - done → HasRun system k now next written written_then →
+  pub going-run : (k : ℕ) (next : MachineState) (written_then : Option (List ℕ)) → k ≤ steps - done → HasExecuted system k now next written written_then →
       IsGoing system steps most start next before written_then unrecorded record_now keys (done + k)
   going-run k next written_then fits run =
       going-turn system steps most start now before written unrecorded record_now keys done going k (after system k now) next written_then fits refl run.state run.text
@@ -125,10 +125,10 @@ module _ {system : Disk} {steps most : ℕ} {start now : MachineState} {before w
       subst (λ r. IsCutOff system steps most start next before written_then unrecorded r OutOfMemory) (sym cut.1) (going-cut next written_then OutOfMemory cut.0)
 
   -- where it ends
-  run-ended : (k : ℕ) (next : MachineState) (written_then : Option (List ℕ)) → HasRun system k now next written written_then → is_running now.ended ≡ false → is_running next.ended ≡ false
+  run-ended : (k : ℕ) (next : MachineState) (written_then : Option (List ℕ)) → HasExecuted system k now next written written_then → is_running now.ended ≡ false → is_running next.ended ≡ false
   run-ended k next written_then run ended = ap (λ (s : MachineState). is_running s.ended) run.state ∙ after-ended system k now ended
 
-  run-waits : (k : ℕ) (next : MachineState) (written_then : Option (List ℕ)) → HasRun system k now next written written_then → waits_at system start keys (done + k) ≡ (look_of next).waiting
+  run-waits : (k : ℕ) (next : MachineState) (written_then : Option (List ℕ)) → HasExecuted system k now next written written_then → waits_at system start keys (done + k) ≡ (look_of next).waiting
   run-waits k next written_then run =
       going-waits k ∙ sym (waits-bare (after system k now)) ∙ sym (ap (λ (s : MachineState). (look_of s).waiting) run.state)
 

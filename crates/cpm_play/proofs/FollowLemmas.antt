@@ -14,7 +14,7 @@ use Rattle.cpm_machine.specs.Serve.{look_of, takes_key}
 use Rattle.cpm_machine.specs.Step.{after, is_running}
 use Rattle.cpm_machine.proofs.GrantLaws.{after-add}
 use Rattle.cpm_machine.proofs.PressLaws.{alone-pressed}
-use Rattle.cpm_play.specs.Cued.{AreAscii, Comes, HasIdled, HasMissed, HasNoWait, HasPressed, HasShown, IsCued, IsCuedFrom, IsMet, key_count, last_count, looks_back, runs_at, screen_at, waits_at}
+use Rattle.cpm_play.specs.Cued.{AreAscii, Comes, HasIdled, HasMissed, HasNoWait, HasPressed, HasShown, IsCued, IsCuedFrom, IsCueMet, key_count, last_count, looks_back, runs_at, screen_at, waits_at}
 use Rattle.cpm_play.specs.Live.{IsGoing}
 use Rattle.cpm_play.specs.Playing.{presses_of, IsFresh}
 use Rattle.cpm_play.proofs.AloneLemmas.{after-ended, after-pending, presses-more}
@@ -287,7 +287,7 @@ module _ {system : Disk} {start : MachineState} {steps waits_from most : ℕ} {c
     }
 
     -- and where not, it never does so within the steps
-    never-met : (steps ≤ done_now) ⊎ (((look_of next).waiting ≡ false) ⊎ (HasShown text.items left → ⊥)) → (at : ℕ) → IsMet system start steps waits_from keys done following.mark text.items at → ⊥
+    never-met : (steps ≤ done_now) ⊎ (((look_of next).waiting ≡ false) ⊎ (HasShown text.items left → ⊥)) → (at : ℕ) → IsCueMet system start steps waits_from keys done following.mark text.items at → ⊥
     never-met why at met =
         let low = met.next.later in
         let high = met.within in
@@ -296,7 +296,7 @@ module _ {system : Disk} {start : MachineState} {steps waits_from most : ℕ} {c
         (λ other. ⊎_elim (λ (all : done_now ≡ steps). omega arith)
         (λ halts. ⊎_elim (ended-never at late met) (λ counted. waits-never at late met other counted.0 counted.1) halts) idled.why) why
       where
-        ended-never : (at : ℕ) → done_now ≤ at → IsMet system start steps waits_from keys done following.mark text.items at → is_running next.ended ≡ false → ⊥
+        ended-never : (at : ℕ) → done_now ≤ at → IsCueMet system start steps waits_from keys done following.mark text.items at → is_running next.ended ≡ false → ⊥
         ended-never at late met ended =
             let low = idled.low in
             let k = done_now - done in
@@ -310,7 +310,7 @@ module _ {system : Disk} {start : MachineState} {steps waits_from most : ℕ} {c
             subst P there (going-waits following.going (k + j) ∙ ended-waits (after system (k + j) now) last) in
             true≢false (sym met.next.waits ∙ quiet)
 
-        waits-never : (at : ℕ) → done_now ≤ at → IsMet system start steps waits_from keys done following.mark text.items at →
+        waits-never : (at : ℕ) → done_now ≤ at → IsCueMet system start steps waits_from keys done following.mark text.items at →
             ((look_of next).waiting ≡ false) ⊎ (HasShown text.items left → ⊥) → waits_from ≤ done_now → (look_of next).waiting ≡ true → ⊥
         waits-never at late met other counted waits =
             let low = idled.low in

@@ -17,8 +17,8 @@ use Rattle.cpm_play.specs.declared.player.Player.{Player}
 use Rattle.cpm_play.specs.declared.player.Player.TheVariants.{Playing, Waiting}
 use Rattle.cpm_play.specs.declared.scripted_slot.ScriptedSlot.{ScriptedSlot}
 use Rattle.cpm_play.specs.Pacing.{forked_pace, IsOn}
-use Rattle.cpm_play.specs.ScriptedSlots.{IsNone, IsPlaying, IsResting, keys_of}
-use Rattle.cpm_play.specs.Players.{AllReady, ChangesAt, HasCome, IsForkedFrom, IsGoing, IsPlayRefusal, IsWaiting, StandsAs, fork_pages, forks_of, ids_of, is_fork, pages_of, play_error, quota_of, slot_of, start_at}
+use Rattle.cpm_play.specs.ScriptedSlots.{IsNone, IsPlaying, IsResting, script_keys}
+use Rattle.cpm_play.specs.Players.{AllReady, ChangesPlayerAt, HasCome, IsForkedFrom, IsGoing, IsPlayRefusal, IsForkWaiting, StandsAs, fork_pages, forks_of, ids_of, is_fork, pages_of, play_error, quota_of, player_slot, start_at}
 use Rattle.cpm_play.proofs.ForkLemmas.{on-fork, on-quota}
 use Rattle.cpm_play.proofs.PlaceLemmas.{at-set, at-other, same-at, sum-at, sum-set}
 use Rattle.cpm_play.proofs.PlayerLemmas.{HasParent, differ-forked, given-at, going-in, id-below, none-forked, none-from, parent-of, playing-waiting, same-playing, waiting-given}
@@ -38,7 +38,7 @@ module _ (old h new : Host) (given players : List Player) (place : ℕ) (parent 
   source : HasParent old h given fork parent
   source = parent-of old h given players place fork parent k.ready k.come k.waits k.plays
 
-  wait : IsWaiting players fork
+  wait : IsForkWaiting players fork
   wait = (waiting-given old h given players place fork k.ready k.come k.waits).2
 
   -- the state of the parent's slot
@@ -73,30 +73,30 @@ module _ (old h new : Host) (given players : List Player) (place : ℕ) (parent 
   resting =
       let steps = source.going.resting.playing in
       let early : parent.pace.done ≤ fork.at = subst (λ (s : ScriptedSlot). s.pace.done ≤ fork.at) same-parent wait.done in
-      let before = subst (λ (s : ScriptedSlot). Rattle.cpm_play.specs.Players.AllBefore fork.at (take s.pace.pressed (keys_of s))) same-parent wait.early in
+      let before = subst (λ (s : ScriptedSlot). Rattle.cpm_play.specs.Players.AllBefore fork.at (take s.pace.pressed (script_keys s))) same-parent wait.early in
       let ready = (waiting-given old h given players place fork k.ready k.come k.waits).1 in
-      let on = on-fork h.system (keys_of parent) source.own _ fork.at fork.steps source.going.start parent.pace parent.console.items parent.list.items state before early ready.within source.order steps.on in
-      let keyed : IsOn h.system (keys_of child) fork.steps source.going.start (forked_pace parent.pace fork.steps) parent.console.items parent.list.items state =
+      let on = on-fork h.system (script_keys parent) source.own _ fork.at fork.steps source.going.start parent.pace parent.console.items parent.list.items state before early ready.within source.order steps.on in
+      let keyed : IsOn h.system (script_keys child) fork.steps source.going.start (forked_pace parent.pace fork.steps) parent.console.items parent.list.items state =
       subst (λ (ks : List Key). IsOn h.system ks fork.steps source.going.start (forked_pace parent.pace fork.steps) parent.console.items parent.list.items state) (sym (k.forked.keys ∙ source.keys)) on in
-      let paced = subst (λ (x : Pace). IsOn h.system (keys_of child) fork.steps source.going.start x parent.console.items parent.list.items state) (sym k.forked.pace) keyed in
-      let shown = subst (λ (xs : List ℕ). IsOn h.system (keys_of child) fork.steps source.going.start child.pace xs parent.list.items state) (sym k.forked.console) paced in
-      let listed = subst (λ (xs : List ℕ). IsOn h.system (keys_of child) fork.steps source.going.start child.pace child.console.items xs state) (sym k.forked.list) shown in
+      let paced = subst (λ (x : Pace). IsOn h.system (script_keys child) fork.steps source.going.start x parent.console.items parent.list.items state) (sym k.forked.pace) keyed in
+      let shown = subst (λ (xs : List ℕ). IsOn h.system (script_keys child) fork.steps source.going.start child.pace xs parent.list.items state) (sym k.forked.console) paced in
+      let listed = subst (λ (xs : List ℕ). IsOn h.system (script_keys child) fork.steps source.going.start child.pace child.console.items xs state) (sym k.forked.list) shown in
       let playing : IsPlaying fork.steps source.going.start child new = record {
         now = state;
         stands = fresh;
         few = subst (λ (ks : List Key). length ks ≤ 4096) (sym k.forked.keys) ready.few;
-        on = subst (λ (d : Disk). IsOn d (keys_of child) fork.steps source.going.start child.pace child.console.items child.list.items state) (sym system) listed;
+        on = subst (λ (d : Disk). IsOn d (script_keys child) fork.steps source.going.start child.pace child.console.items child.list.items state) (sym system) listed;
       } in
       record { playing = playing; quiet = source.going.resting.quiet }
 
   started : start_at old.slots given (Waiting fork) ≡ Some source.going.start
-  started = ap (slot_of old.slots) source.given_so ∙ source.going.started
+  started = ap (player_slot old.slots) source.given_so ∙ source.going.started
 
   child-goes : IsGoing old.slots given new (Waiting fork) child
   child-goes = record { start = source.going.start; started = started; keys = k.forked.keys; resting = resting }
 
   -- one that waits at another place
-  waiting-on : (other : Fork) → IsWaiting players other → IsWaiting now other
+  waiting-on : (other : Fork) → IsForkWaiting players other → IsForkWaiting now other
   waiting-on other w = record {
     parent = w.parent;
     plays = at-other players place other.parent (Playing child) (λ e. playing-waiting w.parent fork (same-at (slice_get players place) (Playing w.parent) (Waiting fork) (ap (slice_get players) (sym e) ∙ w.plays) k.waits)) ∙ w.plays;
@@ -139,7 +139,7 @@ module _ (old h new : Host) (given players : List Player) (place : ℕ) (parent 
       none-forked id place players fork child k.waits (λ e. (let no : ⊥ = omega (arith, later, number, less, e) in no)) (k.come.came id less none)
 
   quota : state.quota ≡ source.going.start.quota
-  quota = let playing = source.going.resting.playing in on-quota h.system (keys_of parent) _ source.going.start parent.pace parent.console.items parent.list.items state playing.on
+  quota = let playing = source.going.resting.playing in on-quota h.system (script_keys parent) _ source.going.start parent.pace parent.console.items parent.list.items state playing.on
 
   pages : pages_of old.slots given (Waiting fork) ≡ state.quota
   pages = ap quota_of started ∙ sym quota
@@ -200,8 +200,8 @@ lack old h given players place parent fork fault ready come waits plays refused 
     pages : pages_of old.slots given (Waiting fork) ≡ state.quota
     pages =
         let playing = going.resting.playing in
-        ap quota_of (ap (slot_of old.slots) source.given_so ∙ going.started)
-        ∙ sym (on-quota h.system (keys_of parent) _ going.start parent.pace parent.console.items parent.list.items state playing.on)
+        ap quota_of (ap (player_slot old.slots) source.given_so ∙ going.started)
+        ∙ sym (on-quota h.system (script_keys parent) _ going.start parent.pace parent.console.items parent.list.items state playing.on)
 
     slots : length h.slots + forks_of players ≡ length old.slots + forks_of given
     slots = come.slots
@@ -247,7 +247,7 @@ refused-fork old h given players place parent fork fault ready come waits plays 
 
 -- ---- the players
 
-pub changes-fork : (players : List Player) (place : ℕ) (fork : Fork) (child : ScriptedSlot) → slice_get players place ≡ Some (Waiting fork) → ChangesAt place players (set players place (Playing child))
+pub changes-fork : (players : List Player) (place : ℕ) (fork : Fork) (child : ScriptedSlot) → slice_get players place ≡ Some (Waiting fork) → ChangesPlayerAt place players (set players place (Playing child))
 changes-fork players place fork child waits = record {
   keeps = record {
     long = length-set players place (Playing child);

@@ -10,7 +10,7 @@ use Rattle.cpm_slots.proofs.SlotLaws.{slot_at-same, with_slot-none}
 use Rattle.cpm_machine.specs.Calls.{Call, serve}
 use Rattle.cpm_machine.specs.MachineState.{MachineState}
 use Rattle.cpm_play.specs.declared.scripted_slot.ScriptedSlot.{ScriptedSlot}
-use Rattle.cpm_play.specs.ScriptedSlots.{keys_of, Moves, StaysOrderly}
+use Rattle.cpm_play.specs.ScriptedSlots.{script_keys, Moves, StaysOrderly}
 
 -- ---- a call to an open slot
 
@@ -57,7 +57,7 @@ orderly-on old middle new a b is =
 -- ---- who moves
 
 -- a scripted slot that keeps its slot and its keys, and a call to its slot
-pub moves-ask : (p q : ScriptedSlot) (old new : Host) (call : Call) → q.id ≡ p.id → keys_of q ≡ keys_of p → new ≡ after_ask old p.id.0 (Calls call) → Moves p q old new
+pub moves-ask : (p q : ScriptedSlot) (old new : Host) (call : Call) → q.id ≡ p.id → script_keys q ≡ script_keys p → new ≡ after_ask old p.id.0 (Calls call) → Moves p q old new
 moves-ask p q old new call id keys is = record {
   id = id;
   keys = keys;

@@ -13,12 +13,12 @@ use Rattle.cpm_machine.specs.declared.reply.Look.{Look}
 use Rattle.cpm_machine.specs.Step.{after, is_running}
 use Rattle.cpm_machine.specs.Until.{can_go_on, executed_until}
 use Rattle.cpm_machine.proofs.GrantLaws.{longest-is}
-use Rattle.cpm_play.specs.Live.{AreRead, HasCome, HasReason, IsCutShort, IsGoing, IsNotGiven, IsUnreadable, IsUnwritable, bytes_of}
+use Rattle.cpm_play.specs.Live.{AreTypedKeysRead, HasCome, HasReason, IsCutShort, IsGoing, IsNotGiven, IsUnreadable, IsUnwritable, bytes_of}
 use Rattle.cpm_play.specs.declared.live.LiveError.{LiveError}
 use Rattle.cpm_play.specs.declared.live.LiveError.TheVariants.{Unreadable, Unwritable, Unrecorded, OutOfMemory}
 use Rattle.cpm_play.specs.Pacing.{without_list, without_text}
 use Rattle.cpm_play.specs.Playing.{HasText, IsFresh, IsQuiet}
-use Rattle.cpm_play.specs.Typing.{HasQuit, HasRead, IsOver, end_key, keys_in}
+use Rattle.cpm_play.specs.Typing.{HasQuit, HasReadKeys, IsOver, end_key, typed_keys}
 use Rattle.cpm_play.proofs.GoingLemmas.{going-come, going-key, going-start, going-text, going-turn}
 use Rattle.cpm_play.proofs.TypingLemmas.{consumes_more, read_more, read_none}
 
@@ -29,7 +29,7 @@ bytes-more (x ∷ xs) k = ap (λ (v : List ℕ). x.byte ∷ v) (bytes-more xs k)
 -- the session goes, and its keys are those that were read
 pub record IsLive (system : Disk) (steps most : ℕ) (start now : MachineState) (before written unrecorded record_now unread left : Option (List ℕ)) (keys : List Key) (done : ℕ) : Type 0 where
   pub going : IsGoing system steps most start now before written unrecorded record_now keys done
-  pub read : HasRead unread left (bytes_of keys)
+  pub read : HasReadKeys unread left (bytes_of keys)
 
 pub live-start : (system : Disk) (steps most : ℕ) (start : MachineState) (written record_now left : Option (List ℕ)) → IsFresh start → IsLive system steps most start start written written record_now record_now left left [] 0
 live-start system steps most start written record_now left fresh = record { going = going-start system steps most start written record_now fresh; read = read_none left }
@@ -39,11 +39,11 @@ module _ (system : Disk) (steps most : ℕ) (start now : MachineState) (before w
   -- a key more
   pub live-key : (byte : ℕ) (next : MachineState) (record_then left_then : Option (List ℕ)) (more : List Key) → byte < 128 → done < 2 ^ 64 → length keys < most →
       more ≡ keys ++ record { count = done; byte = byte } ∷ [] → next ≡ keyed byte now →
-      Appends record_now record_then (key_line (record { count = done; byte = byte })) → HasRead left left_then (byte ∷ []) →
+      Appends record_now record_then (key_line (record { count = done; byte = byte })) → HasReadKeys left left_then (byte ∷ []) →
       IsLive system steps most start next before written unrecorded record_then unread left_then more done
   live-key byte next record_then left_then more ascii fits room is pressed notes reads = record {
     going = going-key system steps most start now before written unrecorded record_now keys done live.going byte next record_then more ascii fits room is pressed notes;
-    read = subst (λ v. HasRead unread left_then v) (sym (ap bytes_of is ∙ bytes-more keys (record { count = done; byte = byte }))) (read_more unread left left_then (bytes_of keys) (byte ∷ []) live.read reads);
+    read = subst (λ v. HasReadKeys unread left_then v) (sym (ap bytes_of is ∙ bytes-more keys (record { count = done; byte = byte }))) (read_more unread left left_then (bytes_of keys) (byte ∷ []) live.read reads);
   }
 
   -- the steps of a turn, whose text is taken
@@ -60,10 +60,10 @@ module _ (system : Disk) (steps most : ℕ) (start now : MachineState) (before w
   live-come = going-come system steps most start now before written unrecorded record_now keys done live.going
 
   -- why it is cut short: the reader failed
-  pub live-unread : (left_then : Option (List ℕ)) (e : LiveError) → IsUnreadable e → HasRead left left_then [] →
+  pub live-unread : (left_then : Option (List ℕ)) (e : LiveError) → IsUnreadable e → HasReadKeys left left_then [] →
       IsCutShort system steps most start now before written unrecorded record_now unread left_then e
   live-unread left_then (Unreadable e) is none =
-      (keys, live-come, live.going.noted, subst (λ v. HasRead unread left_then v) (append-nil (bytes_of keys)) (read_more unread left left_then (bytes_of keys) [] live.read none))
+      (keys, live-come, live.going.noted, subst (λ v. HasReadKeys unread left_then v) (append-nil (bytes_of keys)) (read_more unread left left_then (bytes_of keys) [] live.read none))
   live-unread left_then (Unwritable e) is none = absurd is
   live-unread left_then (Unrecorded e) is none = absurd is
   live-unread left_then OutOfMemory is none = absurd is
@@ -91,13 +91,13 @@ module _ (system : Disk) (steps most : ℕ) (start now : MachineState) (before w
     bytes = live.read.bytes ++ q.bytes;
     consumed = subst (λ v. Consumes unread left_then v) (sym (append_assoc live.read.bytes q.bytes (end_key ∷ [])))
         (consumes_more unread left left_then live.read.bytes (q.bytes ++ end_key ∷ []) live.read.consumed q.consumed);
-    goes_on = λ rest. ap keys_in (append_assoc live.read.bytes q.bytes rest) ∙ live.read.goes_on (q.bytes ++ rest) ∙ ap (λ v. bytes_of keys ++ v) (q.goes_on rest);
+    goes_on = λ rest. ap typed_keys (append_assoc live.read.bytes q.bytes rest) ∙ live.read.goes_on (q.bytes ++ rest) ∙ ap (λ v. bytes_of keys ++ v) (q.goes_on rest);
   }
 
-  pub live-over : (left_then : Option (List ℕ)) → IsOver left left_then → AreRead unread left_then keys × HasReason steps most unread left_then keys done now
+  pub live-over : (left_then : Option (List ℕ)) → IsOver left left_then → AreTypedKeysRead unread left_then keys × HasReason steps most unread left_then keys done now
   live-over left_then (inl q) = (inr (quit left_then q), inr (inr (inr (inr (quit left_then q)))))
   live-over left_then (inr end) =
-      (inl (subst (λ v. HasRead unread left_then v) (append-nil (bytes_of keys)) (read_more unread left left_then (bytes_of keys) [] live.read end.0)), inr (inr (inr (inl end.1))))
+      (inl (subst (λ v. HasReadKeys unread left_then v) (append-nil (bytes_of keys)) (read_more unread left left_then (bytes_of keys) [] live.read end.0)), inr (inr (inr (inl end.1))))
 
 -- ---- its end
 

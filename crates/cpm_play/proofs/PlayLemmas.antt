@@ -14,8 +14,8 @@ use Rattle.cpm_play.specs.declared.player.Player.TheVariants.{Playing, Waiting}
 use Rattle.cpm_play.specs.declared.scripted_slot.ScriptedSlot.{ScriptedSlot}
 use Rattle.cpm_play.specs.Pacing.{first_pace, IsOn}
 use Rattle.cpm_play.specs.Playing.{IsPlayed}
-use Rattle.cpm_play.specs.ScriptedSlots.{IsPlaying, IsReady, IsResting, keys_of, steps_of}
-use Rattle.cpm_play.specs.Players.{AllBefore, AllDiffer, AllPlayed, AllReady, HasCome, HasPlayed, HasRoomFor, IsForkReady, IsPlayerReady, IsWaiting, StandsAs, forks_of, fork_pages, goes_on, is_fork, left_in_player, left_of, pages_of, player_steps}
+use Rattle.cpm_play.specs.ScriptedSlots.{IsPlaying, IsReady, IsResting, script_keys, steps_of}
+use Rattle.cpm_play.specs.Players.{AllBefore, AllDiffer, AllPlayed, AllReady, HasCome, HasPlayed, HasRoomForForks, IsForkReady, IsPlayerReady, IsForkWaiting, StandsAs, forks_of, fork_pages, still_plays, is_fork, left_in_player, players_left, pages_of, player_steps}
 use Rattle.cpm_play.proofs.PaceLemmas.{on-start, on-end}
 use Rattle.cpm_play.proofs.PlaceLemmas.{same-at, sum-none}
 
@@ -30,11 +30,11 @@ resting-ready h p ready =
     ap (λ (n : ℕ). let x : Pace = record { pressed = n; done = p.pace.done; until = p.pace.until } in x) unplayed.pressed
     ∙ ap (λ (n : ℕ). let x : Pace = record { pressed = 0; done = n; until = p.pace.until } in x) unplayed.done
     ∙ ap (λ (n : ℕ). let x : Pace = record { pressed = 0; done = 0; until = n } in x) (sym all) in
-    let on : IsOn h.system (keys_of p) steps ready.start (first_pace steps) [] [] ready.start = on-start h.system (keys_of p) steps ready.start ready.fresh ready.order in
-    let first = subst (λ (x : Pace). IsOn h.system (keys_of p) steps ready.start x [] [] ready.start) (sym pace) on in
-    let second = subst (λ (xs : List ℕ). IsOn h.system (keys_of p) steps ready.start p.pace xs [] ready.start) (sym unplayed.console) first in
-    let third : IsOn h.system (keys_of p) steps ready.start p.pace p.console.items p.list.items ready.start =
-    subst (λ (xs : List ℕ). IsOn h.system (keys_of p) steps ready.start p.pace p.console.items xs ready.start) (sym unplayed.list) second in
+    let on : IsOn h.system (script_keys p) steps ready.start (first_pace steps) [] [] ready.start = on-start h.system (script_keys p) steps ready.start ready.fresh ready.order in
+    let first = subst (λ (x : Pace). IsOn h.system (script_keys p) steps ready.start x [] [] ready.start) (sym pace) on in
+    let second = subst (λ (xs : List ℕ). IsOn h.system (script_keys p) steps ready.start p.pace xs [] ready.start) (sym unplayed.console) first in
+    let third : IsOn h.system (script_keys p) steps ready.start p.pace p.console.items p.list.items ready.start =
+    subst (λ (xs : List ℕ). IsOn h.system (script_keys p) steps ready.start p.pace p.console.items xs ready.start) (sym unplayed.list) second in
     let playing : IsPlaying steps ready.start p h = record { now = ready.start; stands = ready.opened; few = ready.few; on = third } in
     record { playing = playing; quiet = record { screen = ready.fresh.screen; printer = ready.fresh.printer } }
 
@@ -42,7 +42,7 @@ module _ (h : Host) (players : List Player) (ready : AllReady h.slots players) w
   ready-at : (place : ℕ) (p : Player) → slice_get players place ≡ Some p → IsPlayerReady h.slots players p
   ready-at place p at = subst (λ (o : Option Player). IfSome o (IsPlayerReady h.slots players)) at (ready place)
 
-  waiting-at : (fork : Fork) → IsForkReady players fork → IsWaiting players fork
+  waiting-at : (fork : Fork) → IsForkReady players fork → IsForkWaiting players fork
   waiting-at fork k =
       let parent : IsReady h.slots k.parent = ready-at fork.parent (Playing k.parent) k.plays in
       let done = parent.unplayed.done in
@@ -50,7 +50,7 @@ module _ (h : Host) (players : List Player) (ready : AllReady h.slots players) w
         parent = k.parent;
         plays = k.plays;
         done = omega (arith, done);
-        early = subst (λ n. AllBefore fork.at (take n (keys_of k.parent))) (sym parent.unplayed.pressed) tt;
+        early = subst (λ n. AllBefore fork.at (take n (script_keys k.parent))) (sym parent.unplayed.pressed) tt;
       }
 
   stands-ready : (p : Player) → IsPlayerReady h.slots players p → StandsAs h.slots players players h p p
@@ -74,11 +74,11 @@ module _ (h : Host) (players : List Player) (ready : AllReady h.slots players) w
 
 -- ---- after the last
 
-pub some-left : (players : List Player) → goes_on players ≡ true → 0 < left_of players
+pub some-left : (players : List Player) → still_plays players ≡ true → 0 < players_left players
 some-left [] goes = absurd (let no : ⊥ = cc in no)
 some-left (p ∷ ps) goes = by_test (nat_lt 0 (left_in_player p)) refl goes (some-left ps)
   where
-    by_test : (b : Bool) → nat_lt 0 (left_in_player p) ≡ b → (b || goes_on ps) ≡ true → (goes_on ps ≡ true → 0 < left_of ps) → 0 < left_of (p ∷ ps)
+    by_test : (b : Bool) → nat_lt 0 (left_in_player p) ≡ b → (b || still_plays ps) ≡ true → (still_plays ps ≡ true → 0 < players_left ps) → 0 < players_left (p ∷ ps)
     by_test true e h rest =
         let all = sum_by-cons left_in_player p ps in
         let first : 0 < left_in_player p = grind (arith, nat_tests) in
@@ -96,17 +96,17 @@ first-none p rest none = by_test (nat_lt 0 (left_in_player p)) refl none
     by_test true e h = absurd (let no : ⊥ = cc in no)
     by_test false e h = (grind (arith, nat_tests), h)
 
-none-left : (players : List Player) (place : ℕ) (p : Player) → goes_on players ≡ false → slice_get players place ≡ Some p → left_in_player p ≡ 0
+none-left : (players : List Player) (place : ℕ) (p : Player) → still_plays players ≡ false → slice_get players place ≡ Some p → left_in_player p ≡ 0
 none-left [] place p none at = absurd (none-some p at)
-none-left (x ∷ xs) zero p none at = ap left_in_player (sym (same_Some x p at)) ∙ (first-none x (goes_on xs) none).0
-none-left (x ∷ xs) (suc place) p none at = none-left xs place p (first-none x (goes_on xs) none).1 at
+none-left (x ∷ xs) zero p none at = ap left_in_player (sym (same_Some x p at)) ∙ (first-none x (still_plays xs) none).0
+none-left (x ∷ xs) (suc place) p none at = none-left xs place p (first-none x (still_plays xs) none).1 at
 
-module _ (old h : Host) (players now : List Player) (come : HasCome old h players now) (none : goes_on now ≡ false) where
+module _ (old h : Host) (players now : List Player) (come : HasCome old h players now) (none : still_plays now ≡ false) where
   played : (p q : Player) → left_in_player q ≡ 0 → StandsAs old.slots players now h p q → HasPlayed old.system old.slots h.slots players p q
   played p (Playing slot) spent going =
       let playing = going.resting.playing in
-      let end : IsPlayed h.system (keys_of slot) (player_steps p) going.start playing.now slot.console.items slot.list.items =
-      on-end h.system (keys_of slot) (player_steps p) going.start slot.pace slot.console.items slot.list.items playing.now playing.on going.resting.quiet spent in
+      let end : IsPlayed h.system (script_keys slot) (player_steps p) going.start playing.now slot.console.items slot.list.items =
+      on-end h.system (script_keys slot) (player_steps p) going.start slot.pace slot.console.items slot.list.items playing.now playing.on going.resting.quiet spent in
       record {
         slot = slot;
         plays = refl;
@@ -115,7 +115,7 @@ module _ (old h : Host) (players now : List Player) (come : HasCome old h player
         started = going.started;
         stands = playing.stands;
         session = subst (λ (ks : List Key). IsPlayed old.system ks (player_steps p) going.start playing.now slot.console.items slot.list.items) going.keys
-            (subst (λ (d : Disk). IsPlayed d (keys_of slot) (player_steps p) going.start playing.now slot.console.items slot.list.items) come.rest.system end);
+            (subst (λ (d : Disk). IsPlayed d (script_keys slot) (player_steps p) going.start playing.now slot.console.items slot.list.items) come.rest.system end);
       }
   played p (Waiting fork) spent stands = absurd (let no : ⊥ = omega (arith, spent) in no)
 
@@ -135,7 +135,7 @@ module _ (old h : Host) (players now : List Player) (come : HasCome old h player
   no-pages place (Playing slot) at = refl
   no-pages place (Waiting fork) at = let spent = none-left now place (Waiting fork) none at in absurd (let no : ⊥ = omega (arith, spent) in no)
 
-  pub room-all : HasRoomFor old (forks_of players) (fork_pages old.slots players)
+  pub room-all : HasRoomForForks old (forks_of players) (fork_pages old.slots players)
   room-all =
       let forks = sum-none is_fork now no-fork in
       let pages = sum-none (pages_of old.slots players) now no-pages in

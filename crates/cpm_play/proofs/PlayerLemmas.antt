@@ -15,8 +15,8 @@ use Rattle.cpm_play.specs.declared.player.Player.TheVariants.{Playing, Waiting}
 use Rattle.cpm_play.specs.declared.scripted_slot.ScriptedSlot.{ScriptedSlot}
 use Rattle.cpm_play.specs.Pacing.{IsOn}
 use Rattle.cpm_play.specs.Playing.{IsInOrder}
-use Rattle.cpm_play.specs.ScriptedSlots.{IsNone, IsPlaying, IsResting, keys_of}
-use Rattle.cpm_play.specs.Players.{AllDiffer, AllReady, HasCome, IsForkReady, IsGoing, IsPlayerReady, IsWaiting, StandsAs, ids_of, player_steps}
+use Rattle.cpm_play.specs.ScriptedSlots.{IsNone, IsPlaying, IsResting, script_keys}
+use Rattle.cpm_play.specs.Players.{AllDiffer, AllReady, HasCome, IsForkReady, IsGoing, IsPlayerReady, IsForkWaiting, StandsAs, ids_of, player_steps}
 use Rattle.cpm_play.proofs.PlaceLemmas.{within-at, some-at, same-at}
 
 -- ---- kinds of players
@@ -91,7 +91,7 @@ resting-in steps start slot old new system same resting =
       now = playing.now;
       stands = same ∙ playing.stands;
       few = playing.few;
-      on = subst (λ (d : Disk). IsOn d (keys_of slot) steps start slot.pace slot.console.items slot.list.items playing.now) (sym system) playing.on;
+      on = subst (λ (d : Disk). IsOn d (script_keys slot) steps start slot.pace slot.console.items slot.list.items playing.now) (sym system) playing.on;
     } in
     record { playing = there; quiet = resting.quiet }
 
@@ -124,7 +124,7 @@ given-at old h given players place q come at =
 
 -- a player that waits is as it was given, and ready
 pub waiting-given : (old h : Host) (given players : List Player) (place : ℕ) (fork : Fork) → AllReady old.slots given → HasCome old h given players → slice_get players place ≡ Some (Waiting fork) →
-    (slice_get given place ≡ Some (Waiting fork)) × IsForkReady given fork × IsWaiting players fork
+    (slice_get given place ≡ Some (Waiting fork)) × IsForkReady given fork × IsForkWaiting players fork
 waiting-given old h given players place fork ready come at =
     let there = given-at old h given players place (Waiting fork) come at in
     let same : there.0 ≡ Waiting fork = there.2.0 in
@@ -137,7 +137,7 @@ pub record HasParent (old h : Host) (given : List Player) (fork : Fork) (parent 
   pub given_so : slice_get given fork.parent ≡ Some (Playing first)
   pub going : IsGoing old.slots given h (Playing first) parent
   pub own : List Key
-  pub keys : fork.keys.items ≡ keys_before fork.at (keys_of parent) ++ own
+  pub keys : fork.keys.items ≡ keys_before fork.at (script_keys parent) ++ own
   pub order : IsInOrder fork.at own
 
 pub parent-of : (old h : Host) (given players : List Player) (place : ℕ) (fork : Fork) (parent : ScriptedSlot) → AllReady old.slots given → HasCome old h given players →

@@ -10,8 +10,8 @@ use Rattle.cpm_play.specs.declared.player.Fork.{Fork}
 use Rattle.cpm_play.specs.declared.player.Player.{Player}
 use Rattle.cpm_play.specs.declared.player.Player.TheVariants.{Playing, Waiting}
 use Rattle.cpm_play.specs.declared.scripted_slot.ScriptedSlot.{ScriptedSlot}
-use Rattle.cpm_play.specs.ScriptedSlots.{AreDifferent, IsNone, IsResting, Moves, keys_of, steps_of}
-use Rattle.cpm_play.specs.Players.{AllBefore, AllReady, ChangesAt, HasCome, IsFar, IsGoing, IsWaiting, KeepsPlaying, LeavesFewer, NoneIsDue, StandsAs, has_fork, ids_of, is_due, is_over, is_fork, left_in_player, left_of, pages_of, waits}
+use Rattle.cpm_play.specs.ScriptedSlots.{AreDifferent, IsNone, IsResting, Moves, script_keys, steps_of}
+use Rattle.cpm_play.specs.Players.{AllBefore, AllReady, ChangesPlayerAt, HasCome, IsFar, IsGoing, IsForkWaiting, KeepsPlaying, LeavesFewer, NoneIsDue, StandsAs, has_fork, ids_of, is_due, is_over, is_fork, left_in_player, players_left, pages_of, waits}
 use Rattle.cpm_play.proofs.PlaceLemmas.{at-other, at-set, same-at, sum-none, sum-set, within-at}
 use Rattle.cpm_play.proofs.PlayerLemmas.{apart-at, going-in, given-at, ids-kept, none-at, playing-waiting, same-playing}
 
@@ -22,8 +22,8 @@ keeps-on a b d k l = record { long = l.long ∙ k.long; playing = λ i slot at. 
 
 pub fewer-on : (a b d : List Player) → LeavesFewer a b → LeavesFewer b d → LeavesFewer a d
 fewer-on a b d (inl less) (inl more) = inl (omega (arith, less, more))
-fewer-on a b d (inl less) (inr same) = inl (subst (λ (x : List Player). left_of x < left_of a) (sym same) less)
-fewer-on a b d (inr same) (inl more) = inl (subst (λ (x : List Player). left_of d < left_of x) same more)
+fewer-on a b d (inl less) (inr same) = inl (subst (λ (x : List Player). players_left x < players_left a) (sym same) less)
+fewer-on a b d (inr same) (inl more) = inl (subst (λ (x : List Player). players_left d < players_left x) same more)
 fewer-on a b d (inr same) (inr also) = inr (also ∙ same)
 
 far-less : (parent m n place : ℕ) (players : List Player) → n ≤ m → IsFar parent m players place → IsFar parent n players place
@@ -32,10 +32,10 @@ far-less parent m n place players less far = λ fork slot waits mine plays.
     let room = there.1 in
     (there.0, omega (arith, less, room))
 
-far-kept : (parent n place k : ℕ) (old new : List Player) → ChangesAt place old new → slice_get new parent ≡ slice_get old parent → k ≢ place → IsFar parent n old k → IsFar parent n new k
+far-kept : (parent n place k : ℕ) (old new : List Player) → ChangesPlayerAt place old new → slice_get new parent ≡ slice_get old parent → k ≢ place → IsFar parent n old k → IsFar parent n new k
 far-kept parent n place k old new change same ne far = λ fork slot waits mine plays. far fork slot (sym (change.others k ne) ∙ waits) mine (sym same ∙ plays)
 
-pub far-more : (parent steps more place : ℕ) (old new : List Player) → ((k : ℕ) → k < place → IsFar parent steps old k) → ChangesAt place old new → slice_get new parent ≡ slice_get old parent → IsFar parent more new place →
+pub far-more : (parent steps more place : ℕ) (old new : List Player) → ((k : ℕ) → k < place → IsFar parent steps old k) → ChangesPlayerAt place old new → slice_get new parent ≡ slice_get old parent → IsFar parent more new place →
     (k : ℕ) → k < place + 1 → IsFar parent (min steps more) new k
 far-more parent steps more place old new far change same now k less = by_test (k == place) refl
   where
@@ -78,7 +78,7 @@ pub record IsTurn (old h new : Host) (given players : List Player) (place steps 
   pub plays : slice_get players place ≡ Some (Playing slot)
   pub moves : Moves slot next h new
   pub goes : (n : ℕ) (start : MachineState) → IsResting n start slot h → IsResting n start next new
-  pub early : (at : ℕ) → slot.pace.done < at → AllBefore at (take slot.pace.pressed (keys_of slot)) → AllBefore at (take next.pace.pressed (keys_of next))
+  pub early : (at : ℕ) → slot.pace.done < at → AllBefore at (take slot.pace.pressed (script_keys slot)) → AllBefore at (take next.pace.pressed (script_keys next))
   pub done : next.pace.done ≤ slot.pace.done + steps
   pub far : NoneIsDue place steps players
 
@@ -99,15 +99,15 @@ module _ (old h new : Host) (given players : List Player) (place steps : ℕ) (s
   }
 
   -- one that waits for it, or for another
-  waits-after : (i : ℕ) (fork : Fork) → slice_get players i ≡ Some (Waiting fork) → IsWaiting players fork → IsWaiting after fork
+  waits-after : (i : ℕ) (fork : Fork) → slice_get players i ≡ Some (Waiting fork) → IsForkWaiting players fork → IsForkWaiting after fork
   waits-after i fork at w = by_test (fork.parent == place) refl
     where
-      here : fork.parent ≡ place → IsWaiting after fork
+      here : fork.parent ≡ place → IsForkWaiting after fork
       here e =
           let plays : slice_get players fork.parent ≡ Some (Playing slot) = ap (slice_get players) e ∙ k.plays in
           let same : w.parent ≡ slot = same-playing w.parent slot (same-at (slice_get players fork.parent) (Playing w.parent) (Playing slot) w.plays plays) in
           let far = k.far i fork slot at e k.plays in
-          let before = subst (λ (s : ScriptedSlot). AllBefore fork.at (take s.pace.pressed (keys_of s))) same w.early in
+          let before = subst (λ (s : ScriptedSlot). AllBefore fork.at (take s.pace.pressed (script_keys s))) same w.early in
           let reach = far.1 in
           let done = k.done in
           record {
@@ -124,10 +124,10 @@ module _ (old h new : Host) (given players : List Player) (place steps : ℕ) (s
               by_case true e' n = absurd (let no : ⊥ = cc in no)
               by_case false e' n = grind (arith, nat_tests)
 
-      there : fork.parent ≢ place → IsWaiting after fork
+      there : fork.parent ≢ place → IsForkWaiting after fork
       there ne = record { parent = w.parent; plays = at-other players place fork.parent (Playing next) ne ∙ w.plays; done = w.done; early = w.early }
 
-      by_test : (b : Bool) → (fork.parent == place) ≡ b → IsWaiting after fork
+      by_test : (b : Bool) → (fork.parent == place) ≡ b → IsForkWaiting after fork
       by_test true e = here (grind (arith, nat_tests))
       by_test false e = there (λ same. (let no : ⊥ = grind (arith, nat_tests) in no))
 
@@ -194,7 +194,7 @@ IsIdle players place = (slot : ScriptedSlot) → slice_get players place ≡ Som
 
 -- fewer are left, or as many, and nothing is left at the places so far
 abbrev pub IsLeft : List Player → List Player → ℕ → Type 0
-IsLeft old now place = (left_of now < left_of old) ⊎ ((left_of now ≡ left_of old) × ((k : ℕ) → k < place → IsIdle now k))
+IsLeft old now place = (players_left now < players_left old) ⊎ ((players_left now ≡ players_left old) × ((k : ℕ) → k < place → IsIdle now k))
 
 -- a turn of the player at a place, behind the forks that were due
 pub left-turn : (old before players : List Player) (place steps : ℕ) (slot next : ScriptedSlot) → IsLeft old before place → LeavesFewer before players → NoneIsDue place steps players → slice_get players place ≡ Some (Playing slot) →
@@ -204,14 +204,14 @@ left-turn old before players place steps slot next left fewer far plays fell = g
     after : List Player
     after = set players place (Playing next)
 
-    sums : left_of after + steps_of slot ≡ left_of players + steps_of next
+    sums : players_left after + steps_of slot ≡ players_left players + steps_of next
     sums = sum-set left_in_player players place (Playing slot) (Playing next) plays
 
-    less : left_of after ≤ left_of players
+    less : players_left after ≤ players_left players
     less = let s = sums in let f = fell in omega (arith, s, f)
 
     -- where it had steps, fewer are left
-    some : 0 < steps_of slot → left_of after < left_of players
+    some : 0 < steps_of slot → players_left after < players_left players
     some more = let s = sums in let f = fell in omega (arith, s, f, more)
 
     due : (fork : Fork) → steps_of slot ≡ 0 → is_due fork slot ≡ true
@@ -252,10 +252,10 @@ left-turn old before players place steps slot next left fewer far plays fell = g
         by_test true e = here (grind (arith, nat_tests))
         by_test false e = let ne : k ≢ place = λ same. (let no : ⊥ = grind (arith, nat_tests) in no) in there ne (omega (arith, below, ne))
 
-    same-left : left_of before ≡ left_of old → players ≡ before → ((k : ℕ) → k < place → IsIdle before k) → IsLeft old after (place + 1)
+    same-left : players_left before ≡ players_left old → players ≡ before → ((k : ℕ) → k < place → IsIdle before k) → IsLeft old after (place + 1)
     same-left as_many same earlier =
         let l = less in
-        let s = ap left_of same in
+        let s = ap players_left same in
         ⊎_elim (λ more. let m = some more in inl (omega (arith, m, s, as_many)))
         (λ none. let spent : steps_of slot ≡ 0 = omega (arith, none) in
         let whole = sums in let f = fell in
@@ -264,7 +264,7 @@ left-turn old before players place steps slot next left fewer far plays fell = g
 
     go : IsLeft old before place → LeavesFewer before players → IsLeft old after (place + 1)
     go (inl under) (inl lower) = let l = less in inl (omega (arith, under, lower, l))
-    go (inl under) (inr same) = let l = less in let s = ap left_of same in inl (omega (arith, under, s, l))
+    go (inl under) (inr same) = let l = less in let s = ap players_left same in inl (omega (arith, under, s, l))
     go (inr even) (inl lower) = let l = less in let e = even.0 in inl (omega (arith, e, lower, l))
     go (inr even) (inr same) = same-left even.0 same even.1
 
@@ -274,10 +274,10 @@ left-waits old before players place left fewer waits = go left fewer
   where
     go : IsLeft old before place → LeavesFewer before players → IsLeft old players (place + 1)
     go (inl under) (inl lower) = inl (omega (arith, under, lower))
-    go (inl under) (inr same) = let s = ap left_of same in inl (omega (arith, under, s))
+    go (inl under) (inr same) = let s = ap players_left same in inl (omega (arith, under, s))
     go (inr even) (inl lower) = let e = even.0 in inl (omega (arith, e, lower))
     go (inr even) (inr same) =
-        let s = ap left_of same in
+        let s = ap players_left same in
         inr (s ∙ even.0, λ k below. by_test k below (k == place) refl)
       where
         by_test : (k : ℕ) → k < place + 1 → (b : Bool) → (k == place) ≡ b → IsIdle players k
@@ -295,10 +295,10 @@ left-over old players place (Playing slot) left none at over =
 left-over old players place (Waiting fork) left none at over = absurd (true≢false (sym over))
 
 -- a round leaves fewer, where some were left
-pub left-round : (old h : Host) (given start now : List Player) (place : ℕ) → HasCome old h given now → length now ≤ place → 0 < left_of start → IsLeft start now place → left_of now < left_of start
+pub left-round : (old h : Host) (given start now : List Player) (place : ℕ) → HasCome old h given now → length now ≤ place → 0 < players_left start → IsLeft start now place → players_left now < players_left start
 left-round old h given start now place come all some (inl less) = less
 left-round old h given start now place come all some (inr even) =
-    let none : left_of now ≡ 0 = sum-none left_in_player now spent in
+    let none : players_left now ≡ 0 = sum-none left_in_player now spent in
     let e = even.0 in
     absurd (let no : ⊥ = omega (arith, none, e, some) in no)
   where

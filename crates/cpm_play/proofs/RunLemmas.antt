@@ -14,7 +14,7 @@ use Rattle.cpm_machine.specs.Step.{after, can_step, is_running}
 use Rattle.cpm_machine.specs.ToWait.{can_work, executed_to_wait}
 use Rattle.cpm_machine.proofs.AloneLaws.{after-behind}
 use Rattle.cpm_machine.proofs.GrantLaws.{after-add, longest-is}
-use Rattle.cpm_play.specs.Cued.{HasIdled, HasRun, HasShown, HasStopped, IsBusyFor, IsRunCut, IsTaken, IsUntaken}
+use Rattle.cpm_play.specs.Cued.{HasIdled, HasExecuted, HasShown, HasStopped, IsBusyFor, IsRunCut, IsOutputTaken, IsUntaken}
 use Rattle.cpm_play.specs.declared.live.LiveError.{LiveError}
 use Rattle.cpm_play.specs.declared.live.LiveError.TheVariants.{Unreadable, Unwritable, Unrecorded, OutOfMemory}
 use Rattle.cpm_play.specs.Pacing.{without_list, without_text}
@@ -34,7 +34,7 @@ behind-bare s =
     ap₂ (λ (xs ys : List ℕ). record s { session = record s.session { console = record s.session.console { screen = xs; printer = ys } } })
     (append-nil s.session.console.screen) (append-nil s.session.console.printer)
 
-pub quiet-taken : (old now : MachineState) (before written : Option (List ℕ)) → IsTaken old now before written → IsQuiet now
+pub quiet-taken : (old now : MachineState) (before written : Option (List ℕ)) → IsOutputTaken old now before written → IsQuiet now
 quiet-taken old now before written taken = record {
   screen = ap (λ (s : MachineState). s.session.console.screen) taken.state;
   printer = ap (λ (s : MachineState). s.session.console.printer) taken.state;
@@ -48,7 +48,7 @@ find-none shown text (Some place) first none found = absurd (let bad : ⊥ = cc 
 
 -- ---- one turn more
 
-pub run-none : (system : Disk) (s : MachineState) (written : Option (List ℕ)) → IsQuiet s → HasRun system 0 s s written written
+pub run-none : (system : Disk) (s : MachineState) (written : Option (List ℕ)) → IsQuiet s → HasExecuted system 0 s s written written
 run-none system s written quiet = record {
   state = ap₂ (λ (xs ys : List ℕ). record s { session = record s.session { console = record s.session.console { screen = xs; printer = ys } } }) quiet.screen quiet.printer;
   text = subst (λ xs. Appends written written xs) (sym quiet.screen) (appends_none written);
@@ -57,7 +57,7 @@ run-none system s written quiet = record {
 pub kept-none : (s : MachineState) (old : List ℕ) → IsQuiet s → old ≡ old ++ s.session.console.screen
 kept-none s old quiet = sym (append-nil old) ∙ ap (λ xs. old ++ xs) (sym quiet.screen)
 
-module _ (system : Disk) (k : ℕ) (old mid : MachineState) (before middle : Option (List ℕ)) (run : HasRun system k old mid before middle) where
+module _ (system : Disk) (k : ℕ) (old mid : MachineState) (before middle : Option (List ℕ)) (run : HasExecuted system k old mid before middle) where
   -- with the output that was taken put back in front the steps go on
   pub run-on : (j : ℕ) → after system (k + j) old ≡ state_behind (after system k old).session.console.screen (after system k old).session.console.printer (after system j mid)
   run-on j =
@@ -65,7 +65,7 @@ module _ (system : Disk) (k : ℕ) (old mid : MachineState) (before middle : Opt
       after-add system k j old ∙ ap (after system j) (sym (behind-bare far)) ∙ after-behind system far.session.console.screen far.session.console.printer j (bare far)
       ∙ ap (λ s. state_behind far.session.console.screen far.session.console.printer (after system j s)) (sym run.state)
 
-  pub run-more : (j : ℕ) (turned next : MachineState) (written : Option (List ℕ)) → turned ≡ after system j mid → IsTaken turned next middle written → HasRun system (k + j) old next before written
+  pub run-more : (j : ℕ) (turned next : MachineState) (written : Option (List ℕ)) → turned ≡ after system j mid → IsOutputTaken turned next middle written → HasExecuted system (k + j) old next before written
   run-more j turned next written is taken = record {
     state = taken.state ∙ ap bare is ∙ sym (ap bare (run-on j));
     text = subst (λ xs. Appends before written xs) (sym (ap (λ (s : MachineState). s.session.console.screen) (run-on j)))
@@ -74,10 +74,10 @@ module _ (system : Disk) (k : ℕ) (old mid : MachineState) (before middle : Opt
   }
 
   -- one that makes no step
-  pub run-still : (j : ℕ) (turned : MachineState) → turned ≡ after system j mid → j ≡ 0 → HasRun system k old turned before middle
+  pub run-still : (j : ℕ) (turned : MachineState) → turned ≡ after system j mid → j ≡ 0 → HasExecuted system k old turned before middle
   run-still j turned is none =
       let same : turned ≡ mid = is ∙ ap (λ n. after system n mid) none in
-      subst (λ s. HasRun system k old s before middle) (sym same) run
+      subst (λ s. HasExecuted system k old s before middle) (sym same) run
 
   -- one that is cut short
   pub run-cut : (steps j : ℕ) (turned next : MachineState) (written : Option (List ℕ)) (e : LiveError) → k + j ≤ steps → turned ≡ after system j mid → IsUntaken turned next middle written e →
@@ -113,7 +113,7 @@ pub ended-waits : (s : MachineState) → is_running s.ended ≡ false → (look_
 unfolding look_of
 ended-waits s ended = ap (λ b. b && is_waiting s.session s.memory) ended
 
-pub busy-more : (system : Disk) (k j : ℕ) (old mid : MachineState) (before middle : Option (List ℕ)) → HasRun system k old mid before middle →
+pub busy-more : (system : Disk) (k j : ℕ) (old mid : MachineState) (before middle : Option (List ℕ)) → HasExecuted system k old mid before middle →
     IsBusyFor system k old → IsBusyFor system j mid → IsBusyFor system (k + j) old
 busy-more system k j old mid before middle run first second i below = ⊎_elim (λ less. first i less)
     (λ past.
@@ -223,12 +223,12 @@ run-all true system steps k old now busy all = (busy refl, inl all)
 -- ---- a pause, and then steps up to a wait
 
 module _ (system : Disk) (steps waits_from done pause k j : ℕ) (old mid next : MachineState) (before middle written : Option (List ℕ))
-    (within_steps : done ≤ steps) (paused : pause ≡ min waits_from steps - done) (fits : k ≤ pause) (run : HasRun system k old mid before middle) where
+    (within_steps : done ≤ steps) (paused : pause ≡ min waits_from steps - done) (fits : k ≤ pause) (run : HasExecuted system k old mid before middle) where
   -- where the steps behind the pause are cut short
   pub pause-cut : (e : LiveError) → IsRunCut system (steps - (done + k)) mid next middle written e → IsRunCut system (steps - done) old next before written e
   pause-cut e cut = run-cut system k old mid before middle run (steps - done) cut.0 (after system cut.0 mid) next written e (let less = cut.1 in omega arith) refl cut.2
 
-  module _ (stopped : HasStopped false system pause k old mid) (fits_then : j ≤ steps - (done + k)) (run_then : HasRun system j mid next middle written)
+  module _ (stopped : HasStopped false system pause k old mid) (fits_then : j ≤ steps - (done + k)) (run_then : HasExecuted system j mid next middle written)
       (stopped_then : HasStopped true system (steps - (done + k)) j mid next) where
     together : (done + k + j) - done ≡ k + j
     together = omega arith
@@ -238,7 +238,7 @@ module _ (system : Disk) (steps waits_from done pause k j : ℕ) (old mid next :
     pause-idled = record {
       low = omega arith;
       run =
-          let P : ℕ → Type 0 = λ n. HasRun system n old next before written in
+          let P : ℕ → Type 0 = λ n. HasExecuted system n old next before written in
           subst P (sym together) (run-more system k old mid before middle run j (after system j mid) next written refl run_then);
       busy = λ i low high.
           let at : k + (i - done - k) ≡ i - done = omega arith in

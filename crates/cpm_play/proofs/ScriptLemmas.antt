@@ -8,7 +8,7 @@ use Rattle.cpm_script.specs.declared.script.Key.{Key}
 use Rattle.cpm_script.specs.declared.fault.LineFault.{LineFault}
 use Rattle.cpm_script.specs.declared.fault.LineFault.TheVariants.{NoCount, CountFalls, NotAKey, TooManyKeys}
 use Rattle.cpm_script.specs.KeyText.{count_of, keys_of}
-use Rattle.cpm_script.specs.Script.{is_after, is_skipped, is_space, keys_at, or_fault, with_keys, with_text, with_counted, with_line, numbered, script_from}
+use Rattle.cpm_script.specs.Script.{is_after, is_skipped, is_script_space, keys_at, or_fault, keys_added, with_text, with_counted, with_line, at_line, script_from}
 use Rattle.cpm_play.specs.Playing.{IsInOrder}
 use Rattle.cpm_play.specs.Laws.{ScriptsInOrder}
 
@@ -41,7 +41,7 @@ order-all : (count : ℕ) (keys : List Key) (bytes : List ℕ) → is_after keys
 order-all count [] bytes late order = from-count 0 count bytes (omega arith)
 order-all count (k ∷ keys) bytes late order = order-more 0 count k keys bytes late order
 
-good-keys : (keys : List Key) (count : ℕ) (bytes : List ℕ) → is_after keys count ≡ true → IsGood keys → IfOk (with_keys keys count bytes) IsGood
+good-keys : (keys : List Key) (count : ℕ) (bytes : List ℕ) → is_after keys count ≡ true → IsGood keys → IfOk (keys_added keys count bytes) IsGood
 good-keys keys count [] late good = tt
 good-keys keys count (b ∷ bytes) late good = by_test (nat_le (length keys + length (b ∷ bytes)) 4096) refl
   where
@@ -53,7 +53,7 @@ good-keys keys count (b ∷ bytes) late good = by_test (nat_le (length keys + le
         let same = length-keys count (b ∷ bytes) in
         (order-all count keys (b ∷ bytes) late good.0, omega arith)
 
-good-text : (keys : List Key) (count : ℕ) (o : Option (List ℕ)) → is_after keys count ≡ true → IsGood keys → IfOk (or_fault NotAKey o (with_keys keys count)) IsGood
+good-text : (keys : List Key) (count : ℕ) (o : Option (List ℕ)) → is_after keys count ≡ true → IsGood keys → IfOk (or_fault NotAKey o (keys_added keys count)) IsGood
 good-text keys count None late good = tt
 good-text keys count (Some bytes) late good = good-keys keys count bytes late good
 
@@ -68,11 +68,11 @@ good-counted keys (Some count) text good = by_test (is_after keys count) refl
 good-line : (keys : List Key) (line : List ℕ) → IsGood keys → IfOk (with_line keys line) IsGood
 good-line keys line good = by_test (is_skipped line)
   where
-    by_test : (t : Bool) → IfOk (if t then Ok keys else with_counted keys (before_first is_space line) (after_first is_space line)) IsGood
+    by_test : (t : Bool) → IfOk (if t then Ok keys else with_counted keys (before_first is_script_space line) (after_first is_script_space line)) IsGood
     by_test true = good
-    by_test false = good-counted keys (count_of (before_first is_space line)) (after_first is_space line) good
+    by_test false = good-counted keys (count_of (before_first is_script_space line)) (after_first is_script_space line) good
 
-good-numbered : (number : ℕ) (r : Result (List Key) LineFault) (next : List Key → Result (List Key) (ℕ × LineFault)) → ((more : List Key) → IsGood more → IfOk (next more) IsGood) → IfOk r IsGood → IfOk (numbered number r next) IsGood
+good-numbered : (number : ℕ) (r : Result (List Key) LineFault) (next : List Key → Result (List Key) (ℕ × LineFault)) → ((more : List Key) → IsGood more → IfOk (next more) IsGood) → IfOk r IsGood → IfOk (at_line number r next) IsGood
 good-numbered number (Ok more) next goes g = goes more g
 good-numbered number (Err fault) next goes g = tt
 

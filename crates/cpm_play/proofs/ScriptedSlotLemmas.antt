@@ -26,37 +26,37 @@ use Rattle.cpm_play.specs.declared.pace.Pace.{Pace}
 use Rattle.cpm_play.specs.declared.scripted_slot.ScriptedSlot.{ScriptedSlot}
 use Rattle.cpm_play.specs.Pacing.{due_at, turn_of, IsOn}
 use Rattle.cpm_play.specs.Players.{AllBefore}
-use Rattle.cpm_play.specs.ScriptedSlots.{console_with, keys_of, list_with, waits_in, AreTaken, HasAdded, IsPlaying, IsResting, Moves}
+use Rattle.cpm_play.specs.ScriptedSlots.{console_with, script_keys, list_with, waits_in, AreTaken, HasAdded, IsPlaying, IsResting, Moves}
 use Rattle.cpm_play.proofs.HostLemmas.{moves-ask, reply-served, slot-served}
 use Rattle.cpm_play.proofs.PaceLemmas.{due-key, key-more, on-advance, on-key, on-take, takes-due, IsAdvanced, IsDue}
 
 -- a scripted slot whose slot is in a new state
 abbrev pub playing-at : (steps : ℕ) (start s next : MachineState) (p q : ScriptedSlot) (old new : Host) (call : Call) → new ≡ after_ask old p.id.0 (Calls call) → (serve old.system call s).state ≡ next →
-    slot_at p.id.0 old.slots ≡ Some s → q.id ≡ p.id → keys_of q ≡ keys_of p → length (keys_of p) ≤ 4096 → IsOn old.system (keys_of p) steps start q.pace q.console.items q.list.items next →
+    slot_at p.id.0 old.slots ≡ Some s → q.id ≡ p.id → script_keys q ≡ script_keys p → length (script_keys p) ≤ 4096 → IsOn old.system (script_keys p) steps start q.pace q.console.items q.list.items next →
     IsPlaying steps start q new
 playing-at steps start s next p q old new call is state at id keys few on = record {
   now = next;
   stands = ap (λ (x : SlotId). slot_at x.0 new.slots) id ∙ ap (λ (h : Host). slot_at p.id.0 h.slots) is ∙ slot-served old p.id.0 call s at ∙ ap Some state;
   few = subst (λ (ks : List Key). length ks ≤ 4096) (sym keys) few;
   on = subst (λ (ks : List Key). IsOn new.system ks steps start q.pace q.console.items q.list.items next) (sym keys)
-      (subst (λ (d : Disk). IsOn d (keys_of p) steps start q.pace q.console.items q.list.items next) (sym (ap (λ (h : Host). h.system) is)) on);
+      (subst (λ (d : Disk). IsOn d (script_keys p) steps start q.pace q.console.items q.list.items next) (sym (ap (λ (h : Host). h.system) is)) on);
 }
 
 -- ---- keys
 
-pub resting-key : (steps byte : ℕ) (start : MachineState) (p q : ScriptedSlot) (old new : Host) → due_at p.pace.done (slice_get (keys_of p) p.pace.pressed) ≡ Some byte → new ≡ after_ask old p.id.0 (Calls (Pressed byte)) →
+pub resting-key : (steps byte : ℕ) (start : MachineState) (p q : ScriptedSlot) (old new : Host) → due_at p.pace.done (slice_get (script_keys p) p.pace.pressed) ≡ Some byte → new ≡ after_ask old p.id.0 (Calls (Pressed byte)) →
     q ≡ record p { pace = record p.pace { pressed = p.pace.pressed + 1 } } → IsResting steps start p old → IsResting steps start q new
 unfolding serve
 resting-key steps byte start p q old new due is moved resting =
     let playing = resting.playing in
     let s = playing.now in
-    let key : IsDue (keys_of p) p.pace byte = due-key (slice_get (keys_of p) p.pace.pressed) (keys_of p) p.pace byte refl due in
-    let room : takes_key s ≡ true = takes-due old.system (keys_of p) steps byte start p.pace p.console.items p.list.items s playing.few key playing.on in
+    let key : IsDue (script_keys p) p.pace byte = due-key (slice_get (script_keys p) p.pace.pressed) (script_keys p) p.pace byte refl due in
+    let room : takes_key s ≡ true = takes-due old.system (script_keys p) steps byte start p.pace p.console.items p.list.items s playing.few key playing.on in
     let state : (serve old.system (Pressed byte) s).state ≡ keyed byte s = ap (λ b. (served_key b byte s).state) room in
     let r : ScriptedSlot = record p { pace = record p.pace { pressed = p.pace.pressed + 1 } } in
     subst (λ (x : ScriptedSlot). IsResting steps start x new) (sym moved) (record {
       playing = playing-at steps start s (keyed byte s) p r old new (Pressed byte) is state playing.stands refl refl playing.few
-          (on-key old.system (keys_of p) steps byte start p.pace p.console.items p.list.items s key playing.on);
+          (on-key old.system (script_keys p) steps byte start p.pace p.console.items p.list.items s key playing.on);
       quiet = record { screen = resting.quiet.screen; printer = resting.quiet.printer };
     })
 
@@ -101,21 +101,21 @@ pub granted-none : (h : Host) (id most : ℕ) (fault : Refusal) (s : MachineStat
 unfolding serve
 granted-none h id most fault s replied at = ap steps_in (replied ∙ reply-served h id (Grant most) s at)
 
-pub playing-turn : (steps k quantum : ℕ) (start : MachineState) (p q : ScriptedSlot) (old new : Host) → due_at p.pace.done (slice_get (keys_of p) p.pace.pressed) ≡ None → 1 ≤ quantum → k ≤ turn_of p.pace (keys_of p) quantum →
-    ((s : MachineState) → slot_at p.id.0 old.slots ≡ Some s → k ≡ executed old.system (turn_of p.pace (keys_of p) quantum) s) →
-    new ≡ after_ask old p.id.0 (Calls (Grant (turn_of p.pace (keys_of p) quantum))) → IsAdvanced k p.pace q.pace → q ≡ record p { pace = q.pace } →
+pub playing-turn : (steps k quantum : ℕ) (start : MachineState) (p q : ScriptedSlot) (old new : Host) → due_at p.pace.done (slice_get (script_keys p) p.pace.pressed) ≡ None → 1 ≤ quantum → k ≤ turn_of p.pace (script_keys p) quantum →
+    ((s : MachineState) → slot_at p.id.0 old.slots ≡ Some s → k ≡ executed old.system (turn_of p.pace (script_keys p) quantum) s) →
+    new ≡ after_ask old p.id.0 (Calls (Grant (turn_of p.pace (script_keys p) quantum))) → IsAdvanced k p.pace q.pace → q ≡ record p { pace = q.pace } →
     IsResting steps start p old → IsPlaying steps start q new
 unfolding serve
 playing-turn steps k quantum start p q old new none some turn is asked moves same resting =
     let playing = resting.playing in
     let s = playing.now in
-    let most = turn_of p.pace (keys_of p) quantum in
+    let most = turn_of p.pace (script_keys p) quantum in
     let count : k ≡ executed old.system most s = is s playing.stands in
     let state : (serve old.system (Grant most) s).state ≡ after old.system k s = ap (λ n. after old.system n s) (sym count) in
     let r : ScriptedSlot = record p { pace = q.pace } in
     subst (λ (x : ScriptedSlot). IsPlaying steps start x new) (sym same)
     (playing-at steps start s (after old.system k s) p r old new (Grant most) asked state playing.stands refl refl playing.few
-    (on-advance old.system (keys_of p) steps k quantum start p.pace q.pace p.console.items p.list.items s resting.quiet none some count turn moves playing.on))
+    (on-advance old.system (script_keys p) steps k quantum start p.pace q.pace p.console.items p.list.items s resting.quiet none some count turn moves playing.on))
 
 -- ---- bytes
 
@@ -188,7 +188,7 @@ after-chunk room on other bytes p q old new is added =
 
 pub moves-chunk : (room : ℕ) (on : Device) (bytes : List ℕ) (p q : ScriptedSlot) (old new : Host) → new ≡ after_ask old p.id.0 (Calls (take_call on room)) → HasAdded on bytes p q → Moves p q old new
 moves-chunk room on bytes p q old new is added =
-    moves-ask p q old new (take_call on room) (ap (λ (x : ScriptedSlot). x.id) added.same) (ap keys_of added.same) is
+    moves-ask p q old new (take_call on room) (ap (λ (x : ScriptedSlot). x.id) added.same) (ap script_keys added.same) is
 
 pub stays-empty : (room : ℕ) (on other : Device) (bytes : List ℕ) (p q : ScriptedSlot) (old new : Host) → new ≡ after_ask old p.id.0 (Calls (take_call on room)) → HasAdded on bytes p q →
     waits_in other (slot_at p.id.0 old.slots) ≡ [] → waits_in other (slot_at q.id.0 new.slots) ≡ []
@@ -230,9 +230,9 @@ playing-take steps n room start on out p q old new took is added playing =
     let r : ScriptedSlot = record p { console = q.console; list = q.list } in
     subst (λ (x : ScriptedSlot). IsPlaying steps start x new) (sym added.same)
     (playing-at steps start s next p r old new (take_call on room) is (ap (λ (x : Served). x.state) (serve-take old.system on room s)) playing.stands refl refl playing.few
-    (subst (λ (xs : List ℕ). IsOn old.system (keys_of p) steps start p.pace xs q.list.items next) (sym console)
-    (subst (λ (xs : List ℕ). IsOn old.system (keys_of p) steps start p.pace shown xs next) (sym list)
-    (on-take old.system (keys_of p) steps room start p.pace p.console.items p.list.items s on playing.on))))
+    (subst (λ (xs : List ℕ). IsOn old.system (script_keys p) steps start p.pace xs q.list.items next) (sym console)
+    (subst (λ (xs : List ℕ). IsOn old.system (script_keys p) steps start p.pace shown xs next) (sym list)
+    (on-take old.system (script_keys p) steps room start p.pace p.console.items p.list.items s on playing.on))))
 
 -- where nothing waits it rests
 pub resting-empty : (steps : ℕ) (start : MachineState) (p : ScriptedSlot) (h : Host) → ((on : Device) → waits_in on (slot_at p.id.0 h.slots) ≡ []) → IsPlaying steps start p h → IsResting steps start p h

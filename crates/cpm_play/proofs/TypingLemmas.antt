@@ -4,7 +4,7 @@ use Rattle.std.proofs.lemmas.Bool.Decides.{nat_tests}
 use Rattle.std.specs.Char.{is_ascii}
 use Rattle.std.proofs.lemmas.List.{append_assoc}
 use Rattle.std.specs.Io.KnownBytes.{Consumes, Keeps}
-use Rattle.cpm_play.specs.Typing.{HasRead, end_key, keys_in}
+use Rattle.cpm_play.specs.Typing.{HasReadKeys, end_key, typed_keys}
 
 -- bytes that are consumed twice
 pub consumes_more : (before middle after : Option (List ℕ)) (xs ys : List ℕ) → Consumes before middle xs → Consumes middle after ys → Consumes before after (xs ++ ys)
@@ -22,36 +22,36 @@ consumes_kept None after k = tt
 consumes_kept (Some xs) None k = k
 consumes_kept (Some xs) (Some ys) k = sym k
 
-pub read_none : (o : Option (List ℕ)) → HasRead o o []
+pub read_none : (o : Option (List ℕ)) → HasReadKeys o o []
 read_none o = record { bytes = []; consumed = consumes_none o; goes_on = λ rest. refl }
 
-pub read_kept : (before after : Option (List ℕ)) → Keeps before after → HasRead before after []
+pub read_kept : (before after : Option (List ℕ)) → Keeps before after → HasReadKeys before after []
 read_kept before after k = record { bytes = []; consumed = consumes_kept before after k; goes_on = λ rest. refl }
 
-pub read_more : (before middle after : Option (List ℕ)) (keys more : List ℕ) → HasRead before middle keys → HasRead middle after more → HasRead before after (keys ++ more)
+pub read_more : (before middle after : Option (List ℕ)) (keys more : List ℕ) → HasReadKeys before middle keys → HasReadKeys middle after more → HasReadKeys before after (keys ++ more)
 read_more before middle after keys more a b = record {
   bytes = a.bytes ++ b.bytes;
   consumed = consumes_more before middle after a.bytes b.bytes a.consumed b.consumed;
-  goes_on = λ rest. ap keys_in (append_assoc a.bytes b.bytes rest) ∙ a.goes_on (b.bytes ++ rest) ∙ ap (λ v. keys ++ v) (b.goes_on rest) ∙ sym (append_assoc keys more (keys_in rest));
+  goes_on = λ rest. ap typed_keys (append_assoc a.bytes b.bytes rest) ∙ a.goes_on (b.bytes ++ rest) ∙ ap (λ v. keys ++ v) (b.goes_on rest) ∙ sym (append_assoc keys more (typed_keys rest));
 }
 
 -- ---- one byte
 
-one_in : (b : ℕ) (rest : List ℕ) → (b == end_key) ≡ false → nat_lt b 0x80 ≡ true → keys_in (b ∷ rest) ≡ b ∷ keys_in rest
-one_in b rest other low = ap₂ (λ (x y : Bool). if x then [] else (if y then b ∷ keys_in rest else keys_in rest)) other low
+one_in : (b : ℕ) (rest : List ℕ) → (b == end_key) ≡ false → nat_lt b 0x80 ≡ true → typed_keys (b ∷ rest) ≡ b ∷ typed_keys rest
+one_in b rest other low = ap₂ (λ (x y : Bool). if x then [] else (if y then b ∷ typed_keys rest else typed_keys rest)) other low
 
-none_in : (b : ℕ) (rest : List ℕ) → (b == end_key) ≡ false → nat_lt b 0x80 ≡ false → keys_in (b ∷ rest) ≡ keys_in rest
-none_in b rest other high = ap₂ (λ (x y : Bool). if x then [] else (if y then b ∷ keys_in rest else keys_in rest)) other high
+none_in : (b : ℕ) (rest : List ℕ) → (b == end_key) ≡ false → nat_lt b 0x80 ≡ false → typed_keys (b ∷ rest) ≡ typed_keys rest
+none_in b rest other high = ap₂ (λ (x y : Bool). if x then [] else (if y then b ∷ typed_keys rest else typed_keys rest)) other high
 
-module _ (before middle after : Option (List ℕ)) (b : ℕ) (read : HasRead before middle []) (next : Consumes middle after (b ∷ [])) (other : b ≡ end_key → ⊥) where
-  pub read_key : is_ascii b ≡ true → (b < 128) × HasRead before after (b ∷ [])
+module _ (before middle after : Option (List ℕ)) (b : ℕ) (read : HasReadKeys before middle []) (next : Consumes middle after (b ∷ [])) (other : b ≡ end_key → ⊥) where
+  pub read_key : is_ascii b ≡ true → (b < 128) × HasReadKeys before after (b ∷ [])
   read_key low =
       let not_end : (b == end_key) ≡ false = grind (arith, nat_tests) in
       let below : b < 128 = grind (arith, nat_tests) in
       let is : nat_lt b 0x80 ≡ true = grind (arith, nat_tests) in
       (below, read_more before middle after [] (b ∷ []) read (record { bytes = b ∷ []; consumed = next; goes_on = λ rest. one_in b rest not_end is }))
 
-  pub pass_byte : is_ascii b ≡ false → HasRead before after []
+  pub pass_byte : is_ascii b ≡ false → HasReadKeys before after []
   pass_byte high =
       let not_end : (b == end_key) ≡ false = grind (arith, nat_tests) in
       let is : nat_lt b 0x80 ≡ false = grind (arith, nat_tests) in

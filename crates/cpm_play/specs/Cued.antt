@@ -3,7 +3,7 @@ use Rattle.std.specs.Prelude.{◌≡◌, ℕ, ◌-◌, ◌<◌, ◌≤◌, max, 
 use Rattle.std.specs.Io.KnownBytes.{Appends}
 use Rattle.memchr.specs.Find.{OccursAt}
 use Rattle.cpm_geom.specs.Disk.{Disk}
-use Rattle.cpm_script.specs.Cues.{keys_in, said}
+use Rattle.cpm_script.specs.Cues.{cued_key_count, cue_text}
 use Rattle.cpm_script.specs.Laws.{KeysAreAscii}
 use Rattle.cpm_script.specs.Recording.{key_line, recorded}
 use Rattle.cpm_script.specs.declared.cue.Cue.{Cue}
@@ -51,7 +51,7 @@ abbrev pub Comes : Disk → MachineState → ℕ → List Key → ℕ → Type 0
 Comes system start steps keys at = (at < steps) × (runs_at system start keys at ≡ true)
 
 -- from one count on, and from where waits count, it next waits at another within the steps, and then has shown this text behind so many bytes
-pub record IsMet (system : Disk) (start : MachineState) (steps waits_from : ℕ) (keys : List Key) (from mark : ℕ) (text : List ℕ) (at : ℕ) : Type 0 where
+pub record IsCueMet (system : Disk) (start : MachineState) (steps waits_from : ℕ) (keys : List Key) (from mark : ℕ) (text : List ℕ) (at : ℕ) : Type 0 where
   pub next : IsNextWait system start keys (max waits_from from) at
   pub within : at < steps
   pub shown : HasShown text (drop mark (screen_at system start keys at))
@@ -67,8 +67,8 @@ IsCuedFrom system start steps waits_from given from mark (Press b ∷ cues) keys
     (Comes system start steps given from × IsCuedFrom system start steps waits_from (given ++ record { count = from; byte = b } ∷ []) from (length (screen_at system start given from)) cues keys)
     ⊎ ((Comes system start steps given from → ⊥) × (keys ≡ given))
 IsCuedFrom system start steps waits_from given from mark (Wait text ∷ cues) keys =
-    ((at : ℕ) × IsMet system start steps waits_from given from mark text.items at × IsCuedFrom system start steps waits_from given at mark cues keys)
-    ⊎ (((at : ℕ) → IsMet system start steps waits_from given from mark text.items at → ⊥) × (keys ≡ given))
+    ((at : ℕ) × IsCueMet system start steps waits_from given from mark text.items at × IsCuedFrom system start steps waits_from given at mark cues keys)
+    ⊎ (((at : ℕ) → IsCueMet system start steps waits_from given from mark text.items at → ⊥) × (keys ≡ given))
 
 -- the keys of a script, for at most so many steps, where waits count from this step on
 abbrev pub IsCued : Disk → MachineState → (steps waits_from : ℕ) → List Cue → List Key → Type 0
@@ -102,11 +102,11 @@ IsCutOff system steps most start now before written unrecorded record_now (Unrea
 
 -- how many keys a script has
 abbrev pub key_count : List Cue → ℕ
-key_count cues = keys_in (map said cues)
+key_count cues = cued_key_count (map cue_text cues)
 
 -- each of them is below 80h
 abbrev pub AreAscii : List Cue → Type 0
-AreAscii cues = KeysAreAscii (map said cues)
+AreAscii cues = KeysAreAscii (map cue_text cues)
 
 -- a text is looked for before the next key
 abbrev pub looks_back : List Cue → Bool
@@ -118,20 +118,20 @@ looks_back (Wait text ∷ cues) = not (length text.items == 0) || looks_back cue
 -- ---- the parts of a session
 
 -- the output of a state was taken: a writer got the console bytes
-pub record IsTaken (old now : MachineState) (before written : Option (List ℕ)) : Type 0 where
+pub record IsOutputTaken (old now : MachineState) (before written : Option (List ℕ)) : Type 0 where
   pub state : now ≡ without_list (without_text old)
   pub text : Appends before written old.session.console.screen
 
 -- why it was not: the writer failed, and there was text; or it was, but memory was refused in which to keep it
 abbrev pub IsUntaken : (old now : MachineState) → (before written : Option (List ℕ)) → LiveError → Type 0
 IsUntaken old now before written (Unwritable e) = HasText old
-IsUntaken old now before written OutOfMemory = IsTaken old now before written
+IsUntaken old now before written OutOfMemory = IsOutputTaken old now before written
 IsUntaken old now before written (Unreadable e) = ⊥
 IsUntaken old now before written (Unrecorded e) = ⊥
 
 -- so many steps were executed, and their output taken
-abbrev pub HasRun : Disk → ℕ → (old now : MachineState) → (before written : Option (List ℕ)) → Type 0
-HasRun system k old now before written = IsTaken (after system k old) now before written
+abbrev pub HasExecuted : Disk → ℕ → (old now : MachineState) → (before written : Option (List ℕ)) → Type 0
+HasExecuted system k old now before written = IsOutputTaken (after system k old) now before written
 
 -- the first of these steps did not wait for a key
 abbrev pub IsBusyFor : Disk → ℕ → MachineState → Type 0
@@ -140,7 +140,7 @@ IsBusyFor system k s = (i : ℕ) → i < k → (look_of (after system i s)).wait
 -- the steps up to where it waits for a key and waits count, or to its end; else all
 pub record HasIdled (system : Disk) (steps waits_from done done_now : ℕ) (old now : MachineState) (before written : Option (List ℕ)) : Type 0 where
   pub low : done ≤ done_now
-  pub run : HasRun system (done_now - done) old now before written
+  pub run : HasExecuted system (done_now - done) old now before written
   pub busy : (i : ℕ) → max waits_from done ≤ i → i < done_now → (look_of (after system (i - done) old)).waiting ≡ false
   pub why : (done_now ≡ steps) ⊎ (is_running now.ended ≡ false) ⊎ ((waits_from ≤ done_now) × ((look_of now).waiting ≡ true))
 
@@ -158,12 +158,12 @@ pub record HasPressed (system : Disk) (key : Key) (k : ℕ) (old now : MachineSt
 -- a key does not come: its count is past the steps, and nothing was done; or the machine ends before it, and has shown all
 pub record HasMissed (system : Disk) (key : Key) (steps done done_now : ℕ) (old now : MachineState) (before written : Option (List ℕ)) : Type 0 where
   pub low : done ≤ done_now
-  pub run : HasRun system (done_now - done) old now before written
+  pub run : HasExecuted system (done_now - done) old now before written
   pub why : ((steps ≤ key.count) × (done_now ≡ done)) ⊎ ((key.count < steps) × (done_now ≤ key.count) × (is_running now.ended ≡ false))
 
 -- why a key was not pressed after at most so many steps: not all of them were executed, or memory was refused, and nothing was recorded; or it can't be recorded, and all is shown
 abbrev pub IsPressCut : Disk → ℕ → (old now : MachineState) → (before written unrecorded record_now : Option (List ℕ)) → LiveError → Type 0
-IsPressCut system steps old now before written unrecorded record_now (Unrecorded e) = (k : ℕ) × (k ≤ steps) × HasRun system k old now before written
+IsPressCut system steps old now before written unrecorded record_now (Unrecorded e) = (k : ℕ) × (k ≤ steps) × HasExecuted system k old now before written
 IsPressCut system steps old now before written unrecorded record_now (Unwritable e) = IsRunCut system steps old now before written (Unwritable e) × (record_now ≡ unrecorded)
 IsPressCut system steps old now before written unrecorded record_now OutOfMemory = IsRunCut system steps old now before written OutOfMemory × (record_now ≡ unrecorded)
 IsPressCut system steps old now before written unrecorded record_now (Unreadable e) = ⊥

@@ -10,7 +10,7 @@ use Rattle.cpm_machine.specs.Step.{is_running}
 use Rattle.cpm_play.specs.declared.live.LiveError.{LiveError}
 use Rattle.cpm_play.specs.declared.live.LiveError.TheVariants.{Unreadable, Unwritable, Unrecorded, OutOfMemory}
 use Rattle.cpm_play.specs.Playing.{EndsAs, HasText, IsQuiet, alone_by}
-use Rattle.cpm_play.specs.Typing.{HasQuit, HasRead}
+use Rattle.cpm_play.specs.Typing.{HasQuit, HasReadKeys}
 
 -- ---- the keys
 
@@ -51,8 +51,8 @@ pub record IsGoing (system : Disk) (steps most : ℕ) (start now : MachineState)
 -- ---- what is said of a session that was played
 
 -- the keys are those that were read: all bytes below 80h, up to ^], which ends the session
-abbrev pub AreRead : Option (List ℕ) → Option (List ℕ) → List Key → Type 0
-AreRead unread left keys = HasRead unread left (bytes_of keys) ⊎ HasQuit unread left (bytes_of keys)
+abbrev pub AreTypedKeysRead : Option (List ℕ) → Option (List ℕ) → List Key → Type 0
+AreTypedKeysRead unread left keys = HasReadKeys unread left (bytes_of keys) ⊎ HasQuit unread left (bytes_of keys)
 
 -- It ends after its steps, or where the machine has ended, or where a key is wanted: when it has had as many as it may, or the input is at its end, or with ^].
 abbrev pub HasReason : (steps most : ℕ) → (unread left : Option (List ℕ)) → List Key → ℕ → MachineState → Type 0
@@ -79,11 +79,11 @@ pub record HadText (system : Disk) (steps most : ℕ) (start : MachineState) (ke
 -- Why it was not played to its end, and what it had come to. The reader fails where a key is wanted, and all is shown and recorded; so it is where memory is refused. The writer fails where there is text, and all keys are recorded. The record fails at a key that is not pressed, and all is shown.
 abbrev pub IsCutShort : Disk → (steps most : ℕ) → (start now : MachineState) → (before written unrecorded record_now unread left : Option (List ℕ)) → LiveError → Type 0
 IsCutShort system steps most start now before written unrecorded record_now unread left (Unreadable e) =
-    (keys : List Key) × HasCome system steps most start now before written keys × Appends unrecorded record_now (recorded keys) × HasRead unread left (bytes_of keys)
+    (keys : List Key) × HasCome system steps most start now before written keys × Appends unrecorded record_now (recorded keys) × HasReadKeys unread left (bytes_of keys)
 IsCutShort system steps most start now before written unrecorded record_now unread left OutOfMemory =
     (keys : List Key) × HasCome system steps most start now before written keys × Appends unrecorded record_now (recorded keys)
 IsCutShort system steps most start now before written unrecorded record_now unread left (Unwritable e) =
-    (keys : List Key) × HadText system steps most start keys × Appends unrecorded record_now (recorded keys) × HasRead unread left (bytes_of keys)
+    (keys : List Key) × HadText system steps most start keys × Appends unrecorded record_now (recorded keys) × HasReadKeys unread left (bytes_of keys)
 IsCutShort system steps most start now before written unrecorded record_now unread left (Unrecorded e) =
     (keys : List Key) × HasCome system steps most start now before written keys
 

@@ -16,13 +16,13 @@ use Rattle.cpm_play.specs.declared.player.Player.TheVariants.{Playing, Waiting}
 use Rattle.cpm_play.specs.declared.scripted_slot.ScriptedSlot.{ScriptedSlot}
 use Rattle.cpm_play.specs.Pacing.{forked_pace}
 use Rattle.cpm_play.specs.Playing.{IsInOrder, IsPlayed}
-use Rattle.cpm_play.specs.ScriptedSlots.{AreDifferent, IsNone, IsReady, IsResting, keys_of, steps_of}
+use Rattle.cpm_play.specs.ScriptedSlots.{AreDifferent, IsNone, IsReady, IsResting, script_keys, steps_of}
 
 -- ---- what is to be played
 
 -- the keys that a player presses, and the steps that it executes in all
 abbrev pub player_keys : Player → List Key
-player_keys (Playing slot) = keys_of slot
+player_keys (Playing slot) = script_keys slot
 player_keys (Waiting fork) = fork.keys.items
 
 abbrev pub player_steps : Player → ℕ
@@ -30,21 +30,21 @@ player_steps (Playing slot) = steps_of slot
 player_steps (Waiting fork) = fork.steps
 
 -- the state of the slot of a player that is played
-abbrev pub slot_of : List SlotState → Option Player → Option MachineState
-slot_of slots (Some (Playing slot)) = slot_at slot.id.0 slots
-slot_of slots _ = None
+abbrev pub player_slot : List SlotState → Option Player → Option MachineState
+player_slot slots (Some (Playing slot)) = slot_at slot.id.0 slots
+player_slot slots _ = None
 
 -- the state with which a player's session begins: that of its slot, or of the slot of the one that it is forked from
 abbrev pub start_at : List SlotState → List Player → Player → Option MachineState
 start_at slots players (Playing slot) = slot_at slot.id.0 slots
-start_at slots players (Waiting fork) = slot_of slots (slice_get players fork.parent)
+start_at slots players (Waiting fork) = player_slot slots (slice_get players fork.parent)
 
 -- A session can be forked: the one that it is forked from is played, its keys are those of that one that come before the fork, and then others that don't, in order and not too many.
 pub record IsForkReady (players : List Player) (fork : Fork) : Type 0 where
   pub parent : ScriptedSlot
   pub plays : slice_get players fork.parent ≡ Some (Playing parent)
   pub own : List Key
-  pub keys : fork.keys.items ≡ keys_before fork.at (keys_of parent) ++ own
+  pub keys : fork.keys.items ≡ keys_before fork.at (script_keys parent) ++ own
   pub order : IsInOrder fork.at own
   pub few : length fork.keys.items ≤ 4096
   pub within : fork.at ≤ fork.steps
@@ -114,7 +114,7 @@ abbrev pub fork_pages : List SlotState → List Player → ℕ
 fork_pages slots players = sum_by (pages_of slots players) players
 
 -- a host has slots, numbers and frames for so many forks that reserve so many pages
-pub record HasRoomFor (h : Host) (forks pages : ℕ) : Type 0 where
+pub record HasRoomForForks (h : Host) (forks pages : ℕ) : Type 0 where
   pub slots : length h.slots + forks ≤ 64
   pub numbers : 0 < forks → h.openings + forks ≤ 18446744073709551615
   pub frames : quotas_of h.slots + pages ≤ h.frames
@@ -148,7 +148,7 @@ pub record IsForkedFrom (parent : ScriptedSlot) (fork : Fork) (child : ScriptedS
   pub id : child.id.0 ≡ old.openings
   -- (the numbers of openings are of 64 bits)
   pub number : old.openings < 18446744073709551615
-  pub keys : keys_of child ≡ fork.keys.items
+  pub keys : script_keys child ≡ fork.keys.items
   pub console : child.console.items ≡ parent.console.items
   pub list : child.list.items ≡ parent.list.items
   pub pace : child.pace ≡ forked_pace parent.pace fork.steps
@@ -159,23 +159,23 @@ AllBefore at [] = ⊤
 AllBefore at (key ∷ keys) = (key.count < at) × AllBefore at keys
 
 -- a session is still to be forked from one that is played, which has come no further than to the fork
-pub record IsWaiting (players : List Player) (fork : Fork) : Type 0 where
+pub record IsForkWaiting (players : List Player) (fork : Fork) : Type 0 where
   pub parent : ScriptedSlot
   pub plays : slice_get players fork.parent ≡ Some (Playing parent)
   pub done : parent.pace.done ≤ fork.at
-  pub early : AllBefore fork.at (take parent.pace.pressed (keys_of parent))
+  pub early : AllBefore fork.at (take parent.pace.pressed (script_keys parent))
 
 -- a session goes on from its start, and rests between two turns
 pub record IsGoing (slots : List SlotState) (players : List Player) (h : Host) (player : Player) (slot : ScriptedSlot) : Type 0 where
   pub start : MachineState
   pub started : start_at slots players player ≡ Some start
-  pub keys : keys_of slot ≡ player_keys player
+  pub keys : script_keys slot ≡ player_keys player
   pub resting : IsResting (player_steps player) start slot h
 
 -- a player is now another: one that goes on, or the same that still waits
 abbrev pub StandsAs : List SlotState → List Player → List Player → Host → Player → Player → Type 0
 StandsAs slots players now h player (Playing slot) = IsGoing slots players h player slot
-StandsAs slots players now h player (Waiting fork) = (player ≡ Waiting fork) × IsWaiting now fork
+StandsAs slots players now h player (Waiting fork) = (player ≡ Waiting fork) × IsForkWaiting now fork
 
 -- a host and its players have become these
 pub record HasCome (old new : Host) (players now : List Player) : Type 0 where
@@ -219,7 +219,7 @@ pub record KeepsPlaying (old new : List Player) : Type 0 where
   pub long : length new ≡ length old
   pub playing : (place : ℕ) (slot : ScriptedSlot) → slice_get old place ≡ Some (Playing slot) → slice_get new place ≡ Some (Playing slot)
 
-pub record ChangesAt (place : ℕ) (old new : List Player) : Type 0 where
+pub record ChangesPlayerAt (place : ℕ) (old new : List Player) : Type 0 where
   pub keeps : KeepsPlaying old new
   pub others : (other : ℕ) → other ≢ place → slice_get new other ≡ slice_get old other
 
@@ -228,13 +228,13 @@ abbrev pub left_in_player : Player → ℕ
 left_in_player (Playing slot) = steps_of slot
 left_in_player (Waiting fork) = fork.steps + 1
 
-abbrev pub left_of : List Player → ℕ
-left_of players = sum_by left_in_player players
+abbrev pub players_left : List Player → ℕ
+players_left players = sum_by left_in_player players
 
 -- fewer are left, or nothing was done
 abbrev pub LeavesFewer : List Player → List Player → Type 0
-LeavesFewer old new = (left_of new < left_of old) ⊎ (new ≡ old)
+LeavesFewer old new = (players_left new < players_left old) ⊎ (new ≡ old)
 
 -- one of them has something left to do
-abbrev pub goes_on : List Player → Bool
-goes_on players = list_any (λ p. nat_lt 0 (left_in_player p)) players
+abbrev pub still_plays : List Player → Bool
+still_plays players = list_any (λ p. nat_lt 0 (left_in_player p)) players

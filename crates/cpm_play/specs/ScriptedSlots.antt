@@ -11,8 +11,8 @@ use Rattle.cpm_play.specs.Pacing.{left_in, IsOn}
 use Rattle.cpm_play.specs.Playing.{IsFresh, IsInOrder, IsQuiet}
 
 -- the keys that a scripted slot was given
-abbrev pub keys_of : ScriptedSlot → List Key
-keys_of p = p.keys.items
+abbrev pub script_keys : ScriptedSlot → List Key
+script_keys p = p.keys.items
 
 -- the steps that it is still to execute: those that it was given, before its first turn
 abbrev pub steps_of : ScriptedSlot → ℕ
@@ -28,8 +28,8 @@ pub record IsNew (p : ScriptedSlot) : Type 0 where
 -- it has had no turn, its keys are in order and not too many, and its slot is open and fresh
 pub record IsReady (slots : List SlotState) (p : ScriptedSlot) : Type 0 where
   pub unplayed : IsNew p
-  pub order : IsInOrder 0 (keys_of p)
-  pub few : length (keys_of p) ≤ 4096
+  pub order : IsInOrder 0 (script_keys p)
+  pub few : length (script_keys p) ≤ 4096
   pub start : MachineState
   pub opened : slot_at p.id.0 slots ≡ Some start
   pub fresh : IsFresh start
@@ -81,8 +81,8 @@ pub record HasAdded (on : Device) (bytes : List ℕ) (p q : ScriptedSlot) : Type
 pub record IsPlaying (steps : ℕ) (start : MachineState) (p : ScriptedSlot) (h : Host) : Type 0 where
   pub now : MachineState
   pub stands : slot_at p.id.0 h.slots ≡ Some now
-  pub few : length (keys_of p) ≤ 4096
-  pub on : IsOn h.system (keys_of p) steps start p.pace p.console.items p.list.items now
+  pub few : length (script_keys p) ≤ 4096
+  pub on : IsOn h.system (script_keys p) steps start p.pace p.console.items p.list.items now
 
 -- and all its bytes are taken
 pub record IsResting (steps : ℕ) (start : MachineState) (p : ScriptedSlot) (h : Host) : Type 0 where
@@ -98,6 +98,6 @@ pub record StaysOrderly (old new : Host) : Type 0 where
 -- a scripted slot and its host, before and after a part of a turn: the scripted slot keeps its slot and its keys, and the other slots stay
 pub record Moves (p q : ScriptedSlot) (old new : Host) : Type 0 where
   pub id : q.id ≡ p.id
-  pub keys : keys_of q ≡ keys_of p
+  pub keys : script_keys q ≡ script_keys p
   pub others : LeavesOthers (p.id.0 ∷ []) old new
   pub orderly : IsHost old → StaysOrderly old new

@@ -7,27 +7,27 @@ abbrev pub end_key : ℕ
 end_key = 0x1D
 
 -- the keys among these bytes: those below 80h, up to the first ^]
-abbrev pub keys_in : List ℕ → List ℕ
-keys_in [] = []
-keys_in (b ∷ bytes) = if b == end_key then [] else (if nat_lt b 0x80 then b ∷ keys_in bytes else keys_in bytes)
+abbrev pub typed_keys : List ℕ → List ℕ
+typed_keys [] = []
+typed_keys (b ∷ bytes) = if b == end_key then [] else (if nat_lt b 0x80 then b ∷ typed_keys bytes else typed_keys bytes)
 
 -- bytes were read, which have these keys and no ^]
-pub record HasRead (before after : Option (List ℕ)) (keys : List ℕ) : Type 0 where
+pub record HasReadKeys (before after : Option (List ℕ)) (keys : List ℕ) : Type 0 where
   pub bytes : List ℕ
   pub consumed : Consumes before after bytes
-  pub goes_on : (rest : List ℕ) → keys_in (bytes ++ rest) ≡ keys ++ keys_in rest
+  pub goes_on : (rest : List ℕ) → typed_keys (bytes ++ rest) ≡ keys ++ typed_keys rest
 
 -- and then ^]
 pub record HasQuit (before after : Option (List ℕ)) (keys : List ℕ) : Type 0 where
   pub bytes : List ℕ
   pub consumed : Consumes before after (bytes ++ end_key ∷ [])
-  pub goes_on : (rest : List ℕ) → keys_in (bytes ++ rest) ≡ keys ++ keys_in rest
+  pub goes_on : (rest : List ℕ) → typed_keys (bytes ++ rest) ≡ keys ++ typed_keys rest
 
 -- no key comes any more
 abbrev pub IsOver : Option (List ℕ) → Option (List ℕ) → Type 0
-IsOver before after = HasQuit before after [] ⊎ (HasRead before after [] × IsAtEnd after)
+IsOver before after = HasQuit before after [] ⊎ (HasReadKeys before after [] × IsAtEnd after)
 
 -- the next key, or none
 abbrev pub IsTyped : Option (List ℕ) → Option (List ℕ) → Option ℕ → Type 0
-IsTyped before after (Some key) = (key < 128) × HasRead before after (key ∷ [])
+IsTyped before after (Some key) = (key < 128) × HasReadKeys before after (key ∷ [])
 IsTyped before after None = IsOver before after

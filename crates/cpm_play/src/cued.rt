@@ -5,7 +5,7 @@ ghost use Rattle.std.specs.Io.KnownBytes.{Appends};
 ghost use Rattle.cpm_script.specs.Recording.{recorded};
 ghost use Rattle.cpm_machine.specs.Serve.{look_of, takes_key};
 ghost use Rattle.cpm_machine.specs.Step.{after, is_running};
-ghost use Rattle.cpm_play.specs.Cued.{AreAscii, HasEndedCued, HasIdled, HasMissed, HasNoWait, HasPressed, HasRun, HasShown, HasStopped, IsCued, IsCutOff, IsPressCut, IsRunCut, IsTaken, IsUntaken, key_count, last_count, looks_back, waits_at};
+ghost use Rattle.cpm_play.specs.Cued.{AreAscii, HasEndedCued, HasIdled, HasMissed, HasNoWait, HasPressed, HasExecuted, HasShown, HasStopped, IsCued, IsCutOff, IsPressCut, IsRunCut, IsOutputTaken, IsUntaken, key_count, last_count, looks_back, waits_at};
 ghost use Rattle.cpm_play.specs.Live.{AreGiven, IsGoing};
 ghost use Rattle.cpm_play.specs.Pacing.{without_text};
 ghost use Rattle.cpm_play.specs.Playing.{EndsAs, HasText, IsFresh, IsQuiet, alone_by};
@@ -84,7 +84,7 @@ fn show_kept<W: Write>(
     kept: &mut Vec<u8>,
     out: &mut W,
 ) -> Result<(), LiveError>
-    ensures taken { OnOk result (IsTaken machine.old machine.new (W.contents out.old) (W.contents out.new)) }
+    ensures taken { OnOk result (IsOutputTaken machine.old machine.new (W.contents out.old) (W.contents out.new)) }
     ensures kept { OnOk result (keeps ≡ true → kept.new.items ≡ kept.old.items ++ machine.old.session.console.screen) }
     ensures refused { IfErr result (IsUntaken machine.old machine.new (W.contents out.old) (W.contents out.new)) }
 {
@@ -119,7 +119,7 @@ fn run<W: Write, T: Watcher>(
 ) -> Result<u64, LiveError>
     requires { IsQuiet machine.old }
     ensures within { IfOk result (λ k. k ≤ steps) }
-    ensures run { IfOk result (λ k. HasRun system.now k machine.old machine.new (W.contents out.old) (W.contents out.new)) }
+    ensures run { IfOk result (λ k. HasExecuted system.now k machine.old machine.new (W.contents out.old) (W.contents out.new)) }
     ensures stopped { IfOk result (λ k. HasStopped to_wait system.now steps k machine.old machine.new) }
     ensures kept { IfOk result (λ k. keeps ≡ true → kept.new.items ≡ kept.old.items ++ (after system.now k machine.old).session.console.screen) }
     ensures refused { IfErr result (IsRunCut system.now steps machine.old machine.new (W.contents out.old) (W.contents out.new)) }

@@ -3,7 +3,7 @@
 ghost use Rattle.std.specs.Prelude.{◌≡◌, ◌≤◌, ◌<◌, ◌⊎◌, List, OnOk, IfOk, IfErr, length, slice_get, Some, false};
 ghost use Rattle.cpm_slots.specs.Host.{Host as HostValue, fork_fault, slot_at};
 ghost use Rattle.cpm_play.specs.declared.player.Player.{Player as PlayerValue};
-ghost use Rattle.cpm_play.specs.Players.{AllReady, ChangesAt, HasCome, IsFar, IsForkedFrom, IsPlayRefusal, KeepsPlaying, LeavesFewer, NoneIsDue, has_fork, is_due, play_error};
+ghost use Rattle.cpm_play.specs.Players.{AllReady, ChangesPlayerAt, HasCome, IsFar, IsForkedFrom, IsPlayRefusal, KeepsPlaying, LeavesFewer, NoneIsDue, has_fork, is_due, play_error};
 
 use crate::error::PlayError;
 use crate::player::{Fork, Player};
@@ -57,7 +57,7 @@ fn fork_at(
     requires parent { parent < length players.old }
     requires place { place < length players.old }
     ensures come { OnOk result ((old : HostValue) (given : List PlayerValue) → AllReady old.slots given → HasCome old host.old.host given players.old → HasCome old host.new.host given players.new) }
-    ensures changes { OnOk result (ChangesAt place players.old players.new) }
+    ensures changes { OnOk result (ChangesPlayerAt place players.old players.new) }
     ensures parent { OnOk result (slice_get players.new parent ≡ slice_get players.old parent) }
     ensures far { IfOk result (λ steps. IsFar parent steps players.new place) }
     ensures some { IfOk result (λ steps. 1 ≤ steps) }

@@ -6,10 +6,10 @@ ghost use Rattle.cpm_script.specs.Recording.{key_line, recorded};
 ghost use Rattle.cpm_machine.specs.Serve.{keyed, look_of, takes_key};
 ghost use Rattle.cpm_machine.specs.Step.{after, is_running};
 ghost use Rattle.cpm_play.specs.Cued.{waits_at};
-ghost use Rattle.cpm_play.specs.Live.{AreGiven, AreRead, HasReason, IsCutShort, IsNotGiven, IsUnreadable, IsUnwritable};
+ghost use Rattle.cpm_play.specs.Live.{AreGiven, AreTypedKeysRead, HasReason, IsCutShort, IsNotGiven, IsUnreadable, IsUnwritable};
 ghost use Rattle.cpm_play.specs.Pacing.{without_list, without_text};
 ghost use Rattle.cpm_play.specs.Playing.{EndsAs, HasText, IsFresh, IsQuiet, alone_by};
-ghost use Rattle.cpm_play.specs.Typing.{HasRead, IsTyped};
+ghost use Rattle.cpm_play.specs.Typing.{HasReadKeys, IsTyped};
 
 use crate::machine::{drop_list, move_text};
 use crate::typing::next_key;
@@ -49,7 +49,7 @@ pub struct Live {
 /// The next key that is typed, or none where no more come.
 fn hear<I: Read>(input: &mut I) -> Result<Option<u8>, LiveError>
     ensures key { IfOk result (IsTyped (I.remaining input.old) (I.remaining input.new)) }
-    ensures none { OnErr result (HasRead (I.remaining input.old) (I.remaining input.new) []) }
+    ensures none { OnErr result (HasReadKeys (I.remaining input.old) (I.remaining input.new) []) }
     ensures refused { IfErr result IsUnreadable }
 {
     next_key(input).map_err(LiveError::Unreadable)
@@ -151,7 +151,7 @@ pub fn play_live<I: Read, W: Write, S: Write>(
         (alone_by system.now live.keys.items live.steps machine.old).session.console.screen) }
     ensures ending { IfOk result (λ live. EndsAs (alone_by system.now live.keys.items live.steps machine.old) machine.new) }
     ensures record { IfOk result (λ live. Appends (S.contents record.old) (S.contents record.new) (recorded live.keys.items)) }
-    ensures input { IfOk result (λ live. AreRead (I.remaining input.old) (I.remaining input.new) live.keys.items) }
+    ensures input { IfOk result (λ live. AreTypedKeysRead (I.remaining input.old) (I.remaining input.new) live.keys.items) }
     ensures waits { IfOk result (λ live. (look_of machine.new).waiting ≡ waits_at system.now machine.old live.keys.items live.steps) }
     ensures ends { IfOk result (λ live. HasReason steps most_keys (I.remaining input.old) (I.remaining input.new) live.keys.items live.steps machine.new) }
     ensures refused { IfErr result (IsCutShort system.now steps most_keys machine.old machine.new (W.contents out.old) (W.contents out.new)

@@ -3,7 +3,7 @@
 ghost use Rattle.std.specs.Prelude.{◌≡◌, ◌≤◌, ◌<◌, List, OnOk, IfErr, false};
 ghost use Rattle.cpm_slots.specs.Host.{Host as HostValue};
 ghost use Rattle.cpm_play.specs.declared.player.Player.{Player as PlayerValue};
-ghost use Rattle.cpm_play.specs.Players.{AllDiffer, AllPlayed, AllReady, HasCome, HasRoomFor, IsPlayRefusal, LeavesRest, fork_pages, forks_of, goes_on, has_fork, ids_of, is_over, left_of};
+ghost use Rattle.cpm_play.specs.Players.{AllDiffer, AllPlayed, AllReady, HasCome, HasRoomForForks, IsPlayRefusal, LeavesRest, fork_pages, forks_of, still_plays, has_fork, ids_of, is_over, players_left};
 
 use crate::error::PlayError;
 use crate::forks::{fork_if_due, has_fork};
@@ -15,8 +15,8 @@ use cpm_machine::Look;
 use std::alloc::Global;
 
 /// Whether one of the players has steps to execute, or is still to be forked.
-fn goes_on(players: &[Player]) -> bool
-    ensures { result ≡ goes_on players.now }
+fn still_plays(players: &[Player]) -> bool
+    ensures { result ≡ still_plays players.now }
 {
     players.iter().any(|player| match player {
         Player::Playing(slot) => slot.pace.left() > 0,
@@ -71,7 +71,7 @@ fn round(
     requires quantum { 1 ≤ quantum }
     requires none { may_fork ≡ false → has_fork players.old ≡ false }
     ensures come { OnOk result ((old : HostValue) (given : List PlayerValue) → AllReady old.slots given → HasCome old host.old.host given players.old → HasCome old host.new.host given players.new) }
-    ensures left { OnOk result ((old : HostValue) (given : List PlayerValue) → AllReady old.slots given → HasCome old host.old.host given players.old → 0 < left_of players.old → left_of players.new < left_of players.old) }
+    ensures left { OnOk result ((old : HostValue) (given : List PlayerValue) → AllReady old.slots given → HasCome old host.old.host given players.old → 0 < players_left players.old → players_left players.new < players_left players.old) }
     ensures none { OnOk result (may_fork ≡ false → has_fork players.new ≡ false) }
     ensures refused { IfErr result (λ e. (old : HostValue) (given : List PlayerValue) → AllReady old.slots given → HasCome old host.old.host given players.old → IsPlayRefusal old given e) }
 {
@@ -107,13 +107,13 @@ pub fn play<T: Watcher>(
     requires differ { AllDiffer players.old }
     ensures played { OnOk result (AllPlayed host.old.host host.new.host players.old players.new) }
     ensures others { OnOk result (LeavesRest (ids_of players.old) host.old.host host.new.host) }
-    ensures room { OnOk result (HasRoomFor host.old.host (forks_of players.old) (fork_pages host.old.host.slots players.old)) }
+    ensures room { OnOk result (HasRoomForForks host.old.host (forks_of players.old) (fork_pages host.old.host.slots players.old)) }
     ensures refused { IfErr result (IsPlayRefusal host.old.host players.old) }
 {
     host.slots_are_orderly();
     let mut rounds = 0u64;
     let mut may_fork = has_fork(players);
-    while goes_on(players) {
+    while still_plays(players) {
         round(alloc, host, players, asks_in(rounds), quantum, may_fork)?;
         may_fork = may_fork && has_fork(players);
         if watcher.is_watching() {

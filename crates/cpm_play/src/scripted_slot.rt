@@ -23,12 +23,12 @@ pub struct ScriptedSlot {
 }
 
 impl ScriptedSlot {
-    ghost use Rattle.cpm_play.specs.ScriptedSlots.{HasAdded, IsNew, keys_of, steps_of};
+    ghost use Rattle.cpm_play.specs.ScriptedSlots.{HasAdded, IsNew, script_keys, steps_of};
 
     /// A scripted slot that has shown nothing yet, with its keys, each with the count of steps at which it comes, and with so many steps to execute.
     pub fn new(alloc: Global, id: SlotId, keys: Vec<Key>, steps: u64) -> ScriptedSlot
         ensures id { result.id ≡ id }
-        ensures keys { keys_of result ≡ keys.items }
+        ensures keys { script_keys result ≡ keys.items }
         ensures steps { steps_of result ≡ steps }
         ensures unplayed { IsNew result }
     {
@@ -51,7 +51,7 @@ impl ScriptedSlot {
         steps: u64,
     ) -> Result<ScriptedSlot, AllocError>
         ensures id { IfOk result (λ child. child.id ≡ id) }
-        ensures keys { IfOk result (λ child. keys_of child ≡ keys.now) }
+        ensures keys { IfOk result (λ child. script_keys child ≡ keys.now) }
         ensures console { IfOk result (λ child. child.console.items ≡ self.now.console.items) }
         ensures list { IfOk result (λ child. child.list.items ≡ self.now.list.items) }
         ensures pace { IfOk result (λ child. child.pace ≡ forked_pace self.now.pace steps) }

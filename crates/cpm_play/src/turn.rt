@@ -8,7 +8,7 @@ ghost use Rattle.cpm_machine.specs.MachineState.{MachineState};
 ghost use Rattle.cpm_machine.specs.Serve.{executed};
 ghost use Rattle.cpm_play.specs.Pacing.{due_at};
 ghost use Rattle.cpm_play.specs.Players.{AllBefore};
-ghost use Rattle.cpm_play.specs.ScriptedSlots.{AreTaken, IsPlaying, IsResting, Moves, keys_of, steps_of, waits_in};
+ghost use Rattle.cpm_play.specs.ScriptedSlots.{AreTaken, IsPlaying, IsResting, Moves, script_keys, steps_of, waits_in};
 
 use crate::scripted_slot::ScriptedSlot;
 use cpm_console::Device;
@@ -23,8 +23,8 @@ fn press_due(host: &mut Host, slot: &mut ScriptedSlot)
     ensures playing { (steps : ℕ) (start : MachineState) → IsResting steps start slot.old host.old.host → IsResting steps start slot.new host.new.host }
     ensures moves { Moves slot.old slot.new host.old.host host.new.host }
     ensures left { steps_of slot.new ≡ steps_of slot.old }
-    ensures due { due_at slot.new.pace.done (slice_get (keys_of slot.new) slot.new.pace.pressed) ≡ None }
-    ensures early { (at : ℕ) → slot.old.pace.done < at → AllBefore at (take slot.old.pace.pressed (keys_of slot.old)) → AllBefore at (take slot.new.pace.pressed (keys_of slot.new)) }
+    ensures due { due_at slot.new.pace.done (slice_get (script_keys slot.new) slot.new.pace.pressed) ≡ None }
+    ensures early { (at : ℕ) → slot.old.pace.done < at → AllBefore at (take slot.old.pace.pressed (script_keys slot.old)) → AllBefore at (take slot.new.pace.pressed (script_keys slot.new)) }
     ensures done { slot.new.pace.done ≡ slot.old.pace.done }
 {
     while let Some(key) = slot.pace.due(&slot.keys) {
@@ -83,7 +83,7 @@ fn execute(host: &mut Host, slot: &mut ScriptedSlot, quantum: u64)
     ensures playing { (steps : ℕ) (start : MachineState) → IsResting steps start slot.old host.old.host → IsPlaying steps start slot.new host.new.host }
     ensures moves { Moves slot.old slot.new host.old.host host.new.host }
     ensures left { steps_of slot.new ≤ steps_of slot.old - 1 }
-    ensures early { (at : ℕ) → slot.old.pace.done < at → AllBefore at (take slot.old.pace.pressed (keys_of slot.old)) → AllBefore at (take slot.new.pace.pressed (keys_of slot.new)) }
+    ensures early { (at : ℕ) → slot.old.pace.done < at → AllBefore at (take slot.old.pace.pressed (script_keys slot.old)) → AllBefore at (take slot.new.pace.pressed (script_keys slot.new)) }
     ensures done { slot.new.pace.done ≤ slot.old.pace.done + quantum }
 {
     press_due(host, slot);
@@ -98,7 +98,7 @@ pub(crate) fn turn(host: &mut Host, slot: &mut ScriptedSlot, quantum: u64) -> Re
     ensures playing { OnOk result ((steps : ℕ) (start : MachineState) → IsResting steps start slot.old host.old.host → IsResting steps start slot.new host.new.host) }
     ensures moves { OnOk result (Moves slot.old slot.new host.old.host host.new.host) }
     ensures left { OnOk result (steps_of slot.new ≤ steps_of slot.old - 1) }
-    ensures early { OnOk result ((at : ℕ) → slot.old.pace.done < at → AllBefore at (take slot.old.pace.pressed (keys_of slot.old)) → AllBefore at (take slot.new.pace.pressed (keys_of slot.new))) }
+    ensures early { OnOk result ((at : ℕ) → slot.old.pace.done < at → AllBefore at (take slot.old.pace.pressed (script_keys slot.old)) → AllBefore at (take slot.new.pace.pressed (script_keys slot.new))) }
     ensures done { OnOk result (slot.new.pace.done ≤ slot.old.pace.done + quantum) }
 {
     if slot.pace.left() == 0 {

@@ -2,7 +2,7 @@
 
 ghost use Rattle.std.specs.Prelude.{[], ◌∷◌, IfOk, MatchOption, OnErr};
 ghost use Rattle.std.specs.Io.KnownBytes.{Consumes, IsAtEnd, Keeps};
-ghost use Rattle.cpm_play.specs.Typing.{HasRead, IsTyped};
+ghost use Rattle.cpm_play.specs.Typing.{HasReadKeys, IsTyped};
 
 use std::io;
 use std::io::{ErrorKind, Read};
@@ -27,7 +27,7 @@ fn read_byte<I: Read>(input: &mut I) -> io::Result<Option<u8>>
 /// The next key that is typed, or none after ^] and at the end of the input. A byte of 80h or more is no key and is passed over.
 pub(crate) fn next_key<I: Read>(input: &mut I) -> io::Result<Option<u8>>
     ensures key { IfOk result (IsTyped (I.remaining input.old) (I.remaining input.new)) }
-    ensures none { OnErr result (HasRead (I.remaining input.old) (I.remaining input.new) []) }
+    ensures none { OnErr result (HasReadKeys (I.remaining input.old) (I.remaining input.new) []) }
 {
     for _ in 0..u64::MAX {
         match read_byte(input) {

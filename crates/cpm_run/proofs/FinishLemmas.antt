@@ -25,7 +25,7 @@ use Rattle.cpm_play.specs.declared.scripted_slot.ScriptedSlot.{ScriptedSlot}
 use Rattle.cpm_run.proofs.PlayLemmas.{all_ended}
 use Rattle.cpm_run.specs.Illegal.{bytes_at_pc}
 use Rattle.cpm_run.specs.Playing.{AllEnded, AreFinished, HavePlayers, IsClosed, files_by, report_by}
-use Rattle.cpm_run.specs.Run.{Reported, files_left, left_of, report_view, reported_of, reports_of, run_of, start_of}
+use Rattle.cpm_run.specs.Run.{Reported, files_left, session_output, report_view, reported_of, reports_of, run_of, start_of}
 use Rattle.cpm_run.specs.declared.report.SessionReport.{SessionReport}
 
 -- ---- one session
@@ -57,7 +57,7 @@ abbrev output : SessionConfig → List ℕ → List ℕ → List (Option Disk) �
 output s console list drives = record { session = s; console = console; list = list; drives = drives }
 
 files_is : (system : Disk) (is : List SessionInput) (i : SessionInput) (s : SessionConfig) (p : ScriptedSlot) (closed : Closed) (last : MachineState) → i.session ≡ s → closed.drives ≡ images_of last.session.disks
-    → IsPlayed system i.keys i.session.steps (start_of is i) last p.console.items p.list.items → files_by s p closed ≡ left_of i.session (run_of system is i)
+    → IsPlayed system i.keys i.session.steps (start_of is i) last p.console.items p.list.items → files_by s p closed ≡ session_output i.session (run_of system is i)
 unfolding run_of
 files_is system is i s p closed last same drives played =
     ap (λ (t : SessionConfig). output t p.console.items p.list.items closed.drives) (sym same)
@@ -124,7 +124,7 @@ pub record IsFinishedTo (system : Disk) (is : List SessionInput) (k : ℕ) (now 
   pub differ : AllDiffer rest
   pub ended : AllEnded system is now (drop k is) rest
   pub rows : map report_view reports ≡ map (λ i. reported_of i.session (run_of system is i)) (take k is)
-  pub outputs : map left_by files ≡ map (λ i. left_of i.session (run_of system is i)) (take k is)
+  pub outputs : map left_by files ≡ map (λ i. session_output i.session (run_of system is i)) (take k is)
 
 abbrev pub IsFinishing : List SessionConfig → ℕ → List SlotState → List SlotState → List Player → List Player → List SessionReport → List SessionFiles → Type 0
 IsFinishing sessions k start now players rest reports files = (system : Disk) (is : List SessionInput) → map (λ i. i.session) is ≡ sessions → AllEnded system is start is players
@@ -158,15 +158,15 @@ module _ (sessions : List SessionConfig) (k : ℕ) (s : SessionConfig) (start : 
           let row : report_view report ≡ reported_of a.input.session (run_of system is a.input) =
           one ∙ ap (λ (x : ScriptedSlot). report_by s x closed bytes) who ∙ ap (λ (x : Closed). report_by s p x bytes) what ∙ ap (λ (xs : List ℕ). report_by s p c.closed xs) which
           ∙ report_is system is a.input s p c.closed e.last a.session c.look e.played in
-          let out : left_by file ≡ left_of a.input.session (run_of system is a.input) =
+          let out : left_by file ≡ session_output a.input.session (run_of system is a.input) =
           other ∙ ap (λ (x : ScriptedSlot). files_by s x closed) who ∙ ap (λ (x : Closed). files_by s p x) what ∙ files_is system is a.input s p c.closed e.last a.session c.drives e.played in
           record {
             differ = subst (λ (xs : List Player). AllDiffer xs) (sym c.left) apart.1;
             ended = subst (λ (xs : List Player). AllEnded system is new.slots (drop (k + 1) is) xs) (sym c.left) (ended_kept system is p old.slots new.slots (drop (k + 1) is) ps c.others apart.0 all.1);
             rows = map-append report_view reports (report ∷ []) ∙ ap (λ xs. xs ++ report_view report ∷ []) h.rows ∙ ap (λ x. map (λ i. reported_of i.session (run_of system is i)) (take k is) ++ x ∷ []) row
                 ∙ sym (map-append (λ i. reported_of i.session (run_of system is i)) (take k is) (a.input ∷ [])) ∙ ap (map (λ i. reported_of i.session (run_of system is i))) (sym a.more);
-            outputs = map-append left_by files (file ∷ []) ∙ ap (λ xs. xs ++ left_by file ∷ []) h.outputs ∙ ap (λ x. map (λ i. left_of i.session (run_of system is i)) (take k is) ++ x ∷ []) out
-                ∙ sym (map-append (λ i. left_of i.session (run_of system is i)) (take k is) (a.input ∷ [])) ∙ ap (map (λ i. left_of i.session (run_of system is i))) (sym a.more);
+            outputs = map-append left_by files (file ∷ []) ∙ ap (λ xs. xs ++ left_by file ∷ []) h.outputs ∙ ap (λ x. map (λ i. session_output i.session (run_of system is i)) (take k is) ++ x ∷ []) out
+                ∙ sym (map-append (λ i. session_output i.session (run_of system is i)) (take k is) (a.input ∷ [])) ∙ ap (map (λ i. session_output i.session (run_of system is i))) (sym a.more);
           }
 
   pub finishing_more : (q : ScriptedSlot) (closed : Closed) (bytes : List ℕ) (rest : List Player) (reports more : List SessionReport) (files others : List SessionFiles) (report : SessionReport) (file : SessionFiles)
@@ -198,7 +198,7 @@ finished sessions k start now players rest reports files all h = λ system is sa
     let f = h system is same ended in
     let long : length is ≤ k = let m = length-map is (λ i. i.session) in let e = ap length same in omega (arith, all, m, e) in
     let whole : take k is ≡ is = take_all k is long in
-    (f.rows ∙ ap (map (λ i. reported_of i.session (run_of system is i))) whole, f.outputs ∙ ap (map (λ i. left_of i.session (run_of system is i))) whole)
+    (f.rows ∙ ap (map (λ i. reported_of i.session (run_of system is i))) whole, f.outputs ∙ ap (map (λ i. session_output i.session (run_of system is i))) whole)
 
 -- ---- all of it
 

@@ -10,15 +10,15 @@ use Rattle.cpm_slots.specs.Host.{Host, SlotState}
 use Rattle.cpm_machine.specs.MachineState.{MachineState, opened_machine}
 use Rattle.cpm_machine.specs.declared.opening.OpenError.{OpenError}
 use Rattle.cpm_machine.specs.declared.opening.OpenError.TheVariants as fault
-use Rattle.cpm_play.specs.Players.{AllReady, HasPlayed, HasRoomFor, IsForkReady, IsPlayerReady, fork_pages, forks_of, is_fork, pages_of, player_keys, player_steps, quota_of, slot_of, start_at}
+use Rattle.cpm_play.specs.Players.{AllReady, HasPlayed, HasRoomForForks, IsForkReady, IsPlayerReady, fork_pages, forks_of, is_fork, pages_of, player_keys, player_steps, quota_of, player_slot, start_at}
 use Rattle.cpm_play.specs.Playing.{IsInOrder, IsPlayed}
-use Rattle.cpm_play.specs.ScriptedSlots.{IsReady, keys_of}
+use Rattle.cpm_play.specs.ScriptedSlots.{IsReady, script_keys}
 use Rattle.cpm_play.specs.declared.player.Fork.{Fork}
 use Rattle.cpm_play.specs.declared.player.Player.{Player}
 use Rattle.cpm_play.specs.declared.player.Player.TheVariants.{Playing, Waiting}
 use Rattle.cpm_play.specs.declared.scripted_slot.ScriptedSlot.{ScriptedSlot}
 use Rattle.cpm_config.specs.declared.config.Config.{Config}
-use Rattle.cpm_run.specs.Playing.{AllEnded, ArePressable, HasEnded, HasPlayer, HasPlayerBy, HasSlot, HavePlayers, IsForkFor, IsForkPressable, IsForkRefusal, IsPlayRefusal, IsPressableBy}
+use Rattle.cpm_run.specs.Playing.{AllEnded, ArePressable, HasEnded, HasPlayer, HasPlayerBy, HasSlot, HavePlayers, IsForkFor, IsForkPressable, IsForksRefusal, IsSessionsRefusal, IsPressableBy}
 use Rattle.cpm_run.specs.Run.{HasForkRoom, IsFirstRefused, IsShortFor, fork_of, fork_pages_in, forks_in, opening_at, opening_of, pages_by, start_by}
 use Rattle.cpm_run.specs.declared.error.RunError.{RunError}
 use Rattle.cpm_run.specs.declared.error.RunError.TheVariants as refusal
@@ -44,7 +44,7 @@ session_at slots (i ∷ is) (q ∷ ps) (suc place) p all there =
 record HasSlotAt (slots : List SlotState) (ps : List Player) (place : ℕ) (i : SessionInput) : Type 0 where
   slot : ScriptedSlot
   plays : slice_get ps place ≡ Some (Playing slot)
-  keys : keys_of slot ≡ i.keys
+  keys : script_keys slot ≡ i.keys
 
 slot_by : (slots : List SlotState) (ps : List Player) (place : ℕ) (b : StartInput) (i : SessionInput) (p : Player) → IsOpened b → HasPlayerBy slots b i p → slice_get ps place ≡ Some p
     → HasSlotAt slots ps place i
@@ -127,14 +127,14 @@ forks_are slots (i ∷ is) (p ∷ ps) all =
     omega arith
 
 -- what the slot of a session at a place may write
-quota_by : (slots : List SlotState) (b : StartInput) (i : SessionInput) (p : Player) → HasPlayerBy slots b i p → quota_of (slot_of slots (Some p)) ≡ (opening_of b).quota
+quota_by : (slots : List SlotState) (b : StartInput) (i : SessionInput) (p : Player) → HasPlayerBy slots b i p → quota_of (player_slot slots (Some p)) ≡ (opening_of b).quota
 quota_by slots (Opens cpu quota drives) i (Playing slot) h = ap quota_of h.slot
 quota_by slots (Opens cpu quota drives) i (Waiting fork) h = absurd h
 quota_by slots (Forks parent at) i (Playing slot) h = absurd h
 quota_by slots (Forks parent at) i (Waiting fork) h = refl
 
 quota_there : (slots : List SlotState) (is : List SessionInput) (ps : List Player) (place : ℕ) → HavePlayers slots is ps
-    → quota_of (slot_of slots (slice_get ps place)) ≡ (opening_at (slice_get is place)).quota
+    → quota_of (player_slot slots (slice_get ps place)) ≡ (opening_at (slice_get is place)).quota
 quota_there slots [] [] place all = refl
 quota_there slots [] (p ∷ ps) place all = absurd all
 quota_there slots (i ∷ is) [] place all = absurd all
@@ -146,7 +146,7 @@ module _ (slots : List SlotState) (is : List SessionInput) (ps : List Player) (a
   page_by (Opens cpu quota drives) i (Playing slot) h = refl
   page_by (Opens cpu quota drives) i (Waiting fork) h = absurd h
   page_by (Forks parent at) i (Playing slot) h = absurd h
-  page_by (Forks parent at) i (Waiting fork) h = ap (λ (n : ℕ). quota_of (slot_of slots (slice_get ps n))) h.parent ∙ quota_there slots is ps parent all
+  page_by (Forks parent at) i (Waiting fork) h = ap (λ (n : ℕ). quota_of (player_slot slots (slice_get ps n))) h.parent ∙ quota_there slots is ps parent all
 
   pages_from : (js : List SessionInput) (qs : List Player) → HavePlayers slots js qs → sum_by (pages_of slots ps) qs ≡ sum_by (λ (i : SessionInput). pages_by is i.start) js
   pages_from [] [] some = refl
@@ -162,20 +162,20 @@ module _ (slots : List SlotState) (is : List SessionInput) (ps : List Player) (a
   pub pages_are : fork_pages slots ps ≡ fork_pages_in is
   pages_are = pages_from is ps all
 
-pub has_room : (h : Host) (is : List SessionInput) (ps : List Player) → HavePlayers h.slots is ps → HasRoomFor h (forks_of ps) (fork_pages h.slots ps) → HasForkRoom is h
+pub has_room : (h : Host) (is : List SessionInput) (ps : List Player) → HavePlayers h.slots is ps → HasRoomForForks h (forks_of ps) (fork_pages h.slots ps) → HasForkRoom is h
 has_room h is ps all room =
-    subst (λ (n : ℕ). HasRoomFor h (forks_in is) n) (pages_are h.slots is ps all) (subst (λ (n : ℕ). HasRoomFor h n (fork_pages h.slots ps)) (forks_are h.slots is ps all) room)
+    subst (λ (n : ℕ). HasRoomForForks h (forks_in is) n) (pages_are h.slots is ps all) (subst (λ (n : ℕ). HasRoomForForks h n (fork_pages h.slots ps)) (forks_are h.slots is ps all) room)
 
 -- ---- once they were played
 
 -- the start of the one that another is forked from
-started_by : (slots : List SlotState) (b : StartInput) (i : SessionInput) (p : Player) (start : MachineState) → HasPlayerBy slots b i p → slot_of slots (Some p) ≡ Some start → start ≡ opening_of b
+started_by : (slots : List SlotState) (b : StartInput) (i : SessionInput) (p : Player) (start : MachineState) → HasPlayerBy slots b i p → player_slot slots (Some p) ≡ Some start → start ≡ opening_of b
 started_by slots (Opens cpu quota drives) i (Playing slot) start h is = let at = h.slot in cc
 started_by slots (Opens cpu quota drives) i (Waiting fork) start h is = absurd h
 started_by slots (Forks parent at) i (Playing slot) start h is = absurd h
 started_by slots (Forks parent at) i (Waiting fork) start h is = absurd (cc)
 
-started_there : (slots : List SlotState) (is : List SessionInput) (ps : List Player) (place : ℕ) (start : MachineState) → HavePlayers slots is ps → slot_of slots (slice_get ps place) ≡ Some start
+started_there : (slots : List SlotState) (is : List SessionInput) (ps : List Player) (place : ℕ) (start : MachineState) → HavePlayers slots is ps → player_slot slots (slice_get ps place) ≡ Some start
     → start ≡ opening_at (slice_get is place)
 started_there slots [] [] place start all at = absurd (cc)
 started_there slots [] (p ∷ ps) place start all at = absurd all
@@ -188,7 +188,7 @@ module _ (system : Disk) (before now : List SlotState) (is : List SessionInput) 
   start_is (Opens cpu quota drives) i (Playing slot) start h at = let there = h.slot in cc
   start_is (Opens cpu quota drives) i (Waiting fork) start h at = absurd h
   start_is (Forks parent count) i (Playing slot) start h at = absurd h
-  start_is (Forks parent count) i (Waiting fork) start h at = started_there before is ps parent start all (ap (λ (n : ℕ). slot_of before (slice_get ps n)) (sym h.parent) ∙ at)
+  start_is (Forks parent count) i (Waiting fork) start h at = started_there before is ps parent start all (ap (λ (n : ℕ). player_slot before (slice_get ps n)) (sym h.parent) ∙ at)
 
   keys_are : (b : StartInput) (i : SessionInput) (p : Player) → HasPlayerBy before b i p → player_keys p ≡ i.keys
   keys_are (Opens cpu quota drives) i (Playing slot) h = h.keys
@@ -233,12 +233,12 @@ module _ (system : Disk) (before now : List SlotState) (is : List SessionInput) 
 -- where forks are refused, once all that are opened are open
 pub fork_refused : (config : Config) (start now : Host) (is : List SessionInput) (ps : List Player) (e : RunError) → HavePlayers now.slots is ps
     → ((whole : List SessionInput) (fault : OpenError) → IsShortFor now (forks_in whole) (fork_pages_in whole) fault → IsFirstRefused whole start is fault)
-    → IsForkRefusal config now (forks_of ps) (fork_pages now.slots ps) e → IsPlayRefusal config start is e
+    → IsForksRefusal config now (forks_of ps) (fork_pages now.slots ps) e → IsSessionsRefusal config start is e
 fork_refused config start now is ps e all short r =
-    by_error e (subst (λ (n : ℕ). IsForkRefusal config now (forks_in is) n e) (pages_are now.slots is ps all)
-    (subst (λ (n : ℕ). IsForkRefusal config now n (fork_pages now.slots ps) e) (forks_are now.slots is ps all) r))
+    by_error e (subst (λ (n : ℕ). IsForksRefusal config now (forks_in is) n e) (pages_are now.slots is ps all)
+    (subst (λ (n : ℕ). IsForksRefusal config now n (fork_pages now.slots ps) e) (forks_are now.slots is ps all) r))
   where
-    by_error : (e : RunError) → IsForkRefusal config now (forks_in is) (fork_pages_in is) e → IsPlayRefusal config start is e
+    by_error : (e : RunError) → IsForksRefusal config now (forks_in is) (fork_pages_in is) e → IsSessionsRefusal config start is e
     by_error (refusal.SessionRefused name fault) r = (r.0, short is fault r.1)
     by_error (refusal.FramesExceeded name quotas frames) r = (r.0, r.1, short is fault.NoFrames r.2)
     by_error refusal.OutOfMemory r = tt

@@ -11,9 +11,9 @@ use Rattle.cpm_geom.specs.Disk.{Disk}
 use Rattle.cpm_store.specs.Files.{Files}
 use Rattle.cpm_slots.specs.Host.{new_host}
 use Rattle.cpm_store.specs.Log.{Access, AreNoWrites, AreWrites, RanBy, StopsAfter, Then}
-use Rattle.cpm_store.specs.Writes.{Named}
+use Rattle.cpm_store.specs.Writes.{NamedBytes}
 use Rattle.cpm_store.proofs.LogLemmas.{ran_then}
-use Rattle.cpm_run.specs.Playing.{IsPlayRefusal}
+use Rattle.cpm_run.specs.Playing.{IsSessionsRefusal}
 use Rattle.cpm_run.specs.Refusals.{run_error_of_reading}
 use Rattle.cpm_run.specs.Run.{FailsAtWrite, IsRunRefusal, IsStoppedRun, IsWriteRefusal, outputs_of, config_fault}
 use Rattle.cpm_run.specs.declared.error.RunError.{RunError}
@@ -51,31 +51,31 @@ module _ {S : Type 0} (does : S → Access → S → Type 0) (config : Config) (
   reading_stopped reading.OutOfMemory h = inl (h.0, ⊎_elim (λ m. m.1) (λ f. absurd (none_in_input config h.0 f)) h.1, h.2)
 
   -- where a write is refused
-  pub writing_stopped : (ps : List Named) (old new : Option Files) (e : RunError) → IsWriteRefusal ps old new e → FailsAtWrite does config start end → IsStoppedRun does config start end e
+  pub writing_stopped : (ps : List NamedBytes) (old new : Option Files) (e : RunError) → IsWriteRefusal ps old new e → FailsAtWrite does config start end → IsStoppedRun does config start end e
   writing_stopped ps old new (refusal.WriteFault name) r h = h
   writing_stopped ps old new refusal.OutOfMemory r h = inr h
   writing_stopped ps old new _ r h = absurd r
 
   -- behind the reads, a write that failed
-  pub fails_at_write : (between : S) (system : Disk) (inputs : List SessionInput) (ps : List Named) (place : ℕ) → ps ≡ outputs_of system inputs → RanBy does (AreRead config system inputs) start between
+  pub fails_at_write : (between : S) (system : Disk) (inputs : List SessionInput) (ps : List NamedBytes) (place : ℕ) → ps ≡ outputs_of system inputs → RanBy does (AreRead config system inputs) start between
       → RanBy does (StopsAfter ps place) between end → FailsAtWrite does config start end
   fails_at_write between system inputs ps place is reads writes = record {
     system = system;
     inputs = inputs;
     place = place;
     calls = ran_then does (AreRead config system inputs) (StopsAfter (outputs_of system inputs) place) start between end reads
-        (subst (λ (qs : List Named). RanBy does (StopsAfter qs place) between end) is writes);
+        (subst (λ (qs : List NamedBytes). RanBy does (StopsAfter qs place) between end) is writes);
   }
 
   -- behind the reads, all writes
-  pub read_and_written : (between : S) (system : Disk) (inputs : List SessionInput) (ps : List Named) → ps ≡ outputs_of system inputs → RanBy does (AreRead config system inputs) start between
+  pub read_and_written : (between : S) (system : Disk) (inputs : List SessionInput) (ps : List NamedBytes) → ps ≡ outputs_of system inputs → RanBy does (AreRead config system inputs) start between
       → RanBy does (AreWrites ps) between end → RanBy does (Then (AreRead config system inputs) (AreWrites (outputs_of system inputs))) start end
   read_and_written between system inputs ps is reads writes =
-      ran_then does (AreRead config system inputs) (AreWrites (outputs_of system inputs)) start between end reads (subst (λ (qs : List Named). RanBy does (AreWrites qs) between end) is writes)
+      ran_then does (AreRead config system inputs) (AreWrites (outputs_of system inputs)) start between end reads (subst (λ (qs : List NamedBytes). RanBy does (AreWrites qs) between end) is writes)
 
 -- where playing is refused
 pub play_refused : (config : Config) (system : Disk) (inputs : List SessionInput) (old new : Option Files) (e : RunError) → config_fault config ≡ None → AreInputs old config system inputs → new ≡ old
-    → IsPlayRefusal config (new_host system config.frames) inputs e → IsRunRefusal config old new e
+    → IsSessionsRefusal config (new_host system config.frames) inputs e → IsRunRefusal config old new e
 play_refused config system inputs old new (refusal.SessionRefused name fault) faultless read same r =
     (faultless, r.0, record { system = system; inputs = inputs; read = read; refused = r.1 }, same)
 play_refused config system inputs old new (refusal.FramesExceeded name quotas frames) faultless read same r =
@@ -84,7 +84,7 @@ play_refused config system inputs old new refusal.OutOfMemory faultless read sam
 play_refused config system inputs old new _ faultless read same r = absurd r
 
 pub play_stopped : {S : Type 0} → (does : S → Access → S → Type 0) (config : Config) (old new : S) (system : Disk) (inputs : List SessionInput) (e : RunError) → RanBy does AreNoWrites old new
-    → IsPlayRefusal config (new_host system config.frames) inputs e → IsStoppedRun does config old new e
+    → IsSessionsRefusal config (new_host system config.frames) inputs e → IsStoppedRun does config old new e
 play_stopped does config old new system inputs (refusal.WriteFault name) calls r = absurd r
 play_stopped does config old new system inputs (refusal.FileRefused e) calls r = absurd r
 play_stopped does config old new system inputs refusal.OutOfMemory calls r = inl calls

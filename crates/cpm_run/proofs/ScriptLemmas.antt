@@ -7,7 +7,7 @@ use Rattle.std.proofs.lemmas.Bool.Decides.{nat_tests}
 use Rattle.std.proofs.lemmas.List.{map-append}
 use Rattle.cpm_batch.specs.Inputs.{AllInputs, HasForkedKeys, HasInputOf, HasKeys, IsForkedInput, IsOpenedInput, SessionInput, StartInput}
 use Rattle.cpm_config.specs.Entries.{SessionEntries}
-use Rattle.cpm_config.specs.Rules.{at_fault, fork_fault, forks_fault, is_at, origin_fault, origin_view, parent_in, session_view}
+use Rattle.cpm_config.specs.Rules.{at_fault, fork_field_fault, forks_fault, is_at, origin_fault, origin_view, parent_in, session_view}
 use Rattle.cpm_config.specs.declared.config.Origin.{Origin}
 use Rattle.cpm_config.specs.declared.config.Origin.TheVariants as origin
 use Rattle.cpm_config.specs.declared.config.SessionConfig.{SessionConfig}
@@ -20,7 +20,7 @@ use Rattle.cpm_script.specs.Script.{script}
 use Rattle.cpm_script.specs.declared.fault.LineFault.{LineFault}
 use Rattle.cpm_script.specs.declared.script.Key.{Key}
 use Rattle.cpm_script.proofs.ForkLemmas.{forked_script-keys, length-keys_before}
-use Rattle.cpm_store.specs.Files.{Files, Text}
+use Rattle.cpm_store.specs.Files.{Files, StoreName}
 use Rattle.cpm_play.specs.Playing.{IsInOrder}
 use Rattle.cpm_play.proofs.ScriptLemmas.{script-order}
 use Rattle.cpm_run.specs.Playing.{ArePressable, IsForkPressable, IsPressableBy}
@@ -99,7 +99,7 @@ opened_good files all cpu quota names i h =
     let good = session_good files i.session.keys i.keys h.keys in
     record { few = good.1; pressable = subst (λ (b : StartInput). IsPressableBy all b i) (sym h.start) good }
 
-fork_good : (files : Option Files) (before is : List SessionInput) (name : Text) (at : ℕ) (i : SessionInput) → AreFew before → IsForkedInput files before name at i → at ≤ i.session.steps
+fork_good : (files : Option Files) (before is : List SessionInput) (name : StoreName) (at : ℕ) (i : SessionInput) → AreFew before → IsForkedInput files before name at i → at ≤ i.session.steps
     → IsGoodInput (before ++ is) i
 fork_good files before is name at i few h within =
     let parent = h.parent in
@@ -137,7 +137,7 @@ pressable_from : (files : Option Files) (n : ℕ) (before is : List SessionInput
     → (place : ℕ) → IfSome (slice_get is place) (λ i. IsPressableBy (before ++ is) i.start i)
 pressable_from files n before [] few h none place = tt
 pressable_from files n before (i ∷ is) few h none place =
-    let apart = neither n (fork_fault (map (λ x. session_view x.session) before) (session_view i.session)) _ none in
+    let apart = neither n (fork_field_fault (map (λ x. session_view x.session) before) (session_view i.session)) _ none in
     let good = input_good files before (i ∷ is) i.session.origin i few h.0 apart.0 in
     let later = ap (λ (seen : List SessionEntries). forks_fault (n + 1) seen (map (λ x. session_view x.session) is)) (map-append (λ (x : SessionInput). session_view x.session) before (i ∷ [])) ∙ apart.1 in
     at_place (before ++ i ∷ is) i is good.pressable

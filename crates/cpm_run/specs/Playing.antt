@@ -16,12 +16,12 @@ use Rattle.cpm_machine.specs.declared.opening.Opening.{Opening}
 use Rattle.cpm_machine.specs.declared.opening.OpenError.TheVariants.{NoFrames}
 use Rattle.cpm_machine.specs.declared.reply.Closed.{Closed}
 use Rattle.cpm_play.specs.Playing.{IsInOrder, IsPlayed}
-use Rattle.cpm_play.specs.ScriptedSlots.{IsNew, keys_of, steps_of}
+use Rattle.cpm_play.specs.ScriptedSlots.{IsNew, script_keys, steps_of}
 use Rattle.cpm_play.specs.declared.player.Fork.{Fork}
 use Rattle.cpm_play.specs.declared.player.Player.{Player}
 use Rattle.cpm_play.specs.declared.player.Player.TheVariants.{Playing, Waiting}
 use Rattle.cpm_play.specs.declared.scripted_slot.ScriptedSlot.{ScriptedSlot}
-use Rattle.cpm_run.specs.Run.{IsFirstRefused, IsOpening, IsShortFor, Reported, files_left, quotas_of, report_view, reports_of, start_of}
+use Rattle.cpm_run.specs.Run.{IsFirstRefused, IsOpening, IsShortFor, Reported, files_left, pages_of_config, report_view, reports_of, start_of}
 use Rattle.cpm_run.specs.Illegal.{bytes_at_pc}
 use Rattle.cpm_run.specs.declared.report.SessionReport.{SessionReport}
 use Rattle.cpm_run.specs.declared.error.RunError.{RunError}
@@ -34,7 +34,7 @@ pub record OpensSlot (opening : Opening) (all : List Key) (count : ℕ) (old new
   pub accepted : refusal_of old opening ≡ None
   pub host : new ≡ with_opened old opening
   pub id : p.id.0 ≡ old.openings
-  pub keys : keys_of p ≡ all
+  pub keys : script_keys p ≡ all
   pub steps : steps_of p ≡ count
   pub unplayed : IsNew p
 
@@ -57,7 +57,7 @@ IsPrepared i old new p = IsPreparedBy i.start i old new p
 -- the scripted slot is to play a session, whose slot is at its opening
 pub record HasSlot (slots : List SlotState) (start : MachineState) (i : SessionInput) (p : ScriptedSlot) : Type 0 where
   pub slot : slot_at p.id.0 slots ≡ Some start
-  pub keys : keys_of p ≡ i.keys
+  pub keys : script_keys p ≡ i.keys
   pub steps : steps_of p ≡ i.session.steps
   pub unplayed : IsNew p
 
@@ -117,20 +117,20 @@ IsSlotRefusal all h is refusal.OutOfMemory = ⊤
 IsSlotRefusal all h is _ = ⊥
 
 -- how so many forks, which may write so many pages, are refused in a host
-abbrev pub IsForkRefusal : Config → Host → (forks pages : ℕ) → RunError → Type 0
-IsForkRefusal config h forks pages (refusal.SessionRefused name fault) = (fault ≢ NoFrames) × IsShortFor h forks pages fault
-IsForkRefusal config h forks pages (refusal.FramesExceeded name quotas frames) =
-    (quotas ≡ quotas_of config) × (frames ≡ config.frames) × IsShortFor h forks pages NoFrames
-IsForkRefusal config h forks pages refusal.OutOfMemory = ⊤
-IsForkRefusal config h forks pages _ = ⊥
+abbrev pub IsForksRefusal : Config → Host → (forks pages : ℕ) → RunError → Type 0
+IsForksRefusal config h forks pages (refusal.SessionRefused name fault) = (fault ≢ NoFrames) × IsShortFor h forks pages fault
+IsForksRefusal config h forks pages (refusal.FramesExceeded name quotas frames) =
+    (quotas ≡ pages_of_config config) × (frames ≡ config.frames) × IsShortFor h forks pages NoFrames
+IsForksRefusal config h forks pages refusal.OutOfMemory = ⊤
+IsForksRefusal config h forks pages _ = ⊥
 
 -- how playing all sessions of a configuration is refused
-abbrev pub IsPlayRefusal : Config → Host → List SessionInput → RunError → Type 0
-IsPlayRefusal config h is (refusal.SessionRefused name fault) = (fault ≢ NoFrames) × IsFirstRefused is h is fault
-IsPlayRefusal config h is (refusal.FramesExceeded name quotas frames) =
-    (quotas ≡ quotas_of config) × (frames ≡ config.frames) × IsFirstRefused is h is NoFrames
-IsPlayRefusal config h is refusal.OutOfMemory = ⊤
-IsPlayRefusal config h is _ = ⊥
+abbrev pub IsSessionsRefusal : Config → Host → List SessionInput → RunError → Type 0
+IsSessionsRefusal config h is (refusal.SessionRefused name fault) = (fault ≢ NoFrames) × IsFirstRefused is h is fault
+IsSessionsRefusal config h is (refusal.FramesExceeded name quotas frames) =
+    (quotas ≡ pages_of_config config) × (frames ≡ config.frames) × IsFirstRefused is h is NoFrames
+IsSessionsRefusal config h is refusal.OutOfMemory = ⊤
+IsSessionsRefusal config h is _ = ⊥
 
 -- ---- once they were played
 
@@ -174,7 +174,7 @@ files_by session p closed =
     record { session = session; console = p.console.items; list = p.list.items; drives = closed.drives }
 
 -- one more session that ended so is reported, and leaves its files
-pub record HasAdded (session : SessionConfig) (p : ScriptedSlot) (closed : Closed) (at_pc : List ℕ) (reports more : List SessionReport) (files others : List SessionFiles) : Type 0 where
+pub record HasReported (session : SessionConfig) (p : ScriptedSlot) (closed : Closed) (at_pc : List ℕ) (reports more : List SessionReport) (files others : List SessionFiles) : Type 0 where
   pub report : SessionReport
   pub reported : report_view report ≡ report_by session p closed at_pc
   pub pushed : more ≡ reports ++ report ∷ []

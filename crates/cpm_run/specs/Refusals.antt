@@ -7,13 +7,13 @@ use Rattle.cpm_run.specs.declared.error.RunError.{RunError}
 use Rattle.cpm_run.specs.declared.error.RunError.TheVariants.{ConfigRefused, FileRefused, FramesExceeded, OutOfMemory, SessionRefused, WriteFault}
 
 -- the number of the code that the text begins with
-abbrev pub status_of : RunError → ℕ
-status_of (ConfigRefused fault) = 2
-status_of (FileRefused e) = status_of_reading e
-status_of (WriteFault name) = 5
-status_of OutOfMemory = 8
-status_of (SessionRefused name fault) = 9
-status_of (FramesExceeded name quotas frames) = 9
+abbrev pub run_status_of : RunError → ℕ
+run_status_of (ConfigRefused fault) = 2
+run_status_of (FileRefused e) = status_of_reading e
+run_status_of (WriteFault name) = 5
+run_status_of OutOfMemory = 8
+run_status_of (SessionRefused name fault) = 9
+run_status_of (FramesExceeded name quotas frames) = 9
 
 -- what a refused file of a run comes to
 abbrev pub run_error_of_reading : ReadError → RunError

@@ -24,10 +24,10 @@ use Rattle.cpm_machine.specs.declared.opening.Opening.{Opening}
 use Rattle.cpm_machine.specs.declared.opening.OpenError.{OpenError}
 use Rattle.cpm_machine.specs.declared.opening.OpenError.TheVariants.{NoFrames, NoSlot}
 use Rattle.cpm_machine.specs.declared.reply.End.{End}
-use Rattle.cpm_store.specs.Files.{Files, Text, Told}
+use Rattle.cpm_store.specs.Files.{Files, StoreName, WhereTold}
 use Rattle.cpm_store.specs.Log.{Access, AreNoWrites, AreWrites, RanBy, StopsAfter, Then}
-use Rattle.cpm_store.specs.Writes.{Named, StopsAt, WritesAll}
-use Rattle.cpm_play.specs.Players.{HasRoomFor, IsLackFor}
+use Rattle.cpm_store.specs.Writes.{NamedBytes, StopsAt, WritesAll}
+use Rattle.cpm_play.specs.Players.{HasRoomForForks, IsLackFor}
 use Rattle.cpm_play.specs.Playing.{alone_by}
 use Rattle.cpm_run.specs.Illegal.{bytes_at_pc}
 use Rattle.cpm_run.specs.declared.error.RunError.{RunError}
@@ -58,8 +58,8 @@ unfoldable pub run_of : Disk → List SessionInput → SessionInput → MachineS
 run_of system inputs i = alone_by system i.keys i.session.steps (start_of inputs i)
 
 -- what is left of it for its files: all bytes of its console and of its list device, and its drives
-abbrev pub left_of : SessionConfig → MachineState → SessionOutput
-left_of session s = record {
+abbrev pub session_output : SessionConfig → MachineState → SessionOutput
+session_output session s = record {
   session = session;
   console = s.session.console.screen;
   list = s.session.console.printer;
@@ -68,7 +68,7 @@ left_of session s = record {
 
 -- what is reported of it: its name, its end, its steps, the number of its console bytes, and its program counter with the bytes there
 pub record Reported : Type 0 where
-  pub name : Text
+  pub name : StoreName
   pub ended : End
   pub count : ℕ
   pub bytes : ℕ
@@ -95,9 +95,9 @@ abbrev pub reports_of : Disk → List SessionInput → List Reported
 reports_of system inputs = map (λ i. reported_of i.session (run_of system inputs i)) inputs
 
 abbrev pub files_left : Disk → List SessionInput → List SessionOutput
-files_left system inputs = map (λ i. left_of i.session (run_of system inputs i)) inputs
+files_left system inputs = map (λ i. session_output i.session (run_of system inputs i)) inputs
 
-abbrev pub outputs_of : Disk → List SessionInput → List Named
+abbrev pub outputs_of : Disk → List SessionInput → List NamedBytes
 outputs_of system inputs = files_of_all (files_left system inputs)
 
 -- a number that no host can have, or no turn
@@ -135,7 +135,7 @@ fork_pages_in inputs = sum_by (λ i. pages_by inputs i.start) inputs
 
 -- once those that are opened are open, the host has room for all that are forked
 abbrev pub HasForkRoom : List SessionInput → Host → Type 0
-HasForkRoom inputs h = HasRoomFor h (forks_in inputs) (fork_pages_in inputs)
+HasForkRoom inputs h = HasRoomForForks h (forks_in inputs) (fork_pages_in inputs)
 
 -- a session that begins so is accepted, and what follows holds of the host with it
 abbrev pub IsAccepted : Host → StartInput → (Host → Type 0) → Type 0
@@ -155,7 +155,7 @@ pub record HasRun (config : Config) (reports : List SessionReport) (old new : Op
   -- no refusal is due: the numbers at the top are in range, each fork stands, each opening is accepted, and there is room for all forks
   pub faultless : config_fault config ≡ None
   pub accepted : AllAccepted inputs (new_host system config.frames) inputs
-  pub written : Told old new (WritesAll (outputs_of system inputs))
+  pub written : WhereTold old new (WritesAll (outputs_of system inputs))
   pub reported : map report_view reports ≡ reports_of system inputs
 
 -- Over any store: with what its files gave, the sessions were run alone. The calls were the reads of what the configuration needs, then the writes of the files that the sessions name, in order, and no others.
@@ -172,7 +172,7 @@ AreOpenable h [] = ⊤
 AreOpenable h (i ∷ is) = IsAccepted h i.start (λ next. AreOpenable next is)
 
 -- Where the store tells its files: no number at the top and no fork is at fault, the files hold what is needed, and all openings are accepted.
-pub record IsJudged (config : Config) (files : Option Files) : Type 0 where
+pub record IsRunJudged (config : Config) (files : Option Files) : Type 0 where
   pub faultless : config_fault config ≡ None
   pub system : Disk
   pub inputs : List SessionInput
@@ -217,8 +217,8 @@ quota_in sessions (origin.Opened cpu quota drives) = quota
 quota_in sessions (origin.Forked parent at) = quota_at sessions (place_of (string_bytes parent) (map session_view sessions))
 
 -- the pages that all sessions may write
-abbrev pub quotas_of : Config → ℕ
-quotas_of config = sum_by (λ (s : SessionConfig). quota_in config.sessions.items s.origin) config.sessions.items
+abbrev pub pages_of_config : Config → ℕ
+pages_of_config config = sum_by (λ (s : SessionConfig). quota_in config.sessions.items s.origin) config.sessions.items
 
 -- a session's opening or its fork is refused
 pub record IsOpenRefusal (config : Config) (fault : OpenError) (old : Option Files) : Type 0 where
@@ -233,12 +233,12 @@ pub record StopsWriting (config : Config) (old new : Option Files) : Type 0 wher
   pub inputs : List SessionInput
   pub place : ℕ
   pub read : AreInputs old config system inputs
-  pub stopped : Told old new (StopsAt (outputs_of system inputs) place)
+  pub stopped : WhereTold old new (StopsAt (outputs_of system inputs) place)
 
 -- how writing is refused
-abbrev pub IsWriteRefusal : List Named → Option Files → Option Files → RunError → Type 0
-IsWriteRefusal outputs old new (refusal.WriteFault name) = (place : ℕ) × Told old new (StopsAt outputs place)
-IsWriteRefusal outputs old new refusal.OutOfMemory = (place : ℕ) × Told old new (StopsAt outputs place)
+abbrev pub IsWriteRefusal : List NamedBytes → Option Files → Option Files → RunError → Type 0
+IsWriteRefusal outputs old new (refusal.WriteFault name) = (place : ℕ) × WhereTold old new (StopsAt outputs place)
+IsWriteRefusal outputs old new refusal.OutOfMemory = (place : ℕ) × WhereTold old new (StopsAt outputs place)
 IsWriteRefusal outputs old new _ = ⊥
 
 -- how a run is refused: for a number at the top or a fork before anything is read, then for the first fault of what is needed, then for the first session whose opening is refused, or for want of room for the forks. But for want of memory and for a file that can't be written nothing was written
@@ -247,7 +247,7 @@ IsRunRefusal config old new (refusal.ConfigRefused (Range place)) = (config_faul
 IsRunRefusal config old new (refusal.FileRefused e) = (config_fault config ≡ None) × IsInputFault old config e × (new ≡ old)
 IsRunRefusal config old new (refusal.SessionRefused name fault) = (config_fault config ≡ None) × (fault ≢ NoFrames) × IsOpenRefusal config fault old × (new ≡ old)
 IsRunRefusal config old new (refusal.FramesExceeded name quotas frames) =
-    (config_fault config ≡ None) × (quotas ≡ quotas_of config) × (frames ≡ config.frames) × IsOpenRefusal config NoFrames old × (new ≡ old)
+    (config_fault config ≡ None) × (quotas ≡ pages_of_config config) × (frames ≡ config.frames) × IsOpenRefusal config NoFrames old × (new ≡ old)
 IsRunRefusal config old new (refusal.WriteFault name) = StopsWriting config old new
 IsRunRefusal config old new refusal.OutOfMemory = (new ≡ old) ⊎ StopsWriting config old new
 IsRunRefusal config old new _ = ⊥

@@ -1,7 +1,7 @@
 //! Why a run is refused.
 ghost use Rattle.std.specs.Prelude.{◌≡◌};
 ghost use Rattle.cpm_run.specs.declared.error.RunError.TheVariants.{OutOfMemory};
-ghost use Rattle.cpm_run.specs.Refusals.{run_error_of_reading, status_of};
+ghost use Rattle.cpm_run.specs.Refusals.{run_error_of_reading, run_status_of};
 
 use cpm_batch::ReadError;
 use cpm_command_line::ShownWord;
@@ -50,7 +50,7 @@ impl fmt::Debug for RunError {
 impl RunError {
     /// The exit status: the number of the code.
     pub fn status(&self) -> u8
-        ensures { result ≡ status_of self.now }
+        ensures { result ≡ run_status_of self.now }
     {
         match self {
             RunError::ConfigRefused(_) => 2,

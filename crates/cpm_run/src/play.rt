@@ -12,12 +12,12 @@ ghost use Rattle.cpm_play.specs.Players.{AllDiffer, IsPlayRefusal as IsForking, 
 ghost use Rattle.cpm_play.specs.declared.player.Player.TheVariants.{Playing};
 ghost use Rattle.cpm_play.specs.declared.player.Player.{Player as PlayerValue};
 ghost use Rattle.cpm_play.specs.declared.scripted_slot.ScriptedSlot.{ScriptedSlot};
-ghost use Rattle.cpm_run.specs.Playing.{HavePlayers, AreFinished, ArePressable, HasAdded, IsClosed, IsForkRefusal, IsOpeningRefusal, IsPlayRefusal, IsPrepared, IsSlotRefusal, IsStartRefusal, OpensSlot, files_by, report_by};
+ghost use Rattle.cpm_run.specs.Playing.{HavePlayers, AreFinished, ArePressable, HasReported, IsClosed, IsForksRefusal, IsOpeningRefusal, IsSessionsRefusal, IsPrepared, IsSlotRefusal, IsStartRefusal, OpensSlot, files_by, report_by};
 ghost use Rattle.cpm_run.specs.Run.{AllAccepted, AreOpenable, HasForkRoom, IsFirstRefused, IsShortFor, files_left, fork_pages_in, forks_in, report_view, reports_of};
 
 use crate::at_pc::bytes_of_slot;
 use crate::error::RunError;
-use crate::quotas::quotas_of;
+use crate::quotas::pages_of_config;
 use crate::report::SessionReport;
 use cpm_batch::{Input, Inputs, SessionFiles, Start};
 use cpm_command_line::{ShownWord, shown};
@@ -95,13 +95,13 @@ fn prepare(alloc: Global, host: &mut Host, input: Input<'_>) -> Result<Player, R
 
 /// Why the sessions of a configuration have no slots, if opening them is refused so: where the quotas exceed the frames, with both numbers.
 fn play_refusal(config: &Config, refusal: RunError) -> RunError
-    ensures { (h : HostValue) (is : List SessionInput) → IsSlotRefusal is h is refusal → IsPlayRefusal config.now h is result }
+    ensures { (h : HostValue) (is : List SessionInput) → IsSlotRefusal is h is refusal → IsSessionsRefusal config.now h is result }
 {
     match refusal {
         RunError::SessionRefused { name, fault } => match fault {
             OpenError::NoFrames => RunError::FramesExceeded {
                 name,
-                quotas: quotas_of(config),
+                quotas: pages_of_config(config),
                 frames: config.frames,
             },
             fault => RunError::SessionRefused { name, fault },
@@ -120,13 +120,13 @@ fn name_at(config: &Config, place: usize) -> ShownWord {
 
 /// Why the sessions of a configuration are not played to their end, if one is not forked so.
 fn fork_refusal(config: &Config, error: PlayError) -> RunError
-    ensures { (h : HostValue) (players : List PlayerValue) → IsForking h players error → IsForkRefusal config.now h (forks_of players) (fork_pages h.slots players) result }
+    ensures { (h : HostValue) (players : List PlayerValue) → IsForking h players error → IsForksRefusal config.now h (forks_of players) (fork_pages h.slots players) result }
 {
     match error {
         PlayError::ForkRefused { place, fault } => match fault {
             ForkError::NoFrames => RunError::FramesExceeded {
                 name: name_at(config, place),
-                quotas: quotas_of(config),
+                quotas: pages_of_config(config),
                 frames: config.frames,
             },
             _ => RunError::SessionRefused {
@@ -218,7 +218,7 @@ impl<'a> RunResults<'a> {
         session: &'a SessionConfig,
         ended: (ScriptedSlot, Closed, [u8; 4]),
     ) -> Result<(), AllocError>
-        ensures { OnOk result (HasAdded session.entry.now ended.0 ended.1 ended.2 self.old.reports.items self.new.reports.items self.old.files.items self.new.files.items) }
+        ensures { OnOk result (HasReported session.entry.now ended.0 ended.1 ended.2 self.old.reports.items self.new.reports.items self.old.files.items self.new.files.items) }
     {
         let (slot, closed, at_pc) = ended;
         let (report, left) = finish(alloc, session, slot, closed, at_pc)?;
@@ -266,7 +266,7 @@ fn prepare_host(
     ensures short { IfOk result (λ p. (all : List SessionInput) (fault : OpenErrorValue) → IsShortFor p.0.host (forks_in all) (fork_pages_in all) fault → IsFirstRefused all (new_host inputs.entry.system config.entry.now.frames) (map given inputs.entry.sessions.items) fault) }
     ensures differ { IfOk result (λ p. AllDiffer p.1.items) }
     ensures system { IfOk result (λ p. p.0.host.system ≡ inputs.entry.system) }
-    ensures refusal { IfErr result (IsPlayRefusal config.entry.now (new_host inputs.entry.system config.entry.now.frames) (map given inputs.entry.sessions.items)) }
+    ensures refusal { IfErr result (IsSessionsRefusal config.entry.now (new_host inputs.entry.system config.entry.now.frames) (map given inputs.entry.sessions.items)) }
 {
     let Inputs { system, sessions } = inputs;
     let mut host = match Host::new(alloc, system, config.frames) {
@@ -283,7 +283,7 @@ fn prepare_host(
 pub(crate) fn open_all(alloc: Global, config: &Config, inputs: Inputs<'_>) -> Result<(), RunError>
     requires least { 16 ≤ config.now.frames }
     requires most { config.now.frames ≤ 16384 }
-    ensures refusal { IfErr result (IsPlayRefusal config.entry.now (new_host inputs.entry.system config.entry.now.frames) (map given inputs.entry.sessions.items)) }
+    ensures refusal { IfErr result (IsSessionsRefusal config.entry.now (new_host inputs.entry.system config.entry.now.frames) (map given inputs.entry.sessions.items)) }
     ensures openable { OnOk result (AreOpenable (new_host inputs.entry.system config.entry.now.frames) (map given inputs.entry.sessions.items)) }
 {
     prepare_host(alloc, config, inputs)?;
@@ -305,7 +305,7 @@ pub(crate) fn play_all<'a, T: Watcher>(
     ensures reports { IfOk result (λ p. map report_view p.reports.items ≡ reports_of inputs.entry.system (map given inputs.entry.sessions.items)) }
     ensures files { IfOk result (λ p. map left_by p.files.items ≡ files_left inputs.entry.system (map given inputs.entry.sessions.items)) }
     ensures accepted { OnOk result (AllAccepted (map given inputs.entry.sessions.items) (new_host inputs.entry.system config.entry.now.frames) (map given inputs.entry.sessions.items)) }
-    ensures refusal { IfErr result (IsPlayRefusal config.entry.now (new_host inputs.entry.system config.entry.now.frames) (map given inputs.entry.sessions.items)) }
+    ensures refusal { IfErr result (IsSessionsRefusal config.entry.now (new_host inputs.entry.system config.entry.now.frames) (map given inputs.entry.sessions.items)) }
 {
     let (mut host, mut players) = prepare_host(alloc, config, inputs)?;
     match play(

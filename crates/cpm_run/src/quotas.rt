@@ -1,6 +1,6 @@
 //! The pages that sessions may write.
 ghost use Rattle.std.specs.Prelude.{◌≡◌};
-ghost use Rattle.cpm_run.specs.Run.{own_quota, quota_at, quota_in, quotas_of};
+ghost use Rattle.cpm_run.specs.Run.{own_quota, quota_at, quota_in, pages_of_config};
 
 use cpm_config::{Config, Origin, SessionConfig, place_of};
 
@@ -35,8 +35,8 @@ fn quota_in(sessions: &[SessionConfig], session: &SessionConfig) -> u16
 }
 
 /// The pages that all sessions may write.
-pub(crate) fn quotas_of(config: &Config) -> u128
-    ensures { result ≡ quotas_of config.now }
+pub(crate) fn pages_of_config(config: &Config) -> u128
+    ensures { result ≡ pages_of_config config.now }
 {
     let sessions = config.sessions.as_slice();
     let mut quotas: u128 = 0;

@@ -2,11 +2,11 @@
 ghost use Rattle.std.specs.Prelude.{◌≡◌, ◌⊎◌, ◌<◌, ◌≤◌, ℕ, IfErr, IfOk, OnOk, length, map};
 ghost use Rattle.cpm_batch.specs.Inputs.{given};
 ghost use Rattle.cpm_slots.specs.Host.{new_host};
-ghost use Rattle.cpm_store.specs.Files.{CountsFailure, Told};
+ghost use Rattle.cpm_store.specs.Files.{CountsFailure, WhereTold};
 ghost use Rattle.cpm_store.specs.Log.{AreNoWrites, AreWrites, RanBy, StopsAfter};
-ghost use Rattle.cpm_store.specs.Writes.{StopsAt, WritesAll, named};
-ghost use Rattle.cpm_run.specs.Playing.{ArePressable, IsPlayRefusal};
-ghost use Rattle.cpm_run.specs.Run.{AllAccepted, HasAccessed, HasRun, IsDeviceFault, IsJudged, IsRunRefusal, IsStoppedRun, IsWriteRefusal, config_fault, outputs_of, report_view, reports_of, top_fault};
+ghost use Rattle.cpm_store.specs.Writes.{StopsAt, WritesAll, named_output};
+ghost use Rattle.cpm_run.specs.Playing.{ArePressable, IsSessionsRefusal};
+ghost use Rattle.cpm_run.specs.Run.{AllAccepted, HasAccessed, HasRun, IsDeviceFault, IsRunJudged, IsRunRefusal, IsStoppedRun, IsWriteRefusal, config_fault, outputs_of, report_view, reports_of, top_fault};
 
 use crate::error::RunError;
 use crate::play::{RunResults, open_all, play_all};
@@ -45,10 +45,10 @@ fn config_fault(config: &Config) -> Option<ConfigKey>
 
 /// Writes files in order, up to the first that can't be written.
 fn write_files<S: Store>(outputs: &[Output<'_>], store: &mut S) -> Result<(), RunError>
-    ensures written { OnOk result (Told (S.files store.old) (S.files store.new) (WritesAll (map named outputs.now))) }
-    ensures refusal { IfErr result (IsWriteRefusal (map named outputs.now) (S.files store.old) (S.files store.new)) }
-    ensures log { OnOk result (RanBy S.does (AreWrites (map named outputs.now)) store.old store.new) }
-    ensures stopped_log { IfErr result (λ _. (place : ℕ) × RanBy S.does (StopsAfter (map named outputs.now) place) store.old store.new) }
+    ensures written { OnOk result (WhereTold (S.files store.old) (S.files store.new) (WritesAll (map named_output outputs.now))) }
+    ensures refusal { IfErr result (IsWriteRefusal (map named_output outputs.now) (S.files store.old) (S.files store.new)) }
+    ensures log { OnOk result (RanBy S.does (AreWrites (map named_output outputs.now)) store.old store.new) }
+    ensures stopped_log { IfErr result (λ _. (place : ℕ) × RanBy S.does (StopsAfter (map named_output outputs.now) place) store.old store.new) }
     ensures device { IfErr result (λ e. IsDeviceFault e → CountsFailure (S.failed store.old) (S.failed store.new)) }
     ensures memory { IfErr result (λ e. e ≡ RunError.OutOfMemory → S.failed store.new ≡ S.failed store.old) }
     ensures counted { S.failed store.old ≤ S.failed store.new }
@@ -75,9 +75,9 @@ fn play_inputs<'a, T: Watcher>(
     requires keys { ArePressable (map given inputs.sessions.items) }
     requires sessions { map (λ i. i.session) (map given inputs.sessions.items) ≡ config.now.sessions.items }
     ensures reports { IfOk result (λ p. map report_view p.0.items ≡ reports_of inputs.entry.system (map given inputs.entry.sessions.items)) }
-    ensures outputs { IfOk result (λ p. map named p.1.items ≡ outputs_of inputs.entry.system (map given inputs.entry.sessions.items)) }
+    ensures outputs { IfOk result (λ p. map named_output p.1.items ≡ outputs_of inputs.entry.system (map given inputs.entry.sessions.items)) }
     ensures accepted { OnOk result (AllAccepted (map given inputs.entry.sessions.items) (new_host inputs.entry.system config.entry.now.frames) (map given inputs.entry.sessions.items)) }
-    ensures refusal { IfErr result (IsPlayRefusal config.entry.now (new_host inputs.entry.system config.entry.now.frames) (map given inputs.entry.sessions.items)) }
+    ensures refusal { IfErr result (IsSessionsRefusal config.entry.now (new_host inputs.entry.system config.entry.now.frames) (map given inputs.entry.sessions.items)) }
 {
     let RunResults { reports, files } = play_all(alloc, config, inputs, watcher)?;
     let outputs = outputs_of(alloc, files)?;
@@ -89,7 +89,7 @@ fn play_inputs<'a, T: Watcher>(
 ///
 /// It is refused as `run_host` refuses it, but for want of room for forks.
 pub fn judge_host<S: Store>(alloc: Global, config: &Config, store: &mut S) -> Result<(), RunError>
-    ensures judged { OnOk result (IsJudged config.now (S.files store.old)) }
+    ensures judged { OnOk result (IsRunJudged config.now (S.files store.old)) }
     ensures refusal { IfErr result (IsRunRefusal config.now (S.files store.old) (S.files store.new)) }
     ensures same { S.files store.new ≡ S.files store.old }
     ensures unwritten { RanBy S.does AreNoWrites store.old store.new }

@@ -8,10 +8,10 @@ use Rattle.std.proofs.lemmas.Bool.{true_from_ne_false}
 use Rattle.std.proofs.lemmas.Bool.Decides.{nat_tests}
 use Rattle.std.proofs.lemmas.List.{length-map}
 use Rattle.std.proofs.lemmas.List.Elements.{All-cons, All-head, All-nil, All-tail, All-weaker}
-use Rattle.cpm_script.specs.Fork.{fault_or, fork_fault, forked_keys, keys_before, line_keys, room_left, with_own}
+use Rattle.cpm_script.specs.Fork.{line_fault_or, fork_lines_fault, forked_keys, keys_before, line_keys, room_left, with_own}
 use Rattle.cpm_script.specs.KeyText.{count_of, keys_of}
 use Rattle.cpm_script.specs.Laws.{AreFrom, ForkedKeysInOrder, IsCut, IsForked, KeysBeforeAreFirst}
-use Rattle.cpm_script.specs.Script.{has_count, is_after, is_counted, is_skipped, is_space, keys_at, most_keys, numbered, or_fault, script, script_from, with_counted, with_keys, with_line}
+use Rattle.cpm_script.specs.Script.{has_count, is_after, is_counted, is_skipped, is_script_space, keys_at, most_keys, at_line, or_fault, script, script_from, with_counted, keys_added, with_line}
 use Rattle.cpm_script.specs.declared.fault.LineFault.{LineFault}
 use Rattle.cpm_script.specs.declared.fault.LineFault.TheVariants.{BeforeFork, CountFalls, NoCount, NotAKey, TooManyForked, TooManyKeys}
 use Rattle.cpm_script.specs.declared.script.Key.{Key}
@@ -19,12 +19,12 @@ use Rattle.cpm_script.specs.declared.script.Key.{Key}
 -- ---- a script that goes on after a line
 
 after_line : (number : ℕ) (r : Result (List Key) LineFault) (next : List Key → Result (List Key) (ℕ × LineFault)) (all : List Key) (P : Type 0)
-    → ((more : List Key) → r ≡ Ok more → next more ≡ Ok all → P) → numbered number r next ≡ Ok all → P
+    → ((more : List Key) → r ≡ Ok more → next more ≡ Ok all → P) → at_line number r next ≡ Ok all → P
 after_line number (Ok more) next all P goes is = goes more refl is
 after_line number (Err fault) next all P goes is = absurd (cc)
 
 pub after_room : (number : ℕ) (r : Result ℕ LineFault) (next : ℕ → Option (ℕ × LineFault)) (P : Type 0)
-    → ((left : ℕ) → r ≡ Ok left → next left ≡ None → P) → fault_or number r next ≡ None → P
+    → ((left : ℕ) → r ≡ Ok left → next left ≡ None → P) → line_fault_or number r next ≡ None → P
 after_room number (Ok left) next P goes is = goes left refl is
 after_room number (Err fault) next P goes is = absurd (cc)
 
@@ -46,7 +46,7 @@ uncounted number keys all (line ∷ rest) none is =
     let both = neither (is_counted line) (has_count rest) none in
     after_line number (with_line keys line) (λ more. script_from (number + 1) more rest) all (all ≡ keys)
     (λ more got goes. uncounted (number + 1) more all rest both.1 goes
-    ∙ uncounted_line (is_skipped line) (count_of (before_first is_space line)) keys more _ both.0 got) is
+    ∙ uncounted_line (is_skipped line) (count_of (before_first is_script_space line)) keys more _ both.0 got) is
 
 pub has_count-keys : (text : List ℕ) (own : List Key) → script text ≡ Ok own → 0 < length own → has_count (lines text) ≡ true
 has_count-keys text own is some =
@@ -95,7 +95,7 @@ AreFrom-append n at (k ∷ before) own low order early from_fork =
 
 -- ---- the keys of a line, and the room that they leave
 
-added-is : (keys more : List Key) (count : ℕ) (bytes : List ℕ) → with_keys keys count bytes ≡ Ok more → more ≡ keys ++ keys_at count bytes
+added-is : (keys more : List Key) (count : ℕ) (bytes : List ℕ) → keys_added keys count bytes ≡ Ok more → more ≡ keys ++ keys_at count bytes
 added-is keys more count [] is = absurd (cc)
 added-is keys more count (b ∷ bytes) is = by_test (nat_le (length keys + length (b ∷ bytes)) most_keys) is
   where
@@ -122,7 +122,7 @@ record IsGood (at total space : ℕ) (keys : List Key) : Type 0 where
   pub room : length keys + space ≤ total
 
 good-keys : (at total room left count : ℕ) (keys more : List Key) (bytes : List ℕ) → IsGood at total room keys → is_after keys count ≡ true
-    → with_keys keys count bytes ≡ Ok more → room_left at room (Some (count, length bytes)) ≡ Ok left → IsGood at total left more
+    → keys_added keys count bytes ≡ Ok more → room_left at room (Some (count, length bytes)) ≡ Ok left → IsGood at total left more
 good-keys at total room left count keys more bytes good late is rooms =
     let all = added-is keys more count bytes is in
     let here = room-is at room left count (length bytes) rooms in
@@ -134,18 +134,18 @@ good-keys at total room left count keys more bytes good late is rooms =
     }
 
 good-text : (at total room left count : ℕ) (keys more : List Key) (text : Option (List ℕ)) → IsGood at total room keys → is_after keys count ≡ true
-    → or_fault NotAKey text (with_keys keys count) ≡ Ok more → room_left at room (option_zip (Some count) (option_map length text)) ≡ Ok left
+    → or_fault NotAKey text (keys_added keys count) ≡ Ok more → room_left at room (option_zip (Some count) (option_map length text)) ≡ Ok left
     → IsGood at total left more
 good-text at total room left count keys more None good late is rooms = absurd (cc)
 good-text at total room left count keys more (Some bytes) good late is rooms = good-keys at total room left count keys more bytes good late is rooms
 
 good-counted : (at total room left : ℕ) (keys more : List Key) (count : Option ℕ) (text : Option (List ℕ)) → IsGood at total room keys
-    → or_fault NoCount count (λ c. if is_after keys c then or_fault NotAKey text (with_keys keys c) else Err CountFalls) ≡ Ok more
+    → or_fault NoCount count (λ c. if is_after keys c then or_fault NotAKey text (keys_added keys c) else Err CountFalls) ≡ Ok more
     → room_left at room (option_zip count (option_map length text)) ≡ Ok left → IsGood at total left more
 good-counted at total room left keys more None text good is rooms = absurd (cc)
 good-counted at total room left keys more (Some count) text good is rooms = by_test (is_after keys count) refl is
   where
-    by_test : (t : Bool) → is_after keys count ≡ t → (if t then or_fault NotAKey text (with_keys keys count) else Err CountFalls) ≡ Ok more → IsGood at total left more
+    by_test : (t : Bool) → is_after keys count ≡ t → (if t then or_fault NotAKey text (keys_added keys count) else Err CountFalls) ≡ Ok more → IsGood at total left more
     by_test true late e = good-text at total room left count keys more text good late e rooms
     by_test false late e = absurd (cc)
 
@@ -153,20 +153,20 @@ good-line : (at total room left : ℕ) (keys more : List Key) (line : List ℕ) 
     → room_left at room (line_keys line) ≡ Ok left → IsGood at total left more
 good-line at total room left keys more line good is rooms = by_test (is_skipped line) is rooms
   where
-    by_test : (t : Bool) → (if t then Ok keys else with_counted keys (before_first is_space line) (after_first is_space line)) ≡ Ok more
-        → room_left at room (if t then None else option_zip (count_of (before_first is_space line)) (option_map length (keys_of (after_first is_space line)))) ≡ Ok left
+    by_test : (t : Bool) → (if t then Ok keys else with_counted keys (before_first is_script_space line) (after_first is_script_space line)) ≡ Ok more
+        → room_left at room (if t then None else option_zip (count_of (before_first is_script_space line)) (option_map length (keys_of (after_first is_script_space line)))) ≡ Ok left
         → IsGood at total left more
     by_test true e f = let same : keys ≡ more = cc in let same_room : room ≡ left = cc in rw (sym same, sym same_room) good
-    by_test false e f = good-counted at total room left keys more (count_of (before_first is_space line)) (keys_of (after_first is_space line)) good e f
+    by_test false e f = good-counted at total room left keys more (count_of (before_first is_script_space line)) (keys_of (after_first is_script_space line)) good e f
 
 good-lines : (at total room number other : ℕ) (keys all : List Key) (rest : List (List ℕ)) → IsGood at total room keys
-    → script_from number keys rest ≡ Ok all → fork_fault at room other rest ≡ None → IsGood at total 0 all
+    → script_from number keys rest ≡ Ok all → fork_lines_fault at room other rest ≡ None → IsGood at total 0 all
 good-lines at total room number other keys all [] good is none =
     let same : keys ≡ all = cc in
     rw (sym same) (record { order = good.order; room = omega (arith, good.room) })
 good-lines at total room number other keys all (line ∷ rest) good is none =
     after_line number (with_line keys line) (λ more. script_from (number + 1) more rest) all (IsGood at total 0 all)
-    (λ more got goes. after_room other (room_left at room (line_keys line)) (λ left. fork_fault at left (other + 1) rest) (IsGood at total 0 all)
+    (λ more got goes. after_room other (room_left at room (line_keys line)) (λ left. fork_lines_fault at left (other + 1) rest) (IsGood at total 0 all)
     (λ left rooms later. good-lines at total left (number + 1) (other + 1) more all rest (good-line at total room left keys more line good got rooms) goes later) none) is
 
 -- ---- the keys of a forked session
@@ -174,7 +174,7 @@ good-lines at total room number other keys all (line ∷ rest) good is none =
 pub forked_script-keys : ForkedKeysInOrder
 forked_script-keys at before text room = by_script (script text) refl
   where
-    by_fault : (own : List Key) (f : Option (ℕ × LineFault)) → script text ≡ Ok own → fork_fault at (most_keys - length before) 1 (lines text) ≡ f
+    by_fault : (own : List Key) (f : Option (ℕ × LineFault)) → script text ≡ Ok own → fork_lines_fault at (most_keys - length before) 1 (lines text) ≡ f
         → IfOk (forked_keys before f own) (IsForked at before)
     by_fault own (Some f) is e = tt
     by_fault own None is e =
@@ -182,9 +182,9 @@ forked_script-keys at before text room = by_script (script text) refl
         record { own = own; joined = refl; from_fork = good.order; room = omega (arith, length-append before own, good.room, room) }
 
     by_script : (r : Result (List Key) (ℕ × LineFault)) → script text ≡ r
-        → IfOk (with_own r (forked_keys before (fork_fault at (most_keys - length before) 1 (lines text)))) (IsForked at before)
+        → IfOk (with_own r (forked_keys before (fork_lines_fault at (most_keys - length before) 1 (lines text)))) (IsForked at before)
     by_script (Err f) is = tt
-    by_script (Ok own) is = by_fault own (fork_fault at (most_keys - length before) 1 (lines text)) is refl
+    by_script (Ok own) is = by_fault own (fork_lines_fault at (most_keys - length before) 1 (lines text)) is refl
 
 -- ---- the keys before a count
 

@@ -4,8 +4,8 @@ use Rattle.std.specs.Prelude.{Result, Ok, Err, option_and_then, is_some, ◌==�
 use Rattle.std.proofs.lemmas.List.{append-nil, length-map}
 use Rattle.std.proofs.lemmas.Bool.{eqb-true}
 use Rattle.std.proofs.lemmas.Bool.Decides.{nat_tests}
-use Rattle.cpm_script.specs.KeyText.{caret, control_key, first_key, keys_of, onto, plain_key}
-use Rattle.cpm_script.specs.Script.{keys_at, most_keys, or_fault, with_keys}
+use Rattle.cpm_script.specs.KeyText.{caret, control_key, first_key_of_text, keys_of, onto, plain_key}
+use Rattle.cpm_script.specs.Script.{keys_at, most_keys, or_fault, keys_added}
 use Rattle.cpm_script.specs.declared.fault.LineFault.{LineFault}
 use Rattle.cpm_script.specs.declared.fault.LineFault.TheVariants.{NotAKey, TooManyKeys}
 use Rattle.cpm_script.specs.declared.script.Key.{Key}
@@ -28,7 +28,7 @@ by_caret : (is_caret : Bool) (b c : ℕ) (rest : List ℕ)
 by_caret true b c rest = more (control_key c) rest
 by_caret false b c rest = more (plain_key b) (c ∷ rest)
 
-pub keys_of-first : (text : List ℕ) → 0 < length text → keys_of text ≡ fronted (first_key text)
+pub keys_of-first : (text : List ℕ) → 0 < length text → keys_of text ≡ fronted (first_key_of_text text)
 keys_of-first [] some = absurd (omega arith)
 keys_of-first (b ∷ []) some = more (plain_key b) []
 keys_of-first (b ∷ c ∷ rest) some = by_caret (b == caret) b c rest
@@ -44,14 +44,14 @@ fronted-some (Some p) ks is = longer p.0 (keys_of p.1) ks is
 
 -- a text that is not empty has a key
 pub keys_of-some : (text : List ℕ) (ks : List ℕ) → 0 < length text → keys_of text ≡ Some ks → 0 < length ks
-keys_of-some text ks some is = fronted-some (first_key text) ks (sym (keys_of-first text some) ∙ is)
+keys_of-some text ks some is = fronted-some (first_key_of_text text) ks (sym (keys_of-first text some) ∙ is)
 
 fronted-is_some : (k : ℕ) (o : Option (List ℕ)) → is_some (option_map (λ ks. k ∷ ks) o) ≡ is_some o
 fronted-is_some k None = refl
 fronted-is_some k (Some ks) = refl
 
 -- a text is keys where what follows its first key is
-pub is_some-first : (text : List ℕ) (k : ℕ) (rest : List ℕ) → 0 < length text → first_key text ≡ Some (k, rest) → is_some (keys_of text) ≡ is_some (keys_of rest)
+pub is_some-first : (text : List ℕ) (k : ℕ) (rest : List ℕ) → 0 < length text → first_key_of_text text ≡ Some (k, rest) → is_some (keys_of text) ≡ is_some (keys_of rest)
 is_some-first text k rest some first =
     ap is_some (keys_of-first text some ∙ ap fronted first) ∙ fronted-is_some k (keys_of rest)
 
@@ -77,7 +77,7 @@ too_many n m over = grind (arith, nat_tests)
 
 -- the text's keys, or the fault of the line
 abbrev pub added : List Key → ℕ → Option (List ℕ) → Result (List Key) LineFault
-added keys count text = or_fault NotAKey text (with_keys keys count)
+added keys count text = or_fault NotAKey text (keys_added keys count)
 
 -- all keys of a text were added
 pub added-all : (old now : List Key) (count : ℕ) (text : Option (List ℕ)) → ((ks : List ℕ) → text ≡ Some ks → 0 < length ks)
@@ -97,7 +97,7 @@ added-refused old now count rest None same none = refl
 added-refused old now count None (Some ks) same none = absurd (cc)
 added-refused old now count (Some rs) (Some ks) same none = absurd (cc)
 
-full : (old : List Key) (count : ℕ) (ks : List ℕ) → most_keys < length old + length ks → 0 < length ks → with_keys old count ks ≡ Err TooManyKeys
+full : (old : List Key) (count : ℕ) (ks : List ℕ) → most_keys < length old + length ks → 0 < length ks → keys_added old count ks ≡ Err TooManyKeys
 full old count [] over some = absurd (omega (arith, some))
 full old count (k ∷ ks) over some = rw (too_many (length old) (length (k ∷ ks)) over) refl
 
@@ -135,7 +135,7 @@ rest_by_caret true b c rest after key is = omega (arith, ap length (rest_of (con
 rest_by_caret false b c rest after key is = omega (arith, ap length (rest_of (plain_key b) (c ∷ rest) after key is))
 
 -- what follows a first key is shorter
-pub first_key-shorter : (text after : List ℕ) (key : ℕ) → first_key text ≡ Some (key, after) → length after < length text
+pub first_key-shorter : (text after : List ℕ) (key : ℕ) → first_key_of_text text ≡ Some (key, after) → length after < length text
 first_key-shorter [] after key is = absurd (cc)
 first_key-shorter (b ∷ []) after key is = omega (arith, ap length (rest_of (plain_key b) [] after key is))
 first_key-shorter (b ∷ c ∷ rest) after key is = rest_by_caret (b == caret) b c rest after key is

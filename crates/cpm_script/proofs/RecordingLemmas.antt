@@ -17,7 +17,7 @@ use Rattle.std.proofs.lemmas.Str.Parse.{digit_at}
 use Rattle.cpm_script.specs.KeyText.{caret, control_key, count_of, keys_of, onto, plain_key}
 use Rattle.cpm_script.specs.Laws.{RecordedKeys}
 use Rattle.cpm_script.specs.Recording.{AreTyped, key_line, key_text, recorded}
-use Rattle.cpm_script.specs.Script.{is_after, is_skipped, is_space, most_keys, numbered, script_from, with_keys, with_line}
+use Rattle.cpm_script.specs.Script.{is_after, is_skipped, is_script_space, most_keys, at_line, script_from, keys_added, with_line}
 use Rattle.cpm_script.specs.declared.script.Key.{Key}
 use Rattle.cpm_script.proofs.LineLemmas.{line_before}
 
@@ -97,20 +97,20 @@ count-read n small =
 
 -- ---- a line, of digits before a space
 
-digit-no_space : (b : ℕ) → IsDigit b → is_space b ≡ false
+digit-no_space : (b : ℕ) → IsDigit b → is_script_space b ≡ false
 digit-no_space b digit = grind (arith, nat_tests)
 
-space-place : (ds rest : List ℕ) → All IsDigit ds → position_or_len is_space (ds ++ 0x20 ∷ rest) ≡ length ds
+space-place : (ds rest : List ℕ) → All IsDigit ds → position_or_len is_script_space (ds ++ 0x20 ∷ rest) ≡ length ds
 space-place ds rest digits =
-    position_or_len_is is_space (ds ++ 0x20 ∷ rest) (length ds) 0 (omega (arith, length-append ds (0x20 ∷ rest)))
-    (λ k before. ap is_space (get_or_append_left ds (0x20 ∷ rest) 0 k before) ∙ digit-no_space _ (All-get_or IsDigit ds k 0 before digits))
-    (λ within. ap is_space (get_or_at ds 0x20 rest 0 (length ds) refl))
+    position_or_len_is is_script_space (ds ++ 0x20 ∷ rest) (length ds) 0 (omega (arith, length-append ds (0x20 ∷ rest)))
+    (λ k before. ap is_script_space (get_or_append_left ds (0x20 ∷ rest) 0 k before) ∙ digit-no_space _ (All-get_or IsDigit ds k 0 before digits))
+    (λ within. ap is_script_space (get_or_at ds 0x20 rest 0 (length ds) refl))
 
-line-number : (ds rest : List ℕ) → All IsDigit ds → before_first is_space (ds ++ 0x20 ∷ rest) ≡ ds
+line-number : (ds rest : List ℕ) → All IsDigit ds → before_first is_script_space (ds ++ 0x20 ∷ rest) ≡ ds
 line-number ds rest digits =
     ap (λ i. take i (ds ++ 0x20 ∷ rest)) (space-place ds rest digits) ∙ take_at ds (0x20 ∷ rest) (length ds) refl
 
-line-text : (ds rest : List ℕ) → All IsDigit ds → after_first is_space (ds ++ 0x20 ∷ rest) ≡ rest
+line-text : (ds rest : List ℕ) → All IsDigit ds → after_first is_script_space (ds ++ 0x20 ∷ rest) ≡ rest
 line-text ds rest digits =
     ap (λ i. drop (i + 1) (ds ++ 0x20 ∷ rest)) (space-place ds rest digits)
     ∙ ap (drop (length ds + 1)) (sym (append_assoc ds (0x20 ∷ []) rest)) ∙ drop_at (ds ++ 0x20 ∷ []) rest (length ds + 1) (length_push ds 0x20)
@@ -137,13 +137,13 @@ after-pushed keys k count late =
     ap (λ i. option_map_or (λ (x : Key). nat_le x.count count) (slice_get (keys ++ k ∷ []) i) true) place
     ∙ ap (λ o. option_map_or (λ (x : Key). nat_le x.count count) o true) (last-pushed keys k) ∙ grind (arith, nat_tests)
 
-one_more : (keys : List Key) (k : Key) → length keys < most_keys → with_keys keys k.count (k.byte ∷ []) ≡ Ok (keys ++ k ∷ [])
+one_more : (keys : List Key) (k : Key) → length keys < most_keys → keys_added keys k.count (k.byte ∷ []) ≡ Ok (keys ++ k ∷ [])
 one_more keys k room =
     let fits : nat_le (length keys + 1) most_keys ≡ true = grind (arith, nat_tests) in
     rw fits refl
 
-counted_line : (keys : List Key) (k : Key) (line number text : List ℕ) → is_skipped line ≡ false → before_first is_space line ≡ number
-    → after_first is_space line ≡ text → count_of number ≡ Some k.count → is_after keys k.count ≡ true → keys_of text ≡ Some (k.byte ∷ [])
+counted_line : (keys : List Key) (k : Key) (line number text : List ℕ) → is_skipped line ≡ false → before_first is_script_space line ≡ number
+    → after_first is_script_space line ≡ text → count_of number ≡ Some k.count → is_after keys k.count ≡ true → keys_of text ≡ Some (k.byte ∷ [])
     → length keys < most_keys → with_line keys line ≡ Ok (keys ++ k ∷ [])
 counted_line keys k line number text counts number_is text_is count late key room =
     rw (counts, number_is, text_is, count, late, key) (one_more keys k room)
@@ -203,7 +203,7 @@ read-behind number n before (k ∷ keys) late typed room =
     let first = line-read before k typed.1 typed.2 (late k.count typed.0) (omega (arith, room)) in
     let rest = read-behind (number + 1) k.count more keys (λ count low. after-pushed before k count low) typed.3 (omega (arith, room, length_push before k)) in
     ap (script_from number before) (lines-recorded k keys typed.1)
-    ∙ ap (λ r. numbered number r (λ ks. script_from (number + 1) ks (lines (recorded keys)))) first
+    ∙ ap (λ r. at_line number r (λ ks. script_from (number + 1) ks (lines (recorded keys)))) first
     ∙ rest ∙ ap Ok (append_assoc before (k ∷ []) keys)
 
 pub recorded-read : RecordedKeys

@@ -4,9 +4,9 @@ use Rattle.std.specs.Prelude.{ℕ, ◌+◌, ◌-◌, nat_lt, if◌then◌else◌
 use Rattle.std.specs.List.{filter, before_first, after_first}
 use Rattle.std.specs.Option.{option_zip}
 use Rattle.std.specs.Str.Lines.{lines}
-use Rattle.cpm_script.specs.Cues.{Said, cues, is_expect, is_wait, quoted}
+use Rattle.cpm_script.specs.Cues.{CueText, cues, is_expect, is_wait_word, quoted}
 use Rattle.cpm_script.specs.KeyText.{count_of, keys_of}
-use Rattle.cpm_script.specs.Script.{is_skipped, is_space, most_keys, script}
+use Rattle.cpm_script.specs.Script.{is_skipped, is_script_space, most_keys, script}
 use Rattle.cpm_script.specs.declared.script.Key.{Key}
 use Rattle.cpm_script.specs.declared.fault.LineFault.{LineFault}
 use Rattle.cpm_script.specs.declared.fault.LineFault.TheVariants.{BeforeFork, TooManyForked}
@@ -19,7 +19,7 @@ keys_before at keys = filter (λ k. nat_lt k.count at) keys
 abbrev pub line_keys : List ℕ → Option (ℕ × ℕ)
 line_keys line =
     if is_skipped line then None
-    else option_zip (count_of (before_first is_space line)) (option_map length (keys_of (after_first is_space line)))
+    else option_zip (count_of (before_first is_script_space line)) (option_map length (keys_of (after_first is_script_space line)))
 
 -- what the keys of a line leave of the room, where they don't come before the fork
 abbrev pub room_left : (at room : ℕ) → Option (ℕ × ℕ) → Result ℕ LineFault
@@ -29,16 +29,16 @@ room_left at room (Some line) =
     else (if nat_lt room line.1 then Err TooManyForked else Ok (room - line.1))
 
 -- the fault of the line with this number, or that of the lines after it
-abbrev pub fault_or : ℕ → Result ℕ LineFault → (ℕ → Option (ℕ × LineFault)) → Option (ℕ × LineFault)
-fault_or number (Ok room) next = next room
-fault_or number (Err fault) next = Some (number, fault)
+abbrev pub line_fault_or : ℕ → Result ℕ LineFault → (ℕ → Option (ℕ × LineFault)) → Option (ℕ × LineFault)
+line_fault_or number (Ok room) next = next room
+line_fault_or number (Err fault) next = Some (number, fault)
 
 -- the first line, from this line number on, with keys before the fork, or with more keys than there is
 -- room for
-abbrev pub fork_fault : (at room number : ℕ) → List (List ℕ) → Option (ℕ × LineFault)
-fork_fault at room number [] = None
-fork_fault at room number (line ∷ rest) =
-    fault_or number (room_left at room (line_keys line)) (λ left. fork_fault at left (number + 1) rest)
+abbrev pub fork_lines_fault : (at room number : ℕ) → List (List ℕ) → Option (ℕ × LineFault)
+fork_lines_fault at room number [] = None
+fork_lines_fault at room number (line ∷ rest) =
+    line_fault_or number (room_left at room (line_keys line)) (λ left. fork_lines_fault at left (number + 1) rest)
 
 -- the keys of the parent and then the own ones, unless a line has a fault
 abbrev pub forked_keys : (before : List Key) → Option (ℕ × LineFault) → (own : List Key) → Result (List Key) (ℕ × LineFault)
@@ -55,7 +55,7 @@ with_own (Err fault) next = Err fault
 -- of its own script; the script's own faults come first
 abbrev pub forked_script : (at : ℕ) (before : List Key) → List ℕ → Result (List Key) (ℕ × LineFault)
 forked_script at before text =
-    with_own (script text) (forked_keys before (fork_fault at (most_keys - length before) 1 (lines text)))
+    with_own (script text) (forked_keys before (fork_lines_fault at (most_keys - length before) 1 (lines text)))
 
 -- ---- scripts with lines that wait
 
@@ -63,28 +63,28 @@ forked_script at before text =
 -- behind it, where it has both
 abbrev pub word_cues : ℕ → List ℕ → List ℕ → Option (ℕ × ℕ)
 word_cues at word text =
-    if is_wait word then option_zip (Some at) (option_map length (keys_of text))
+    if is_wait_word word then option_zip (Some at) (option_map length (keys_of text))
     else (if is_expect word then option_zip (Some at) (option_and_then (λ parts. option_map length (keys_of parts.1)) (quoted text))
     else option_zip (count_of word) (option_map length (keys_of text)))
 
 abbrev pub line_cues : ℕ → List ℕ → Option (ℕ × ℕ)
 line_cues at line =
-    if is_skipped line then None else word_cues at (before_first is_space line) (after_first is_space line)
+    if is_skipped line then None else word_cues at (before_first is_script_space line) (after_first is_script_space line)
 
 -- the first line, from this line number on, with a count before the fork, or with more keys than there is
 -- room for
 abbrev pub cue_fault : (at room number : ℕ) → List (List ℕ) → Option (ℕ × LineFault)
 cue_fault at room number [] = None
 cue_fault at room number (line ∷ rest) =
-    fault_or number (room_left at room (line_cues at line)) (λ left. cue_fault at left (number + 1) rest)
+    line_fault_or number (room_left at room (line_cues at line)) (λ left. cue_fault at left (number + 1) rest)
 
 -- the own cues of a forked session, unless a line has a fault
-abbrev pub own_cues : Option (ℕ × LineFault) → Result (List Said) (ℕ × LineFault) → Result (List Said) (ℕ × LineFault)
+abbrev pub own_cues : Option (ℕ × LineFault) → Result (List CueText) (ℕ × LineFault) → Result (List CueText) (ℕ × LineFault)
 own_cues fault (Err first) = Err first
 own_cues None (Ok own) = Ok own
 own_cues (Some fault) (Ok own) = Err fault
 
 -- the own cues of a session that is forked at a count of steps, where its parent had so many keys before;
 -- the script's own faults come first
-abbrev pub forked_cues : (at before : ℕ) → List ℕ → Result (List Said) (ℕ × LineFault)
+abbrev pub forked_cues : (at before : ℕ) → List ℕ → Result (List CueText) (ℕ × LineFault)
 forked_cues at before text = own_cues (cue_fault at (most_keys - before) 1 (lines text)) (cues text)

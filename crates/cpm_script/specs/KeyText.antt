@@ -36,10 +36,10 @@ keys_of (b ∷ c ∷ rest) = if b == caret then onto (control_key c) (keys_of re
     else onto (plain_key b) (keys_of (c ∷ rest))
 
 -- the first key of a text, and the text after it
-abbrev pub first_key : List ℕ → Option (ℕ × List ℕ)
-first_key [] = None
-first_key (b ∷ []) = option_map (λ k. (k, [])) (plain_key b)
-first_key (b ∷ c ∷ rest) = if b == caret then option_map (λ k. (k, rest)) (control_key c)
+abbrev pub first_key_of_text : List ℕ → Option (ℕ × List ℕ)
+first_key_of_text [] = None
+first_key_of_text (b ∷ []) = option_map (λ k. (k, [])) (plain_key b)
+first_key_of_text (b ∷ c ∷ rest) = if b == caret then option_map (λ k. (k, rest)) (control_key c)
     else option_map (λ k. (k, c ∷ rest)) (plain_key b)
 
 -- ---- counts

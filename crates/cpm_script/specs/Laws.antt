@@ -1,7 +1,7 @@
 -- Laws over the keys of forked sessions, of recorded ones, and of scripts with lines that wait. (own)
 use Rattle.std.specs.Prelude.{⊤, ◌≡◌, ◌≢◌, ℕ, ◌+◌, ◌<◌, ◌≤◌, Bool, true, false, List, [], ◌∷◌, ◌++◌, length, map, Result, Ok, Err, IfOk}
 use Rattle.std.specs.List.{All}
-use Rattle.cpm_script.specs.Cues.{Awaited, Counted, Pressed, Said, cues, is_plain, keys_in, plain_keys, said}
+use Rattle.cpm_script.specs.Cues.{Awaited, Counted, Pressed, CueText, cues, is_plain, cued_key_count, plain_keys, cue_text}
 use Rattle.cpm_script.specs.Fork.{forked_cues, forked_script, keys_before}
 use Rattle.cpm_script.specs.Recording.{AreTyped, recorded}
 use Rattle.cpm_script.specs.Script.{most_keys, script}
@@ -46,7 +46,7 @@ RecordedKeys = (keys : List Key) → AreTyped 0 keys → length keys ≤ most_ke
 -- ---- scripts with lines that wait
 
 -- the same keys, or the same fault unless a count is missing
-abbrev pub MeansTheSame : Result (List Key) (ℕ × LineFault) → Result (List Said) (ℕ × LineFault) → Type 0
+abbrev pub MeansTheSame : Result (List Key) (ℕ × LineFault) → Result (List CueText) (ℕ × LineFault) → Type 0
 MeansTheSame (Ok keys) read = read ≡ Ok (map Counted keys)
 MeansTheSame (Err fault) read = fault.1 ≢ NoCount → read ≡ Err fault
 
@@ -55,28 +55,28 @@ abbrev pub PlainScripts : Type 0
 PlainScripts = (text : List ℕ) → MeansTheSame (script text) (cues text)
 
 -- the counts are at least this one and do not fall, whatever waits between them
-abbrev pub CountsRise : ℕ → List Said → Type 0
+abbrev pub CountsRise : ℕ → List CueText → Type 0
 CountsRise n [] = ⊤
 CountsRise n (Counted key ∷ cs) = (n ≤ key.count) × CountsRise key.count cs
 CountsRise n (Awaited text ∷ cs) = CountsRise n cs
 CountsRise n (Pressed byte ∷ cs) = CountsRise n cs
 
 -- each key is below 80h
-abbrev pub KeysAreAscii : List Said → Type 0
+abbrev pub KeysAreAscii : List CueText → Type 0
 KeysAreAscii [] = ⊤
 KeysAreAscii (Counted key ∷ cs) = (key.byte < 128) × KeysAreAscii cs
 KeysAreAscii (Awaited text ∷ cs) = KeysAreAscii cs
 KeysAreAscii (Pressed byte ∷ cs) = (byte < 128) × KeysAreAscii cs
 
 -- each key without a count stands behind a wait, or behind another such key
-abbrev pub PressesFollow : Bool → List Said → Type 0
+abbrev pub PressesFollow : Bool → List CueText → Type 0
 PressesFollow waited [] = ⊤
 PressesFollow waited (Counted key ∷ cs) = PressesFollow false cs
 PressesFollow waited (Awaited text ∷ cs) = PressesFollow true cs
 PressesFollow waited (Pressed byte ∷ cs) = (waited ≡ true) × PressesFollow true cs
 
-pub record AreInOrder (cs : List Said) : Type 0 where
-  pub few : keys_in cs ≤ most_keys
+pub record AreInOrder (cs : List CueText) : Type 0 where
+  pub few : cued_key_count cs ≤ most_keys
   pub counts : CountsRise 0 cs
   pub ascii : KeysAreAscii cs
   pub presses : PressesFollow false cs
@@ -86,10 +86,10 @@ abbrev pub CuesInOrder : Type 0
 CuesInOrder = (text : List ℕ) → IfOk (cues text) AreInOrder
 
 -- what the own script of a forked session says: in order, from the count of the fork on, and with the keys that its parent had before not too many keys
-pub record AreOwn (at before : ℕ) (cs : List Said) : Type 0 where
+pub record AreOwn (at before : ℕ) (cs : List CueText) : Type 0 where
   pub in_order : AreInOrder cs
   pub from_fork : CountsRise at cs
-  pub room : before + keys_in cs ≤ most_keys
+  pub room : before + cued_key_count cs ≤ most_keys
 
 -- the own script of a forked session goes on from the fork
 abbrev pub ForkedCuesInOrder : Type 0
@@ -97,4 +97,4 @@ ForkedCuesInOrder = (at before : ℕ) (text : List ℕ) → before ≤ most_keys
 
 -- cues of which none waits are their keys
 abbrev pub PlainCues : Type 0
-PlainCues = (cs : List Cue) → is_plain cs ≡ true → map Counted (plain_keys cs) ≡ map said cs
+PlainCues = (cs : List Cue) → is_plain cs ≡ true → map Counted (plain_keys cs) ≡ map cue_text cs

@@ -14,12 +14,12 @@ use Rattle.cpm_script.specs.declared.fault.LineFault.TheVariants.{NoCount, Count
 use Rattle.cpm_script.specs.declared.fault.ScriptError.{ScriptError}
 use Rattle.cpm_script.specs.declared.fault.ScriptError.TheVariants.{Line, OutOfMemory}
 
-abbrev pub is_space : ℕ → Bool
-is_space b = b == 0x20
+abbrev pub is_script_space : ℕ → Bool
+is_script_space b = b == 0x20
 
 -- a line with nothing but spaces, or one that begins with #
 abbrev pub is_skipped : List ℕ → Bool
-is_skipped line = list_all is_space line || (slice_index line 0 == 0x23)
+is_skipped line = list_all is_script_space line || (slice_index line 0 == 0x23)
 
 -- these bytes as keys, all at one count
 abbrev pub keys_at : ℕ → List ℕ → List Key
@@ -34,9 +34,9 @@ abbrev pub most_keys : ℕ
 most_keys = 4096
 
 -- the keys with more of them at one count: at least one, and not too many in all
-abbrev pub with_keys : List Key → ℕ → List ℕ → Result (List Key) LineFault
-with_keys keys count [] = Err NoKey
-with_keys keys count (b ∷ bytes) =
+abbrev pub keys_added : List Key → ℕ → List ℕ → Result (List Key) LineFault
+keys_added keys count [] = Err NoKey
+keys_added keys count (b ∷ bytes) =
     if nat_le (length keys + length (b ∷ bytes)) most_keys
     then Ok (keys ++ keys_at count (b ∷ bytes)) else Err TooManyKeys
 
@@ -48,7 +48,7 @@ or_fault fault (Some x) next = next x
 
 -- the keys with those that a text stands for
 abbrev pub with_text : List Key → ℕ → List ℕ → Result (List Key) LineFault
-with_text keys count text = or_fault NotAKey (keys_of text) (with_keys keys count)
+with_text keys count text = or_fault NotAKey (keys_of text) (keys_added keys count)
 
 -- the keys with those of a text, at the count that a number writes
 abbrev pub with_counted : List Key → List ℕ → List ℕ → Result (List Key) LineFault
@@ -59,19 +59,19 @@ with_counted keys number text = or_fault NoCount (count_of number) (λ count.
 abbrev pub with_line : List Key → List ℕ → Result (List Key) LineFault
 with_line keys line =
     if is_skipped line then Ok keys
-    else with_counted keys (before_first is_space line) (after_first is_space line)
+    else with_counted keys (before_first is_script_space line) (after_first is_script_space line)
 
 -- what follows a line that was read, or its number with its fault
-abbrev pub numbered : {X Y : Type 0} → ℕ → Result X LineFault → (X → Result Y (ℕ × LineFault))
+abbrev pub at_line : {X Y : Type 0} → ℕ → Result X LineFault → (X → Result Y (ℕ × LineFault))
     → Result Y (ℕ × LineFault)
-numbered number (Ok x) next = next x
-numbered number (Err fault) next = Err (number, fault)
+at_line number (Ok x) next = next x
+at_line number (Err fault) next = Err (number, fault)
 
 -- the keys of the lines, from this line number on, after these keys
 abbrev pub script_from : ℕ → List Key → List (List ℕ) → Result (List Key) (ℕ × LineFault)
 script_from number keys [] = Ok keys
 script_from number keys (line ∷ rest) =
-    numbered number (with_line keys line) (λ more. script_from (number + 1) more rest)
+    at_line number (with_line keys line) (λ more. script_from (number + 1) more rest)
 
 -- the keys of a script, or the number of its first line with a fault, and the fault; a line ends
 -- with LF or CR LF
@@ -80,7 +80,7 @@ script text = script_from 1 [] (lines text)
 
 -- one of the lines has a count, so that its keys may be kept
 abbrev pub is_counted : List ℕ → Bool
-is_counted line = not (is_skipped line) && is_some (count_of (before_first is_space line))
+is_counted line = not (is_skipped line) && is_some (count_of (before_first is_script_space line))
 
 abbrev pub has_count : List (List ℕ) → Bool
 has_count = list_any is_counted

@@ -2,7 +2,7 @@
 ghost use Rattle.std.specs.Prelude.{◌≡◌, ◌≤◌, ◌<◌, ◌+◌, ◌++◌, ◌∷◌, [], length, map, IfOk, IfSome, IsErrOf, OnOk, Some, None, is_some, option_map, true};
 ghost use Rattle.std.specs.Str.Lines.{lines};
 ghost use Rattle.cpm_script.specs.KeyText.{count_of, keys_of};
-ghost use Rattle.cpm_script.specs.Cues.{AddsCues, Awaited, IsReading, ReadsCues, all_said, counted_key, cues, cut_at, has_cue, is_cue, is_expect, is_opening, is_plain, is_wait, plain_keys, pressed, quoted, said, with_awaited, with_counted, with_expected, with_line, with_text, with_word};
+ghost use Rattle.cpm_script.specs.Cues.{AddsCues, Awaited, IsReading, ReadsCues, all_said, counted_key, cues, cut_at, has_cue, is_cue, is_expect, is_opening, is_plain, is_wait_word, plain_keys, key_cue, quoted, cue_text, with_awaited, with_counted, with_expected, with_line, with_text, cues_with_word};
 
 use crate::count::count_of;
 use crate::fault::{LineFault, ScriptError};
@@ -26,7 +26,7 @@ pub enum Cue {
 
 /// The key of a cue that has a count.
 fn counted_key(cue: &Cue) -> Option<Key>
-    ensures { result ≡ counted_key (said cue.now) }
+    ensures { result ≡ counted_key (cue_text cue.now) }
 {
     match cue {
         Cue::Key(key) => Some(*key),
@@ -61,8 +61,8 @@ struct ScriptReading {
 }
 
 /// A byte as a key, at a count, where there is one, or at once.
-fn pressed(at: Option<u64>, byte: u8) -> Cue
-    ensures { said result ≡ pressed at byte }
+fn key_cue(at: Option<u64>, byte: u8) -> Cue
+    ensures { cue_text result ≡ key_cue at byte }
 {
     match at {
         Some(count) => Cue::Key(Key { count, byte }),
@@ -74,11 +74,11 @@ fn pressed(at: Option<u64>, byte: u8) -> Cue
 fn push_key(reading: &mut ScriptReading, at: Option<u64>, byte: u8) -> Result<(), AllocError>
     requires reading { IsReading reading.old }
     requires room { reading.old.keys < 4096 }
-    ensures added { OnOk result (all_said reading.new.cues ≡ all_said reading.old.cues ++ pressed at byte ∷ []) }
+    ensures added { OnOk result (all_said reading.new.cues ≡ all_said reading.old.cues ++ key_cue at byte ∷ []) }
     ensures counted { OnOk result (reading.new.keys ≡ reading.old.keys + 1) }
     ensures reading { OnOk result (IsReading reading.new) }
 {
-    reading.cues.push(pressed(at, byte))?;
+    reading.cues.push(key_cue(at, byte))?;
     reading.keys += 1;
     reading.last = at.unwrap_or(reading.last);
     Ok(())
@@ -89,7 +89,7 @@ fn push_keys(reading: &mut ScriptReading, at: Option<u64>, text: &[u8]) -> Resul
     requires reading { IsReading reading.old }
     requires keys { is_some (keys_of text.now) ≡ true }
     requires room { IfSome (keys_of text.now) (λ ks. reading.old.keys + length ks ≤ 4096) }
-    ensures added { OnOk result (option_map (λ ks. all_said reading.old.cues ++ map (pressed at) ks) (keys_of text.now) ≡ Some (all_said reading.new.cues)) }
+    ensures added { OnOk result (option_map (λ ks. all_said reading.old.cues ++ map (key_cue at) ks) (keys_of text.now) ≡ Some (all_said reading.new.cues)) }
     ensures reading { OnOk result (IsReading reading.new) }
 {
     let mut rest = text;
@@ -215,8 +215,8 @@ fn add_expected(reading: &mut ScriptReading, alloc: Global, text: &[u8]) -> Resu
     }
 }
 
-pub(crate) fn is_wait(word: &[u8]) -> bool
-    ensures { result ≡ is_wait word.now }
+pub(crate) fn is_wait_word(word: &[u8]) -> bool
+    ensures { result ≡ is_wait_word word.now }
 {
     word == b"wait".as_slice()
 }
@@ -230,11 +230,11 @@ pub(crate) fn is_expect(word: &[u8]) -> bool
 /// Adds what a line says that begins with this word.
 fn add_word(reading: &mut ScriptReading, alloc: Global, word: &[u8], text: &[u8]) -> Result<(), KeyStop>
     requires { IsReading reading.old }
-    ensures added { AddsCues (with_word (all_said reading.old.cues) word.now text.now) result (all_said reading.new.cues) }
+    ensures added { AddsCues (cues_with_word (all_said reading.old.cues) word.now text.now) result (all_said reading.new.cues) }
     ensures reading { OnOk result (IsReading reading.new) }
     ensures memory { IsErrOf result KeyStop.OutOfMemory → is_opening word.now ≡ true }
 {
-    if is_wait(word) {
+    if is_wait_word(word) {
         add_awaited(reading, alloc, &[], text)
     } else if is_expect(word) {
         add_expected(reading, alloc, text)

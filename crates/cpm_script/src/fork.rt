@@ -1,7 +1,7 @@
 //! The keys of a session that is forked from another one at a count of steps.
 ghost use Rattle.std.specs.Prelude.{◌≡◌, ◌≤◌, length, IfOk, IsErrOf, true};
 ghost use Rattle.std.specs.Str.Lines.{lines};
-ghost use Rattle.cpm_script.specs.Fork.{fork_fault, forked_script, keys_before, line_keys, room_left};
+ghost use Rattle.cpm_script.specs.Fork.{fork_lines_fault, forked_script, keys_before, line_keys, room_left};
 ghost use Rattle.cpm_script.specs.Script.{Reads, has_count};
 
 use crate::count::count_of;
@@ -50,8 +50,8 @@ pub(crate) fn room_left(
 }
 
 /// The first line with keys before the fork, or with more keys than there is room for.
-fn fork_fault(text: &[u8], at: u64, mut room: usize) -> Option<(u64, LineFault)>
-    ensures { result ≡ fork_fault at room 1 (lines text.now) }
+fn fork_lines_fault(text: &[u8], at: u64, mut room: usize) -> Option<(u64, LineFault)>
+    ensures { result ≡ fork_lines_fault at room 1 (lines text.now) }
 {
     let mut rest = text;
     let mut number: u64 = 0;
@@ -86,7 +86,7 @@ pub fn read_forked_keys(
 {
     let mut own = read_keys(alloc, text)?;
     let room = MOST_KEYS - before.len();
-    if let Some((number, fault)) = fork_fault(text, at, room) {
+    if let Some((number, fault)) = fork_lines_fault(text, at, room) {
         return Err(ScriptError::Line { number, fault });
     }
     let mut keys = before;

@@ -5,7 +5,7 @@ ghost use Rattle.cpm_script.specs.Cues.{ReadsCues, has_cue};
 ghost use Rattle.cpm_script.specs.Fork.{cue_fault, forked_cues, line_cues, word_cues};
 
 use crate::count::count_of;
-use crate::cue::{Cue, is_expect, is_wait, quoted, read_cues};
+use crate::cue::{Cue, is_expect, is_wait_word, quoted, read_cues};
 use crate::fault::{LineFault, ScriptError};
 use crate::fork::room_left;
 use crate::keys::count_keys;
@@ -18,7 +18,7 @@ use std::alloc::Global;
 fn word_cues(at: u64, word: &[u8], text: &[u8]) -> Option<(u64, usize)>
     ensures { result ≡ word_cues at word.now text.now }
 {
-    if is_wait(word) {
+    if is_wait_word(word) {
         Some(at).zip(count_keys(text))
     } else if is_expect(word) {
         let (_, keys) = quoted(text)?;

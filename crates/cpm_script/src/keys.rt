@@ -1,6 +1,6 @@
 //! The keys that a text stands for.
 ghost use Rattle.std.specs.Prelude.{◌≡◌, is_some, length, option_map};
-ghost use Rattle.cpm_script.specs.KeyText.{control_key, first_key, keys_of, plain_key};
+ghost use Rattle.cpm_script.specs.KeyText.{control_key, first_key_of_text, keys_of, plain_key};
 
 /// A byte that stands for itself.
 fn plain_key(byte: u8) -> Option<u8>
@@ -27,7 +27,7 @@ fn control_key(byte: u8) -> Option<u8>
 
 /// The first key of a text, and the text after it.
 pub fn first_key(text: &[u8]) -> Option<(u8, &[u8])>
-    ensures { option_map (λ p. (p.0, p.1.now)) result ≡ first_key text.now }
+    ensures { option_map (λ p. (p.0, p.1.now)) result ≡ first_key_of_text text.now }
 {
     let (first, rest) = text.split_first()?;
     match rest.split_first() {

@@ -3,7 +3,7 @@ ghost use Rattle.std.specs.Prelude.{◌≡◌, ◌==◌, ◌≤◌, ◌++◌, �
 ghost use Rattle.std.specs.Str.Lines.{lines};
 ghost use Rattle.cpm_script.specs.KeyText.{count_of};
 ghost use Rattle.std.specs.List.{after_first, before_first, list_all};
-ghost use Rattle.cpm_script.specs.Script.{Adds, Reads, fault_past_last_key, has_count, is_after, is_counted, is_space, script, with_counted, with_line, with_text};
+ghost use Rattle.cpm_script.specs.Script.{Adds, Reads, fault_past_last_key, has_count, is_after, is_counted, is_script_space, script, with_counted, with_line, with_text};
 
 use crate::count::count_of;
 use crate::fault::{LineFault, ScriptError};
@@ -31,7 +31,7 @@ pub(crate) const MOST_KEYS: usize = 4096;
 
 /// A line of spaces, or with nothing on it.
 pub(crate) fn is_blank(line: &[u8]) -> bool
-    ensures { result ≡ list_all is_space line.now }
+    ensures { result ≡ list_all is_script_space line.now }
 {
     line.iter().all(|b| *b == b' ')
 }
@@ -100,8 +100,8 @@ fn fault_past_last_key(rest: &[u8]) -> LineFault
 
 /// A line before its first space, and after it.
 pub(crate) fn parted(line: &[u8]) -> (&[u8], &[u8])
-    ensures number { result.0.now ≡ before_first is_space line.now }
-    ensures text { result.1.now ≡ after_first is_space line.now }
+    ensures number { result.0.now ≡ before_first is_script_space line.now }
+    ensures text { result.1.now ≡ after_first is_script_space line.now }
 {
     match memchr(b' ', line) {
         Some(place) => (&line[..place], line.split_at(place + 1).1),

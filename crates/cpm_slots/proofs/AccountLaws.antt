@@ -6,7 +6,7 @@ use Rattle.cpm_machine.specs.MachineState.{MachineState}
 use Rattle.cpm_machine.specs.Calls.{Call, Answer, Accepted, KeysFull, Grants, Bytes, Looked, Peeked, Account, no_account, entered, serve, state_after, account_after}
 use Rattle.cpm_machine.proofs.AloneLaws.{alone-after}
 use Rattle.cpm_slots.specs.Serving.{Ask, Calls, Closes, reply_of, serve_slot}
-use Rattle.cpm_slots.specs.Account.{answer_of, account_by, slot_after, replies_of, IsAlone}
+use Rattle.cpm_slots.specs.Account.{answer_of, account_by, slot_after, replies_of, IsRunAlone}
 use Rattle.cpm_slots.proofs.EventLaws.{slot_after-none}
 
 -- no answer is lost in its reply
@@ -43,10 +43,10 @@ called system (Calls call ∷ asks) a start =
     weaker (Some s) P Q f h = f s h
 called system (Closes ∷ asks) a start = subst (λ o. IfSome o (IsCalled system (Closes ∷ asks) a start)) (sym (slot_after-none system asks)) tt
 
-IsAlone-called : (system : Disk) (asks : List Ask) (start : MachineState) (now : Option MachineState) → IfSome now (IsCalled system asks no_account start) → IsAlone system start (account_by no_account asks (replies_of system asks (Some start))) now
+IsAlone-called : (system : Disk) (asks : List Ask) (start : MachineState) (now : Option MachineState) → IfSome now (IsCalled system asks no_account start) → IsRunAlone system start (account_by no_account asks (replies_of system asks (Some start))) now
 IsAlone-called system asks start None h = tt
 IsAlone-called system asks start (Some s) h =
     rw (h.account, h.state) (alone-after system h.calls start)
 
-pub alone-asked : (system : Disk) (asks : List Ask) (start : MachineState) → IsAlone system start (account_by no_account asks (replies_of system asks (Some start))) (slot_after system asks (Some start))
+pub alone-asked : (system : Disk) (asks : List Ask) (start : MachineState) → IsRunAlone system start (account_by no_account asks (replies_of system asks (Some start))) (slot_after system asks (Some start))
 alone-asked system asks start = IsAlone-called system asks start (slot_after system asks (Some start)) (called system asks no_account start)

@@ -8,7 +8,7 @@ use Rattle.cpm_geom.specs.Disk.{Disk}
 use Rattle.cpm_memory.specs.Contents.{Contents}
 use Rattle.cpm_memory.specs.Opening.{opening}
 use Rattle.cpm_memory.specs.Reserved.{limit_at, taken_in, reserved_in}
-use Rattle.cpm_machine.specs.Runner.{state_of, IsSound}
+use Rattle.cpm_machine.specs.Runner.{state_of, IsRunnerSound}
 use Rattle.cpm_slots.specs.declared.event.Reply.TheVariants as reply
 use Rattle.cpm_slots.specs.declared.slots.Slot.{Slot}
 use Rattle.cpm_slots.specs.Host.{SlotState, slot_at, with_slot, IsOrdered}
@@ -21,7 +21,7 @@ use Rattle.cpm_slots.proofs.OpenSlots.{quota_of, kept-set, slots-kept, AllSound-
 -- what holds of a slot at its place
 pub record IsSlotAt (m : List (Option Contents)) (s : Slot) : Type 0 where
   pub taken : is_some (get_or m s.table None) ≡ true
-  pub sound : IsSound (state_of s.runner (contents_at m s.table))
+  pub sound : IsRunnerSound (state_of s.runner (contents_at m s.table))
 
 pub slot-at : (m : List (Option Contents)) (slots : List Slot) (i : ℕ) (s : Slot) → AllSound m slots → slice_get slots i ≡ Some s → IsSlotAt m s
 slot-at m [] i s k h = cc

@@ -8,7 +8,7 @@ use Rattle.cpm_slots.specs.declared.event.Event.{Event}
 use Rattle.cpm_slots.specs.Serving.{Ask, ask_of, serve_slot}
 use Rattle.cpm_slots.specs.Account.{slot_after, replies_of}
 use Rattle.cpm_slots.specs.declared.event.ForkError.{ForkError}
-use Rattle.cpm_slots.specs.Host.{Host, Happening, Opens, Forks, Asks, Told, opened_slot, refusal_of, opened_if, fork_fault, forked_if, with_forked, with_added, slot_at, after_ask, after_one, host_after, told_by, told, told_of, asked_of, own, happening_of, AllBelow}
+use Rattle.cpm_slots.specs.Host.{Host, Happening, Opens, Forks, Asks, SlotReply, opened_slot, refusal_of, opened_if, fork_fault, forked_if, with_forked, with_added, slot_at, after_ask, after_one, host_after, told_by, replies_told, told_of, asked_of, own, happening_of, AllBelow}
 use Rattle.cpm_slots.proofs.SlotLaws.{slot_at-other, slot_at-same, slot_at-added, AllBelow-added, AllBelow-with}
 
 pub apart : (h : Host) (id other : ℕ) (ask : Ask) → other ≢ id → slot_at other (after_ask h id ask).slots ≡ slot_at other h.slots
@@ -71,7 +71,7 @@ pub replies_of-append : (system : Disk) (xs ys : List Ask) (o : Option MachineSt
 replies_of-append system [] ys o = refl
 replies_of-append system (x ∷ xs) ys o = ap (λ t. (serve_slot system x o).reply ∷ t) (replies_of-append system xs ys (serve_slot system x o).slot)
 
-told_of-append : (id : ℕ) (xs ys : List Told) → told_of id (xs ++ ys) ≡ told_of id xs ++ told_of id ys
+told_of-append : (id : ℕ) (xs ys : List SlotReply) → told_of id (xs ++ ys) ≡ told_of id xs ++ told_of id ys
 told_of-append id [] ys = refl
 told_of-append id (x ∷ xs) ys = grind (arith, nat_tests, told_of-append id xs ys)
 
@@ -83,11 +83,11 @@ slot-after id (x ∷ xs) h below =
     rw (slot-after id xs (after_one h x) (omega arith), after_one-system h x, after_one-slot id h x below)
     (sym (slot_after-append h.system (asked_of id x) (own id xs) (slot_at id h.slots)))
 
-pub told-after : (id : ℕ) (events : List Happening) (h : Host) → id < h.openings → told_of id (told events h) ≡ replies_of h.system (own id events) (slot_at id h.slots)
+pub told-after : (id : ℕ) (events : List Happening) (h : Host) → id < h.openings → told_of id (replies_told events h) ≡ replies_of h.system (own id events) (slot_at id h.slots)
 told-after id [] h below = refl
 told-after id (x ∷ xs) h below =
     let more = after_one-openings h x in
-    rw (told_of-append id (told_by h x) (told xs (after_one h x)), told-after id xs (after_one h x) (omega arith), told_by-slot id h x, after_one-system h x, after_one-slot id h x below)
+    rw (told_of-append id (told_by h x) (replies_told xs (after_one h x)), told-after id xs (after_one h x) (omega arith), told_by-slot id h x, after_one-system h x, after_one-slot id h x below)
     (sym (replies_of-append h.system (asked_of id x) (own id xs) (slot_at id h.slots)))
 
 pub system-after : (events : List Happening) (h : Host) → (host_after events h).system ≡ h.system
@@ -119,9 +119,9 @@ slot-asked id (e ∷ es) h =
     rw (slot-asked id es (after_one h x), asked-slot id h e.slot.0 (ask_of e.request))
     (sym (slot_after-append h.system (asked_of id x) (own id (map happening_of es)) (slot_at id h.slots)))
 
-pub told-asked : (id : ℕ) (events : List Event) (h : Host) → told_of id (told (map happening_of events) h) ≡ replies_of h.system (own id (map happening_of events)) (slot_at id h.slots)
+pub told-asked : (id : ℕ) (events : List Event) (h : Host) → told_of id (replies_told (map happening_of events) h) ≡ replies_of h.system (own id (map happening_of events)) (slot_at id h.slots)
 told-asked id [] h = refl
 told-asked id (e ∷ es) h =
     let x = happening_of e in
-    rw (told_of-append id (told_by h x) (told (map happening_of es) (after_one h x)), told-asked id es (after_one h x), told_by-slot id h x, asked-slot id h e.slot.0 (ask_of e.request))
+    rw (told_of-append id (told_by h x) (replies_told (map happening_of es) (after_one h x)), told-asked id es (after_one h x), told_by-slot id h x, asked-slot id h e.slot.0 (ask_of e.request))
     (sym (replies_of-append h.system (asked_of id x) (own id (map happening_of es)) (slot_at id h.slots)))

@@ -7,9 +7,9 @@ use Rattle.cpm_geom.specs.Disk.{Disk}
 use Rattle.cpm_memory.specs.Contents.{Contents}
 use Rattle.cpm_memory.specs.Opening.{opening}
 use Rattle.cpm_memory.specs.Reserved.{reserved_in}
-use Rattle.cpm_memory.specs.Frames.{Frames, IsTaken, memories, memory_at, memory_of, table_at, reserved_by}
+use Rattle.cpm_memory.specs.Frames.{Frames, IsTableTaken, memories, memory_at, memory_of, table_at, reserved_by}
 use Rattle.cpm_machine.specs.MachineState.{MachineState}
-use Rattle.cpm_machine.specs.Runner.{state_of, IsSound}
+use Rattle.cpm_machine.specs.Runner.{state_of, IsRunnerSound}
 use Rattle.cpm_slots.specs.declared.event.ForkError.TheVariants as fork
 use Rattle.cpm_slots.specs.declared.slots.Slot.{Slot}
 use Rattle.cpm_slots.specs.Host.{Host, SlotState, slot_at, lacks_slot, lacks_frames, quotas_of, fork_fault, with_forked, with_added, AllBelow, IsHost}
@@ -54,10 +54,10 @@ module _ (system : Disk) (frames openings : ℕ) (now : Host) (store : Frames) (
       let same = some-same (slice_get (slots_of (memories store) slots) index) k.found.found (slot_of (memories store) p) k.found.at there in
       ap (λ (h : Host). slot_at id h.slots) (sym k.view) ∙ k.found.slot ∙ ap (λ (x : SlotState). Some x.state) same
 
-  pub source-taken : IsTaken store p.table
+  pub source-taken : IsTableTaken store p.table
   source-taken = (slot-at (memories store) slots index p k.have_tables.all k.at).taken
 
-  pub source-sound : IsSound source_state
+  pub source-sound : IsRunnerSound source_state
   source-sound = (slot-at (memories store) slots index p k.have_tables.all k.at).sound
 
   pub source-memory : memory_of store p.table ≡ contents_at (memories store) p.table
@@ -119,7 +119,7 @@ pub record IsForking (system : Disk) (frames : ℕ) (now : Host) (old new : Fram
   pub frame : lacks_frames now p.runner.quota ≡ false
   pub free : memory_at old s.table ≡ None
   pub shared : memories new ≡ set (memories old) s.table (Some (memory_of old p.table))
-  pub taken : IsTaken new s.table
+  pub taken : IsTableTaken new s.table
   pub state : (memory : Contents) → state_of s.runner memory ≡ state_of p.runner memory
   pub pushed : items ≡ slots ++ s ∷ []
 

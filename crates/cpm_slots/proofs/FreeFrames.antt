@@ -4,7 +4,7 @@ use Rattle.std.proofs.lemmas.Bool.Decides.{nat_tests}
 use Rattle.std.proofs.lemmas.Bool.{cases_eq}
 use Rattle.std.proofs.lemmas.List.Sums.{sum_by-cons, sum_by-append, sum_by-set}
 use Rattle.cpm_memory.specs.Contents.{Contents, room_of}
-use Rattle.cpm_memory.specs.Frames.{Frames, Table, IsSound, names, pages_on, owners_of, used_by, used_of, memories}
+use Rattle.cpm_memory.specs.Frames.{Frames, Table, IsStoreSound, is_frame, pages_on, owners_of, used_by, used_of, memories}
 use Rattle.cpm_memory.specs.Reserved.{room_at, unused_in}
 use Rattle.cpm_memory.specs.Tabulated.{tabulated, tabulated_none, tabulated_more}
 use Rattle.cpm_memory.proofs.Owners.{positives-le}
@@ -44,7 +44,7 @@ total-none (suc n) = omega (arith, total-none n)
 -- ---- the frames that tables name
 
 abbrev bit : ℕ → Option ℕ → ℕ
-bit g place = cond {A = ℕ} (names g place) 1 0
+bit g place = cond {A = ℕ} (is_frame g place) 1 0
 
 one-bit : (b : Bool) → cond {A = ℕ} b 1 0 ≤ 1
 one-bit true = omega arith
@@ -62,7 +62,7 @@ one-frame (suc n) f =
     ⊎_elim
     (λ (q : f ≡ n).
     let none = rest.1 (omega arith) in
-    let one = one-bit (names n (Some f)) in
+    let one = one-bit (is_frame n (Some f)) in
     (omega (arith, none, one), λ l. omega arith))
     (λ (q : f ≢ n).
     let none = no-bit f n q in
@@ -73,12 +73,12 @@ frames-of_page : (n : ℕ) (place : Option ℕ) → total n (λ g. bit g place) 
 frames-of_page n None = omega (arith, total-none n)
 frames-of_page n (Some f) = (one-frame n f).0
 
-frames-of_table : (n : ℕ) (places : List (Option ℕ)) → total n (λ g. count_by (names g) places) ≤ count_by is_some places
+frames-of_table : (n : ℕ) (places : List (Option ℕ)) → total n (λ g. count_by (is_frame g) places) ≤ count_by is_some places
 frames-of_table n [] = omega (arith, total-none n)
 frames-of_table n (p ∷ ps) = omega (
   arith,
-  total-same n (λ g. count_by (names g) (p ∷ ps)) (λ g. bit g p + count_by (names g) ps) (λ g. sum_by-cons (λ (x : Option ℕ). cond {A = ℕ} (names g x) 1 0) p ps),
-  total-add n (λ g. bit g p) (λ g. count_by (names g) ps),
+  total-same n (λ g. count_by (is_frame g) (p ∷ ps)) (λ g. bit g p + count_by (is_frame g) ps) (λ g. sum_by-cons (λ (x : Option ℕ). cond {A = ℕ} (is_frame g x) 1 0) p ps),
+  total-add n (λ g. bit g p) (λ g. count_by (is_frame g) ps),
   sum_by-cons (λ (x : Option ℕ). cond {A = ℕ} (is_some x) 1 0) p ps,
   frames-of_page n p,
   frames-of_table n ps,
@@ -116,5 +116,5 @@ unused-slots m (x ∷ xs) k =
     let slots = sum_by-cons room_in (slot_of m x) (slots_of m xs) in
     omega (arith, same, fewer, own, all, slots)
 
-pub free-frames : (s : Frames) (slots : List Slot) → IsSound s → AllSound (memories s) slots → used_of s + unused_of (slots_of (memories s) slots) ≤ s.private
+pub free-frames : (s : Frames) (slots : List Slot) → IsStoreSound s → AllSound (memories s) slots → used_of s + unused_of (slots_of (memories s) slots) ≤ s.private
 free-frames s slots ok k = omega (arith, used-le s, unused_in-tables s ok, ok.reserved, unused-slots (memories s) slots k)

@@ -10,7 +10,7 @@ use Rattle.cpm_machine.specs.declared.opening.Opening.{Opening}
 use Rattle.cpm_slots.specs.declared.event.ForkError.{ForkError}
 use Rattle.cpm_slots.specs.declared.event.Reply.{Reply}
 use Rattle.cpm_slots.specs.Serving.{Ask, serve_slot}
-use Rattle.cpm_slots.specs.Account.{account_by, slot_after, replies_of, IsAlone}
+use Rattle.cpm_slots.specs.Account.{account_by, slot_after, replies_of, IsRunAlone}
 use Rattle.cpm_slots.specs.Host.{Host, Happening, Opens, Forks, Asks, new_host, opened_slot, refusal_of, opened_if, fork_fault, forked_if, with_forked, with_added, slot_at, reply_at, after_ask, after_one, host_after, own, AllBelow, IsHost}
 use Rattle.cpm_slots.specs.Lives.{Life, NamedLife, life_of, with_life, lived_on, lived_by, begun_if, parted_if, lives_by, lives}
 use Rattle.cpm_slots.specs.Laws.{HasLived, GoesOn, Parts}
@@ -151,9 +151,9 @@ left-alone : (system : Disk) (all : List NamedLife) (id : ℕ) (now : Option Mac
 left-alone system all id now k =
     let life = k.life in
     let start = opened_slot life.opening in
-    let alone : IsAlone system start (account_by no_account life.asks life.replies) now =
-    subst (λ rs. IsAlone system start (account_by no_account life.asks rs) now) (sym k.replied)
-    (subst (IsAlone system start (account_by no_account life.asks (replies_of system life.asks (Some start)))) (sym k.state) (alone-asked system life.asks start)) in
+    let alone : IsRunAlone system start (account_by no_account life.asks life.replies) now =
+    subst (λ rs. IsRunAlone system start (account_by no_account life.asks rs) now) (sym k.replied)
+    (subst (IsRunAlone system start (account_by no_account life.asks (replies_of system life.asks (Some start)))) (sym k.state) (alone-asked system life.asks start)) in
     record { life = life; named = k.named; stands = record { replied = k.replied; state = alone } }
 
 pub each-alone : (system : Disk) (frames : ℕ) (events : List Happening) (id : ℕ) →

@@ -15,8 +15,8 @@ use Rattle.cpm_machine.specs.declared.opening.OpenError.{OpenError}
 use Rattle.cpm_machine.specs.declared.opening.OpenError.TheVariants.{BadQuota}
 use Rattle.cpm_machine.specs.declared.opening.Opening.{Opening}
 use Rattle.cpm_machine.specs.MachineState.{MachineState}
-use Rattle.cpm_machine.specs.Opening.{drives_fault, opening_fault, first_fault}
-use Rattle.cpm_machine.specs.Runner.{state_of, IsSound}
+use Rattle.cpm_machine.specs.Opening.{drives_fault, opening_fault, fault_else}
+use Rattle.cpm_machine.specs.Runner.{state_of, IsRunnerSound}
 use Rattle.cpm_slots.specs.declared.slots.Slot.{Slot}
 use Rattle.cpm_slots.specs.Host.{Host, opened_slot, room_fault, refusal_of}
 use Rattle.cpm_slots.specs.Slots.{contents_at, slot_of, slots_of, NoneAt, AllSound, HaveTables}
@@ -37,7 +37,7 @@ HaveTables-none m e = record { all = tt; taken = ap taken_in e ∙ nothing-taken
 
 -- ---- the opening's quota
 
-first-none : (a b : Option OpenError) → first_fault a b ≡ None → a ≡ None
+first-none : (a b : Option OpenError) → fault_else a b ≡ None → a ≡ None
 first-none None b h = refl
 first-none (Some fault) b h = cc
 
@@ -51,7 +51,7 @@ pub has-quota : (h : Host) (o : Opening) → refusal_of h o ≡ None → (16 ≤
 has-quota h o k = quota-tests o (nat_lt o.quota 16) (nat_lt 256 o.quota) refl refl (first-none (opening_fault o) (room_fault h o.quota) k)
 
 -- at its opening it is sound
-pub IsSound-opened : (o : Opening) → 16 ≤ o.quota → IsSound (opened_slot o)
+pub IsSound-opened : (o : Opening) → 16 ≤ o.quota → IsRunnerSound (opened_slot o)
 IsSound-opened o l = record { limit = refl; count = λ h. omega arith; room = λ h. inl (omega (arith, l, touched_of-opening o.quota)) }
 
 -- ---- the sums over slots and over slots
@@ -98,7 +98,7 @@ NoneAt-added : (table : ℕ) (slots : List Slot) (s : Slot) → s.table ≢ tabl
 NoneAt-added table [] s ne k = (ne, tt)
 NoneAt-added table (x ∷ xs) s ne k = (k.0, NoneAt-added table xs s ne k.1)
 
-AllSound-added : (m : List (Option Contents)) (slots : List Slot) (s : Slot) → NoneAt s.table slots → AllSound m slots → is_some (get_or m s.table None) ≡ true → IsSound (state_of s.runner (contents_at m s.table)) → AllSound m (slots ++ s ∷ [])
+AllSound-added : (m : List (Option Contents)) (slots : List Slot) (s : Slot) → NoneAt s.table slots → AllSound m slots → is_some (get_or m s.table None) ≡ true → IsRunnerSound (state_of s.runner (contents_at m s.table)) → AllSound m (slots ++ s ∷ [])
 AllSound-added m [] s none k taken sound = (taken, sound, tt, tt)
 AllSound-added m (x ∷ xs) s none k taken sound =
     (k.0, k.1, NoneAt-added x.table xs s (λ e. none.0 (sym e)) k.2, AllSound-added m xs s none.1 k.3 taken sound)
@@ -138,7 +138,7 @@ pub record IsAdded (old new : List (Option Contents)) (s : Slot) (memory : Conte
   pub is : new ≡ set old s.table (Some memory)
   pub taken : is_some (get_or new s.table None) ≡ true
   pub state : state_of s.runner memory ≡ made
-  pub sound : IsSound made
+  pub sound : IsRunnerSound made
 
 module _ (old new : List (Option Contents)) (slots : List Slot) (s : Slot) (memory : Contents) (state : MachineState) (k : HaveTables old slots) (a : IsAdded old new s memory state) where
   abbrev after : List (Option Contents)
@@ -167,7 +167,7 @@ module _ (old new : List (Option Contents)) (slots : List Slot) (s : Slot) (memo
       let was_taken = k.taken in
       let was_reserved = k.reserved in
       record {
-        all = AllSound-added after slots s none (AllSound-kept s.table old after slots (kept-set s.table old (Some memory)) none k.all) taken-after (subst IsSound (sym state-after) a.sound);
+        all = AllSound-added after slots s none (AllSound-kept s.table old after slots (kept-set s.table old (Some memory)) none k.all) taken-after (subst IsRunnerSound (sym state-after) a.sound);
         taken = omega arith;
         reserved = omega arith;
       }

@@ -2,7 +2,7 @@
 use Rattle.std.proofs.Common.{ℕ, ◌+◌, ◌<◌, List, Some, ap, ◌∙◌, arith}
 use Rattle.cpm_geom.specs.Disk.{Disk}
 use Rattle.cpm_machine.specs.declared.opening.Opening.{Opening}
-use Rattle.cpm_slots.specs.Host.{Happening, new_host, opened_slot, with_opened, slot_at, host_after, told, told_of, own}
+use Rattle.cpm_slots.specs.Host.{Happening, new_host, opened_slot, with_opened, slot_at, host_after, replies_told, told_of, own}
 use Rattle.cpm_slots.specs.Account.{slot_after, replies_of}
 use Rattle.cpm_slots.specs.Laws.{StandsAlone}
 use Rattle.cpm_slots.proofs.SlotLaws.{slot_at-new}
@@ -12,7 +12,7 @@ use Rattle.cpm_slots.proofs.AccountLaws.{alone-asked}
 pub stands-alone : (system : Disk) (frames : ℕ) (before : List Happening) (opening : Opening) (events : List Happening) →
     let h = host_after before (new_host system frames) in
     let now = with_opened h opening in
-    StandsAlone system opening (own h.openings events) (told_of h.openings (told events now)) (slot_at h.openings (host_after events now).slots)
+    StandsAlone system opening (own h.openings events) (told_of h.openings (replies_told events now)) (slot_at h.openings (host_after events now).slots)
 stands-alone system frames before opening events =
     let h = host_after before (new_host system frames) in
     let id = h.openings in

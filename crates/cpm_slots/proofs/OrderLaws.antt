@@ -9,7 +9,7 @@ use Rattle.cpm_machine.specs.declared.opening.OpenError.{OpenError}
 use Rattle.cpm_machine.specs.declared.opening.OpenError.TheVariants.{NoSlot, NoFrames}
 use Rattle.cpm_machine.specs.declared.opening.Opening.{Opening}
 use Rattle.cpm_machine.specs.MachineState.{MachineState}
-use Rattle.cpm_machine.specs.Opening.{opening_fault, first_fault}
+use Rattle.cpm_machine.specs.Opening.{opening_fault, fault_else}
 use Rattle.cpm_machine.specs.Step.{step_if, is_running, step, after}
 use Rattle.cpm_machine.specs.Serve.{executed, takes_key}
 use Rattle.cpm_machine.specs.Until.{executed_until}
@@ -117,7 +117,7 @@ pub record HasPlace (h : Host) (quota : ℕ) : Type 0 where
   pub number : h.openings ≡ 18446744073709551615 → ⊥
   pub frames : quotas_of h.slots + quota ≤ h.frames
 
-second-none : (a b : Option OpenError) → first_fault a b ≡ None → b ≡ None
+second-none : (a b : Option OpenError) → fault_else a b ≡ None → b ≡ None
 second-none None b h = h
 second-none (Some fault) b h = cc
 

@@ -4,7 +4,7 @@ use Rattle.std.proofs.lemmas.List.Sums.{get_or-le-sum_by}
 use Rattle.std.specs.Prelude.{IfSome}
 use Rattle.cpm_geom.specs.Disk.{Disk}
 use Rattle.cpm_memory.specs.Contents.{is_written, byte_at}
-use Rattle.cpm_memory.specs.Frames.{Frames, IsSound, IsTaken, memories, memory_at, memory_of, place_of, private_at, table_at, owners_of, used_by}
+use Rattle.cpm_memory.specs.Frames.{Frames, IsStoreSound, IsTableTaken, memories, memory_at, memory_of, frame_of_page, private_at, table_at, owners_of, used_by}
 use Rattle.cpm_memory.specs.Tabulated.{length-tabulated}
 use Rattle.cpm_memory.proofs.Bytes.{byte_at-table, place_of-cases, IsAlone-from}
 use Rattle.cpm_memory.proofs.Copies.{boot-lt, written-place, place-written, place-boot}
@@ -24,7 +24,7 @@ weaker : (o : Option MachineState) (P Q : MachineState → Type 0) → ((s : Mac
 weaker None P Q f h = tt
 weaker (Some s) P Q f h = f s h
 
-pub in_table-in : (h : HostWithStore) (id : ℕ) (s : MachineState) (table : ℕ) → IsSound h.store → table_of id h.tables ≡ Some table → IsTaken h.store table → contents_at (memories h.store) table ≡ s.memory → IsInTable h id s table
+pub in_table-in : (h : HostWithStore) (id : ℕ) (s : MachineState) (table : ℕ) → IsStoreSound h.store → table_of id h.tables ≡ Some table → IsTableTaken h.store table → contents_at (memories h.store) table ≡ s.memory → IsInTable h id s table
 in_table-in h id s table ok named taken is =
     let below : table < 64 = subst (λ n. table < n) (length-tabulated 64 (memory_at h.store)) (taken-within (memories h.store) table taken) in
     let memory : memory_of h.store table ≡ s.memory = sym (contents-of h.store table taken) ∙ is in
@@ -37,11 +37,11 @@ in_table-in h id s table ok named taken is =
       boot = λ page l w. place-boot h.store table page (sym (written-place h.store table page ok below l) ∙ ap (λ m. is_written m page) memory ∙ w);
     }
 
-pub in_table : (h : HostWithStore) (id : ℕ) → IsSound h.store → IfSome (slot_at id h.host.slots) (Sits (memories h.store) (table_of id h.tables)) → IfSome (slot_at id h.host.slots) (IsInSomeTable h id)
+pub in_table : (h : HostWithStore) (id : ℕ) → IsStoreSound h.store → IfSome (slot_at id h.host.slots) (Sits (memories h.store) (table_of id h.tables)) → IfSome (slot_at id h.host.slots) (IsInSomeTable h id)
 in_table h id ok k = weaker (slot_at id h.host.slots) _ _ (λ s there. (there.0, in_table-in h id s there.0 ok there.1 there.2 there.3)) k
 
 -- the slot of a number is in the number's table
-pub in_table-there : (h : HostWithStore) (id table : ℕ) → IsSound h.store → table_of id h.tables ≡ Some table → IfSome (slot_at id h.host.slots) (Sits (memories h.store) (table_of id h.tables)) → IfSome (slot_at id h.host.slots) (λ s. IsInTable h id s table)
+pub in_table-there : (h : HostWithStore) (id table : ℕ) → IsStoreSound h.store → table_of id h.tables ≡ Some table → IfSome (slot_at id h.host.slots) (Sits (memories h.store) (table_of id h.tables)) → IfSome (slot_at id h.host.slots) (λ s. IsInTable h id s table)
 in_table-there h id table ok named k =
     weaker (slot_at id h.host.slots) _ _
     (λ s there.
@@ -50,13 +50,13 @@ in_table-there h id table ok named k =
     subst (IsInTable h id s) same (in_table-in h id s there.0 ok there.1 there.2 there.3))
     k
 
-single-frame : (s : Frames) (frame t page t' page' : ℕ) → frame < s.private → owners_of s frame ≡ 1 → place_of s t page ≡ frame → place_of s t' page' ≡ frame → (t ≡ t') × (page ≡ page')
+single-frame : (s : Frames) (frame t page t' page' : ℕ) → frame < s.private → owners_of s frame ≡ 1 → frame_of_page s t page ≡ frame → frame_of_page s t' page' ≡ frame → (t ≡ t') × (page ≡ page')
 single-frame s frame t page t' page' private one e f =
     let alone = IsAlone-from s t' page' frame private (omega (arith, one)) (place_of-cases s t' page' frame private f) in
     alone.alone t page (e ∙ sym f)
 
 -- a table of which a page has a private frame is taken
-named-taken : (s : Frames) (frame t page : ℕ) → IsSound s → frame < s.private → place_of s t page ≡ frame → IsTaken s t
+named-taken : (s : Frames) (frame t page : ℕ) → IsStoreSound s → frame < s.private → frame_of_page s t page ≡ frame → IsTableTaken s t
 named-taken s frame t page ok private e = is_some-memory s t within ∙ held (table_at s t).reservation refl
   where
     at : private_at s t page ≡ Some frame
@@ -72,7 +72,7 @@ named-taken s frame t page ok private e = is_some-memory s t within ∙ held (ta
     held None q = absurd (omega (arith, used, ok.blank t q))
     held (Some n) q = refl
 
-module _ (system : Disk) (frames openings : ℕ) (store : Frames) (slots : List Slot) (ok : IsSound store) (k : HaveTables (memories store) slots) (bound : store.private ≡ frames) where
+module _ (system : Disk) (frames openings : ℕ) (store : Frames) (slots : List Slot) (ok : IsStoreSound store) (k : HaveTables (memories store) slots) (bound : store.private ≡ frames) where
   abbrev now : HostWithStore
   now = host_with_store system frames openings store slots
 

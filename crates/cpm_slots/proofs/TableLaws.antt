@@ -11,7 +11,7 @@ use Rattle.cpm_memory.specs.Reserved.{limit_at, taken_in, reserved_in}
 use Rattle.cpm_machine.specs.declared.steps.Runner.{Runner}
 use Rattle.cpm_machine.specs.MachineState.{MachineState}
 use Rattle.cpm_machine.specs.Calls.{Call, serve}
-use Rattle.cpm_machine.specs.Runner.{state_of, IsSound}
+use Rattle.cpm_machine.specs.Runner.{state_of, IsRunnerSound}
 use Rattle.cpm_slots.specs.declared.slots.Slot.{Slot}
 use Rattle.cpm_slots.specs.Host.{SlotState}
 use Rattle.cpm_slots.specs.declared.event.Reply.{Reply}
@@ -26,7 +26,7 @@ have_tables s runner = record s { runner = runner }
 -- what holds of a slot at its place
 pub record IsSlot (m : List (Option Contents)) (s : Slot) : Type 0 where
   pub taken : is_some (get_or m s.table None) ≡ true
-  pub sound : IsSound (state_of s.runner (contents_at m s.table))
+  pub sound : IsRunnerSound (state_of s.runner (contents_at m s.table))
 
 pub IsSlot-at : (m : List (Option Contents)) (slots : List Slot) (i : ℕ) (s : Slot) → AllSound m slots → slice_get slots i ≡ Some s → IsSlot m s
 IsSlot-at m [] i s k h = cc
@@ -121,7 +121,7 @@ quotas-set (x ∷ xs) (suc i) s runner h e =
 
 -- a session went on in its own memory
 pub HaveTables-alone : (m : List (Option Contents)) (slots : List Slot) (i : ℕ) (s : Slot) (runner : Runner) →
-    HaveTables m slots → slice_get slots i ≡ Some s → IsSound (state_of runner (contents_at m s.table)) → runner.quota ≡ s.runner.quota →
+    HaveTables m slots → slice_get slots i ≡ Some s → IsRunnerSound (state_of runner (contents_at m s.table)) → runner.quota ≡ s.runner.quota →
     HaveTables m (set slots i (have_tables s runner))
 HaveTables-alone m slots i s runner k h sound quota = record {
   all = AllSound-set m m slots i s runner k.all h (λ t ne. refl) (record { taken = (IsSlot-at m slots i s k.all h).taken; sound = sound });
@@ -166,7 +166,7 @@ reserved-same t old new change h same =
 
 -- a session went on, and its memory with it
 pub HaveTables-on : (old new : List (Option Contents)) (slots : List Slot) (i : ℕ) (s : Slot) (runner : Runner) →
-    HaveTables old slots → slice_get slots i ≡ Some s → ChangesAt s.table old new → IsSound (state_of runner (contents_at new s.table)) → runner.quota ≡ s.runner.quota →
+    HaveTables old slots → slice_get slots i ≡ Some s → ChangesAt s.table old new → IsRunnerSound (state_of runner (contents_at new s.table)) → runner.quota ≡ s.runner.quota →
     HaveTables new (set slots i (have_tables s runner))
 HaveTables-on old new slots i s runner k h change sound quota =
     let slot = IsSlot-at old slots i s k.all h in

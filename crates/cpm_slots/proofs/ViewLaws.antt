@@ -2,7 +2,7 @@
 use Rattle.std.proofs.Common.{◌≡◌, ℕ, ◌<◌, List, subst, None, Some, is_some, unwrap_or, get_or, set, sym, ap, ◌∙◌}
 use Rattle.std.specs.Borrow.{GName}
 use Rattle.cpm_memory.specs.Contents.{Contents, Surroundings}
-use Rattle.cpm_memory.specs.Frames.{Frames, HasReservation, IsTaken, KeepsStamps, memories, memory_at, memory_of, stamps_at}
+use Rattle.cpm_memory.specs.Frames.{Frames, HasReservation, IsTableTaken, KeepsStamps, memories, memory_at, memory_of, stamps_at}
 use Rattle.cpm_memory.specs.Memories.{memories-after, memory-reserved, surroundings_at, HasReservation-taken}
 use Rattle.cpm_memory.specs.Tabulated.{length-tabulated}
 use Rattle.cpm_memory.specs.Opening.{opening}
@@ -43,7 +43,7 @@ lent-view v w store table e f g around = record {
 }
 
 -- the memory of a table that is taken
-pub contents-of : (s : Frames) (t : ℕ) → IsTaken s t → contents_at (memories s) t ≡ memory_of s t
+pub contents-of : (s : Frames) (t : ℕ) → IsTableTaken s t → contents_at (memories s) t ≡ memory_of s t
 contents-of s t taken =
     let lt : t < 64 = subst (λ n. t < n) (length-tabulated 64 (memory_at s)) (taken-within (memories s) t taken) in
     ap (λ o. unwrap_or o (opening 0)) (memory-reserved s t lt (HasReservation-taken s t lt taken))
@@ -66,7 +66,7 @@ leaves store s s' table t t' h =
     }
 
 -- the same, where a copy was worked on and put back
-pub leaves-copied : (store new : Frames) (table : ℕ) (lent left : Contents) → IsTaken store table → lent ≡ memory_of store table → memories new ≡ set (memories store) table (Some left) → new.private ≡ store.private → Leaves store new table lent left
+pub leaves-copied : (store new : Frames) (table : ℕ) (lent left : Contents) → IsTableTaken store table → lent ≡ memory_of store table → memories new ≡ set (memories store) table (Some left) → new.private ≡ store.private → Leaves store new table lent left
 leaves-copied store new table lent left taken e all frames = record {
   old = contents-of store table taken ∙ sym e;
   now = ap (λ m. contents_at m table) all ∙ contents-set (memories store) table left taken;
@@ -96,7 +96,7 @@ pub keeps-stamps : (store s s' : Frames) (table t : ℕ) → s ≡ store → t �
 keeps-stamps store s s' table t e f kept = subst (λ x. KeepsStamps x s' table) e (subst (KeepsStamps s s') f kept)
 
 -- a cache that is right for the memory of a table is right for its copy
-pub right-copied : (store : Frames) (table : ℕ) (lent : Contents) (stamps : List ℕ) (cache : DecodeCache) → IsTaken store table → lent ≡ memory_of store table → stamps ≡ stamps_at store table →
+pub right-copied : (store : Frames) (table : ℕ) (lent : Contents) (stamps : List ℕ) (cache : DecodeCache) → IsTableTaken store table → lent ≡ memory_of store table → stamps ≡ stamps_at store table →
     IsRightFor (contents_at (memories store) table) (stamps_at store table) cache → IsRightFor lent stamps cache
 right-copied store table lent stamps cache taken e q right =
     subst (λ c. IsRightFor c stamps cache) (contents-of store table taken ∙ sym e)

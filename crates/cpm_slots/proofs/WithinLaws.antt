@@ -9,7 +9,7 @@ use Rattle.cpm_machine.specs.Until.{can_go_on, executed_until}
 use Rattle.cpm_machine.specs.Calls.{Call, Key, Grant, GrantUntil, Take, TakeList, LookAt, Peek, served_key, serve}
 use Rattle.cpm_machine.proofs.GrantLaws.{longest-is}
 use Rattle.cpm_slots.specs.Serving.{Ask, Calls, Closes, reply_of, serve_slot}
-use Rattle.cpm_slots.specs.Host.{Host, Happening, Opens, Forks, Asks, Told, slot_at, reply_at, after_one, told}
+use Rattle.cpm_slots.specs.Host.{Host, Happening, Opens, Forks, Asks, SlotReply, slot_at, reply_at, after_one, replies_told}
 use Rattle.cpm_slots.specs.Laws.{executed_in, granted_in, granted_by}
 
 executed-within : (system : Disk) (n : ℕ) (s : MachineState) → executed system n s ≤ n
@@ -40,10 +40,10 @@ ask-within system ask None = omega arith
 ask-within system (Calls call) (Some s) = call-within system call s
 ask-within system Closes (Some s) = omega arith
 
-abbrev executed_by : Told → ℕ
+abbrev executed_by : SlotReply → ℕ
 executed_by t = executed_in t.reply
 
-pub within : (h : Host) (events : List Happening) → sum_by (λ t. executed_in t.reply) (told events h) ≤ sum_by granted_by events
+pub within : (h : Host) (events : List Happening) → sum_by (λ t. executed_in t.reply) (replies_told events h) ≤ sum_by granted_by events
 within h [] = omega arith
 within h (Opens opening ∷ xs) =
     let rest = within (after_one h (Opens opening)) xs in
@@ -57,5 +57,5 @@ within h (Asks id ask ∷ xs) =
     let rest = within (after_one h (Asks id ask)) xs in
     let one = ask-within h.system ask (slot_at id h.slots) in
     let all = sum_by-cons granted_by (Asks id ask) xs in
-    let said = sum_by-cons executed_by (record { id = id; reply = reply_at h id ask }) (told xs (after_one h (Asks id ask))) in
+    let said = sum_by-cons executed_by (record { id = id; reply = reply_at h id ask }) (replies_told xs (after_one h (Asks id ask))) in
     omega arith

@@ -2,7 +2,7 @@
 use Rattle.std.specs.Prelude.{⊤, ◌≡◌, Bool, ℕ, ◌+◌, ◌<◌, ◌≤◌, List, [], ◌∷◌, ◌++◌, length, map, filter, sum_by, not, ◌==◌, ◌||◌, nat_lt, nat_le, Option, Some, None, Result, Ok, Err, if◌then◌else◌, take}
 use Rattle.cpm_geom.specs.Disk.{Disk}
 use Rattle.cpm_machine.specs.MachineState.{MachineState, opened_machine}
-use Rattle.cpm_machine.specs.Opening.{opening_fault, first_fault}
+use Rattle.cpm_machine.specs.Opening.{opening_fault, fault_else}
 use Rattle.cpm_machine.specs.declared.opening.Opening.{Opening}
 use Rattle.cpm_machine.specs.declared.opening.OpenError.{OpenError}
 use Rattle.cpm_machine.specs.declared.opening.OpenError.TheVariants.{NoSlot, NoFrames}
@@ -68,7 +68,7 @@ room_fault h quota = if lacks_slot h then Some NoSlot else if lacks_frames h quo
 
 -- why an opening is refused, want of memory aside: by its quota, its drives, for want of a slot, or of frames (own)
 abbrev pub refusal_of : Host → Opening → Option OpenError
-refusal_of h o = first_fault (opening_fault o) (room_fault h o.quota)
+refusal_of h o = fault_else (opening_fault o) (room_fault h o.quota)
 
 -- the host with one slot more, under the number of its opening (own)
 abbrev pub with_added : Host → MachineState → Host
@@ -129,22 +129,22 @@ host_after [] h = h
 host_after (x ∷ xs) h = host_after xs (after_one h x)
 
 -- a reply, with the number of the slot that was asked (own)
-pub record Told : Type 0 where
+pub record SlotReply : Type 0 where
   pub id : ℕ
   pub reply : Reply
 
-abbrev pub told_by : Host → Happening → List Told
+abbrev pub told_by : Host → Happening → List SlotReply
 told_by h (Opens o) = []
 told_by h (Forks id) = []
 told_by h (Asks id ask) = record { id = id; reply = reply_at h id ask } ∷ []
 
 -- all replies, in order (own)
-abbrev pub told : List Happening → Host → List Told
-told [] h = []
-told (x ∷ xs) h = told_by h x ++ told xs (after_one h x)
+abbrev pub replies_told : List Happening → Host → List SlotReply
+replies_told [] h = []
+replies_told (x ∷ xs) h = told_by h x ++ replies_told xs (after_one h x)
 
 -- the replies of one slot (own)
-abbrev pub told_of : ℕ → List Told → List Reply
+abbrev pub told_of : ℕ → List SlotReply → List Reply
 told_of id ts = map (λ t. t.reply) (filter (λ t. t.id == id) ts)
 
 -- what is asked of one slot; a fork of it asks nothing of it (own)

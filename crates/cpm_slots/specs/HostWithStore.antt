@@ -1,7 +1,7 @@
 -- A host with its store, and where the memories of its slots lie. (own)
 use Rattle.std.specs.Prelude.{◌≡◌, ℕ, ◌+◌, ◌/◌, ◌%◌, ◌<◌, ◌≤◌, true, false, ◌==◌, if◌then◌else◌, List, [], ◌∷◌, sum_by, Option, Some, None, IfSome, Result, Ok, Err, slice_index}
 use Rattle.cpm_memory.specs.Contents.{byte_at, is_written, room_of}
-use Rattle.cpm_memory.specs.Frames.{Frames, IsTaken, boot_of, place_of, frame_of, memory_of, owners_of, used_of, KeepsPlaces}
+use Rattle.cpm_memory.specs.Frames.{Frames, IsTableTaken, boot_of, frame_of_page, frame_of, memory_of, owners_of, used_of, KeepsPlaces}
 use Rattle.cpm_memory.specs.Opening.{opening_byte}
 use Rattle.cpm_memory.specs.Tabulated.{tabulated}
 use Rattle.cpm_machine.specs.MachineState.{MachineState}
@@ -35,13 +35,13 @@ table_reply (Some table) = Ok table
 -- A slot is in a table: the table is taken, and its memory, with the marks of the written pages, is the slot's. (own)
 pub record IsInTable (h : HostWithStore) (id : ℕ) (s : MachineState) (table : ℕ) : Type 0 where
   pub named : table_of id h.tables ≡ Some table
-  pub taken : IsTaken h.store table
+  pub taken : IsTableTaken h.store table
   pub memory : memory_of h.store table ≡ s.memory
   -- a byte is one of the frame at its page
-  pub bytes : (address : ℕ) → address < 65536 → byte_at s.memory address ≡ slice_index (frame_of h.store (place_of h.store table (address / 256))) (address % 256)
+  pub bytes : (address : ℕ) → address < 65536 → byte_at s.memory address ≡ slice_index (frame_of h.store (frame_of_page h.store table (address / 256))) (address % 256)
   -- that is a private frame exactly for the pages that were written, else the page's boot frame
-  pub private : (page : ℕ) → page < 256 → is_written s.memory page ≡ true → place_of h.store table page < h.store.private
-  pub boot : (page : ℕ) → page < 256 → is_written s.memory page ≡ false → place_of h.store table page ≡ h.store.private + boot_of page
+  pub private : (page : ℕ) → page < 256 → is_written s.memory page ≡ true → frame_of_page h.store table page < h.store.private
+  pub boot : (page : ℕ) → page < 256 → is_written s.memory page ≡ false → frame_of_page h.store table page ≡ h.store.private + boot_of page
 
 -- how many pages the slots may still write (own)
 abbrev pub unused_of : List SlotState → ℕ
@@ -63,10 +63,10 @@ pub record IsHostWithStore (h : HostWithStore) : Type 0 where
   -- the boot frames have their bytes at opening, and so never change
   pub boot_frames : (page : ℕ) → page < 256 → frame_of h.store (h.store.private + boot_of page) ≡ tabulated 256 (opening_byte page)
   -- a private frame is at pages of tables that are taken, and of no other
-  pub taken : (frame table page : ℕ) → frame < h.store.private → place_of h.store table page ≡ frame → IsTaken h.store table
+  pub taken : (frame table page : ℕ) → frame < h.store.private → frame_of_page h.store table page ≡ frame → IsTableTaken h.store table
   -- one that a single page is made of is in one table only, at one page
-  pub single : (frame table page other_table other_page : ℕ) → frame < h.store.private → owners_of h.store frame ≡ 1 → place_of h.store table page ≡ frame
-      → place_of h.store other_table other_page ≡ frame → (table ≡ other_table) × (page ≡ other_page)
+  pub single : (frame table page other_table other_page : ℕ) → frame < h.store.private → owners_of h.store frame ≡ 1 → frame_of_page h.store table page ≡ frame
+      → frame_of_page h.store other_table other_page ≡ frame → (table ≡ other_table) × (page ≡ other_page)
   -- the private frames that no table names are at least what the slots have reserved and not used: enough for all pages that they may still write
   pub free : used_of h.store + unused_of h.host.slots ≤ h.store.private
 
@@ -76,6 +76,6 @@ pub record SharesPages (old new : HostWithStore) (id child : ℕ) : Type 0 where
   pub shared : ℕ
   pub named : table_of id old.tables ≡ Some table
   pub child_named : table_of child new.tables ≡ Some shared
-  pub places : (page : ℕ) → place_of new.store shared page ≡ place_of old.store table page
+  pub places : (page : ℕ) → frame_of_page new.store shared page ≡ frame_of_page old.store table page
   pub others : KeepsPlaces old.store new.store shared
   pub frames : new.store.frames ≡ old.store.frames

@@ -7,9 +7,9 @@ use Rattle.cpm_machine.specs.declared.opening.Opening.{Opening}
 use Rattle.cpm_slots.specs.declared.event.Reply.{Reply}
 use Rattle.cpm_slots.specs.declared.event.Reply.TheVariants as reply
 use Rattle.cpm_slots.specs.Serving.{Ask, Calls}
-use Rattle.cpm_slots.specs.Account.{account_by, slot_after, replies_of, IsAlone}
+use Rattle.cpm_slots.specs.Account.{account_by, slot_after, replies_of, IsRunAlone}
 use Rattle.cpm_slots.specs.declared.event.ForkError.{ForkError}
-use Rattle.cpm_slots.specs.Host.{Host, Happening, Opens, Forks, Asks, new_host, slot_at, with_opened, opened_slot, fork_fault, reply_at, after_ask, after_one, host_after, told, told_of, own, IsHost}
+use Rattle.cpm_slots.specs.Host.{Host, Happening, Opens, Forks, Asks, new_host, slot_at, with_opened, opened_slot, fork_fault, reply_at, after_ask, after_one, host_after, replies_told, told_of, own, IsHost}
 use Rattle.cpm_slots.specs.Lives.{Life, NamedLife, life_of, lives}
 
 -- what is asked of one slot leaves every other
@@ -20,19 +20,19 @@ Apart = (h : Host) (id other : ℕ) (ask : Ask) → other ≢ id → slot_at oth
 abbrev pub Isolation : Type 0
 Isolation = (h : Host) (events : List Happening) (id : ℕ) → id < h.openings →
     (slot_at id (host_after events h).slots ≡ slot_after h.system (own id events) (slot_at id h.slots))
-    × (told_of id (told events h) ≡ replies_of h.system (own id events) (slot_at id h.slots))
+    × (told_of id (replies_told events h) ≡ replies_of h.system (own id events) (slot_at id h.slots))
 
 -- The headline. In a host that was made, to which anything happened, a slot is opened, and then anything happens, more openings among it. The slot's replies are those that its machine gives by itself, and while it is open it is the machine run alone for its opening, its accepted keys with the counts at which they came, its executed steps and the system drive.
 pub record StandsAlone (system : Disk) (opening : Opening) (asks : List Ask) (replies : List Reply) (now : Option MachineState) : Type 0 where
   pub replied : replies ≡ replies_of system asks (Some (opened_slot opening))
-  pub state : IsAlone system (opened_slot opening) (account_by no_account asks replies) now
+  pub state : IsRunAlone system (opened_slot opening) (account_by no_account asks replies) now
 
-abbrev pub Alone : Type 0
-Alone = (system : Disk) (frames : ℕ) (before : List Happening) (opening : Opening) (events : List Happening) →
+abbrev pub SlotAlone : Type 0
+SlotAlone = (system : Disk) (frames : ℕ) (before : List Happening) (opening : Opening) (events : List Happening) →
     let h = host_after before (new_host system frames) in
     let id = h.openings in
     let now = with_opened h opening in
-    StandsAlone system opening (own id events) (told_of id (told events now)) (slot_at id (host_after events now).slots)
+    StandsAlone system opening (own id events) (told_of id (replies_told events now)) (slot_at id (host_after events now).slots)
 
 -- what happened to one slot, opened or forked, and what its state is now: it stands alone by its life
 pub record HasLived (system : Disk) (all : List NamedLife) (id : ℕ) (now : Option MachineState) : Type 0 where
@@ -49,7 +49,7 @@ EachAlone = (system : Disk) (frames : ℕ) (events : List Happening) (id : ℕ) 
 -- a slot goes on from a state by its own events alone
 pub record GoesOn (h : Host) (events : List Happening) (id : ℕ) (from : MachineState) : Type 0 where
   pub state : slot_at id (host_after events h).slots ≡ slot_after h.system (own id events) (Some from)
-  pub replied : told_of id (told events h) ≡ replies_of h.system (own id events) (Some from)
+  pub replied : told_of id (replies_told events h) ≡ replies_of h.system (own id events) (Some from)
 
 -- A fork that is not refused adds a slot whose whole state is that of the other one, and changes no slot. Whatever happens afterwards, each of the two goes on from there by its own events: neither's replies or state depend on the other's.
 pub record Parts (h : Host) (id : ℕ) (s : MachineState) (events : List Happening) : Type 0 where
@@ -71,7 +71,7 @@ NoParting = (h : Host) (id : ℕ) (fault : ForkError) → fork_fault h (slot_at 
 abbrev pub TwoWorlds : Type 0
 TwoWorlds = (h g : Host) (i j : ℕ) (es ds : List Happening) → i < h.openings → j < g.openings →
     h.system ≡ g.system → slot_at i h.slots ≡ slot_at j g.slots → own i es ≡ own j ds →
-    (told_of i (told es h) ≡ told_of j (told ds g)) × (slot_at i (host_after es h).slots ≡ slot_at j (host_after ds g).slots)
+    (told_of i (replies_told es h) ≡ told_of j (replies_told ds g)) × (slot_at i (host_after es h).slots ≡ slot_at j (host_after ds g).slots)
 
 -- the steps that a grant executed
 abbrev pub executed_in : Reply → ℕ
@@ -95,11 +95,11 @@ granted_by (Asks id ask) = granted_in ask
 
 -- no more steps are executed than are granted
 abbrev pub Within : Type 0
-Within = (h : Host) (events : List Happening) → sum_by (λ t. executed_in t.reply) (told events h) ≤ sum_by granted_by events
+Within = (h : Host) (events : List Happening) → sum_by (λ t. executed_in t.reply) (replies_told events h) ≤ sum_by granted_by events
 
 -- two grants to a slot, one after the other, are one of the sum
-abbrev pub Cutting : Type 0
-Cutting = (h : Host) (id a b : ℕ) →
+abbrev pub SlotCutting : Type 0
+SlotCutting = (h : Host) (id a b : ℕ) →
     let first = after_ask h id (Calls (Grant a)) in
     (after_ask first id (Calls (Grant b)) ≡ after_ask h id (Calls (Grant (a + b))))
     × (executed_in (reply_at h id (Calls (Grant a))) + executed_in (reply_at first id (Calls (Grant b))) ≡ executed_in (reply_at h id (Calls (Grant (a + b)))))

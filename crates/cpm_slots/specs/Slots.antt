@@ -6,7 +6,7 @@ use Rattle.cpm_memory.specs.Frames.{Frames, memories}
 use Rattle.cpm_memory.specs.Opening.{opening}
 use Rattle.cpm_memory.specs.Reserved.{taken_in, reserved_in}
 use Rattle.cpm_decode.specs.Cache.{IsRightFor}
-use Rattle.cpm_machine.specs.Runner.{state_of, IsSound}
+use Rattle.cpm_machine.specs.Runner.{state_of, IsRunnerSound}
 use Rattle.cpm_slots.specs.declared.slots.Slot.{Slot}
 use Rattle.cpm_slots.specs.Host.{SlotState}
 use Rattle.cpm_slots.specs.HostWithStore.{SlotTable, HostWithStore}
@@ -38,7 +38,7 @@ NoneAt table (x ∷ xs) = (x.table ≢ table) × NoneAt table xs
 -- each slot is sound, and has a table of its own
 abbrev pub AllSound : List (Option Contents) → List Slot → Type 0
 AllSound memories [] = ⊤
-AllSound memories (x ∷ xs) = (is_some (slice_index_or memories x.table None) ≡ true) × IsSound (state_of x.runner (contents_at memories x.table)) × NoneAt x.table xs × AllSound memories xs
+AllSound memories (x ∷ xs) = (is_some (slice_index_or memories x.table None) ≡ true) × IsRunnerSound (state_of x.runner (contents_at memories x.table)) × NoneAt x.table xs × AllSound memories xs
 
 -- the slot's cache is right for the memory and the stamps of its table
 abbrev pub IsCached : List (Option Contents) → List (List ℕ) → Slot → Type 0

@@ -3,11 +3,11 @@
 ghost use Rattle.std.specs.Prelude.{◌≡◌, ℕ, ◌≤◌, ◌<◌, [], length, drop, None, Some, IfOk, IfErr, IfNone, IfSome, OnErr};
 ghost use Rattle.cpm_geom.specs.Disk.{Disk};
 ghost use Rattle.cpm_drives.specs.Disks.{images_of};
-ghost use Rattle.cpm_console.specs.Terminal.{blank};
-ghost use Rattle.cpm_memory.specs.Frames.{memories, IsSound, IsTaken};
+ghost use Rattle.cpm_console.specs.Terminal.{blank_terminal};
+ghost use Rattle.cpm_memory.specs.Frames.{memories, IsStoreSound, IsTableTaken};
 ghost use Rattle.cpm_memory.specs.Opening.{opening as memory_opening};
 ghost use Rattle.cpm_memory.specs.Tabulated.{tabulated};
-ghost use Rattle.cpm_machine.specs.Laws.{IsBounded};
+ghost use Rattle.cpm_machine.specs.Laws.{IsStepBounded};
 ghost use Rattle.cpm_machine.specs.MachineState.{MachineState};
 ghost use Rattle.cpm_machine.specs.Opening.{IsRefusal};
 ghost use Rattle.cpm_machine.specs.Runner.{state_of};
@@ -55,7 +55,7 @@ pub struct Host {
 
 impl Model for Host {
     ghost use Rattle.std.specs.Prelude.{◌≡◌};
-    ghost use Rattle.cpm_memory.specs.Frames.{memories, IsSound};
+    ghost use Rattle.cpm_memory.specs.Frames.{memories, IsStoreSound};
     ghost use Rattle.cpm_slots.specs.Host.{IsHost};
     ghost use Rattle.cpm_slots.specs.HostWithStore.{HostWithStore};
     ghost use Rattle.cpm_slots.specs.Slots.{host_with_store, HaveTables, AllCached};
@@ -71,7 +71,7 @@ impl Model for Host {
 fn allocate(alloc: Global, frames: u16) -> Result<(FrameStore, Vec<Slot>, FlatMemory), AllocError>
     requires { frames ≤ 16384 }
     ensures frames { IfOk result (λ r. r.0.private ≡ frames) }
-    ensures sound { IfOk result (λ r. IsSound r.0) }
+    ensures sound { IfOk result (λ r. IsStoreSound r.0) }
     ensures memories { IfOk result (λ r. memories r.0 ≡ tabulated 64 (λ _. None)) }
     ensures slots { IfOk result (λ r. r.1.items ≡ []) }
 {
@@ -294,7 +294,7 @@ impl Host {
     /// The table of a slot's memory, which no other slot has.
     pub fn table(&self, id: SlotId) -> Result<TableId, Refusal>
         ensures table { result ≡ table_reply (table_of id.0 self.now.tables) }
-        ensures taken { IfOk result (λ t. IsTaken self.now.store t) }
+        ensures taken { IfOk result (λ t. IsTableTaken self.now.store t) }
         ensures in_table { IfOk result (λ t. IfSome (slot_at id.0 self.now.host.slots) (λ s. IsInTable self.now id.0 s t)) }
         ensures refused { IfErr result (λ fault. slot_at id.0 self.now.host.slots ≡ None) }
     {
@@ -315,7 +315,7 @@ impl Host {
     /// Does nothing, and says that a step of a slot that is open newly writes at most 8 pages and puts at most 4,096 bytes on each
     /// device, whatever the system drive.
     pub fn steps_are_bounded(&self)
-        ensures { (system : Disk) (id : ℕ) (s : MachineState) → slot_at id self.now.host.slots ≡ Some s → IsBounded s (step system s) }
+        ensures { (system : Disk) (id : ℕ) (s : MachineState) → slot_at id self.now.host.slots ≡ Some s → IsStepBounded s (step system s) }
     {
         numbers_fit(&self.slots);
     }
@@ -344,7 +344,7 @@ impl Host {
 
 /// A session at its opening, with this console and this cache.
 fn opened(opening: Opening, console: Console, cache: DecodeCache) -> Runner
-    requires { console ≡ blank }
+    requires { console ≡ blank_terminal }
     ensures state { state_of result (memory_opening opening.quota) ≡ opened_slot opening }
     ensures cache { result.cache ≡ cache }
 {

@@ -1,6 +1,6 @@
 //! The laws of a host, as contracts.
 
-ghost use Rattle.cpm_slots.specs.Laws.{Apart, Isolation, Alone, EachAlone, Parting, NoParting, TwoWorlds, Within, Cutting, NeverAgain, Orderly};
+ghost use Rattle.cpm_slots.specs.Laws.{Apart, Isolation, SlotAlone, EachAlone, Parting, NoParting, TwoWorlds, Within, SlotCutting, NeverAgain, Orderly};
 
 /// What is asked of one slot leaves every other.
 pub fn apart()
@@ -15,7 +15,7 @@ pub fn isolation()
 /// After anything that happens to a host, each open slot is the machine run alone by its accepted keys and executed steps, and its
 /// replies are those of that machine.
 pub fn alone()
-    ensures { Alone }
+    ensures { SlotAlone }
 {}
 
 /// After anything that happens to a host, each slot stands alone by its life: by its opening, and its own events since; or, where it was
@@ -46,7 +46,7 @@ pub fn within()
 
 /// Cutting a grant to a slot changes nothing.
 pub fn cutting()
-    ensures { Cutting }
+    ensures { SlotCutting }
 {}
 
 /// The number of a closed slot never comes again.

@@ -4,7 +4,7 @@ ghost use Rattle.std.specs.Prelude.{◌≡◌, ℕ, ◌≤◌, Some, length, map
 ghost use Rattle.cpm_slots.specs.Serving.{ask_of};
 ghost use Rattle.cpm_machine.specs.MachineState.{MachineState};
 ghost use Rattle.cpm_machine.specs.Calls.{no_account};
-ghost use Rattle.cpm_slots.specs.Account.{account_by, slot_after, replies_of, IsAlone};
+ghost use Rattle.cpm_slots.specs.Account.{account_by, slot_after, replies_of, IsRunAlone};
 
 use crate::event::{Event, Reply, Request, SlotId};
 use crate::host::Host;
@@ -22,7 +22,7 @@ fn chunk(bytes: &[u8]) -> ArrayVec<u8, 128>
 }
 
 impl Host {
-    ghost use Rattle.cpm_slots.specs.Host.{reply_at, after_ask, happening_of, host_after, told, own, replies_to, slot_at};
+    ghost use Rattle.cpm_slots.specs.Host.{reply_at, after_ask, happening_of, host_after, replies_told, own, replies_to, slot_at};
     ghost use Rattle.cpm_slots.specs.Serving.{Calls, take_call};
 
     /// Gives up to 128 bytes of a device.
@@ -79,14 +79,14 @@ impl Host {
     pub fn run(&mut self, events: &[Event], replies: &mut [Reply])
         requires { length events.now ≤ length replies.old }
         ensures host { self.new.host ≡ host_after (map happening_of events.now) self.old.host }
-        ensures replies { take (length events.now) replies.new ≡ map (λ t. t.reply) (told (map happening_of events.now) self.old.host) }
+        ensures replies { take (length events.now) replies.new ≡ map (λ t. t.reply) (replies_told (map happening_of events.now) self.old.host) }
         ensures rest { drop (length events.now) replies.new ≡ drop (length events.now) replies.old }
         ensures own_replies { (id : ℕ) →
             replies_to id events.now replies.new ≡ replies_of self.old.host.system (own id (map happening_of events.now)) (slot_at id self.old.host.slots) }
         ensures own_state { (id : ℕ) →
             slot_at id self.new.host.slots ≡ slot_after self.old.host.system (own id (map happening_of events.now)) (slot_at id self.old.host.slots) }
         ensures own_account { (id : ℕ) (start : MachineState) → slot_at id self.old.host.slots ≡ Some start →
-            IsAlone self.old.host.system start (account_by no_account (own id (map happening_of events.now)) (replies_to id events.now replies.new)) (slot_at id self.new.host.slots) }
+            IsRunAlone self.old.host.system start (account_by no_account (own id (map happening_of events.now)) (replies_to id events.now replies.new)) (slot_at id self.new.host.slots) }
     {
         self.serve_all(events, replies);
     }
@@ -95,7 +95,7 @@ impl Host {
     fn serve_all(&mut self, events: &[Event], replies: &mut [Reply])
         requires { length events.now ≤ length replies.old }
         ensures host { self.new.host ≡ host_after (map happening_of events.now) self.old.host }
-        ensures replies { take (length events.now) replies.new ≡ map (λ t. t.reply) (told (map happening_of events.now) self.old.host) }
+        ensures replies { take (length events.now) replies.new ≡ map (λ t. t.reply) (replies_told (map happening_of events.now) self.old.host) }
         ensures rest { drop (length events.now) replies.new ≡ drop (length events.now) replies.old }
     {
         for (index, event) in events.iter().enumerate() {

@@ -7,12 +7,12 @@ ghost use Rattle.cpm_bdos.specs.Bounds.{IsFit};
 ghost use Rattle.cpm_console.specs.Terminal.{pressed};
 ghost use Rattle.cpm_drives.specs.Disks.{images_of};
 ghost use Rattle.cpm_memory.specs.Contents.{Contents, byte_at};
-ghost use Rattle.cpm_memory.specs.Frames.{memories, stamps_at, IsTaken, KeepsStamps, IsSound as IsSoundStore};
+ghost use Rattle.cpm_memory.specs.Frames.{memories, stamps_at, IsTableTaken, KeepsStamps, IsStoreSound as IsSoundStore};
 ghost use Rattle.cpm_decode.specs.Cache.{IsRightFor};
 ghost use Rattle.cpm_machine.specs.Step.{after};
 ghost use Rattle.cpm_machine.specs.Serve.{look_of};
 ghost use Rattle.cpm_machine.specs.Calls.{Key};
-ghost use Rattle.cpm_machine.specs.Runner.{state_of, IsSound};
+ghost use Rattle.cpm_machine.specs.Runner.{state_of, IsRunnerSound};
 ghost use Rattle.cpm_slots.specs.Host.{key_reply};
 ghost use Rattle.cpm_slots.specs.Index.{IsIndex, Serves, IsServed};
 ghost use Rattle.cpm_slots.specs.Serving.{take_call, grant_call, executed_to, why_to};
@@ -86,7 +86,7 @@ fn give(console: &mut Console, key: u8) -> Result<(), Refusal>
 /// Presses a key in a session.
 fn press(runner: &mut Runner, key: u8) -> Result<(), Refusal>
     ensures serves { (system : Disk) (memory : Contents) → Serves system (Key key) (key_reply result) (state_of runner.old memory) (state_of runner.new memory) }
-    ensures sound { (memory : Contents) → IsSound (state_of runner.old memory) → IsSound (state_of runner.new memory) }
+    ensures sound { (memory : Contents) → IsRunnerSound (state_of runner.old memory) → IsRunnerSound (state_of runner.new memory) }
     ensures quota { runner.new.quota ≡ runner.old.quota }
     ensures cache { runner.new.cache ≡ runner.old.cache }
     ensures kept { OnErr result (runner.new ≡ runner.old) }
@@ -100,7 +100,7 @@ fn take_from(runner: &mut Runner, device: Device, out: &mut [u8]) -> usize
     ensures rest { drop result out.new ≡ drop result out.old }
     ensures count { result ≤ length out.old }
     ensures length { length out.new ≡ length out.old }
-    ensures sound { (memory : Contents) → IsSound (state_of runner.old memory) → IsSound (state_of runner.new memory) }
+    ensures sound { (memory : Contents) → IsRunnerSound (state_of runner.old memory) → IsRunnerSound (state_of runner.new memory) }
     ensures quota { runner.new.quota ≡ runner.old.quota }
     ensures cache { runner.new.cache ≡ runner.old.cache }
 {
@@ -142,12 +142,12 @@ fn grant_to<M: Memory>(
     steps: u64,
     stop: Option<u16>,
 ) -> Granted
-    requires sound { IsSound (state_of runner.old (M.contents memory.old)) }
+    requires sound { IsRunnerSound (state_of runner.old (M.contents memory.old)) }
     requires right { IsRightFor (M.contents memory.old) (M.stamps memory.old) runner.old.cache }
     ensures executed { result.executed ≡ executed_to system.now stop steps (state_of runner.old (M.contents memory.old)) }
     ensures why { result.why ≡ why_to stop steps result.executed (state_of runner.new (M.contents memory.new)) }
     ensures state { state_of runner.new (M.contents memory.new) ≡ after system.now result.executed (state_of runner.old (M.contents memory.old)) }
-    ensures sound { IsSound (state_of runner.new (M.contents memory.new)) }
+    ensures sound { IsRunnerSound (state_of runner.new (M.contents memory.new)) }
     ensures right { IsRightFor (M.contents memory.new) (M.stamps memory.new) runner.new.cache }
     ensures leads { M.Leads memory.old memory.new }
 {
@@ -168,15 +168,15 @@ fn grant_table(
     steps: u64,
     stop: Option<u16>,
 ) -> Granted
-    requires taken { IsTaken store.old table }
-    requires sound { IsSound (state_of runner.old (contents_at (memories store.old) table)) }
+    requires taken { IsTableTaken store.old table }
+    requires sound { IsRunnerSound (state_of runner.old (contents_at (memories store.old) table)) }
     requires right { IsRightFor (contents_at (memories store.old) table) (stamps_at store.old table) runner.old.cache }
     ensures executed { result.executed ≡ executed_to system.now stop steps (state_of runner.old (contents_at (memories store.old) table)) }
     ensures why { result.why ≡ why_to stop steps result.executed (state_of runner.new (contents_at (memories store.new) table)) }
     ensures state { state_of runner.new (contents_at (memories store.new) table) ≡ after system.now result.executed (state_of runner.old (contents_at (memories store.old) table)) }
     ensures others { ChangesAt table (memories store.old) (memories store.new) }
     ensures stamps { KeepsStamps store.old store.new table }
-    ensures sound { IsSound (state_of runner.new (contents_at (memories store.new) table)) }
+    ensures sound { IsRunnerSound (state_of runner.new (contents_at (memories store.new) table)) }
     ensures right { IsRightFor (contents_at (memories store.new) table) (stamps_at store.new table) runner.new.cache }
     ensures frames { store.new.private ≡ store.old.private }
     ensures store { IsSoundStore store.new }

@@ -2,7 +2,7 @@
 use Rattle.std.proofs.Common.{◌≡◌, ℕ, List, [], ◌∷◌, ◌++◌, refl, ap, ◌∙◌, sym, subst, length, map}
 use Rattle.std.proofs.lemmas.List.{map-append}
 use Rattle.cpm_store.specs.Log.{Access, AreNoWrites, AreWrites, IsNoWrite, Missed, Ran, RanBy, StopsAfter, Then, Wrote, writes_of}
-use Rattle.cpm_store.specs.Writes.{Named}
+use Rattle.cpm_store.specs.Writes.{NamedBytes}
 
 pub ran_more : {S : Type 0} (does : S → Access → S → Type 0) (log more : List Access) (s m t : S) → Ran does log s m → Ran does more m t → Ran does (log ++ more) s t
 ran_more does [] more s m t h g = subst (λ x. Ran does more x t) (sym h) g
@@ -21,7 +21,7 @@ pub ran_none : {S : Type 0} (does : S → Access → S → Type 0) (s : S) → R
 ran_none does s = ([], refl, refl)
 
 -- one write more
-pub ran_write : {S : Type 0} (does : S → Access → S → Type 0) (ps : List Named) (p : Named) (s m t : S) → RanBy does (AreWrites ps) s m → does m (Wrote p.0 p.1) t
+pub ran_write : {S : Type 0} (does : S → Access → S → Type 0) (ps : List NamedBytes) (p : NamedBytes) (s m t : S) → RanBy does (AreWrites ps) s m → does m (Wrote p.0 p.1) t
     → RanBy does (AreWrites (ps ++ p ∷ [])) s t
 ran_write does ps p s m t h write = (
   h.0 ++ Wrote p.0 p.1 ∷ [],
@@ -30,7 +30,7 @@ ran_write does ps p s m t h write = (
 )
 
 -- a write that failed, behind those that went well
-pub ran_missed : {S : Type 0} (does : S → Access → S → Type 0) (ps done : List Named) (p : Named) (rest : List Named) (count : ℕ) (s m t : S) → ps ≡ done ++ p ∷ rest → length done ≡ count
+pub ran_missed : {S : Type 0} (does : S → Access → S → Type 0) (ps done : List NamedBytes) (p : NamedBytes) (rest : List NamedBytes) (count : ℕ) (s m t : S) → ps ≡ done ++ p ∷ rest → length done ≡ count
     → RanBy does (AreWrites done) s m → does m (Missed p.0) t → RanBy does (StopsAfter ps count) s t
 ran_missed does ps done p rest count s m t order before h missed = (
   h.0 ++ Missed p.0 ∷ [],

@@ -1,13 +1,13 @@
 -- The calls of a store, and what they read and wrote, in their order. All of it is own.
 use Rattle.std.specs.Prelude.{⊤, ◌≡◌, ℕ, List, [], ◌∷◌, ◌++◌, length, map, Some}
-use Rattle.cpm_store.specs.Files.{Files, KeepsOthers, Text, Writes}
-use Rattle.cpm_store.specs.Writes.{Named}
+use Rattle.cpm_store.specs.Files.{Files, KeepsOthers, StoreName, Writes}
+use Rattle.cpm_store.specs.Writes.{NamedBytes}
 
 -- a call of a store: a file gave bytes, or bytes were written to it, or the call of this name failed
 pub data Access : Type 0 where
-  Gave : (name : Text) (bytes : List ℕ) → Access
-  Wrote : (name : Text) (bytes : List ℕ) → Access
-  Missed : (name : Text) → Access
+  Gave : (name : StoreName) (bytes : List ℕ) → Access
+  Wrote : (name : StoreName) (bytes : List ℕ) → Access
+  Missed : (name : StoreName) → Access
 
 -- what a call does to files that are told
 abbrev pub Does : Access → Files → Files → Type 0
@@ -33,17 +33,17 @@ pub record Then (Before After : List Access → Type 0) (log : List Access) : Ty
   pub goes_on : After rest
 
 -- each was written, in this order
-abbrev pub writes_of : List Named → List Access
+abbrev pub writes_of : List NamedBytes → List Access
 writes_of ps = map (λ p. Wrote p.0 p.1) ps
 
-abbrev pub AreWrites : List Named → List Access → Type 0
+abbrev pub AreWrites : List NamedBytes → List Access → Type 0
 AreWrites ps log = log ≡ writes_of ps
 
 -- those before this place were written, and writing the one at it failed
-pub record StopsAfter (ps : List Named) (count : ℕ) (log : List Access) : Type 0 where
-  pub done : List Named
-  pub stopped_at : Named
-  pub rest : List Named
+pub record StopsAfter (ps : List NamedBytes) (count : ℕ) (log : List Access) : Type 0 where
+  pub done : List NamedBytes
+  pub stopped_at : NamedBytes
+  pub rest : List NamedBytes
   pub order : ps ≡ done ++ stopped_at ∷ rest
   pub before : length done ≡ count
   pub calls : log ≡ writes_of done ++ Missed stopped_at.0 ∷ []

@@ -14,13 +14,13 @@ abbrev pub calls_left : MemoryStore → Option ℕ
 calls_left s = s.calls_left
 
 -- the next call is the one that is to fail
-abbrev pub is_last : Option ℕ → Bool
-is_last None = false
-is_last (Some zero) = true
-is_last (Some (suc n)) = false
+abbrev pub is_failing_call : Option ℕ → Bool
+is_failing_call None = false
+is_failing_call (Some zero) = true
+is_failing_call (Some (suc n)) = false
 
 -- what is left after a call
-abbrev pub one_less : Option ℕ → Option ℕ
-one_less None = None
-one_less (Some zero) = None
-one_less (Some (suc n)) = Some n
+abbrev pub one_call_less : Option ℕ → Option ℕ
+one_call_less None = None
+one_call_less (Some zero) = None
+one_call_less (Some (suc n)) = Some n

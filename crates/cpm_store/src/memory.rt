@@ -1,8 +1,8 @@
 //! A store over memory, of which one call can be made to fail.
 ghost use Rattle.std.specs.Prelude.{◌≡◌, ◌+◌, ◌≤◌, ◌⊎◌, Some, None, Ok, Err, IfErr, IfOk, IfSome, IsErrOf, IsSome, OnErr, OnOk, option_map, true};
-ghost use Rattle.cpm_store.specs.Files.{CountsFailure, Finds, Told, KeepsOthers, Writes, file_at};
+ghost use Rattle.cpm_store.specs.Files.{CountsFailure, Finds, WhereTold, KeepsOthers, Writes, file_at};
 ghost use Rattle.cpm_store.specs.Log.{Access, Does, Gave, Missed, Wrote};
-ghost use Rattle.cpm_store.specs.Memory.{calls_left, failures_of, files_in, is_last, one_less};
+ghost use Rattle.cpm_store.specs.Memory.{calls_left, failures_of, files_in, is_failing_call, one_call_less};
 
 use crate::store::{Store, StoreError};
 use std::alloc::{AllocError, Global};
@@ -66,8 +66,8 @@ impl MemoryStore {
     fn is_failing(&mut self) -> bool
         ensures files { self.new.files ≡ self.old.files }
         ensures failures { self.new.failures ≡ self.old.failures }
-        ensures calls { self.new.calls_left ≡ one_less self.old.calls_left }
-        ensures fails { result ≡ is_last self.old.calls_left }
+        ensures calls { self.new.calls_left ≡ one_call_less self.old.calls_left }
+        ensures fails { result ≡ is_failing_call self.old.calls_left }
     {
         match self.calls_left {
             Some(0) => {
@@ -127,11 +127,11 @@ impl Store for MemoryStore {
         ensures memory { IsErrOf result StoreError.OutOfMemory → failures_of self.new ≡ failures_of self.old }
         ensures counted { failures_of self.old ≤ failures_of self.new }
         // It fails exactly at the call that is to fail, or where there is no such file.
-        ensures calls { calls_left self.new ≡ one_less (calls_left self.old) }
-        ensures failing { is_last (calls_left self.old) ≡ true → result ≡ Err StoreError.Device }
+        ensures calls { calls_left self.new ≡ one_call_less (calls_left self.old) }
+        ensures failing { is_failing_call (calls_left self.old) ≡ true → result ≡ Err StoreError.Device }
         ensures absent { files_in self.old name.now ≡ None → result ≡ Err StoreError.Device }
         ensures refused { IsErrOf result StoreError.Device
-            → (is_last (calls_left self.old) ≡ true) ⊎ (files_in self.old name.now ≡ None) }
+            → (is_failing_call (calls_left self.old) ≡ true) ⊎ (files_in self.old name.now ≡ None) }
     {
         if self.is_failing() {
             self.count_failure();
@@ -145,8 +145,8 @@ impl Store for MemoryStore {
     }
 
     fn write(&mut self, name: &str, bytes: &[u8]) -> Result<(), StoreError>
-        ensures written { OnOk result (Told (Some (files_in self.old)) (Some (files_in self.new)) (Writes name.now bytes.now)) }
-        ensures others { OnErr result (Told (Some (files_in self.old)) (Some (files_in self.new)) (KeepsOthers name.now)) }
+        ensures written { OnOk result (WhereTold (Some (files_in self.old)) (Some (files_in self.new)) (Writes name.now bytes.now)) }
+        ensures others { OnErr result (WhereTold (Some (files_in self.old)) (Some (files_in self.new)) (KeepsOthers name.now)) }
         ensures wrote { OnOk result (Does (Wrote name.now bytes.now) (files_in self.old) (files_in self.new)) }
         ensures missed { OnErr result (Does (Missed name.now) (files_in self.old) (files_in self.new)) }
         ensures device { IsErrOf result StoreError.Device → CountsFailure (failures_of self.old) (failures_of self.new) }
@@ -154,9 +154,9 @@ impl Store for MemoryStore {
         ensures memory { IsErrOf result StoreError.OutOfMemory → failures_of self.new ≡ failures_of self.old }
         ensures counted { failures_of self.old ≤ failures_of self.new }
         // It fails exactly at the call that is to fail, but for want of memory, and then changes no file.
-        ensures calls { calls_left self.new ≡ one_less (calls_left self.old) }
-        ensures failing { is_last (calls_left self.old) ≡ true → result ≡ Err StoreError.Device }
-        ensures refused { IsErrOf result StoreError.Device → is_last (calls_left self.old) ≡ true }
+        ensures calls { calls_left self.new ≡ one_call_less (calls_left self.old) }
+        ensures failing { is_failing_call (calls_left self.old) ≡ true → result ≡ Err StoreError.Device }
+        ensures refused { IsErrOf result StoreError.Device → is_failing_call (calls_left self.old) ≡ true }
         ensures kept { OnErr result (files_in self.new ≡ files_in self.old) }
     {
         if self.is_failing() {

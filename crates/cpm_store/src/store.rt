@@ -1,6 +1,6 @@
 //! What a store of named files offers.
 ghost use Rattle.std.specs.Prelude.{◌≡◌, ◌≤◌, ℕ, Option, IfOk, OnOk, OnErr, IsErrOf};
-ghost use Rattle.cpm_store.specs.Files.{CountsFailure, Files, Finds, KeepsOthers, Told, Writes};
+ghost use Rattle.cpm_store.specs.Files.{CountsFailure, Files, Finds, KeepsOthers, WhereTold, Writes};
 ghost use Rattle.cpm_store.specs.Log.{Access, Gave, Missed, Wrote};
 
 use std::alloc::Global;
@@ -43,8 +43,8 @@ pub trait Store {
     /// Makes a file hold these bytes. `Device` where it can't be written, which counts a failure; no other
     /// answer counts one. After an error this file may hold anything, and no other file has changed.
     fn write(&mut self, name: &str, bytes: &[u8]) -> Result<(), StoreError>
-        ensures written { OnOk result (Told (files self.old) (files self.new) (Writes name.now bytes.now)) }
-        ensures others { OnErr result (Told (files self.old) (files self.new) (KeepsOthers name.now)) }
+        ensures written { OnOk result (WhereTold (files self.old) (files self.new) (Writes name.now bytes.now)) }
+        ensures others { OnErr result (WhereTold (files self.old) (files self.new) (KeepsOthers name.now)) }
         ensures wrote { OnOk result (does self.old (Wrote name.now bytes.now) self.new) }
         ensures missed { OnErr result (does self.old (Missed name.now) self.new) }
         ensures device { IsErrOf result StoreError.Device → CountsFailure (failed self.old) (failed self.new) }

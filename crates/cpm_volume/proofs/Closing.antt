@@ -5,7 +5,7 @@ use Rattle.std.proofs.lemmas.Bool.{false≢true, eq-eqb, eqb-true, ne_eqb, and_p
 use Rattle.cpm_geom.specs.declared.dpb.Dpb.{Dpb}
 use Rattle.cpm_volume.specs.declared.extent.Extent.{Extent}
 use Rattle.cpm_volume.specs.declared.extent.Entry.{Entry}
-use Rattle.cpm_volume.specs.Files.{extent_number, group_of, map_place, same_name, deleted, entry_at, InUse, is_of, first_of, first_match, record_count_of, open_record_count, block_number, block_if, entry_block, file_block, open_block, open_file_block, IsStored, IsWellFormed, IsKept, no_entry}
+use Rattle.cpm_volume.specs.Files.{extent_number, group_of, map_place, same_name, deleted, entry_at, InUse, is_of, first_of, first_match, record_count_of, open_record_count, block_number, block_if, entry_block, file_block, open_block, open_file_block, IsFileBlock, IsWellFormed, IsFcbKept, no_entry}
 use Rattle.cpm_volume.specs.Operations.{closed_entry, close_extent, closed, close_fault, read_only, is_unchanged, same_numbers}
 use Rattle.cpm_volume.proofs.Entries.{entry_at-set_same, entry_at-set_other, in_use_within, is_of_parts, is_of_from, is_of_same, first_of_is, first_of_other, first_of-set}
 use Rattle.cpm_volume.proofs.NameLemmas.{first_match_plain, same_name-trans, same_name-sym, same_name-refl}
@@ -126,7 +126,7 @@ same_entry e x h =
     ]
 
 -- ---- a file control block that fits a well-formed directory
-module _ (d : Dpb) (es : List Entry) (reserved : List Bool) (user : ℕ) (x : Extent) (user_ok : user ≢ deleted) (wf : IsWellFormed d es reserved) (kept : IsKept d es reserved user x) where
+module _ (d : Dpb) (es : List Entry) (reserved : List Bool) (user : ℕ) (x : Extent) (user_ok : user ≢ deleted) (wf : IsWellFormed d es reserved) (kept : IsFcbKept d es reserved user x) where
   own : Entry
   own = entry_at es kept.index
 
@@ -230,7 +230,7 @@ module _ (d : Dpb) (es : List Entry) (reserved : List Bool) (user : ℕ) (x : Ex
         ]
       ]
 
-  stored_after : (i s : ℕ) → InUse after i → block_number (entry_at after i).extent s ≢ 0 → IsStored d reserved (block_number (entry_at after i).extent s)
+  stored_after : (i s : ℕ) → InUse after i → block_number (entry_at after i).extent s ≢ 0 → IsFileBlock d reserved (block_number (entry_at after i).extent s)
   stored_after i s p h =
       elim (cases_eq i kept.index) [
         | inl a ↦ rw (a, numbers_own s) (kept.stored s (λ z. h (rw (a, numbers_own s) z)))
@@ -254,7 +254,7 @@ module _ (d : Dpb) (es : List Entry) (reserved : List Bool) (user : ℕ) (x : Ex
   pub well_formed_after : IsWellFormed d after reserved
   well_formed_after = record { once = once_after; stored = stored_after; directory = wf.directory; apart = apart_after }
 
-  pub kept_after : IsKept d after reserved user x
+  pub kept_after : IsFcbKept d after reserved user x
   kept_after = record {
     index = kept.index;
     plain = kept.plain;

@@ -10,18 +10,18 @@ use Rattle.cpm_geom.specs.declared.dpb.Dpb.{Dpb}
 use Rattle.cpm_volume.specs.declared.extent.Extent.{Extent}
 use Rattle.cpm_volume.specs.declared.extent.Entry.{Entry}
 use Rattle.cpm_volume.specs.declared.fcb.Fcb.{Fcb}
-use Rattle.cpm_volume.specs.Encoding.{number_in, extent_of, entry_of, fcb_of, map_byte, extent_byte, entry_byte, fcb_byte, entry_bytes, fcb_bytes, place_limit, IsStorable, AreBytes}
+use Rattle.cpm_volume.specs.Encoding.{block_number_in, extent_of, entry_of, fcb_of, map_byte, extent_byte, entry_byte, fcb_byte, entry_bytes, fcb_bytes, place_limit, IsStorable, AreBytes}
 
-number_byte : (d : Dpb) (bytes : List ℕ) (place : ℕ) → d.last_block < 256 → number_in d bytes place ≡ get_or bytes (16 + place) 0
-unfolding number_in
+number_byte : (d : Dpb) (bytes : List ℕ) (place : ℕ) → d.last_block < 256 → block_number_in d bytes place ≡ get_or bytes (16 + place) 0
+unfolding block_number_in
 number_byte d bytes place small = rw (lt-ltb _ _ small) refl
 
-number_word : (d : Dpb) (bytes : List ℕ) (place : ℕ) → 256 ≤ d.last_block → place < 8 → number_in d bytes place ≡ get_or bytes (16 + 2 * place) 0 + 256 * get_or bytes (17 + 2 * place) 0
-unfolding number_in
+number_word : (d : Dpb) (bytes : List ℕ) (place : ℕ) → 256 ≤ d.last_block → place < 8 → block_number_in d bytes place ≡ get_or bytes (16 + 2 * place) 0 + 256 * get_or bytes (17 + 2 * place) 0
+unfolding block_number_in
 number_word d bytes place large h = rw (le-ltb _ _ large, lt-ltb _ _ h) refl
 
-number_past : (d : Dpb) (bytes : List ℕ) (place : ℕ) → 256 ≤ d.last_block → 8 ≤ place → number_in d bytes place ≡ 0
-unfolding number_in
+number_past : (d : Dpb) (bytes : List ℕ) (place : ℕ) → 256 ≤ d.last_block → 8 ≤ place → block_number_in d bytes place ≡ 0
+unfolding block_number_in
 number_past d bytes place large h = rw (le-ltb _ _ large, le-ltb _ _ h) refl
 
 byte_small : (d : Dpb) (blocks : List ℕ) (place : ℕ) → d.last_block < 256 → map_byte d blocks place ≡ get_or blocks place 0 % 256
@@ -43,7 +43,7 @@ byte_odd d blocks place half large e =
     rw (le-ltb _ _ large, ne_eqb _ _ odd, same) refl
 
 -- a byte of a map that was read
-map_back : (d : Dpb) (bytes blocks : List ℕ) (place : ℕ) → ((k : ℕ) → get_or bytes k 0 < 256) → ((k : ℕ) → k < 16 → get_or blocks k 0 ≡ number_in d bytes k) → place < 16 → map_byte d blocks place ≡ get_or bytes (16 + place) 0
+map_back : (d : Dpb) (bytes blocks : List ℕ) (place : ℕ) → ((k : ℕ) → get_or bytes k 0 < 256) → ((k : ℕ) → k < 16 → get_or blocks k 0 ≡ block_number_in d bytes k) → place < 16 → map_byte d blocks place ≡ get_or bytes (16 + place) 0
 map_back d bytes blocks place fit at h =
     elim (cases_lt d.last_block 256) [
       | inl small ↦
@@ -78,7 +78,7 @@ extent_back d bytes k fit low high =
             | inl e ↦ rw e refl
             | inr n14 ↦ rw (ne_eqb _ _ n14) (elim (cases_eq k 15) [
               | inl e ↦ rw e refl
-              | inr n15 ↦ rw (ne_eqb _ _ n15) (map_back d bytes (map (number_in d bytes) (range_with_len 0 16)) (k - 16) fit (λ j l. get_or-map-range_with_len (number_in d bytes) 0 16 j j 0 l (omega arith)) (omega arith) ∙ ap (λ i. get_or bytes i 0) (let e : 16 + (k - 16) ≡ k = omega arith in e))
+              | inr n15 ↦ rw (ne_eqb _ _ n15) (map_back d bytes (map (block_number_in d bytes) (range_with_len 0 16)) (k - 16) fit (λ j l. get_or-map-range_with_len (block_number_in d bytes) 0 16 j j 0 l (omega arith)) (omega arith) ∙ ap (λ i. get_or bytes i 0) (let e : 16 + (k - 16) ≡ k = omega arith in e))
             ])
           ])
         ])
@@ -135,7 +135,7 @@ byte_of_map d x place =
     rw (le-ltb (16 + place) 12 (omega arith), ne_eqb _ _ n12, ne_eqb _ _ n13, ne_eqb _ _ n14, ne_eqb _ _ n15, same) refl
 
 -- a number of a map that was written
-number_back : (d : Dpb) (x : Extent) (bytes : List ℕ) (place : ℕ) → IsStorable d x → ((k : ℕ) → 1 ≤ k → k < 32 → get_or bytes k 0 ≡ extent_byte d x k) → place < 16 → number_in d bytes place ≡ get_or x.blocks place 0
+number_back : (d : Dpb) (x : Extent) (bytes : List ℕ) (place : ℕ) → IsStorable d x → ((k : ℕ) → 1 ≤ k → k < 32 → get_or bytes k 0 ≡ extent_byte d x k) → place < 16 → block_number_in d bytes place ≡ get_or x.blocks place 0
 unfolding place_limit
 number_back d x bytes place storable at h =
     let room = storable.numbers place h in
@@ -175,7 +175,7 @@ same_extent d x bytes storable size at =
     let s1 : get_or bytes 13 0 ≡ x.s1 = at 13 (omega arith) (omega arith) in
     let s2 : get_or bytes 14 0 ≡ x.s2 = at 14 (omega arith) (omega arith) in
     let records : get_or bytes 15 0 ≡ x.record_count = at 15 (omega arith) (omega arith) in
-    let blocks : map (number_in d bytes) (range_with_len 0 16) ≡ x.blocks = sym (fill_by_all (number_in d bytes) x.blocks 16 0 storable.map (λ k h. sym (number_back d x bytes k storable at h))) in
+    let blocks : map (block_number_in d bytes) (range_with_len 0 16) ≡ x.blocks = sym (fill_by_all (block_number_in d bytes) x.blocks 16 0 storable.map (λ k h. sym (number_back d x bytes k storable at h))) in
     rw (name, ex, s1, s2, records, blocks) refl
 
 pub same_entry : (d : Dpb) (e : Entry) → IsStorable d e.extent → entry_of d (entry_bytes d e) ≡ e

@@ -8,8 +8,8 @@ use Rattle.std.proofs.lemmas.List.Sums.{fails_before_first}
 use Rattle.std.proofs.lemmas.Bool.{false≢true, eqb-true, eq-eqb, ne_eqb, and_parts, and_from, and_left, or_left, or_right, cases_Bool, cases_lt, lt-ltb, le-ltb, false_from_ne_true}
 use Rattle.cpm_geom.specs.declared.dpb.Dpb.{Dpb}
 use Rattle.cpm_volume.specs.declared.extent.Entry.{Entry}
-use Rattle.cpm_volume.specs.Files.{extent_number, group_of, same_name, name_matches, deleted, no_entry, entry_at, InUse, is_of, first_of, block_number, file_block, is_reserved, is_directory_block, IsStored, IsFormat, record_in, file_record, Volume, IsSoundDrive}
-use Rattle.cpm_volume.specs.Names.{is_named, first_named, is_read_only, change_named, named, protects, deletion, is_erased, reserved_after, named_writes, erase_files}
+use Rattle.cpm_volume.specs.Files.{extent_number, group_of, same_name, name_matches, deleted, no_entry, entry_at, InUse, is_of, first_of, block_number, file_block, is_reserved, is_directory_block, IsFileBlock, IsFormat, record_in, file_record, Volume, IsSoundDrive}
+use Rattle.cpm_volume.specs.Names.{is_named, first_named, is_read_only, change_named, named, protects, deletion, is_erased, reserved_after, named_writes, erase_files_on_volume}
 use Rattle.cpm_volume.specs.NameLaws.{ErasesFiles, EraseLaw}
 use Rattle.cpm_volume.proofs.Entries.{in_use_within, is_of_parts, first_of_passes, any_index}
 use Rattle.cpm_volume.proofs.Making.{none_block}
@@ -167,7 +167,7 @@ module _ (d : Dpb) (user : ℕ) (v : Volume) (pattern : List ℕ) (user_ok : use
       within (block_number (entry_at v.entries i).extent s) (omega arith) ∙ rw (apart, erased_number i s t h, stored.kept) refl
 
   -- ---- the drive agrees with itself
-  kept_stored : (i s : ℕ) → InUse after i → block_number (entry_at after i).extent s ≢ 0 → IsStored d freed_list (block_number (entry_at after i).extent s)
+  kept_stored : (i s : ℕ) → InUse after i → block_number (entry_at after i).extent s ≢ 0 → IsFileBlock d freed_list (block_number (entry_at after i).extent s)
   kept_stored i s used h =
       let was = used_before i used in
       let there : block_number (entry_at v.entries i).extent s ≢ 0 = λ z. h (rw (at_other i was.0) z) in
@@ -285,12 +285,12 @@ module _ (d : Dpb) (user : ℕ) (v : Volume) (pattern : List ℕ) (user_ok : use
       let parts = and_parts (is_named user pattern (get_or v.entries found.0 no_entry)) _ found.2 in
       (found.0, parts.0, parts.1)
 
-  erased_answer : first_named v.entries user pattern < length v.entries → list_any (protects user pattern) v.entries ≡ false → erase_files d v user pattern ≡ named (first_named v.entries user pattern) volume_after
-  unfolding erase_files volume_after after freed_list
+  erased_answer : first_named v.entries user pattern < length v.entries → list_any (protects user pattern) v.entries ≡ false → erase_files_on_volume d v user pattern ≡ named (first_named v.entries user pattern) volume_after
+  unfolding erase_files_on_volume volume_after after freed_list
   erased_answer there free = rw (lt-ltb _ _ there, free) refl
 
 pub erases : EraseLaw
-unfolding erase_files
+unfolding erase_files_on_volume
 erases d user v pattern user_ok format drive =
     elim (cases_lt (first_named v.entries user pattern) (length v.entries)) [
       | inr past ↦ inl (rw (le-ltb _ _ past) refl, none_answer d user v pattern user_ok format drive past)

@@ -5,7 +5,7 @@ use Rattle.std.proofs.lemmas.List.{length-replicate}
 use Rattle.cpm_geom.specs.declared.dpb.Dpb.{Dpb}
 use Rattle.cpm_volume.specs.declared.extent.Extent.{Extent}
 use Rattle.cpm_volume.specs.Files.{extent_number, group_of, has_wildcard, deleted, entry_at, is_of, first_of, first_free, file_record, open_file_record, Volume, IsSoundDrive}
-use Rattle.cpm_volume.specs.Operations.{with_entry, opened, made, open_to_read, make_extent, open_file, make_file}
+use Rattle.cpm_volume.specs.Operations.{with_entry, opened_extent, made_extent, open_to_read, make_extent, open_file_on_volume, make_file_on_volume}
 use Rattle.cpm_volume.specs.Laws.{KnowsFile, HasNoFile, OpensFile, MakesFile}
 use Rattle.cpm_volume.proofs.Entries.{is_of_parts, is_of_from, first_of_passes}
 use Rattle.cpm_volume.proofs.NameLemmas.{first_match_plain, same_name-trans, same_name-sym, same_name-refl}
@@ -13,8 +13,8 @@ use Rattle.cpm_volume.proofs.Moving.{none_of, all_used}
 use Rattle.cpm_volume.proofs.Opening as opening
 use Rattle.cpm_volume.proofs.Making as making
 
-made_map : (x : Extent) (number : ℕ) → length (made x number).blocks ≡ 16
-unfolding made
+made_map : (x : Extent) (number : ℕ) → length (made_extent x number).blocks ≡ 16
+unfolding made_extent
 made_map x number = length-replicate {A = ℕ} 16 0
 
 module _ (d : Dpb) (user : ℕ) (v : Volume) (x : Extent) (user_ok : user ≢ deleted) (drive : IsSoundDrive d v) (plain : has_wildcard x.name ≡ false) where
@@ -31,19 +31,19 @@ module _ (d : Dpb) (user : ℕ) (v : Volume) (x : Extent) (user_ok : user ≢ de
     matched = first_of_passes d v.entries user x.name (group_of d (x.ex % 32)) there
 
     it : Extent
-    it = opened (entry_at v.entries index).extent (x.ex % 32)
+    it = opened_extent (entry_at v.entries index).extent (x.ex % 32)
 
     number_it : extent_number it ≡ x.ex % 32
     unfolding it
     number_it = opening.opened_number (entry_at v.entries index).extent (x.ex % 32) small
 
-    lesser : extent_number (entry_at v.entries index).extent < x.ex % 32 → open_file d v.entries user x ≡ None
-    unfolding open_file open_to_read index
+    lesser : extent_number (entry_at v.entries index).extent < x.ex % 32 → open_file_on_volume d v.entries user x ≡ None
+    unfolding open_file_on_volume open_to_read index
     lesser l = rw (first_match_plain d v.entries user x.name (group_of d (x.ex % 32)) plain, lt-ltb _ _ there, lt-ltb _ _ l) refl
 
     module _ (greater : x.ex % 32 ≤ extent_number (entry_at v.entries index).extent) where
-      opens : open_file d v.entries user x ≡ Some it
-      unfolding open_file open_to_read it index
+      opens : open_file_on_volume d v.entries user x ≡ Some it
+      unfolding open_file_on_volume open_to_read it index
       opens = rw (first_match_plain d v.entries user x.name (group_of d (x.ex % 32)) plain, lt-ltb _ _ there, le-ltb _ _ greater) refl
 
       knows : KnowsFile d user x.name v v it
@@ -75,8 +75,8 @@ module _ (d : Dpb) (user : ℕ) (v : Volume) (x : Extent) (user_ok : user ≢ de
     lesser = λ i own. absurd (false≢true (sym (none_of d v.entries user x.name (group_of d (x.ex % 32)) user_ok h i) ∙ own));
   }
 
-  past : length v.entries ≤ first_of d v.entries user x.name (group_of d (x.ex % 32)) → open_file d v.entries user x ≡ None
-  unfolding open_file open_to_read
+  past : length v.entries ≤ first_of d v.entries user x.name (group_of d (x.ex % 32)) → open_file_on_volume d v.entries user x ≡ None
+  unfolding open_file_on_volume open_to_read
   past h = rw (first_match_plain d v.entries user x.name (group_of d (x.ex % 32)) plain, le-ltb _ _ h) refl
 
   pub opens_file : OpensFile d user v x
@@ -91,20 +91,20 @@ module _ (d : Dpb) (user : ℕ) (v : Volume) (x : Extent) (user_ok : user ≢ de
 
   -- ---- with no entry of the group
   module _ (none : (j : ℕ) → is_of d user x.name (group_of d (x.ex % 32)) (entry_at v.entries j) ≡ false) where
-    no_room : length v.entries ≤ first_free v.entries → make_file v.entries user x ≡ None
-    unfolding make_file make_extent
+    no_room : length v.entries ≤ first_free v.entries → make_file_on_volume v.entries user x ≡ None
+    unfolding make_file_on_volume make_extent
     no_room h = rw (le-ltb _ _ h) refl
 
     module _ (free : first_free v.entries < length v.entries) where
-      makes : make_file v.entries user x ≡ Some (making.after d v.entries v.reserved user x (x.ex % 32) user_ok plain small drive.well_formed none free, made x (x.ex % 32))
-      unfolding make_file
+      makes : make_file_on_volume v.entries user x ≡ Some (making.after d v.entries v.reserved user x (x.ex % 32) user_ok plain small drive.well_formed none free, made_extent x (x.ex % 32))
+      unfolding make_file_on_volume
       makes = making.make_answer d v.entries v.reserved user x (x.ex % 32) user_ok plain small drive.well_formed none free
 
       stays : (other : ℕ) (name : List ℕ) (m : ℕ) → other ≢ deleted → file_record d (making.after d v.entries v.reserved user x (x.ex % 32) user_ok plain small drive.well_formed none free) v.records other name m ≡ file_record d v.entries v.records other name m
       unfolding file_record
       stays other name m ok = rw (making.make_files d v.entries v.reserved user x (x.ex % 32) user_ok plain small drive.well_formed none free other name m ok) refl
 
-      knows_made : KnowsFile d user x.name v (with_entry v (first_free v.entries) (making.after d v.entries v.reserved user x (x.ex % 32) user_ok plain small drive.well_formed none free)) (made x (x.ex % 32))
+      knows_made : KnowsFile d user x.name v (with_entry v (first_free v.entries) (making.after d v.entries v.reserved user x (x.ex % 32) user_ok plain small drive.well_formed none free)) (made_extent x (x.ex % 32))
       unfolding open_file_record file_record with_entry
       knows_made = record {
         name_is = rw (making.made_name x (x.ex % 32)) (same_name-refl x.name);
@@ -120,6 +120,6 @@ module _ (d : Dpb) (user : ℕ) (v : Volume) (x : Extent) (user_ok : user ≢ de
     pub makes_file : MakesFile d user v x
     makes_file =
         elim (cases_lt (first_free v.entries) (length v.entries)) [
-          | inl free ↦ inr (making.after d v.entries v.reserved user x (x.ex % 32) user_ok plain small drive.well_formed none free, made x (x.ex % 32), makes free, record { within = free; unused = making.free_user d v.entries v.reserved user x (x.ex % 32) user_ok plain small drive.well_formed none free }, making.made_number x (x.ex % 32) small, knows_made free, stays free)
+          | inl free ↦ inr (making.after d v.entries v.reserved user x (x.ex % 32) user_ok plain small drive.well_formed none free, made_extent x (x.ex % 32), makes free, record { within = free; unused = making.free_user d v.entries v.reserved user x (x.ex % 32) user_ok plain small drive.well_formed none free }, making.made_number x (x.ex % 32) small, knows_made free, stays free)
           | inr full ↦ inl (no_room full, record { used = all_used v.entries full })
         ]

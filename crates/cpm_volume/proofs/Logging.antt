@@ -9,35 +9,35 @@ use Rattle.std.proofs.lemmas.Bool.{ltb-true, not-false, cond_both, cases_Bool}
 use Rattle.cpm_geom.specs.declared.dpb.Dpb.{Dpb}
 use Rattle.cpm_volume.specs.declared.extent.Extent.{Extent}
 use Rattle.cpm_volume.specs.declared.extent.Entry.{Entry}
-use Rattle.cpm_volume.specs.Files.{extent_number, group_of, place_of, block_number, entry_at, first_match, first_free, Volume, Write, entry_put, record_put}
-use Rattle.cpm_volume.specs.Operations.{Answer, no_record, no_extent, no_entry_free, fault, bad_sector, read_only, Outcome, ends, gives, with_entry, merged, agree, has_bad_block, closed_entry, is_unchanged, Close, refused, close_fault, closed, close_extent, open_extent, open_to_read, made, make_extent, close_file, make_file, Purpose, reading, writing, Target, Place, stopped, standing, opened_in, made_in, opened_or_made, have_extent, closed_in, cross, next_target, target_of, next_place, place_at, record_in_block, get_record, Found, no_such_block, none_free, old_block, new_block, block_to_write, cleared, taken_records, taken_writes, put_found, put_record, read_in, write_in, read_next, write_next, read_random, write_random, write_random_cleared}
-use Rattle.cpm_volume.specs.Names.{is_named, first_named, change_named, named_writes, Named, none_named, file_read_only, named, protects, deletion, renaming, marking, reserved_after, erase_files, rename_files, set_attributes}
+use Rattle.cpm_volume.specs.Files.{extent_number, group_of, entry_place_of, block_number, entry_at, first_match, first_free, Volume, DiskWrite, entry_put, record_put}
+use Rattle.cpm_volume.specs.Operations.{Answer, no_record, no_extent, no_entry_free, fault, bad_sector, read_only, Outcome, ends, gives, with_entry, merged, agree, has_bad_block, closed_entry, is_unchanged, Close, refused, close_fault, closed, close_extent, open_extent, open_to_read, made_extent, make_extent, close_file_on_volume, make_file_on_volume, Purpose, reading, writing, Target, Place, stopped, standing, opened_in, made_in, opened_or_made, have_extent, closed_in, cross, next_target, target_of, next_place, place_at, record_in_block, get_record, Found, no_such_block, none_free, old_block, new_block, block_to_write, cleared_records, taken_records, taken_writes, put_found, put_record, read_in, write_in, read_next_on_volume, write_next_on_volume, read_random_on_volume, write_random_on_volume, write_random_cleared_on_volume}
+use Rattle.cpm_volume.specs.Names.{is_named, first_named, change_named, named_writes, NameOutcome, none_named, file_read_only, named, protects, deletion, renaming, marking, reserved_after, erase_files_on_volume, rename_files_on_volume, set_attributes_on_volume}
 use Rattle.cpm_volume.specs.LogLaws.{logged, logged_all, IsLogged, CallsLog, NamedCallsLog}
 use Rattle.cpm_volume.proofs.Entries.{entry_at-set_same}
 
 -- ---- writes in order
-pub logged_append : (a b : List Write) (v : Volume) → logged_all (a ++ b) v ≡ logged_all b (logged_all a v)
+pub logged_append : (a b : List DiskWrite) (v : Volume) → logged_all (a ++ b) v ≡ logged_all b (logged_all a v)
 unfolding logged_all
 logged_append [] b v = refl
 logged_append (w ∷ a) b v = logged_append a b (logged w v)
 
 -- the entries and the records after writes are those before them and the writes', whatever else the volume has
-same_entry : (w : Write) (v v' : Volume) → v.entries ≡ v'.entries → (logged w v).entries ≡ (logged w v').entries
+same_entry : (w : DiskWrite) (v v' : Volume) → v.entries ≡ v'.entries → (logged w v).entries ≡ (logged w v').entries
 unfolding logged
 same_entry (entry_put i e) v v' h = ap (λ es. set es i e) h
 same_entry (record_put n bytes) v v' h = h
 
-same_record : (w : Write) (v v' : Volume) → v.records ≡ v'.records → (logged w v).records ≡ (logged w v').records
+same_record : (w : DiskWrite) (v v' : Volume) → v.records ≡ v'.records → (logged w v).records ≡ (logged w v').records
 unfolding logged
 same_record (entry_put i e) v v' h = h
 same_record (record_put n bytes) v v' h = ap (λ rs. set rs n bytes) h
 
-same_entries : (ws : List Write) (v v' : Volume) → v.entries ≡ v'.entries → (logged_all ws v).entries ≡ (logged_all ws v').entries
+same_entries : (ws : List DiskWrite) (v v' : Volume) → v.entries ≡ v'.entries → (logged_all ws v).entries ≡ (logged_all ws v').entries
 unfolding logged_all
 same_entries [] v v' h = h
 same_entries (w ∷ ws) v v' h = same_entries ws (logged w v) (logged w v') (same_entry w v v' h)
 
-same_records : (ws : List Write) (v v' : Volume) → v.records ≡ v'.records → (logged_all ws v).records ≡ (logged_all ws v').records
+same_records : (ws : List DiskWrite) (v v' : Volume) → v.records ≡ v'.records → (logged_all ws v).records ≡ (logged_all ws v').records
 unfolding logged_all
 same_records [] v v' h = h
 same_records (w ∷ ws) v v' h = same_records ws (logged w v) (logged w v') (same_record w v v' h)
@@ -77,7 +77,7 @@ ClosesLogged v (closed index entries extent) = IsLogged v (with_entry v index en
 
 MakesLogged : Volume → Option (List Entry × Extent) → Type 0
 MakesLogged v None = ⊤
-MakesLogged v (Some made) = IsLogged v (with_entry v (first_free v.entries) made.0)
+MakesLogged v (Some made_extent) = IsLogged v (with_entry v (first_free v.entries) made_extent.0)
 
 closes : (d : Dpb) (protected : Bool) (v : Volume) (user : ℕ) (x : Extent) → ClosesLogged v (close_extent d protected v.entries user x)
 unfolding close_extent ClosesLogged
@@ -95,7 +95,7 @@ closes d protected v user x =
 makes : (v : Volume) (user : ℕ) (x : Extent) (number : ℕ) → MakesLogged v (make_extent v.entries user x number)
 unfolding make_extent MakesLogged
 makes v user x number =
-    cond_both (ltb (first_free v.entries) (length v.entries)) (Some (set v.entries (first_free v.entries) (record { user = user; extent = made x number }), made x number)) None (MakesLogged v) (λ free. log_entry v (first_free v.entries) (record { user = user; extent = made x number }) (ltb-true _ _ free)) (λ _. tt)
+    cond_both (ltb (first_free v.entries) (length v.entries)) (Some (set v.entries (first_free v.entries) (record { user = user; extent = made_extent x number }), made_extent x number)) None (MakesLogged v) (λ free. log_entry v (first_free v.entries) (record { user = user; extent = made_extent x number }) (ltb-true _ _ free)) (λ _. tt)
 
 -- ---- on the way to the record
 PlaceLogged : Volume → Place → Type 0
@@ -160,14 +160,14 @@ OutcomeLogged v o = IsLogged v o.volume
 gets : (d : Dpb) (v v' : Volume) (x : Extent) (current next : ℕ) → IsLogged v v' → OutcomeLogged v (get_record d v' x current next)
 unfolding get_record ends gives OutcomeLogged
 gets d v v' x current next log =
-    let b = block_number x (place_of d x current) in
+    let b = block_number x (entry_place_of d x current) in
     cond_both (not (ltb current x.record_count)) (ends no_record v' x current) _ (OutcomeLogged v) (λ _. log) (λ _.
     cond_both (ltb d.last_block b) (ends (fault bad_sector) v' x current) _ (OutcomeLogged v) (λ _. log) (λ _.
     cond_both (eqb b 0) (ends no_record v' x current) (gives v' x next (record_in_block d b current)) (OutcomeLogged v) (λ _. log) (λ _. log)))
 
 -- records of zeros, written one after the other
-clears_records : (start count : ℕ) (v : Volume) → (logged_all (map (λ place. record_put (start + place) (replicate 128 0)) (range_with_len 0 count)) v).records ≡ cleared start count v.records
-unfolding cleared logged_all logged
+clears_records : (start count : ℕ) (v : Volume) → (logged_all (map (λ place. record_put (start + place) (replicate 128 0)) (range_with_len 0 count)) v).records ≡ cleared_records start count v.records
+unfolding cleared_records logged_all logged
 clears_records start zero v = refl
 clears_records start (suc count) v =
     let writes = map (λ place. record_put (start + place) (replicate 128 0)) (range_with_len 0 count) in
@@ -218,7 +218,7 @@ puts_found d clears v v' x current next bytes (new_block b) log =
 puts : (d : Dpb) (clears : Bool) (v v' : Volume) (x : Extent) (current next : ℕ) (bytes : List ℕ) → IsLogged v v' → OutcomeLogged v (put_record d clears v' x current next bytes)
 unfolding put_record
 puts d clears v v' x current next bytes log =
-    puts_found d clears v v' x current next bytes (block_to_write d v'.reserved (block_number x (place_of d x current))) log
+    puts_found d clears v v' x current next bytes (block_to_write d v'.reserved (block_number x (entry_place_of d x current))) log
 
 -- ---- the calls on a record
 reads_in : (d : Dpb) (current step : ℕ) (v : Volume) (place : Place) → PlaceLogged v place → OutcomeLogged v (read_in d current step place)
@@ -232,7 +232,7 @@ writes_in d clears current step bytes v (stopped answer v' x) log = log
 writes_in d clears current step bytes v (standing v' x here) log = puts d clears v v' x here (here + step) bytes log
 
 pub calls_log : (d : Dpb) (v : Volume) (user : ℕ) (x : Extent) → CallsLog d v user x
-unfolding OutcomeLogged ClosesLogged MakesLogged close_file make_file read_next read_random write_next write_random write_random_cleared
+unfolding OutcomeLogged ClosesLogged MakesLogged close_file_on_volume make_file_on_volume read_next_on_volume read_random_on_volume write_next_on_volume write_random_on_volume write_random_cleared_on_volume
 calls_log d v user x = record {
   sequential_read = λ protected current. reads_in d current 1 v (next_place d reading protected v user x current) (at_next d reading protected v user x current);
   random_read = λ protected current n. reads_in d current 0 v (place_at d reading protected v user x (target_of no_extent n)) (at_any d reading protected v user x (target_of no_extent n));
@@ -275,29 +275,29 @@ log_named user pattern f v v' w e r = record {
   records = r ∙ sym (named_no_record user pattern 0 v.entries (change_named user pattern f v.entries) v);
 }
 
-NamedLogged : Volume → Named → Type 0
+NamedLogged : Volume → NameOutcome → Type 0
 NamedLogged v none_named = ⊤
 NamedLogged v file_read_only = ⊤
 NamedLogged v (named first v') = IsLogged v v'
 
-erases : (d : Dpb) (v : Volume) (user : ℕ) (pattern : List ℕ) → NamedLogged v (erase_files d v user pattern)
-unfolding erase_files NamedLogged
+erases : (d : Dpb) (v : Volume) (user : ℕ) (pattern : List ℕ) → NamedLogged v (erase_files_on_volume d v user pattern)
+unfolding erase_files_on_volume NamedLogged
 erases d v user pattern =
     let after : Volume = record v { entries = change_named user pattern deletion v.entries; reserved = reserved_after d user pattern v.entries v.reserved; written = v.written ++ named_writes user pattern 0 v.entries (change_named user pattern deletion v.entries) } in
     cond_both (not (ltb (first_named v.entries user pattern) (length v.entries))) none_named _ (NamedLogged v) (λ _. tt) (λ _.
     cond_both (list_any (protects user pattern) v.entries) file_read_only (named (first_named v.entries user pattern) after) (NamedLogged v) (λ _. tt) (λ _.
     log_named user pattern deletion v after refl refl refl))
 
-renames : (v : Volume) (user : ℕ) (pattern name : List ℕ) → NamedLogged v (rename_files v user pattern name)
-unfolding rename_files NamedLogged
+renames : (v : Volume) (user : ℕ) (pattern name : List ℕ) → NamedLogged v (rename_files_on_volume v user pattern name)
+unfolding rename_files_on_volume NamedLogged
 renames v user pattern name =
     let after : Volume = record v { entries = change_named user pattern (renaming name) v.entries; written = v.written ++ named_writes user pattern 0 v.entries (change_named user pattern (renaming name) v.entries) } in
     cond_both (not (ltb (first_named v.entries user pattern) (length v.entries))) none_named _ (NamedLogged v) (λ _. tt) (λ _.
     cond_both (list_any (protects user pattern) v.entries) file_read_only (named (first_named v.entries user pattern) after) (NamedLogged v) (λ _. tt) (λ _.
     log_named user pattern (renaming name) v after refl refl refl))
 
-marks : (v : Volume) (user : ℕ) (pattern : List ℕ) → NamedLogged v (set_attributes v user pattern)
-unfolding set_attributes NamedLogged
+marks : (v : Volume) (user : ℕ) (pattern : List ℕ) → NamedLogged v (set_attributes_on_volume v user pattern)
+unfolding set_attributes_on_volume NamedLogged
 marks v user pattern =
     let after : Volume = record v { entries = change_named user pattern (marking pattern) v.entries; written = v.written ++ named_writes user pattern 0 v.entries (change_named user pattern (marking pattern) v.entries) } in
     cond_both (not (ltb (first_named v.entries user pattern) (length v.entries))) none_named (named (first_named v.entries user pattern) after) (NamedLogged v) (λ _. tt) (λ _.

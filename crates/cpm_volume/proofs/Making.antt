@@ -6,21 +6,21 @@ use Rattle.std.proofs.lemmas.Bool.{false≢true, eqb-true, eq-eqb, ne_eqb, cases
 use Rattle.cpm_geom.specs.declared.dpb.Dpb.{Dpb}
 use Rattle.cpm_volume.specs.declared.extent.Extent.{Extent}
 use Rattle.cpm_volume.specs.declared.extent.Entry.{Entry}
-use Rattle.cpm_volume.specs.Files.{extent_number, group_of, same_name, has_wildcard, deleted, no_entry, entry_at, InUse, is_of, first_of, block_number, block_if, entry_block, file_block, open_block, open_file_block, IsStored, IsWellFormed, IsKept, first_free}
-use Rattle.cpm_volume.specs.Operations.{made, make_extent}
+use Rattle.cpm_volume.specs.Files.{extent_number, group_of, same_name, has_wildcard, deleted, no_entry, entry_at, InUse, is_of, first_of, block_number, block_if, entry_block, file_block, open_block, open_file_block, IsFileBlock, IsWellFormed, IsFcbKept, first_free}
+use Rattle.cpm_volume.specs.Operations.{made_extent, make_extent}
 use Rattle.cpm_volume.proofs.Entries.{entry_at-set_same, entry_at-set_other, is_of_parts, is_of_from, first_of_is, first_of_passes, first_of_other, first_of-set}
 use Rattle.cpm_volume.proofs.NameLemmas.{same_name-trans, same_name-sym, same_name-refl}
 
-pub made_number : (x : Extent) (number : ℕ) → number < 512 → extent_number (made x number) ≡ number
-unfolding made extent_number
+pub made_number : (x : Extent) (number : ℕ) → number < 512 → extent_number (made_extent x number) ≡ number
+unfolding made_extent extent_number
 made_number x number h = omega arith
 
-pub made_name : (x : Extent) (number : ℕ) → (made x number).name ≡ x.name
-unfolding made
+pub made_name : (x : Extent) (number : ℕ) → (made_extent x number).name ≡ x.name
+unfolding made_extent
 made_name x number = refl
 
-pub made_blocks : (x : Extent) (number s : ℕ) → block_number (made x number) s ≡ 0
-unfolding made block_number
+pub made_blocks : (x : Extent) (number s : ℕ) → block_number (made_extent x number) s ≡ 0
+unfolding made_extent block_number
 made_blocks x number s =
     elim (cases_lt s 16) [
       | inl lt ↦ get_or-replicate 16 s 0 0 lt
@@ -47,12 +47,12 @@ none_block d es user name n none =
 
 module _ (d : Dpb) (es : List Entry) (reserved : List Bool) (user : ℕ) (x : Extent) (number : ℕ) (user_ok : user ≢ deleted) (plain : has_wildcard x.name ≡ false) (small : number < 512) (wf : IsWellFormed d es reserved) (none : (j : ℕ) → is_of d user x.name (group_of d number) (entry_at es j) ≡ false) (free : first_free es < length es) where
   unfoldable pub entry : Entry
-  entry = record { user = user; extent = made x number }
+  entry = record { user = user; extent = made_extent x number }
 
   unfoldable pub after : List Entry
-  after = set es (first_free es) (record { user = user; extent = made x number })
+  after = set es (first_free es) (record { user = user; extent = made_extent x number })
 
-  pub make_answer : make_extent es user x number ≡ Some (after, made x number)
+  pub make_answer : make_extent es user x number ≡ Some (after, made_extent x number)
   unfolding make_extent after
   make_answer = rw (lt-ltb _ _ free) refl
 
@@ -60,7 +60,7 @@ module _ (d : Dpb) (es : List Entry) (reserved : List Bool) (user : ℕ) (x : Ex
   unfolding first_free entry_at
   free_user = eqb-true _ _ (passes_at_first (λ (e : Entry). eqb e.user deleted) es no_entry free)
 
-  after_own : entry_at after (first_free es) ≡ record { user = user; extent = made x number }
+  after_own : entry_at after (first_free es) ≡ record { user = user; extent = made_extent x number }
   unfolding after
   after_own = entry_at-set_same es _ _ free
 
@@ -84,7 +84,7 @@ module _ (d : Dpb) (es : List Entry) (reserved : List Bool) (user : ℕ) (x : Ex
         ]
       ]
 
-  stored_after : (i s : ℕ) → InUse after i → block_number (entry_at after i).extent s ≢ 0 → IsStored d reserved (block_number (entry_at after i).extent s)
+  stored_after : (i s : ℕ) → InUse after i → block_number (entry_at after i).extent s ≢ 0 → IsFileBlock d reserved (block_number (entry_at after i).extent s)
   stored_after i s p h =
       elim (cases_eq i (first_free es)) [
         | inl a ↦ absurd (h (rw (a, own_numbers s) refl))
@@ -116,9 +116,9 @@ module _ (d : Dpb) (es : List Entry) (reserved : List Bool) (user : ℕ) (x : Ex
   make_well_formed = record { once = once_after; stored = stored_after; directory = wf.directory; apart = apart_after }
 
   new_is_of : (name : List ℕ) → same_name name x.name ≡ true → is_of d user name (group_of d number) (entry_at after (first_free es)) ≡ true
-  new_is_of name same = rw after_own (is_of_from d user name _ (record { user = user; extent = made x number }) refl (rw (made_name x number) same) (ap (group_of d) (made_number x number small)))
+  new_is_of name same = rw after_own (is_of_from d user name _ (record { user = user; extent = made_extent x number }) refl (rw (made_name x number) same) (ap (group_of d) (made_number x number small)))
 
-  pub make_kept : IsKept d after reserved user (made x number)
+  pub make_kept : IsFcbKept d after reserved user (made_extent x number)
   make_kept = record {
     index = first_free es;
     plain = rw (made_name x number) plain;
@@ -130,7 +130,7 @@ module _ (d : Dpb) (es : List Entry) (reserved : List Bool) (user : ℕ) (x : Ex
     agrees = λ s h. absurd (h (own_numbers s));
   }
 
-  new_block : (n : ℕ) → entry_block d (record { user = user; extent = made x number }) n ≡ 0
+  new_block : (n : ℕ) → entry_block d (record { user = user; extent = made_extent x number }) n ≡ 0
   unfolding entry_block
   new_block n = no_blocks _ _ _ _ (made_blocks x number _)
 
@@ -161,13 +161,13 @@ module _ (d : Dpb) (es : List Entry) (reserved : List Bool) (user : ℕ) (x : Ex
             let r = is_of_parts d v name _ _ u in
             false≢true (sym (none j) ∙ is_of_from d user x.name _ (entry_at es j) (r.0 ∙ q.0) (same_name-trans _ _ _ (same_name-sym _ _ q.1) (same_name-sym _ _ r.1)) (r.2 ∙ q.2))))))
         | inr f ↦
-            let keys = first_of-set d es v name (group_of d (n / 128)) (first_free es) (record { user = user; extent = made x number }) ((let f' = rw after_own at f in f') ∙ sym before) in
+            let keys = first_of-set d es v name (group_of d (n / 128)) (first_free es) (record { user = user; extent = made_extent x number }) ((let f' = rw after_own at f in f') ∙ sym before) in
             let other = first_of_other d es v name (group_of d (n / 128)) (first_free es) free before in
             same_first v name n keys other
       ]
 
   -- the new extent's file is that of the directory
-  pub make_file : (n : ℕ) → open_file_block d after user (made x number) n ≡ file_block d es user x.name n
+  pub make_file : (n : ℕ) → open_file_block d after user (made_extent x number) n ≡ file_block d es user x.name n
   unfolding open_file_block open_block
   make_file n =
       elim (cases_eq (group_of d (n / 128)) (group_of d number)) [
@@ -176,7 +176,7 @@ module _ (d : Dpb) (es : List Entry) (reserved : List Bool) (user : ℕ) (x : Ex
       ]
 
   pub make_maps : ((i : ℕ) → InUse es i → length (entry_at es i).extent.blocks ≡ 16) → (i : ℕ) → InUse after i → length (entry_at after i).extent.blocks ≡ 16
-  unfolding made
+  unfolding made_extent
   make_maps maps i used =
       elim (cases_eq i (first_free es)) [
         | inl a ↦ rw (a, after_own) (length-replicate {A = ℕ} 16 0)

@@ -7,7 +7,7 @@ use Rattle.cpm_geom.specs.declared.dpb.Dpb.{Dpb}
 use Rattle.cpm_volume.specs.declared.extent.Extent.{Extent}
 use Rattle.cpm_volume.specs.declared.extent.Entry.{Entry}
 use Rattle.cpm_volume.specs.Files.{extent_number, group_of, same_name, has_wildcard, deleted, no_entry, entry_at, InUse, is_of, first_of, first_free, file_block, open_file_block, record_in, file_record, open_file_record, Volume, IsSound}
-use Rattle.cpm_volume.specs.Operations.{read_only, fault, with_entry, opened, made, open_extent, make_extent, Purpose, writing, Target, stopped, standing, made_in, opened_or_made, have_extent, closed_in, cross}
+use Rattle.cpm_volume.specs.Operations.{read_only, fault, with_entry, opened_extent, made_extent, open_extent, make_extent, Purpose, writing, Target, stopped, standing, made_in, opened_or_made, have_extent, closed_in, cross}
 use Rattle.cpm_volume.specs.Laws.{OthersStay, FileStays, IsFull}
 use Rattle.cpm_volume.proofs.Entries.{no_entry_is_of, is_of_parts, first_of_passes}
 use Rattle.cpm_volume.proofs.NameLemmas.{first_match_plain, same_name-refl}
@@ -75,8 +75,8 @@ make_none : (es : List Entry) (user : ℕ) (x : Extent) (number : ℕ) → lengt
 unfolding make_extent
 make_none es user x number h = rw (le-ltb _ _ h) refl
 
-made_map : (x : Extent) (number : ℕ) → length (made x number).blocks ≡ 16
-unfolding made
+made_map : (x : Extent) (number : ℕ) → length (made_extent x number).blocks ≡ 16
+unfolding made_extent
 made_map x number = length-replicate {A = ℕ} 16 0
 
 -- no entry is free
@@ -177,7 +177,7 @@ module _ (d : Dpb) (user : ℕ) (v : Volume) (x : Extent) (user_ok : user ≢ de
       matched = first_of_passes d closed_volume.entries user x.name (group_of d t.number) there
 
       next : Extent
-      next = opened (entry_at closed_volume.entries index).extent t.number
+      next = opened_extent (entry_at closed_volume.entries index).extent t.number
 
       opens : open_extent d closed_volume.entries user x.name t.number ≡ Some next
       unfolding next
@@ -216,7 +216,7 @@ module _ (d : Dpb) (user : ℕ) (v : Volume) (x : Extent) (user_ok : user ≢ de
       last_volume : Volume
       last_volume = with_entry closed_volume (first_free closed_volume.entries) (making.after d closed_volume.entries closed_volume.reserved user x t.number user_ok plain small sound_closed.well_formed (none past) free)
 
-      made_moves : MovesOn d user v x t.number last_volume (made x t.number)
+      made_moves : MovesOn d user v x t.number last_volume (made_extent x t.number)
       unfolding last_volume with_entry
       made_moves = record {
         number_is = making.made_number x t.number small;
@@ -234,7 +234,7 @@ module _ (d : Dpb) (user : ℕ) (v : Volume) (x : Extent) (user_ok : user ≢ de
         };
       }
 
-      made_answer : have_extent d writing closed_volume user x t ≡ standing last_volume (made x t.number) t.current
+      made_answer : have_extent d writing closed_volume user x t ≡ standing last_volume (made_extent x t.number) t.current
       unfolding have_extent opened_or_made made_in last_volume
       made_answer =
           rw (open_none d closed_volume.entries user x.name t.number plain past, making.make_answer d closed_volume.entries closed_volume.reserved user x t.number user_ok plain small sound_closed.well_formed (none past) free) refl
@@ -253,7 +253,7 @@ module _ (d : Dpb) (user : ℕ) (v : Volume) (x : Extent) (user_ok : user ≢ de
         elim (cases_lt (first_of d closed_volume.entries user x.name (group_of d t.number)) (length closed_volume.entries)) [
           | inl there ↦ inl (closed_volume, next there, opened_answer there, opened_moves there)
           | inr past ↦ elim (cases_lt (first_free closed_volume.entries) (length closed_volume.entries)) [
-            | inl free ↦ inl (last_volume past free, made x t.number, made_answer past free, made_moves past free)
+            | inl free ↦ inl (last_volume past free, made_extent x t.number, made_answer past free, made_moves past free)
             | inr full ↦ inr (move_full past full, lacks past, was_full full)
           ]
         ]

@@ -6,8 +6,8 @@ use Rattle.cpm_geom.specs.declared.dpb.Dpb.{Dpb}
 use Rattle.cpm_volume.specs.declared.extent.Extent.{Extent}
 use Rattle.cpm_volume.specs.declared.extent.Entry.{Entry}
 use Rattle.cpm_volume.specs.Files.{extent_number, group_of, map_place, deleted, entry_at, is_of, first_of, record_count_of, block_number, block_if, open_record_count, open_block, entry_block, file_block, open_file_block, directory_records, drive_record, record_in, open_file_record, Volume, IsSound}
-use Rattle.cpm_volume.specs.Operations.{Answer, done, no_record, no_extent, read_only, fault, Outcome, ends, gives, opened, open_to_read, reading, Target, stopped, standing, opened_in, have_extent, cross, next_target, target_of, next_place, place_at, get_record, read_in, read_next, read_random}
-use Rattle.cpm_volume.specs.Laws.{OthersStay, FileStays, position, StaysSound, HasRead, HasNone, IsProtected, ReadsNext, ReadsRandom}
+use Rattle.cpm_volume.specs.Operations.{Answer, done, no_record, no_extent, read_only, fault, Outcome, ends, gives, opened_extent, open_to_read, reading, Target, stopped, standing, opened_in, have_extent, cross, next_target, target_of, next_place, place_at, get_record, read_in, read_next_on_volume, read_random_on_volume}
+use Rattle.cpm_volume.specs.Laws.{OthersStay, FileStays, position, StaysSound, HasReadRecord, HasNone, IsProtected, ReadsNext, ReadsRandom}
 use Rattle.cpm_volume.proofs.Entries.{first_of_passes}
 use Rattle.cpm_volume.proofs.NameLemmas.{first_match_plain}
 use Rattle.cpm_volume.proofs.Records.{place_back, record_back}
@@ -101,7 +101,7 @@ same_there d user v x number sound e = record {
 -- what is said of a read that came to its record
 abbrev Reads : Dpb → ℕ → Volume → Extent → ℕ → ℕ → Outcome → Type 0
 Reads d user v x n after o =
-    StaysSound d user v x o × FileStays d user v x o.volume o.extent × (((o.answer ≡ done) × HasRead d user v x n o × (position o.extent o.current ≡ after)) ⊎ ((o.answer ≡ no_record) × HasNone d user v x n o × (position o.extent o.current ≡ n)))
+    StaysSound d user v x o × FileStays d user v x o.volume o.extent × (((o.answer ≡ done) × HasReadRecord d user v x n o × (position o.extent o.current ≡ after)) ⊎ ((o.answer ≡ no_record) × HasNone d user v x n o × (position o.extent o.current ≡ n)))
 
 gives_there : (d : Dpb) (user : ℕ) (v : Volume) (x : Extent) (n next after : ℕ) (v1 : Volume) (x1 : Extent) (number : ℕ) → SameFile d user v x (n / 128) v1 x1 → next ≤ 128 → 128 * (n / 128) + next ≡ after → open_file_record d v1.entries v1.records user x1 n ≡ Some (get_or v1.records number []) → directory_records d ≤ number → Reads d user v x n after (gives v1 x1 next number)
 unfolding gives position
@@ -195,7 +195,7 @@ module _ (d : Dpb) (user : ℕ) (v : Volume) (x : Extent) (user_ok : user ≢ de
     }
 
     next : Extent
-    next = opened (entry_at v1.entries index).extent t.number
+    next = opened_extent (entry_at v1.entries index).extent t.number
 
     module _ (greater : t.number ≤ extent_number (entry_at v1.entries index).extent) where
       sound_next : IsSound d v1 user next
@@ -289,8 +289,8 @@ at_miss d user protected v x current n o m = (m.0, m.1, inr (inr (inl (m.2, m.3,
 at_refused : (d : Dpb) (user : ℕ) (protected : Bool) (v : Volume) (x : Extent) (current n : ℕ) (o : Outcome) → Refuses d user protected v x current o → ReadsRandom d user protected v x current n o
 at_refused d user protected v x current n o r = (r.0, r.1, inr (inr (inr r.2)))
 
-pub reads_at : (d : Dpb) (user : ℕ) (protected : Bool) (v : Volume) (x : Extent) (current n : ℕ) → user ≢ deleted → IsSound d v user x → current ≤ 128 → n < 65536 → ReadsRandom d user protected v x current n (read_random d protected v user x current n)
-unfolding read_random read_in place_at target_of
+pub reads_at : (d : Dpb) (user : ℕ) (protected : Bool) (v : Volume) (x : Extent) (current n : ℕ) → user ≢ deleted → IsSound d v user x → current ≤ 128 → n < 65536 → ReadsRandom d user protected v x current n (read_random_on_volume d protected v user x current n)
+unfolding read_random_on_volume read_in place_at target_of
 reads_at d user protected v x current n user_ok sound small h =
     elim (cases_eq (n / 128) (extent_number x)) [
       | inl same ↦ rw (eq-eqb _ _ same) (at_from d user protected v x current n _ (reads_there d user v x n (n % 128) (n % 128 + 0) n v x (same_there d user v x (n / 128) sound (sym same)) refl (omega arith) (omega arith)))
@@ -317,8 +317,8 @@ next_miss d user protected v x current o m =
 next_refused : (d : Dpb) (user : ℕ) (protected : Bool) (v : Volume) (x : Extent) (current : ℕ) (o : Outcome) → Refuses d user protected v x current o → ReadsNext d user protected v x current o
 next_refused d user protected v x current o r = (r.0, r.1, inr (inr r.2))
 
-pub reads_next : (d : Dpb) (user : ℕ) (protected : Bool) (v : Volume) (x : Extent) (current : ℕ) → user ≢ deleted → IsSound d v user x → current ≤ 128 → ReadsNext d user protected v x current (read_next d protected v user x current)
-unfolding read_next read_in next_place next_target position
+pub reads_next : (d : Dpb) (user : ℕ) (protected : Bool) (v : Volume) (x : Extent) (current : ℕ) → user ≢ deleted → IsSound d v user x → current ≤ 128 → ReadsNext d user protected v x current (read_next_on_volume d protected v user x current)
+unfolding read_next_on_volume read_in next_place next_target position
 reads_next d user protected v x current user_ok sound small =
     elim (cases_lt current 128) [
       | inl lt ↦

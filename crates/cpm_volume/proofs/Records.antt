@@ -6,8 +6,8 @@ use Rattle.std.proofs.lemmas.Nat.{mod_below, div_below, mul-add-lt}
 use Rattle.std.proofs.lemmas.Bool.{false≢true, ne_eqb, not-false, cases_eq, cases_lt, le-ltb}
 use Rattle.cpm_geom.specs.declared.dpb.Dpb.{Dpb}
 use Rattle.cpm_volume.specs.declared.extent.Extent.{Extent}
-use Rattle.cpm_volume.specs.Files.{extent_number, place_of, map_place, block_offset, deleted, block_number, file_block, open_file_block, is_reserved, IsStored, IsFormat, least_free, drive_record, record_in, file_record, open_file_record, Volume, record_put, IsSound}
-use Rattle.cpm_volume.specs.Operations.{done, no_block, ends, with_block, block_to_write, new_block, counting, record_in_block, put_found, put_record, cleared, taken_records, taken_writes}
+use Rattle.cpm_volume.specs.Files.{extent_number, entry_place_of, map_place, block_offset, deleted, block_number, file_block, open_file_block, is_reserved, IsFileBlock, IsFormat, least_free, drive_record, record_in, file_record, open_file_record, Volume, record_put, IsSound}
+use Rattle.cpm_volume.specs.Operations.{done, no_block, ends, with_block, block_to_write, new_block, counting, record_in_block, put_found, put_record, cleared_records, taken_records, taken_writes}
 use Rattle.cpm_volume.specs.Laws.{HasCleared, OthersStay}
 use Rattle.cpm_volume.proofs.Taking as taking
 use Rattle.cpm_volume.proofs.Writing as writing
@@ -34,8 +34,8 @@ pub record LacksBlock (d : Dpb) (v : Volume) (x : Extent) (n : ℕ) (bytes : Lis
   pub none : block_number x (map_place d n) ≡ 0
   pub full : (b : ℕ) → is_reserved v.reserved b ≡ true
 
-pub place_back : (d : Dpb) (x : Extent) (n : ℕ) → n / 128 ≡ extent_number x → place_of d x (n % 128) ≡ map_place d n
-unfolding place_of map_place
+pub place_back : (d : Dpb) (x : Extent) (n : ℕ) → n / 128 ≡ extent_number x → entry_place_of d x (n % 128) ≡ map_place d n
+unfolding entry_place_of map_place
 place_back d x n inside = rw inside refl
 
 pub record_back : (d : Dpb) (b n : ℕ) → record_in_block d b (n % 128) ≡ drive_record d b n
@@ -212,10 +212,10 @@ module _ (d : Dpb) (user : ℕ) (v : Volume) (x : Extent) (n : ℕ) (bytes : Lis
         | inr e ↦ absurd (h e.0)
       ]
 
-  not_fresh : (b : ℕ) → IsStored d v.reserved b → b ≢ least_free v.reserved
+  not_fresh : (b : ℕ) → IsFileBlock d v.reserved b → b ≢ least_free v.reserved
   not_fresh b h e = false≢true (sym (taking.was_free d v.entries v.reserved user x n format sound.well_formed sound.kept sound.volume.blocks room none free) ∙ (rw e at h.kept))
 
-  stored_block : (m : ℕ) → open_file_block d v.entries user x m ≢ 0 → IsStored d v.reserved (open_file_block d v.entries user x m)
+  stored_block : (m : ℕ) → open_file_block d v.entries user x m ≢ 0 → IsFileBlock d v.reserved (open_file_block d v.entries user x m)
   stored_block = writing.open_stored d v.entries v.reserved user x user_ok sound.well_formed sound.kept
 
   old_record : (m : ℕ) → open_file_block d v.entries user x m ≢ 0 → open_file_record d v.entries ready user with_new m ≡ open_file_record d v.entries v.records user x m
@@ -268,7 +268,7 @@ module _ (d : Dpb) (user : ℕ) (v : Volume) (x : Extent) (n : ℕ) (bytes : Lis
       let p = mul-add-lt (least_free v.reserved) (d.block_mask + 1) d.block_mask (d.last_block + 1) (omega arith) (omega arith) in
       omega arith
 
-  cleared_ready : clears ≡ true → ready ≡ cleared (least_free v.reserved * (d.block_mask + 1)) (d.block_mask + 1) v.records
+  cleared_ready : clears ≡ true → ready ≡ cleared_records (least_free v.reserved * (d.block_mask + 1)) (d.block_mask + 1) v.records
   unfolding ready taken_records
   cleared_ready e = rw e refl
 

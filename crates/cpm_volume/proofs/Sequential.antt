@@ -4,7 +4,7 @@ use Rattle.std.proofs.lemmas.Bool.{false≢true, eq-eqb, ne_eqb, cases_eq, cases
 use Rattle.cpm_geom.specs.declared.dpb.Dpb.{Dpb}
 use Rattle.cpm_volume.specs.declared.extent.Extent.{Extent}
 use Rattle.cpm_volume.specs.Files.{extent_number, same_name, deleted, open_file_block, open_file_record, file_record, IsFormat, Volume, IsSound}
-use Rattle.cpm_volume.specs.Operations.{Answer, done, no_block, no_record, cannot_close, no_extent, no_entry_free, fault, Outcome, ends, writing, next_target, target_of, next_place, place_at, put_record, write_in, write_next, write_random, write_random_cleared}
+use Rattle.cpm_volume.specs.Operations.{Answer, done, no_block, no_record, cannot_close, no_extent, no_entry_free, fault, Outcome, ends, writing, next_target, target_of, next_place, place_at, put_record, write_in, write_next_on_volume, write_random_on_volume, write_random_cleared_on_volume}
 use Rattle.cpm_volume.specs.Laws.{OthersStay, FileStays, LosesNone, HasWritten, HasCleared, position, StaysSound, IsFull, HasNoExtent, HasNoBlock, HasDone, WritesNext, WritesRandom, ClearsBlock}
 use Rattle.cpm_volume.proofs.NameLemmas.{same_name-trans, same_name-sym}
 use Rattle.cpm_volume.proofs.Records.{Written, Puts, LacksBlock, puts}
@@ -167,13 +167,13 @@ writes_random d clears user v x current n bytes user_ok format sound small h =
           ]
     ]
 
-pub writes_at : (d : Dpb) (user : ℕ) (v : Volume) (x : Extent) (current n : ℕ) (bytes : List ℕ) → user ≢ deleted → IsFormat d → IsSound d v user x → current ≤ 128 → n < 65536 → WritesRandom d user v x current n bytes (write_random d v user x current n bytes)
-unfolding write_random random
+pub writes_at : (d : Dpb) (user : ℕ) (v : Volume) (x : Extent) (current n : ℕ) (bytes : List ℕ) → user ≢ deleted → IsFormat d → IsSound d v user x → current ≤ 128 → n < 65536 → WritesRandom d user v x current n bytes (write_random_on_volume d v user x current n bytes)
+unfolding write_random_on_volume random
 writes_at d user v x current n bytes user_ok format sound small h =
     (writes_random d false user v x current n bytes user_ok format sound small h).0
 
-pub writes_at_cleared : (d : Dpb) (user : ℕ) (v : Volume) (x : Extent) (current n : ℕ) (bytes : List ℕ) → user ≢ deleted → IsFormat d → IsSound d v user x → current ≤ 128 → n < 65536 → WritesRandom d user v x current n bytes (write_random_cleared d v user x current n bytes) × ClearsBlock d user v n (write_random_cleared d v user x current n bytes)
-unfolding write_random_cleared random
+pub writes_at_cleared : (d : Dpb) (user : ℕ) (v : Volume) (x : Extent) (current n : ℕ) (bytes : List ℕ) → user ≢ deleted → IsFormat d → IsSound d v user x → current ≤ 128 → n < 65536 → WritesRandom d user v x current n bytes (write_random_cleared_on_volume d v user x current n bytes) × ClearsBlock d user v n (write_random_cleared_on_volume d v user x current n bytes)
+unfolding write_random_cleared_on_volume random
 writes_at_cleared d user v x current n bytes user_ok format sound small h =
     let w = writes_random d true user v x current n bytes user_ok format sound small h in (w.0, w.1 refl)
 
@@ -181,8 +181,8 @@ writes_at_cleared d user v x current n bytes user_ok format sound small h =
 next_from : (d : Dpb) (user : ℕ) (v : Volume) (x : Extent) (current : ℕ) (bytes : List ℕ) (o : Outcome) → Writes d user v x (position x current) bytes false (position x current + 1) o → WritesNext d user v x current bytes o
 next_from d user v x current bytes o w = elim w.1 [ inl h ↦ (w.0, inl h.0) | inr h ↦ (w.0, inr (inr h)) ]
 
-pub writes_next : (d : Dpb) (user : ℕ) (v : Volume) (x : Extent) (current : ℕ) (bytes : List ℕ) → user ≢ deleted → IsFormat d → IsSound d v user x → current ≤ 128 → WritesNext d user v x current bytes (write_next d v user x current bytes)
-unfolding write_next write_in next_place next_target position
+pub writes_next : (d : Dpb) (user : ℕ) (v : Volume) (x : Extent) (current : ℕ) (bytes : List ℕ) → user ≢ deleted → IsFormat d → IsSound d v user x → current ≤ 128 → WritesNext d user v x current bytes (write_next_on_volume d v user x current bytes)
+unfolding write_next_on_volume write_in next_place next_target position
 writes_next d user v x current bytes user_ok format sound small =
     elim (cases_lt current 128) [
       | inl lt ↦

@@ -6,10 +6,10 @@ use Rattle.std.proofs.lemmas.Bool.{false≢true, eq-eqb, ne_eqb, cases_eq, cases
 use Rattle.cpm_geom.specs.declared.dpb.Dpb.{Dpb}
 use Rattle.cpm_volume.specs.declared.extent.Extent.{Extent}
 use Rattle.cpm_volume.specs.declared.extent.Entry.{Entry}
-use Rattle.cpm_volume.specs.Files.{extent_number, group_of, map_place, entry_at, InUse, first_of, open_record_count, block_number, block_if, open_block, open_file_block, IsStored, IsWellFormed, IsKept, IsFormat, is_reserved, directory_records, least_free}
+use Rattle.cpm_volume.specs.Files.{extent_number, group_of, map_place, entry_at, InUse, first_of, open_record_count, block_number, block_if, open_block, open_file_block, IsFileBlock, IsWellFormed, IsFcbKept, IsFormat, is_reserved, directory_records, least_free}
 use Rattle.cpm_volume.specs.Operations.{with_block, block_to_write, new_block}
 
-module _ (d : Dpb) (es : List Entry) (reserved : List Bool) (user : ℕ) (x : Extent) (n : ℕ) (format : IsFormat d) (wf : IsWellFormed d es reserved) (kept : IsKept d es reserved user x) (blocks : length reserved ≡ d.last_block + 1) (room : map_place d n < length x.blocks) (none : block_number x (map_place d n) ≡ 0) (free : least_free reserved < length reserved) where
+module _ (d : Dpb) (es : List Entry) (reserved : List Bool) (user : ℕ) (x : Extent) (n : ℕ) (format : IsFormat d) (wf : IsWellFormed d es reserved) (kept : IsFcbKept d es reserved user x) (blocks : length reserved ≡ d.last_block + 1) (room : map_place d n < length x.blocks) (none : block_number x (map_place d n) ≡ 0) (free : least_free reserved < length reserved) where
   unfoldable pub taken : Extent
   taken = with_block x (map_place d n) (least_free reserved)
 
@@ -35,10 +35,10 @@ module _ (d : Dpb) (es : List Entry) (reserved : List Bool) (user : ℕ) (x : Ex
         | inr n ↦ get_or-set_other reserved _ b true true n ∙ h
       ]
 
-  still_stored : (b : ℕ) → IsStored d reserved b → IsStored d now_reserved b
+  still_stored : (b : ℕ) → IsFileBlock d reserved b → IsFileBlock d now_reserved b
   still_stored b h = record { within = h.within; outside = h.outside; kept = still_reserved b h.kept }
 
-  new_stored : IsStored d now_reserved (least_free reserved)
+  new_stored : IsFileBlock d now_reserved (least_free reserved)
   unfolding is_reserved now_reserved
   new_stored = record {
     within = omega arith;
@@ -52,7 +52,7 @@ module _ (d : Dpb) (es : List Entry) (reserved : List Bool) (user : ℕ) (x : Ex
   pub fresh_there : least_free reserved ≢ 0
   fresh_there e = absurd (false≢true (sym was_free ∙ wf.directory _ (rw e (let h = format.has_directory in omega arith))))
 
-  not_new : (b : ℕ) → IsStored d reserved b → b ≢ least_free reserved
+  not_new : (b : ℕ) → IsFileBlock d reserved b → b ≢ least_free reserved
   not_new b h e = false≢true (sym was_free ∙ (rw e at h.kept))
 
   pub taken_own : block_number taken (map_place d n) ≡ least_free reserved
@@ -101,7 +101,7 @@ module _ (d : Dpb) (es : List Entry) (reserved : List Bool) (user : ℕ) (x : Ex
         ]
       ]
 
-  taken_stored : (s : ℕ) → block_number taken s ≢ 0 → IsStored d now_reserved (block_number taken s)
+  taken_stored : (s : ℕ) → block_number taken s ≢ 0 → IsFileBlock d now_reserved (block_number taken s)
   taken_stored s h =
       elim (at_place s) [
         | inl a ↦ rw a.1 new_stored
@@ -122,7 +122,7 @@ module _ (d : Dpb) (es : List Entry) (reserved : List Bool) (user : ℕ) (x : Ex
         | inr a ↦ a.1 ∙ kept.agrees s h
       ]
 
-  pub take_kept : IsKept d es now_reserved user taken
+  pub take_kept : IsFcbKept d es now_reserved user taken
   unfolding taken with_block extent_number
   take_kept = record {
     index = kept.index;

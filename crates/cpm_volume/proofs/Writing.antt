@@ -6,7 +6,7 @@ use Rattle.std.proofs.lemmas.Bool.Decides.{nat_tests}
 use Rattle.cpm_geom.specs.declared.dpb.Dpb.{Dpb}
 use Rattle.cpm_volume.specs.declared.extent.Extent.{Extent}
 use Rattle.cpm_volume.specs.declared.extent.Entry.{Entry}
-use Rattle.cpm_volume.specs.Files.{extent_number, group_of, map_place, same_name, deleted, no_entry, entry_at, InUse, is_of, first_of, open_record_count, block_number, block_if, entry_block, file_block, open_block, open_file_block, IsStored, IsWellFormed, IsKept, IsFormat, directory_records, drive_record, record_in, file_record, open_file_record}
+use Rattle.cpm_volume.specs.Files.{extent_number, group_of, map_place, same_name, deleted, no_entry, entry_at, InUse, is_of, first_of, open_record_count, block_number, block_if, entry_block, file_block, open_block, open_file_block, IsFileBlock, IsWellFormed, IsFcbKept, IsFormat, directory_records, drive_record, record_in, file_record, open_file_record}
 use Rattle.cpm_volume.specs.Operations.{counting}
 use Rattle.cpm_volume.proofs.Entries.{is_of_parts, first_of_passes}
 use Rattle.cpm_volume.proofs.NameLemmas.{same_name-trans}
@@ -52,7 +52,7 @@ unfolding open_file_block
 open_elsewhere d es user x m g = rw (ne_eqb _ _ g) refl
 
 -- a record of an open file is in a block that is stored
-pub open_stored : (d : Dpb) (es : List Entry) (reserved : List Bool) (user : ℕ) (x : Extent) → user ≢ deleted → IsWellFormed d es reserved → IsKept d es reserved user x → (m : ℕ) → open_file_block d es user x m ≢ 0 → IsStored d reserved (open_file_block d es user x m)
+pub open_stored : (d : Dpb) (es : List Entry) (reserved : List Bool) (user : ℕ) (x : Extent) → user ≢ deleted → IsWellFormed d es reserved → IsFcbKept d es reserved user x → (m : ℕ) → open_file_block d es user x m ≢ 0 → IsFileBlock d reserved (open_file_block d es user x m)
 open_stored d es reserved user x ok wf kept m h =
     elim (cases_eq (group_of d (m / 128)) (group_of d (extent_number x))) [
       | inl g ↦
@@ -67,8 +67,8 @@ open_stored d es reserved user x ok wf kept m h =
           rw number (wf.stored entry.0 (map_place d m) entry.1 (λ z. h (number ∙ z)))
     ]
 
-module _ (d : Dpb) (es : List Entry) (reserved : List Bool) (user : ℕ) (x : Extent) (n : ℕ) (user_ok : user ≢ deleted) (format : IsFormat d) (wf : IsWellFormed d es reserved) (kept : IsKept d es reserved user x) (inside : n / 128 ≡ extent_number x) (there : block_number x (map_place d n) ≢ 0) where
-  pub written_kept : IsKept d es reserved user (counting x (n % 128))
+module _ (d : Dpb) (es : List Entry) (reserved : List Bool) (user : ℕ) (x : Extent) (n : ℕ) (user_ok : user ≢ deleted) (format : IsFormat d) (wf : IsWellFormed d es reserved) (kept : IsFcbKept d es reserved user x) (inside : n / 128 ≡ extent_number x) (there : block_number x (map_place d n) ≢ 0) where
+  pub written_kept : IsFcbKept d es reserved user (counting x (n % 128))
   unfolding counting extent_number block_number
   written_kept = record {
     index = kept.index;

@@ -7,8 +7,8 @@ use Rattle.cpm_volume.specs.declared.extent.Entry.{Entry}
 use Rattle.cpm_volume.specs.declared.fcb.Fcb.{Fcb}
 
 -- CP/M 2.2 Operating System Manual, section 6.10, Disk Parameter Tables: block numbers are bytes where DSM is below 256, else words
-unfoldable pub number_in : Dpb → List ℕ → ℕ → ℕ
-number_in d bytes place =
+unfoldable pub block_number_in : Dpb → List ℕ → ℕ → ℕ
+block_number_in d bytes place =
     if nat_lt d.last_block 256 then slice_index bytes (16 + place)
     else (if nat_lt place 8 then slice_index bytes (16 + 2 * place) + 256 * slice_index bytes (17 + 2 * place) else 0)
 
@@ -21,7 +21,7 @@ extent_of d bytes =
       s1 = slice_index bytes 13;
       s2 = slice_index bytes 14;
       record_count = slice_index bytes 15;
-      blocks = map (number_in d bytes) (range_with_len 0 16);
+      blocks = map (block_number_in d bytes) (range_with_len 0 16);
     }
 
 -- the entry of 32 bytes

@@ -15,8 +15,8 @@ unfoldable pub group_of : Dpb → ℕ → ℕ
 group_of d number = number / (d.extent_mask + 1)
 
 -- CP/M 2.2 Operating System Manual, section 6.10, Disk Parameter Tables: an entry's numbers are those of its EXM + 1 extents in order, each of 128 records
-unfoldable pub place_of : Dpb → Extent → ℕ → ℕ
-place_of d x current =
+unfoldable pub entry_place_of : Dpb → Extent → ℕ → ℕ
+entry_place_of d x current =
     (extent_number x % (d.extent_mask + 1)) * (128 / (d.block_mask + 1)) + current / (d.block_mask + 1)
 
 -- the place of a file's record among the block numbers of its entry
@@ -130,7 +130,7 @@ unfoldable pub directory_records : Dpb → ℕ
 directory_records d = (d.last_entry + 1) / 4
 
 -- a number that may stand in an entry: a block of the drive, outside the directory and reserved
-pub record IsStored (d : Dpb) (reserved : List Bool) (b : ℕ) : Type 0 where
+pub record IsFileBlock (d : Dpb) (reserved : List Bool) (b : ℕ) : Type 0 where
   pub within : b ≤ d.last_block
   pub outside : directory_records d ≤ b * (d.block_mask + 1)
   pub kept : is_reserved reserved b ≡ true
@@ -138,18 +138,18 @@ pub record IsStored (d : Dpb) (reserved : List Bool) (b : ℕ) : Type 0 where
 -- the directory agrees with itself and with the reserved blocks
 pub record IsWellFormed (d : Dpb) (es : List Entry) (reserved : List Bool) : Type 0 where
   pub once : (i j s t : ℕ) → InUse es i → InUse es j → block_number (entry_at es i).extent s ≢ 0 → block_number (entry_at es i).extent s ≡ block_number (entry_at es j).extent t → (i ≡ j) × (s ≡ t)
-  pub stored : (i s : ℕ) → InUse es i → block_number (entry_at es i).extent s ≢ 0 → IsStored d reserved (block_number (entry_at es i).extent s)
+  pub stored : (i s : ℕ) → InUse es i → block_number (entry_at es i).extent s ≢ 0 → IsFileBlock d reserved (block_number (entry_at es i).extent s)
   pub directory : (b : ℕ) → b * (d.block_mask + 1) < directory_records d → is_reserved reserved b ≡ true
   pub apart : (i j : ℕ) → InUse es i → is_of d (entry_at es i).user (entry_at es i).extent.name (group_of d (extent_number (entry_at es i).extent)) (entry_at es j) ≡ true → i ≡ j
 
 -- the file control block fits the directory: what it knows of its group is what the directory says, or more
-pub record IsKept (d : Dpb) (es : List Entry) (reserved : List Bool) (user : ℕ) (x : Extent) : Type 0 where
+pub record IsFcbKept (d : Dpb) (es : List Entry) (reserved : List Bool) (user : ℕ) (x : Extent) : Type 0 where
   pub index : ℕ
   pub plain : has_wildcard x.name ≡ false
   pub owner : is_of d user x.name (group_of d (extent_number x)) (entry_at es index) ≡ true
   pub full : extent_number x < extent_number (entry_at es index).extent → x.record_count ≡ 128
   pub once : (s t : ℕ) → block_number x s ≢ 0 → block_number x s ≡ block_number x t → s ≡ t
-  pub stored : (s : ℕ) → block_number x s ≢ 0 → IsStored d reserved (block_number x s)
+  pub stored : (s : ℕ) → block_number x s ≢ 0 → IsFileBlock d reserved (block_number x s)
   pub apart : (j s t : ℕ) → InUse es j → j ≢ index → block_number x s ≢ 0 → block_number x s ≢ block_number (entry_at es j).extent t
   pub agrees : (s : ℕ) → block_number (entry_at es index).extent s ≢ 0 → block_number x s ≡ block_number (entry_at es index).extent s
 
@@ -183,16 +183,16 @@ unfoldable pub open_file_record : Dpb → List Entry → List (List ℕ) → ℕ
 open_file_record d es records user x n = record_in d records (open_file_block d es user x n) n
 
 -- what is written to a disk: an entry of the directory, or a record
-pub data Write : Type 0 where
-  entry_put : (index : ℕ) (entry : Entry) → Write
-  record_put : (number : ℕ) (bytes : List ℕ) → Write
+pub data DiskWrite : Type 0 where
+  entry_put : (index : ℕ) (entry : Entry) → DiskWrite
+  record_put : (number : ℕ) (bytes : List ℕ) → DiskWrite
 
 -- what a drive holds of files: the directory's entries, the reserved blocks and the records; and what a call wrote to its disk, in order
 pub record Volume : Type 0 where
   pub entries : List Entry
   pub reserved : List Bool
   pub records : List (List ℕ)
-  pub written : List Write
+  pub written : List DiskWrite
 
 -- the lists are as long as the format says
 pub record IsVolume (d : Dpb) (v : Volume) : Type 0 where
@@ -204,7 +204,7 @@ pub record IsVolume (d : Dpb) (v : Volume) : Type 0 where
 pub record IsSound (d : Dpb) (v : Volume) (user : ℕ) (x : Extent) : Type 0 where
   pub volume : IsVolume d v
   pub well_formed : IsWellFormed d v.entries v.reserved
-  pub kept : IsKept d v.entries v.reserved user x
+  pub kept : IsFcbKept d v.entries v.reserved user x
   pub map : length x.blocks ≡ 16
 
 -- a drive that agrees with itself

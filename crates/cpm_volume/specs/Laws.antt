@@ -5,8 +5,8 @@ use Rattle.cpm_geom.specs.declared.format.Format.{Format}
 use Rattle.cpm_geom.specs.Geometry.{dpb_of}
 use Rattle.cpm_volume.specs.declared.extent.Extent.{Extent}
 use Rattle.cpm_volume.specs.declared.extent.Entry.{Entry}
-use Rattle.cpm_volume.specs.Files.{extent_number, group_of, is_of, entry_at, InUse, same_name, deleted, is_reserved, first_free, file_block, open_file_block, directory_records, file_record, open_file_record, IsWellFormed, IsKept, IsFormat, IsVolume, IsSound, IsSoundDrive, Volume, has_wildcard}
-use Rattle.cpm_volume.specs.Operations.{read_only, done, no_record, no_block, no_extent, no_entry_free, fault, Outcome, with_entry, closed, close_fault, close_file, open_file, make_file, read_next, write_next, read_random, write_random, write_random_cleared}
+use Rattle.cpm_volume.specs.Files.{extent_number, group_of, is_of, entry_at, InUse, same_name, deleted, is_reserved, first_free, file_block, open_file_block, directory_records, file_record, open_file_record, IsWellFormed, IsFcbKept, IsFormat, IsVolume, IsSound, IsSoundDrive, Volume, has_wildcard}
+use Rattle.cpm_volume.specs.Operations.{read_only, done, no_record, no_block, no_extent, no_entry_free, fault, Outcome, with_entry, closed, close_fault, close_file_on_volume, open_file_on_volume, make_file_on_volume, read_next_on_volume, write_next_on_volume, read_random_on_volume, write_random_on_volume, write_random_cleared_on_volume}
 
 -- ---- what a call leaves
 
@@ -53,7 +53,7 @@ pub record IsUntouched (v : Volume) (x : Extent) (current : ℕ) (o : Outcome) :
 -- ---- reads
 
 -- record n was read: the drive's record of a number, none of the directory's
-pub record HasRead (d : Dpb) (user : ℕ) (v : Volume) (x : Extent) (n : ℕ) (o : Outcome) : Type 0 where
+pub record HasReadRecord (d : Dpb) (user : ℕ) (v : Volume) (x : Extent) (n : ℕ) (o : Outcome) : Type 0 where
   pub number : ℕ
   pub given : o.read ≡ Some number
   pub there : open_file_record d v.entries v.records user x n ≡ Some (slice_index_or v.records number [])
@@ -74,7 +74,7 @@ pub record IsProtected (protected : Bool) (v : Volume) (x : Extent) (current : �
 abbrev pub ReadsNext : Dpb → ℕ → Bool → Volume → Extent → ℕ → Outcome → Type 0
 ReadsNext d user protected v x current o =
     StaysSound d user v x o × FileStays d user v x o.volume o.extent
-    × (((o.answer ≡ done) × HasRead d user v x (position x current) o × (position o.extent o.current ≡ position x current + 1))
+    × (((o.answer ≡ done) × HasReadRecord d user v x (position x current) o × (position o.extent o.current ≡ position x current + 1))
     ⊎ (((o.answer ≡ no_record) × HasNone d user v x (position x current) o × (position o.extent o.current ≡ position x current))
     ⊎ IsProtected protected v x current o))
 
@@ -82,7 +82,7 @@ ReadsNext d user protected v x current o =
 abbrev pub ReadsRandom : Dpb → ℕ → Bool → Volume → Extent → ℕ → ℕ → Outcome → Type 0
 ReadsRandom d user protected v x current n o =
     StaysSound d user v x o × FileStays d user v x o.volume o.extent
-    × (((o.answer ≡ done) × HasRead d user v x n o × (position o.extent o.current ≡ n))
+    × (((o.answer ≡ done) × HasReadRecord d user v x n o × (position o.extent o.current ≡ n))
     ⊎ (((o.answer ≡ no_record) × HasNone d user v x n o × (position o.extent o.current ≡ n))
     ⊎ (((o.answer ≡ no_extent) × HasNone d user v x n o × (o.extent ≡ x) × (o.current ≡ current)) ⊎ IsProtected protected v x current o)))
 
@@ -141,14 +141,14 @@ ClearsBlock d user v n o = (o.answer ≡ done) → HasCleared d user v n o.volum
 pub record ClosesFile (d : Dpb) (protected : Bool) (v : Volume) (user : ℕ) (x : Extent) : Type 0 where
   pub index : ℕ
   pub after : List Entry
-  pub answer : close_file d protected v.entries user x ≡ closed index after x
+  pub answer : close_file_on_volume d protected v.entries user x ≡ closed index after x
   pub owner : is_of d user x.name (group_of d (extent_number x)) (entry_at v.entries index) ≡ true
   pub protects : protected ≡ true → after ≡ v.entries
   pub file : (n : ℕ) → file_block d after user x.name n ≡ open_file_block d v.entries user x n
   pub open_file_record : (n : ℕ) → open_file_block d after user x n ≡ open_file_block d v.entries user x n
   pub others : (other : ℕ) (name : List ℕ) → (other ≡ user → same_name name x.name ≡ true → ⊥) → (n : ℕ) → file_block d after other name n ≡ file_block d v.entries other name n
   pub well_formed : IsWellFormed d after v.reserved
-  pub kept : IsKept d after v.reserved user x
+  pub kept : IsFcbKept d after v.reserved user x
   pub sound : IsVolume d v → length x.blocks ≡ 16 → IsSound d (with_entry v index after) user x
 
 -- the file control block knows the file as the directory has it
@@ -170,8 +170,8 @@ pub record HasFile (d : Dpb) (user : ℕ) (v : Volume) (x : Extent) : Type 0 whe
 -- an open answers that there is no such file exactly where the directory has none, or the file
 abbrev pub OpensFile : Dpb → ℕ → Volume → Extent → Type 0
 OpensFile d user v x =
-    ((open_file d v.entries user x ≡ None) × HasNoFile d user v x)
-    ⊎ ((x' : Extent) × (open_file d v.entries user x ≡ Some x') × HasFile d user v x × (extent_number x' ≡ x.ex % 32)
+    ((open_file_on_volume d v.entries user x ≡ None) × HasNoFile d user v x)
+    ⊎ ((x' : Extent) × (open_file_on_volume d v.entries user x ≡ Some x') × HasFile d user v x × (extent_number x' ≡ x.ex % 32)
     × KnowsFile d user x.name v v x')
 
 -- the first entry that is not in use is one of the directory's
@@ -182,8 +182,8 @@ pub record HasFreeEntry (es : List Entry) : Type 0 where
 -- a make answers that the directory is full exactly where it is, or makes an extent of the file at a free entry and changes no file
 abbrev pub MakesFile : Dpb → ℕ → Volume → Extent → Type 0
 MakesFile d user v x =
-    ((make_file v.entries user x ≡ None) × IsFull v.entries)
-    ⊎ ((es : List Entry) × (x' : Extent) × (make_file v.entries user x ≡ Some (es, x')) × HasFreeEntry v.entries × (extent_number x' ≡ x.ex % 32)
+    ((make_file_on_volume v.entries user x ≡ None) × IsFull v.entries)
+    ⊎ ((es : List Entry) × (x' : Extent) × (make_file_on_volume v.entries user x ≡ Some (es, x')) × HasFreeEntry v.entries × (extent_number x' ≡ x.ex % 32)
     × KnowsFile d user x.name v (with_entry v (first_free v.entries) es) x'
     × ((other : ℕ) (name : List ℕ) (m : ℕ) → other ≢ deleted
     → file_record d es v.records other name m ≡ file_record d v.entries v.records other name m))
@@ -197,34 +197,34 @@ FormatsLaw = (f : Format) → IsFormat (dpb_of f)
 abbrev pub CloseLaw : Type 0
 CloseLaw =
     (d : Dpb) (protected : Bool) (v : Volume) (user : ℕ) (x : Extent) → user ≢ deleted → IsWellFormed d v.entries v.reserved
-    → IsKept d v.entries v.reserved user x
-    → ClosesFile d protected v user x ⊎ ((protected ≡ true) × (close_file d protected v.entries user x ≡ close_fault read_only))
+    → IsFcbKept d v.entries v.reserved user x
+    → ClosesFile d protected v user x ⊎ ((protected ≡ true) × (close_file_on_volume d protected v.entries user x ≡ close_fault read_only))
 
 abbrev pub SequentialReadLaw : Type 0
 SequentialReadLaw =
     (d : Dpb) (user : ℕ) (protected : Bool) (v : Volume) (x : Extent) (current : ℕ) → user ≢ deleted → IsSound d v user x → current ≤ 128
-    → ReadsNext d user protected v x current (read_next d protected v user x current)
+    → ReadsNext d user protected v x current (read_next_on_volume d protected v user x current)
 
 abbrev pub RandomReadLaw : Type 0
 RandomReadLaw =
     (d : Dpb) (user : ℕ) (protected : Bool) (v : Volume) (x : Extent) (current n : ℕ) → user ≢ deleted → IsSound d v user x → current ≤ 128
-    → n < 65536 → ReadsRandom d user protected v x current n (read_random d protected v user x current n)
+    → n < 65536 → ReadsRandom d user protected v x current n (read_random_on_volume d protected v user x current n)
 
 abbrev pub SequentialWriteLaw : Type 0
 SequentialWriteLaw =
     (d : Dpb) (user : ℕ) (v : Volume) (x : Extent) (current : ℕ) (bytes : List ℕ) → user ≢ deleted → IsFormat d → IsSound d v user x → current ≤ 128
-    → WritesNext d user v x current bytes (write_next d v user x current bytes)
+    → WritesNext d user v x current bytes (write_next_on_volume d v user x current bytes)
 
 abbrev pub RandomWriteLaw : Type 0
 RandomWriteLaw =
     (d : Dpb) (user : ℕ) (v : Volume) (x : Extent) (current n : ℕ) (bytes : List ℕ) → user ≢ deleted → IsFormat d → IsSound d v user x → current ≤ 128
-    → n < 65536 → WritesRandom d user v x current n bytes (write_random d v user x current n bytes)
+    → n < 65536 → WritesRandom d user v x current n bytes (write_random_on_volume d v user x current n bytes)
 
 abbrev pub ClearingWriteLaw : Type 0
 ClearingWriteLaw =
     (d : Dpb) (user : ℕ) (v : Volume) (x : Extent) (current n : ℕ) (bytes : List ℕ) → user ≢ deleted → IsFormat d → IsSound d v user x → current ≤ 128
     → n < 65536
-    → WritesRandom d user v x current n bytes (write_random_cleared d v user x current n bytes) × ClearsBlock d user v n (write_random_cleared d v user x current n bytes)
+    → WritesRandom d user v x current n bytes (write_random_cleared_on_volume d v user x current n bytes) × ClearsBlock d user v n (write_random_cleared_on_volume d v user x current n bytes)
 
 abbrev pub OpenLaw : Type 0
 OpenLaw =

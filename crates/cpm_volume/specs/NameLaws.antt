@@ -2,7 +2,7 @@
 use Rattle.std.specs.Prelude.{◌≡◌, ◌≢◌, ◌⊎◌, ℕ, true, false, List, None}
 use Rattle.cpm_geom.specs.declared.dpb.Dpb.{Dpb}
 use Rattle.cpm_volume.specs.Files.{deleted, entry_at, name_matches, block_number, is_reserved, file_record, IsFormat, IsSoundDrive, Volume}
-use Rattle.cpm_volume.specs.Names.{none_named, file_read_only, named, is_named, is_read_only, erase_files}
+use Rattle.cpm_volume.specs.Names.{none_named, file_read_only, named, is_named, is_read_only, erase_files_on_volume}
 
 -- the files of a name are gone and their blocks free, all others are as they were, and the drive agrees with itself
 pub record ErasesFiles (d : Dpb) (user : ℕ) (v : Volume) (pattern : List ℕ) (v' : Volume) : Type 0 where
@@ -17,4 +17,4 @@ pub record ErasesFiles (d : Dpb) (user : ℕ) (v : Volume) (pattern : List ℕ) 
 abbrev pub EraseLaw : Type 0
 EraseLaw =
     (d : Dpb) (user : ℕ) (v : Volume) (pattern : List ℕ) → user ≢ deleted → IsFormat d → IsSoundDrive d v
-    → ((erase_files d v user pattern ≡ none_named) × ((i : ℕ) → is_named user pattern (entry_at v.entries i) ≡ false)) ⊎ (((erase_files d v user pattern ≡ file_read_only) × ((i : ℕ) × (is_named user pattern (entry_at v.entries i) ≡ true) × (is_read_only (entry_at v.entries i).extent.name ≡ true))) ⊎ ((first : ℕ) × (v' : Volume) × (erase_files d v user pattern ≡ named first v') × ErasesFiles d user v pattern v'))
+    → ((erase_files_on_volume d v user pattern ≡ none_named) × ((i : ℕ) → is_named user pattern (entry_at v.entries i) ≡ false)) ⊎ (((erase_files_on_volume d v user pattern ≡ file_read_only) × ((i : ℕ) × (is_named user pattern (entry_at v.entries i) ≡ true) × (is_read_only (entry_at v.entries i).extent.name ≡ true))) ⊎ ((first : ℕ) × (v' : Volume) × (erase_files_on_volume d v user pattern ≡ named first v') × ErasesFiles d user v pattern v'))

@@ -4,7 +4,7 @@ use Rattle.std.specs.Prelude.{ℕ, ◌+◌, ◌*◌, ◌/◌, ◌%◌, Bool, ◌
 use Rattle.std.specs.List.{position_or_len, list_any, filter, reduce, range_with_len}
 use Rattle.cpm_geom.specs.declared.dpb.Dpb.{Dpb}
 use Rattle.cpm_volume.specs.declared.extent.Entry.{Entry}
-use Rattle.cpm_volume.specs.Files.{deleted, extent_number, name_matches, is_reserved, is_directory_block, Volume, Write, entry_put}
+use Rattle.cpm_volume.specs.Files.{deleted, extent_number, name_matches, is_reserved, is_directory_block, Volume, DiskWrite, entry_put}
 
 -- an entry of the user whose name matches, of any extent
 unfoldable pub is_named : ℕ → List ℕ → Entry → Bool
@@ -23,17 +23,17 @@ unfoldable pub change_named : ℕ → List ℕ → (Entry → Entry) → List En
 change_named user pattern change es = map (λ e. if is_named user pattern e then change e else e) es
 
 -- the entries of the name are written as they are now, one after the other from an index on
-unfoldable pub named_writes : ℕ → List ℕ → ℕ → List Entry → List Entry → List Write
+unfoldable pub named_writes : ℕ → List ℕ → ℕ → List Entry → List Entry → List DiskWrite
 named_writes user pattern i [] now = []
 named_writes user pattern i (e ∷ es) [] = []
 named_writes user pattern i (e ∷ es) (n ∷ now) =
     if is_named user pattern e then entry_put i n ∷ named_writes user pattern (i + 1) es now else named_writes user pattern (i + 1) es now
 
 -- what a call on all entries of a name answers: FFh, File R/O, or the first's index with the drive
-pub data Named : Type 0 where
-  none_named : Named
-  file_read_only : Named
-  named : (first : ℕ) (volume : Volume) → Named
+pub data NameOutcome : Type 0 where
+  none_named : NameOutcome
+  file_read_only : NameOutcome
+  named : (first : ℕ) (volume : Volume) → NameOutcome
 
 -- own: the attribute of any of them refuses the call before a change
 unfoldable pub protects : ℕ → List ℕ → Entry → Bool
@@ -53,8 +53,8 @@ reserved_after d user pattern es reserved =
     map (λ b. is_reserved reserved b && (is_directory_block d b || not (is_erased user pattern es b))) (range_with_len 0 (length reserved))
 
 -- DELETE FILE, on a drive that is not protected
-unfoldable pub erase_files : Dpb → Volume → ℕ → List ℕ → Named
-erase_files d v user pattern =
+unfoldable pub erase_files_on_volume : Dpb → Volume → ℕ → List ℕ → NameOutcome
+erase_files_on_volume d v user pattern =
     if not (nat_lt (first_named v.entries user pattern) (length v.entries)) then none_named
     else (if list_any (protects user pattern) v.entries then file_read_only
     else named (first_named v.entries user pattern) (record v { entries = change_named user pattern deletion v.entries; reserved = reserved_after d user pattern v.entries v.reserved; written = v.written ++ named_writes user pattern 0 v.entries (change_named user pattern deletion v.entries) }))
@@ -63,8 +63,8 @@ unfoldable pub renaming : List ℕ → Entry → Entry
 renaming name e = record e { extent = record e.extent { name = name } }
 
 -- RENAME FILE, on a drive that is not protected: the eleven bytes as they are
-unfoldable pub rename_files : Volume → ℕ → List ℕ → List ℕ → Named
-rename_files v user pattern name =
+unfoldable pub rename_files_on_volume : Volume → ℕ → List ℕ → List ℕ → NameOutcome
+rename_files_on_volume v user pattern name =
     if not (nat_lt (first_named v.entries user pattern) (length v.entries)) then none_named
     else (if list_any (protects user pattern) v.entries then file_read_only
     else named (first_named v.entries user pattern) (record v { entries = change_named user pattern (renaming name) v.entries; written = v.written ++ named_writes user pattern 0 v.entries (change_named user pattern (renaming name) v.entries) }))
@@ -80,8 +80,8 @@ marking pattern e =
     record e { extent = record e.extent { name = with_attributes e.extent.name pattern } }
 
 -- SET FILE ATTRIBUTES, on a drive that is not protected: own: all eleven, and no attribute refuses it
-unfoldable pub set_attributes : Volume → ℕ → List ℕ → Named
-set_attributes v user pattern =
+unfoldable pub set_attributes_on_volume : Volume → ℕ → List ℕ → NameOutcome
+set_attributes_on_volume v user pattern =
     if not (nat_lt (first_named v.entries user pattern) (length v.entries)) then none_named
     else named (first_named v.entries user pattern) (record v { entries = change_named user pattern (marking pattern) v.entries; written = v.written ++ named_writes user pattern 0 v.entries (change_named user pattern (marking pattern) v.entries) })
 
@@ -90,5 +90,5 @@ unfoldable pub records_to : Entry → ℕ
 records_to e = 128 * extent_number e.extent + e.extent.record_count
 
 -- COMPUTE FILE SIZE: own: the greatest of these over the entries of the name, none where there is no such entry
-unfoldable pub compute_size : List Entry → ℕ → List ℕ → Option ℕ
-compute_size es user pattern = reduce max (map records_to (filter (is_named user pattern) es))
+unfoldable pub compute_size_on_volume : List Entry → ℕ → List ℕ → Option ℕ
+compute_size_on_volume es user pattern = reduce max (map records_to (filter (is_named user pattern) es))

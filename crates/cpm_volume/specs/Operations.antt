@@ -9,7 +9,7 @@ pub use Rattle.cpm_volume.specs.declared.answer.Fault.{Fault}
 pub use Rattle.cpm_volume.specs.declared.answer.Fault.TheVariants.{BadSector as bad_sector, ReadOnly as read_only}
 pub use Rattle.cpm_volume.specs.declared.answer.Answer.{Answer}
 pub use Rattle.cpm_volume.specs.declared.answer.Answer.TheVariants.{Done as done, NoRecord as no_record, NoBlock as no_block, CannotClose as cannot_close, NoExtent as no_extent, NoEntryFree as no_entry_free, Fault as fault}
-use Rattle.cpm_volume.specs.Files.{extent_number, group_of, place_of, block_number, entry_at, first_match, record_count_of, first_free, least_free, Volume, Write, entry_put, record_put}
+use Rattle.cpm_volume.specs.Files.{extent_number, group_of, entry_place_of, block_number, entry_at, first_match, record_count_of, first_free, least_free, Volume, DiskWrite, entry_put, record_put}
 
 -- the code that a call gives back, if it gives one
 unfoldable pub code_of : Answer → Option ℕ
@@ -103,47 +103,47 @@ close_extent d protected es user x =
     else closed i (slice_set es i after) both)))
 
 -- bytes 1 to 31 of an entry, for the extent of this number
-unfoldable pub opened : Extent → ℕ → Extent
-opened e number =
+unfoldable pub opened_extent : Extent → ℕ → Extent
+opened_extent e number =
     record e { ex = number % 32; s2 = number / 32; record_count = record_count_of number (extent_number e) e.record_count }
 
 -- open the extent of a number: the first match of its group, if any
 unfoldable pub open_extent : Dpb → List Entry → ℕ → List ℕ → ℕ → Option Extent
 open_extent d es user name number =
     let i = first_match d es user name (group_of d number) in
-    if nat_lt i (length es) then Some (opened (entry_at es i).extent number) else None
+    if nat_lt i (length es) then Some (opened_extent (entry_at es i).extent number) else None
 
 -- open the extent of a number to read it: an entry of a lesser number is none
 unfoldable pub open_to_read : Dpb → List Entry → ℕ → List ℕ → ℕ → Option Extent
 open_to_read d es user name number =
     let i = first_match d es user name (group_of d number) in
     if nat_lt i (length es)
-    then (if nat_lt (extent_number (entry_at es i).extent) number then None else Some (opened (entry_at es i).extent number))
+    then (if nat_lt (extent_number (entry_at es i).extent) number then None else Some (opened_extent (entry_at es i).extent number))
     else None
 
 -- bytes 1 to 31 of a new extent
-unfoldable pub made : Extent → ℕ → Extent
-made x number =
+unfoldable pub made_extent : Extent → ℕ → Extent
+made_extent x number =
     record x { ex = number % 32; s1 = 0; s2 = number / 32; record_count = 0; blocks = replicate 16 0 }
 
 -- make the extent of a number: the first entry that is not in use, if any
 unfoldable pub make_extent : List Entry → ℕ → Extent → ℕ → Option (List Entry × Extent)
 make_extent es user x number =
     if nat_lt (first_free es) (length es)
-    then Some (slice_set es (first_free es) (record { user = user; extent = made x number }), made x number)
+    then Some (slice_set es (first_free es) (record { user = user; extent = made_extent x number }), made_extent x number)
     else None
 
 -- OPEN FILE: own: S2 is taken as 0, and an entry of a lesser number counts as none
-unfoldable pub open_file : Dpb → List Entry → ℕ → Extent → Option Extent
-open_file d es user x = open_to_read d es user x.name (x.ex % 32)
+unfoldable pub open_file_on_volume : Dpb → List Entry → ℕ → Extent → Option Extent
+open_file_on_volume d es user x = open_to_read d es user x.name (x.ex % 32)
 
 -- CLOSE FILE
-unfoldable pub close_file : Dpb → Bool → List Entry → ℕ → Extent → Close
-close_file d protected es user x = close_extent d protected es user x
+unfoldable pub close_file_on_volume : Dpb → Bool → List Entry → ℕ → Extent → Close
+close_file_on_volume d protected es user x = close_extent d protected es user x
 
 -- MAKE FILE: own: S2 is taken as 0
-unfoldable pub make_file : List Entry → ℕ → Extent → Option (List Entry × Extent)
-make_file es user x = make_extent es user x (x.ex % 32)
+unfoldable pub make_file_on_volume : List Entry → ℕ → Extent → Option (List Entry × Extent)
+make_file_on_volume es user x = make_extent es user x (x.ex % 32)
 
 -- ---- the extent of a record
 
@@ -170,7 +170,7 @@ opened_in v x t (Some it) = standing v it t.current
 
 unfoldable pub made_in : Volume → Extent → Target → Option (List Entry × Extent) → Place
 made_in v x t None = stopped t.missing v x
-made_in v x t (Some made) = standing (with_entry v (first_free v.entries) made.0) made.1 t.current
+made_in v x t (Some made_extent) = standing (with_entry v (first_free v.entries) made_extent.0) made_extent.1 t.current
 
 unfoldable pub opened_or_made : Volume → ℕ → Extent → Target → Option Extent → Place
 opened_or_made v user x t None = made_in v x t (make_extent v.entries user x t.number)
@@ -223,7 +223,7 @@ record_in_block d b current = b * (d.block_mask + 1) + current % (d.block_mask +
 -- read the current record; the next is then current
 unfoldable pub get_record : Dpb → Volume → Extent → ℕ → ℕ → Outcome
 get_record d v x current next =
-    let b = block_number x (place_of d x current) in
+    let b = block_number x (entry_place_of d x current) in
     if not (nat_lt current x.record_count) then ends no_record v x current
     else (if nat_lt d.last_block b then ends (fault bad_sector) v x current
     else (if b == 0 then ends no_record v x current
@@ -252,17 +252,17 @@ unfoldable pub counting : Extent → ℕ → Extent
 counting x current = record x { record_count = max x.record_count (current + 1) }
 
 -- records of zeros, `count` of them from a place on
-unfoldable pub cleared : ℕ → ℕ → List (List ℕ) → List (List ℕ)
-cleared start zero records = records
-cleared start (suc count) records = slice_set (cleared start count records) (start + count) (replicate 128 0)
+unfoldable pub cleared_records : ℕ → ℕ → List (List ℕ) → List (List ℕ)
+cleared_records start zero records = records
+cleared_records start (suc count) records = slice_set (cleared_records start count records) (start + count) (replicate 128 0)
 
 -- the records once a block is taken: a call may clear it
 unfoldable pub taken_records : Dpb → Bool → ℕ → List (List ℕ) → List (List ℕ)
 taken_records d false b records = records
-taken_records d true b records = cleared (b * (d.block_mask + 1)) (d.block_mask + 1) records
+taken_records d true b records = cleared_records (b * (d.block_mask + 1)) (d.block_mask + 1) records
 
 -- and what is written then
-unfoldable pub taken_writes : Dpb → Bool → ℕ → List Write
+unfoldable pub taken_writes : Dpb → Bool → ℕ → List DiskWrite
 taken_writes d false b = []
 taken_writes d true b =
     map (λ place. record_put (b * (d.block_mask + 1) + place) (replicate 128 0)) (range_with_len 0 (d.block_mask + 1))
@@ -273,12 +273,12 @@ put_found d clears v x current next bytes none_free = ends no_block v x current
 put_found d clears v x current next bytes (old_block b) =
     ends done (record v { records = slice_set v.records (record_in_block d b current) bytes; written = v.written ++ record_put (record_in_block d b current) bytes ∷ [] }) (counting x current) next
 put_found d clears v x current next bytes (new_block b) =
-    ends done (record v { reserved = slice_set v.reserved b true; records = slice_set (taken_records d clears b v.records) (record_in_block d b current) bytes; written = (v.written ++ taken_writes d clears b) ++ record_put (record_in_block d b current) bytes ∷ [] }) (counting (with_block x (place_of d x current) b) current) next
+    ends done (record v { reserved = slice_set v.reserved b true; records = slice_set (taken_records d clears b v.records) (record_in_block d b current) bytes; written = (v.written ++ taken_writes d clears b) ++ record_put (record_in_block d b current) bytes ∷ [] }) (counting (with_block x (entry_place_of d x current) b) current) next
 
 -- write the current record; the next is then current
 unfoldable pub put_record : Dpb → Bool → Volume → Extent → ℕ → ℕ → List ℕ → Outcome
 put_record d clears v x current next bytes =
-    put_found d clears v x current next bytes (block_to_write d v.reserved (block_number x (place_of d x current)))
+    put_found d clears v x current next bytes (block_to_write d v.reserved (block_number x (entry_place_of d x current)))
 
 -- ---- the functions
 
@@ -292,26 +292,26 @@ write_in d clears current step bytes (stopped answer v x) = ends answer v x curr
 write_in d clears current step bytes (standing v x here) = put_record d clears v x here (here + step) bytes
 
 -- READ SEQUENTIAL
-unfoldable pub read_next : Dpb → Bool → Volume → ℕ → Extent → ℕ → Outcome
-read_next d protected v user x current =
+unfoldable pub read_next_on_volume : Dpb → Bool → Volume → ℕ → Extent → ℕ → Outcome
+read_next_on_volume d protected v user x current =
     read_in d current 1 (next_place d reading protected v user x current)
 
 -- WRITE SEQUENTIAL, to a drive that is not protected
-unfoldable pub write_next : Dpb → Volume → ℕ → Extent → ℕ → List ℕ → Outcome
-write_next d v user x current bytes =
+unfoldable pub write_next_on_volume : Dpb → Volume → ℕ → Extent → ℕ → List ℕ → Outcome
+write_next_on_volume d v user x current bytes =
     write_in d false current 1 bytes (next_place d writing false v user x current)
 
 -- READ RANDOM, record n
-unfoldable pub read_random : Dpb → Bool → Volume → ℕ → Extent → ℕ → ℕ → Outcome
-read_random d protected v user x current n =
+unfoldable pub read_random_on_volume : Dpb → Bool → Volume → ℕ → Extent → ℕ → ℕ → Outcome
+read_random_on_volume d protected v user x current n =
     read_in d current 0 (place_at d reading protected v user x (target_of no_extent n))
 
 -- WRITE RANDOM, record n, to a drive that is not protected
-unfoldable pub write_random : Dpb → Volume → ℕ → Extent → ℕ → ℕ → List ℕ → Outcome
-write_random d v user x current n bytes =
+unfoldable pub write_random_on_volume : Dpb → Volume → ℕ → Extent → ℕ → ℕ → List ℕ → Outcome
+write_random_on_volume d v user x current n bytes =
     write_in d false current 0 bytes (place_at d writing false v user x (target_of no_entry_free n))
 
 -- WRITE RANDOM WITH ZERO FILL, record n, to a drive that is not protected
-unfoldable pub write_random_cleared : Dpb → Volume → ℕ → Extent → ℕ → ℕ → List ℕ → Outcome
-write_random_cleared d v user x current n bytes =
+unfoldable pub write_random_cleared_on_volume : Dpb → Volume → ℕ → Extent → ℕ → ℕ → List ℕ → Outcome
+write_random_cleared_on_volume d v user x current n bytes =
     write_in d true current 0 bytes (place_at d writing false v user x (target_of no_entry_free n))

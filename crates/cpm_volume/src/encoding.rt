@@ -1,7 +1,7 @@
 //! What the bytes of directory entries and of file control blocks have in common.
 
 ghost use Rattle.std.specs.Prelude.{◌≡◌, ◌<◌, ◌≤◌, length};
-ghost use Rattle.cpm_volume.specs.Encoding.{extent_of, number_in, extent_byte, map_byte};
+ghost use Rattle.cpm_volume.specs.Encoding.{extent_of, block_number_in, extent_byte, map_byte};
 
 use crate::extent::Extent;
 use cpm_geom::Dpb;
@@ -15,7 +15,7 @@ pub(crate) fn extent_from_bytes(dpb: &Dpb, bytes: &[u8]) -> Extent
     name.copy_from_slice(&bytes[1..12]);
     let mut blocks = [0; 16];
     for place in 0..16 {
-        blocks[place] = number_in(dpb, bytes, place);
+        blocks[place] = block_number_in(dpb, bytes, place);
     }
     Extent {
         name,
@@ -29,10 +29,10 @@ pub(crate) fn extent_from_bytes(dpb: &Dpb, bytes: &[u8]) -> Extent
 
 /// The block number at a place of the map.
 #[tactic(auto, unfolding(crate::specs::Encoding::number_in))]
-fn number_in(dpb: &Dpb, bytes: &[u8], place: usize) -> u16
+fn block_number_in(dpb: &Dpb, bytes: &[u8], place: usize) -> u16
     requires place { place < 16 }
     requires bytes { 32 ≤ length bytes.now }
-    ensures { result ≡ number_in dpb.now bytes.now place }
+    ensures { result ≡ block_number_in dpb.now bytes.now place }
 {
     if dpb.last_block < 256 {
         u16::from(bytes[16 + place])

@@ -4,7 +4,7 @@ use Rattle.cpm_asm_expression.specs.declared.values.CheckedValue.{CheckedValue}
 use Rattle.cpm_decode.specs.declared.operation.Op.{Op}
 use Rattle.cpm_asm.specs.Data.{byte_doubt}
 use Rattle.cpm_asm.specs.Emitting.{emitted}
-use Rattle.cpm_asm.specs.Encoding.{encoded, with_byte, with_word}
+use Rattle.cpm_asm.specs.Encoding.{encoded, op_with_byte, op_with_word}
 use Rattle.cpm_asm.specs.Statements.{seen_work}
 use Rattle.cpm_asm.specs.declared.statement.Work.{Work}
 use Rattle.cpm_asm.proofs.emit.add_work.Goals as goal
@@ -13,8 +13,8 @@ pub returns-in_ok-add_op-in-Byte-clause-bytes : goal.returns-in_ok-add_op-in-Byt
 unfolding emitted
 returns-in_ok-add_op-in-Byte-clause-bytes c =
     let image = c.args.image.now.items in
-    c.in_ok-add_op-in-Byte.ensures ∙ ap (λ (o : Op). image ++ encoded o) c.with_byte.ensures
-    ∙ ap (λ (v : CheckedValue). image ++ encoded (with_byte c.in-Byte.form (v.number % 256))) c.in_ok-found-in-Byte.ensures
+    c.in_ok-add_op-in-Byte.ensures ∙ ap (λ (o : Op). image ++ encoded o) c.op_with_byte.ensures
+    ∙ ap (λ (v : CheckedValue). image ++ encoded (op_with_byte c.in-Byte.form (v.number % 256))) c.in_ok-found-in-Byte.ensures
     ∙ ap (λ (w : Work). image ++ (emitted (in_table c.args.names.now) c.args.here c.args.next (seen_work w)).bytes) (sym c.in-Byte.is)
 
 pub returns-in_ok-add_op-in-Byte-clause-doubt : goal.returns-in_ok-add_op-in-Byte-clause-doubt
@@ -27,6 +27,6 @@ pub returns-in_ok-add_op-in-Word-clause-bytes : goal.returns-in_ok-add_op-in-Wor
 unfolding emitted
 returns-in_ok-add_op-in-Word-clause-bytes c =
     let image = c.args.image.now.items in
-    c.in_ok-add_op-in-Word.ensures ∙ ap (λ (o : Op). image ++ encoded o) c.with_word.ensures
-    ∙ ap (λ (v : CheckedValue). image ++ encoded (with_word c.in-Word.form v.number)) c.in_ok-found-in-Word.ensures
+    c.in_ok-add_op-in-Word.ensures ∙ ap (λ (o : Op). image ++ encoded o) c.op_with_word.ensures
+    ∙ ap (λ (v : CheckedValue). image ++ encoded (op_with_word c.in-Word.form v.number)) c.in_ok-found-in-Word.ensures
     ∙ ap (λ (w : Work). image ++ (emitted (in_table c.args.names.now) c.args.here c.args.next (seen_work w)).bytes) (sym c.in-Word.is)

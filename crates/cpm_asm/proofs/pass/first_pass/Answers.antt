@@ -1,7 +1,7 @@
 use Rattle.std.proofs.Common.{ap, sym, ◌∙◌, subst, arith}
 use Rattle.std.specs.Prelude.{Result}
-use Rattle.cpm_asm_expression.specs.Names.{Table, in_table}
-use Rattle.cpm_asm.specs.Pieces.{seen_piece, left}
+use Rattle.cpm_asm_expression.specs.Names.{NameTable, in_table}
+use Rattle.cpm_asm.specs.Pieces.{seen_piece, statements_left}
 use Rattle.cpm_asm.specs.Statements.{seen_statement}
 use Rattle.cpm_asm.specs.Passes.{Gives, first_pass}
 use Rattle.cpm_asm.specs.declared.error.AsmError.{AsmError}
@@ -12,18 +12,18 @@ pub returns-then-is_last : goal.returns-then-is_last
 returns-then-is_last c =
     let l = c.loop-piece in
     let x = seen_piece c.in-Some.piece in
-    let xs = left c.in-Some.behind in
+    let xs = statements_left c.in-Some.behind in
     let s = seen_statement c.statement_at-statement.result in
     let whole = first-last (in_table l.names) l.place x xs s c.in-Ok.measure (in_table c.define.new.names) c.statement_at-statement.ensures
     c.in-Ok.ensures.measure (sym c.in-Ok.ensures.fault ∙ c.in_default-fault.is) (sym c.if-is_last.ensures) c.in-Ok-define.ensures
     ∙ ap (first_pass (in_table l.names) l.place) (sym c.in-Some.ensures.pieces) ∙ l.invariant.same in
-    subst (λ (r : Result Table AsmError). Gives in_table c.at_end.result r) whole c.at_end.ensures
+    subst (λ (r : Result NameTable AsmError). Gives in_table c.at_end.result r) whole c.at_end.ensures
 
 pub loop-piece-preserved : goal.loop-piece-preserved
 loop-piece-preserved c =
     let l = c.loop-piece in
     let x = seen_piece c.in-Some.piece in
-    let xs = left c.in-Some.behind in
+    let xs = statements_left c.in-Some.behind in
     let s = seen_statement c.statement_at-statement.result in
     record {
       same = first-on (in_table l.names) l.place x xs s c.in-Ok.measure (in_table c.define.new.names) c.moved-place.result c.statement_at-statement.ensures

@@ -1,6 +1,6 @@
 use Rattle.std.proofs.Common.{◌++◌, ap, sym, ◌∙◌}
 use Rattle.cpm_asm_expression.specs.Names.{in_table}
-use Rattle.cpm_asm.specs.Pieces.{seen_piece, left}
+use Rattle.cpm_asm.specs.Pieces.{seen_piece, statements_left}
 use Rattle.cpm_asm.specs.Statements.{seen_statement}
 use Rattle.cpm_asm.specs.Passes.{second_pass}
 use Rattle.cpm_asm.specs.Placing.{places_from}
@@ -11,7 +11,7 @@ pub returns-in-Some-second_fault-clause-image : goal.returns-in-Some-second_faul
 returns-in-Some-second_fault-clause-image c =
     let l = c.loop-piece in
     let x = seen_piece c.in-Some.piece in
-    let xs = left c.in-Some.behind in
+    let xs = statements_left c.in-Some.behind in
     let s = seen_statement c.statement_at-statement.result in
     let t = in_table c.args.names.now in
     sym l.invariant.same ∙ ap (second_pass t l.assembly.image.items l.place) c.in-Some.ensures.pieces
@@ -22,7 +22,7 @@ pub returns-then-is_last-clause-image : goal.returns-then-is_last-clause-image
 returns-then-is_last-clause-image c =
     let l = c.loop-piece in
     let x = seen_piece c.in-Some.piece in
-    let xs = left c.in-Some.behind in
+    let xs = statements_left c.in-Some.behind in
     let s = seen_statement c.statement_at-statement.result in
     let t = in_table c.args.names.now in
     sym l.invariant.same ∙ ap (second_pass t l.assembly.image.items l.place) c.in-Some.ensures.pieces
@@ -33,7 +33,7 @@ pub returns-then-is_last-clause-places : goal.returns-then-is_last-clause-places
 returns-then-is_last-clause-places c =
     let l = c.loop-piece in
     let x = seen_piece c.in-Some.piece in
-    let xs = left c.in-Some.behind in
+    let xs = statements_left c.in-Some.behind in
     let s = seen_statement c.statement_at-statement.result in
     let t = in_table c.args.names.now in
     place-last t l.assembly.places.items c.lay_statement.new.assembly.places.items l.place x xs s c.in-Ok.measure c.statement_at-statement.ensures
@@ -44,7 +44,7 @@ pub loop-piece-preserved : goal.loop-piece-preserved
 loop-piece-preserved c =
     let l = c.loop-piece in
     let x = seen_piece c.in-Some.piece in
-    let xs = left c.in-Some.behind in
+    let xs = statements_left c.in-Some.behind in
     let s = seen_statement c.statement_at-statement.result in
     let t = in_table c.args.names.now in
     record {

@@ -11,7 +11,7 @@ use Rattle.cpm_batch.proofs.forked.read_forked.Goals as goal
 pub unreachable-requires : goal.unreachable-requires
 unreachable-requires g c =
     let h = parent_found (g.S.Store.files c.args.store.now) _ c.args.name.now c.requires.before c.requires.parent in
-    let none = sym c.in_default.is ∙ c.place_in.ensures.place ∙ h.found.first in
+    let none = sym c.in_default.is ∙ c.session_place.ensures.place ∙ h.found.first in
     absurd (cc)
 
 pub read_forked_keys_of-requires : goal.read_forked_keys_of-requires
@@ -19,7 +19,7 @@ read_forked_keys_of-requires g c =
     let files = g.S.Store.files c.args.store.now in
     let first = c.in_ok-first.first.items in
     let p = parent_read files c.args.before.now c.args.name.now c.in-Some.parent c.args.at c.index-before-parent.result c.as_slice-own.result.now first c.requires.before c.requires.parent
-    (sym c.in-Some.is ∙ c.place_in.ensures.place) c.in-Some.ensures.within c.index-before-parent.is c.as_slice-own.ensures.value c.in_ok-first.ensures in
+    (sym c.in-Some.is ∙ c.session_place.ensures.place) c.in-Some.ensures.within c.index-before-parent.is c.as_slice-own.ensures.value c.in_ok-first.ensures in
     p.few
 
 pub returns-in_err-keys-clause-refusal : goal.returns-in_err-keys-clause-refusal
@@ -27,7 +27,7 @@ returns-in_err-keys-clause-refusal g c =
     let files = g.S.Store.files c.args.store.now in
     let first = c.in_ok-first.first.items in
     let p = parent_read files c.args.before.now c.args.name.now c.in-Some.parent c.args.at c.index-before-parent.result c.as_slice-own.result.now first c.requires.before c.requires.parent
-    (sym c.in-Some.is ∙ c.place_in.ensures.place) c.in-Some.ensures.within c.index-before-parent.is c.as_slice-own.ensures.value c.in_ok-first.ensures in
+    (sym c.in-Some.is ∙ c.session_place.ensures.place) c.in-Some.ensures.within c.index-before-parent.is c.as_slice-own.ensures.value c.in_ok-first.ensures in
     let q = err_from_is_err_and c.from_residual-in_err-keys.result c.from_residual-in_err-keys.ensures.1 in
     let script = c.args.session.now.keys in
     let needs = ap (λ (keys : List Key). forked_script_needs c.args.at keys script) p.named in
@@ -38,7 +38,7 @@ returns-in_err-keys-clause-refused_log g c =
     let files = g.S.Store.files c.args.store.now in
     let first = c.in_ok-first.first.items in
     let p = parent_read files c.args.before.now c.args.name.now c.in-Some.parent c.args.at c.index-before-parent.result c.as_slice-own.result.now first c.requires.before c.requires.parent
-    (sym c.in-Some.is ∙ c.place_in.ensures.place) c.in-Some.ensures.within c.index-before-parent.is c.as_slice-own.ensures.value c.in_ok-first.ensures in
+    (sym c.in-Some.is ∙ c.session_place.ensures.place) c.in-Some.ensures.within c.index-before-parent.is c.as_slice-own.ensures.value c.in_ok-first.ensures in
     let q = err_from_is_err_and c.from_residual-in_err-keys.result c.from_residual-in_err-keys.ensures.1 in
     let script = c.args.session.now.keys in
     let needs = ap (λ (keys : List Key). forked_script_needs c.args.at keys script) p.named in
@@ -49,7 +49,7 @@ returns-clause-input g c =
     let files = g.S.Store.files c.args.store.now in
     let first = c.in_ok-first.first.items in
     let p = parent_read files c.args.before.now c.args.name.now c.in-Some.parent c.args.at c.index-before-parent.result c.as_slice-own.result.now first c.requires.before c.requires.parent
-    (sym c.in-Some.is ∙ c.place_in.ensures.place) c.in-Some.ensures.within c.index-before-parent.is c.as_slice-own.ensures.value c.in_ok-first.ensures in
+    (sym c.in-Some.is ∙ c.session_place.ensures.place) c.in-Some.ensures.within c.index-before-parent.is c.as_slice-own.ensures.value c.in_ok-first.ensures in
     let own = subst (λ (keys : List Key). HasForkedKeys files c.args.session.now.keys c.args.at keys c.in_ok-keys.keys.items) p.keys c.in_ok-keys.ensures.keys in
     record { place = c.in-Some.parent; parent = p.parent; found = p.found; start = refl; keys = own }
 
@@ -58,7 +58,7 @@ returns-clause-log g c =
     let files = g.S.Store.files c.args.store.now in
     let first = c.in_ok-first.first.items in
     let p = parent_read files c.args.before.now c.args.name.now c.in-Some.parent c.args.at c.index-before-parent.result c.as_slice-own.result.now first c.requires.before c.requires.parent
-    (sym c.in-Some.is ∙ c.place_in.ensures.place) c.in-Some.ensures.within c.index-before-parent.is c.as_slice-own.ensures.value c.in_ok-first.ensures in
+    (sym c.in-Some.is ∙ c.session_place.ensures.place) c.in-Some.ensures.within c.index-before-parent.is c.as_slice-own.ensures.value c.in_ok-first.ensures in
     let log = c.in_ok-keys.ensures.log in
     let calls = subst (λ (keys : List Key). AreForkedKeysRead c.args.session.now.keys c.args.at keys c.in_ok-keys.keys.items log.0) p.keys log.1 in
     (log.0, record { place = c.in-Some.parent; parent = p.parent; found = p.found; start = refl; calls = calls }, log.2)

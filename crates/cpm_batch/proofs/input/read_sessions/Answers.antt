@@ -1,6 +1,6 @@
 use Rattle.std.proofs.Common.{◌≡◌, ◌∙◌, List, None, ap, arith, map, subst, sym}
 use Rattle.std.proofs.lemmas.Result.{err_from_is_err_and}
-use Rattle.cpm_config.specs.Rules.{fork_fault, session_view}
+use Rattle.cpm_config.specs.Rules.{fork_field_fault, session_view}
 use Rattle.cpm_store.proofs.LogLemmas.{unwritten_more}
 use Rattle.cpm_store.specs.Log.{RanBy}
 use Rattle.cpm_batch.specs.Inputs.{HasInput, given, needs_of}
@@ -16,7 +16,7 @@ pub read_session-requires-clause-fork : goal.read_session-requires-clause-fork
 read_session-requires-clause-fork g c =
     let i = c.loop-session.invariant in
     let before = c.as_slice.ensures.value in
-    subst (λ (is : List Input). fork_fault (map (λ x. session_view x.session) (map given is)) (session_view c.session-item.result) ≡ None) (sym before)
+    subst (λ (is : List Input). fork_field_fault (map (λ x. session_view x.session) (map given is)) (session_view c.session-item.result) ≡ None) (sym before)
     (fork_stands c.args.sessions.now c.loop-session.session-index c.session-item.result (map given c.loop-session.inputs.items) c.loop-session-test.true c.session-item.is i.forks i.sessions)
 
 pub returns-in_err-input-clause-refusal : goal.returns-in_err-input-clause-refusal

@@ -12,4 +12,4 @@ returns-then-is_drive_alone-clause-operands c =
 pub returns-then-is_command_name-clause-operands :
     goal.returns-then-is_command_name-clause-operands
 returns-then-is_command_name-clause-operands c =
-    rw c.meaning.ensures (meaning-fits _ _ _ (omega arith) (sym c.is_command_name.ensures ∙ c.if-is_command_name.true))
+    rw c.command_meaning.ensures (meaning-fits _ _ _ (omega arith) (sym c.is_program_name.ensures ∙ c.if-is_command_name.true))

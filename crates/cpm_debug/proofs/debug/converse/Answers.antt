@@ -1,7 +1,7 @@
 use Rattle.std.proofs.Common.{◌≡◌, ◌∙◌, ◌+◌, ◌-◌, ap, sym, subst, suc, ℕ, arith}
 use Rattle.std.proofs.lemmas.Result.{err_from_is_err_and}
 use Rattle.cpm_debug.specs.Hearing.{without_end}
-use Rattle.cpm_debug.specs.Orders.{asked, request_of}
+use Rattle.cpm_debug.specs.Orders.{request_of_order, request_of}
 use Rattle.cpm_debug.proofs.DialogLemmas.{IsSoFar, held_all, held_none, held_quit, so_far_more, unanswered, unread}
 use Rattle.cpm_debug.proofs.debug.converse.Goals as goal
 
@@ -20,9 +20,9 @@ returns-then-is_quit-clause-held g c =
     let so = subst (λ (n : ℕ). IsSoFar c.args.system.now c.args.cpu c.args.listing.now c.args.machine.now c.loop-line.machine (g.R.Read.remaining c.args.input.now) (g.R.Read.remaining c.loop-line.input)
     (g.W.Write.contents c.args.out.now) (g.W.Write.contents c.loop-line.out) n c.loop-line.room) (sym at) c.loop-line.invariant in
     let hears = rw c.in-Some.is at c.in_ok-line.ensures.line in
-    let is : asked c.read-order.result ≡ request_of (without_end c.in-Some.line.items) =
+    let is : request_of_order c.read-order.result ≡ request_of (without_end c.in-Some.line.items) =
     c.read-order.ensures ∙ ap request_of (c.without_end.ensures ∙ ap without_end c.as_slice.ensures.value) in
-    held_quit (1000000 - (c.loop-line._line + 1)) c.loop-line.room c.hear.new.room (g.R.Read.remaining c.hear.new.input) (without_end c.in-Some.line.items) (asked c.read-order.result) so hears is (sym c.is_quit.ensures ∙ c.if-is_quit.true)
+    held_quit (1000000 - (c.loop-line._line + 1)) c.loop-line.room c.hear.new.room (g.R.Read.remaining c.hear.new.input) (without_end c.in-Some.line.items) (request_of_order c.read-order.result) so hears is (sym c.is_quit.ensures ∙ c.if-is_quit.true)
 
 pub returns-in-Err-clause-failed : goal.returns-in-Err-clause-failed
 returns-in-Err-clause-failed g c =
@@ -30,9 +30,9 @@ returns-in-Err-clause-failed g c =
     let so = subst (λ (n : ℕ). IsSoFar c.args.system.now c.args.cpu c.args.listing.now c.args.machine.now c.loop-line.machine (g.R.Read.remaining c.args.input.now) (g.R.Read.remaining c.loop-line.input)
     (g.W.Write.contents c.args.out.now) (g.W.Write.contents c.loop-line.out) n c.loop-line.room) (sym at) c.loop-line.invariant in
     let hears = rw c.in-Some.is at c.in_ok-line.ensures.line in
-    let is : asked c.read-order.result ≡ request_of (without_end c.in-Some.line.items) =
+    let is : request_of_order c.read-order.result ≡ request_of (without_end c.in-Some.line.items) =
     c.read-order.ensures ∙ ap request_of (c.without_end.ensures ∙ ap without_end c.as_slice.ensures.value) in
-    unanswered (1000000 - (c.loop-line._line + 1)) c.loop-line.room c.hear.new.room (g.R.Read.remaining c.hear.new.input) (without_end c.in-Some.line.items) (asked c.read-order.result) so hears is (sym c.is_quit.ensures ∙ c.if-is_quit.false) c.in-Err.ensures.refused
+    unanswered (1000000 - (c.loop-line._line + 1)) c.loop-line.room c.hear.new.room (g.R.Read.remaining c.hear.new.input) (without_end c.in-Some.line.items) (request_of_order c.read-order.result) so hears is (sym c.is_quit.ensures ∙ c.if-is_quit.false) c.in-Err.ensures.refused
 
 pub loop-line-preserved : goal.loop-line-preserved
 loop-line-preserved g c =
@@ -40,9 +40,9 @@ loop-line-preserved g c =
     let so = subst (λ (n : ℕ). IsSoFar c.args.system.now c.args.cpu c.args.listing.now c.args.machine.now c.loop-line.machine (g.R.Read.remaining c.args.input.now) (g.R.Read.remaining c.loop-line.input)
     (g.W.Write.contents c.args.out.now) (g.W.Write.contents c.loop-line.out) n c.loop-line.room) (sym at) c.loop-line.invariant in
     let hears = rw c.in-Some.is at c.in_ok-line.ensures.line in
-    let is : asked c.read-order.result ≡ request_of (without_end c.in-Some.line.items) =
+    let is : request_of_order c.read-order.result ≡ request_of (without_end c.in-Some.line.items) =
     c.read-order.ensures ∙ ap request_of (c.without_end.ensures ∙ ap without_end c.as_slice.ensures.value) in
-    so_far_more (1000000 - (c.loop-line._line + 1)) c.loop-line.room c.hear.new.room c.obey.new.machine (g.R.Read.remaining c.hear.new.input) (g.W.Write.contents c.obey.new.out) (without_end c.in-Some.line.items) (asked c.read-order.result) so hears is
+    so_far_more (1000000 - (c.loop-line._line + 1)) c.loop-line.room c.hear.new.room c.obey.new.machine (g.R.Read.remaining c.hear.new.input) (g.W.Write.contents c.obey.new.out) (without_end c.in-Some.line.items) (request_of_order c.read-order.result) so hears is
     (sym c.is_quit.ensures ∙ c.if-is_quit.false) c.in-Ok.ensures.state c.in-Ok.ensures.text
 
 pub returns-clause-held : goal.returns-clause-held

@@ -1,6 +1,6 @@
 use Rattle.std.proofs.Common.{◌≤◌, ap, ap₂, ℕ, arith, length, take, option_map}
 use Rattle.std.proofs.lemmas.Result.{err_from_is_err_and}
-use Rattle.cpm_debug.specs.Debug.{debugged, system_drive}
+use Rattle.cpm_debug.specs.Debug.{debugged, debug_system_drive}
 use Rattle.cpm_debug.proofs.DialogLemmas.{at_once, held_result, refused_result}
 use Rattle.cpm_debug.proofs.debug.run_debug.Goals as goal
 
@@ -9,7 +9,7 @@ returns-in_err-system-clause-refusal g c =
     let p = err_from_is_err_and c.from_residual.result c.from_residual.ensures.1 in
     let fits : length c.args.program.items ≤ 58112 = let l = c.len.ensures in let f = c.if-len-gt-MOST_PROGRAM.false in let k = c.args.program.ok.0 in omega arith in
     rw (p.1, p.2, c.in_err-system.ensures.refusal)
-    (fits, at_once system_drive c.args.cpu c.args.listing.now (debugged c.args.cpu c.args.program.items) (g.R.Read.remaining c.args.input.now) (g.W.Write.contents c.args.out.now))
+    (fits, at_once debug_system_drive c.args.cpu c.args.listing.now (debugged c.args.cpu c.args.program.items) (g.R.Read.remaining c.args.input.now) (g.W.Write.contents c.args.out.now))
 
 pub returns-clause-held : goal.returns-clause-held
 returns-clause-held g c =

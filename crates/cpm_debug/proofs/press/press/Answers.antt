@@ -1,5 +1,5 @@
 use Rattle.std.proofs.Common.{◌∙◌, ap, sym}
-use Rattle.cpm_debug.specs.Dialog.{Pressed, keys_in, press}
+use Rattle.cpm_debug.specs.Dialog.{Pressed, keys_in_text, press}
 use Rattle.cpm_debug.proofs.PressLemmas.{keys_in-front, none_first, press_accepted, press_refused, rest_keys}
 use Rattle.cpm_debug.proofs.press.press.Goals as goal
 
@@ -12,8 +12,8 @@ loop-key-preserved c =
     let first = sym c.in-Some.ensures in
     record {
       keys = rest_keys rest key after first keys;
-      same = ap (press (keys_in after)) c.in-Ok.ensures.accepted.1
-          ∙ sym (press_accepted key (keys_in after) c.loop-key.machine c.in-Ok.ensures.accepted.0)
+      same = ap (press (keys_in_text after)) c.in-Ok.ensures.accepted.1
+          ∙ sym (press_accepted key (keys_in_text after) c.loop-key.machine c.in-Ok.ensures.accepted.0)
           ∙ ap (λ ks. press ks c.loop-key.machine) (sym (keys_in-front rest key after first keys)) ∙ c.loop-key.invariant.same;
     }
 
@@ -24,7 +24,7 @@ returns-in-Err-clause-accepted c =
     let key = c.in-Some.key in
     let first = sym c.in-Some.ensures in
     let is = ap (λ ks. press ks c.loop-key.machine) (keys_in-front rest key after first c.loop-key.invariant.keys)
-    ∙ press_refused key (keys_in after) c.loop-key.machine c.in-Err.ensures.refused.0 in
+    ∙ press_refused key (keys_in_text after) c.loop-key.machine c.in-Err.ensures.refused.0 in
     ap (λ (p : Pressed). p.accepted) (sym is ∙ c.loop-key.invariant.same)
 
 pub returns-in-Err-clause-state : goal.returns-in-Err-clause-state
@@ -34,7 +34,7 @@ returns-in-Err-clause-state c =
     let key = c.in-Some.key in
     let first = sym c.in-Some.ensures in
     let is = ap (λ ks. press ks c.loop-key.machine) (keys_in-front rest key after first c.loop-key.invariant.keys)
-    ∙ press_refused key (keys_in after) c.loop-key.machine c.in-Err.ensures.refused.0 in
+    ∙ press_refused key (keys_in_text after) c.loop-key.machine c.in-Err.ensures.refused.0 in
     c.in-Err.ensures.refused.1 ∙ ap (λ (p : Pressed). p.state) (sym is ∙ c.loop-key.invariant.same)
 
 pub returns-clause-state : goal.returns-clause-state

@@ -1,7 +1,7 @@
 use Rattle.std.proofs.Common.{◌≡◌, ◌≢◌, ℕ, List, [], length, get_or, sym, ap, refl, ◌∙◌, arith}
 use Rattle.std.proofs.lemmas.Bool.{eq-eqb, ne_eqb, eqb-true}
 use Rattle.std.proofs.lemmas.List.{get_or_past}
-use Rattle.cpm_directory.specs.CommandLine.{type_of, after_type, word_of, after_word}
+use Rattle.cpm_directory.specs.CommandLine.{type_of, after_type, word_in, after_word}
 use Rattle.cpm_directory.proofs.TextLemmas.{rest}
 use Rattle.cpm_directory.proofs.command_line.split_type.Goals as goal
 use Rattle.cpm_directory.proofs.command_line.split_type.Goals.{else-not-is_empty-via-then-not-is_empty+else-text-eq46, else-not-is_empty-via-else-not-is_empty}
@@ -9,7 +9,7 @@ use Rattle.cpm_directory.proofs.command_line.split_type.Goals.{else-not-is_empty
 pub returns-then-text-eq46-clause-kind : goal.returns-then-text-eq46-clause-kind
 unfolding type_of
 returns-then-text-eq46-clause-kind c =
-    c.split_word.ensures.word ∙ (ap word_of (rest c.args.text.now _ 1 refl) ∙ rw (eq-eqb _ _ c.if-text-eq46.true) refl)
+    c.split_word.ensures.word ∙ (ap word_in (rest c.args.text.now _ 1 refl) ∙ rw (eq-eqb _ _ c.if-text-eq46.true) refl)
 
 pub returns-then-text-eq46-clause-rest : goal.returns-then-text-eq46-clause-rest
 unfolding after_type

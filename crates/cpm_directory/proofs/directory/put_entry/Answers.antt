@@ -3,7 +3,7 @@ use Rattle.cpm_geom.specs.Geometry.{dpb_of, record_index}
 use Rattle.cpm_geom.specs.Disk.{records_of, sector_at, with_sector}
 use Rattle.cpm_volume.specs.Files.{entry_at}
 use Rattle.cpm_volume.specs.Encoding.{entry_bytes}
-use Rattle.cpm_directory.specs.Directory.{entries_of, with_slot}
+use Rattle.cpm_directory.specs.Directory.{entries_of, record_with_entry}
 use Rattle.cpm_directory.proofs.DriveLemmas.{entry_record}
 use Rattle.cpm_directory.proofs.SlotLemmas.{must_be_ok, slot_written, put_in_directory, put_leaves, put_keeps}
 use Rattle.cpm_directory.proofs.directory.put_entry.Goals as goal
@@ -19,7 +19,7 @@ returns c =
     let old : c.copy_from_slice.new.self ≡ sector_at c.args.image.now (record_index c.args.image.now.format (c.args.index / 4)) = c.copy_from_slice.ensures.after ∙ found.1 in
     let new : c.copy_from_slice-2.new.self ≡ entry_bytes (dpb_of c.args.image.now.format) c.args.entry.now = c.copy_from_slice-2.ensures.after ∙ (c.to_bytes.ensures ∙ ap (λ p. entry_bytes p c.args.entry.now) d) in
     let slot = slot_written c.from-start.result (c.args.index % 4) _ _ _ _ c.from-start.ensures old new in
-    let bytes : c.put_record.new.self ≡ with_sector c.args.image.now (record_index c.args.image.now.format (c.args.index / 4)) (with_slot (sector_at c.args.image.now (record_index c.args.image.now.format (c.args.index / 4))) (c.args.index % 4) (entry_bytes (dpb_of c.args.image.now.format) c.args.entry.now)) = written.1 ∙ ap (with_sector c.args.image.now (record_index c.args.image.now.format (c.args.index / 4))) slot in
+    let bytes : c.put_record.new.self ≡ with_sector c.args.image.now (record_index c.args.image.now.format (c.args.index / 4)) (record_with_entry (sector_at c.args.image.now (record_index c.args.image.now.format (c.args.index / 4))) (c.args.index % 4) (entry_bytes (dpb_of c.args.image.now.format) c.args.entry.now)) = written.1 ∙ ap (with_sector c.args.image.now (record_index c.args.image.now.format (c.args.index / 4))) slot in
     record {
       bytes = bytes;
       entry = λ storable. ap entries_of bytes ∙ put_in_directory c.args.image.now c.args.index c.args.entry.now c.format.ensures.whole c.requires storable;

@@ -1,15 +1,15 @@
 use Rattle.std.proofs.Common.{◌∙◌, ◌++◌, ap, codes, decimal, List, ℕ}
-use Rattle.cpm_disk_commands.specs.Listing.{left, line_of, read_only_of, right, seen_name, system_of, unit_of}
+use Rattle.cpm_disk_commands.specs.Listing.{left_aligned, file_line, read_only_of, right, seen_name, system_of, unit_of}
 use Rattle.cpm_disk_commands.proofs.ListingLemmas.{joined}
 use Rattle.cpm_disk_commands.proofs.lines.add_line.Goals as goal
 
 pub returns : goal.returns
-unfolding line_of
+unfolding file_line
 returns c =
     let text = c.args.text.now.items in
     let file = c.args.file.now in
     let user = right 2 (decimal file.user) in
-    let name = left 12 (seen_name file.name) in
+    let name = left_aligned 12 (seen_name file.name) in
     let records = right 4 (decimal file.records) in
     let unit = unit_of file.records in
     let read_only = read_only_of file.name in

@@ -1,5 +1,5 @@
 use Rattle.std.proofs.Common.{◌≡◌, ◌∙◌, ◌<◌, ◌++◌, ◌+◌, [], true, false, cond, length, get_or, drop, sym, ap, append-nil, arith}
-use Rattle.cpm_disk_commands.specs.Listing.{is_wanted, line_of, lines_of}
+use Rattle.cpm_disk_commands.specs.Listing.{is_wanted, file_line, lines_of}
 use Rattle.cpm_disk_commands.proofs.ListingLemmas.{appended, appended_all, lines_end, lines_more, no_file}
 use Rattle.cpm_disk_commands.proofs.lines.add_lines.Goals as goal
 use Rattle.cpm_disk_commands.proofs.lines.add_lines.Goals.{then-is_wanted+in_ok-add_line, else-is_wanted}
@@ -13,12 +13,12 @@ loop-file-preserved c =
     elim c.if-is_wanted.branch [
       | then-is_wanted+in_ok-add_line w ↦
           let wanted : is_wanted c.args.user file ≡ true = sym c.is_wanted.ensures ∙ w.if-is_wanted.true in
-          let text : c.if-is_wanted.text.items ≡ c.loop-file.text.items ++ line_of file = cc (w.text-is, w.in_ok-add_line.ensures) in
-          appended c.loop-file.text.items c.if-is_wanted.text.items (line_of file) rest _ _ c.loop-file.invariant (step ∙ ap (λ b. cond b (line_of file) [] ++ rest) wanted) text
+          let text : c.if-is_wanted.text.items ≡ c.loop-file.text.items ++ file_line file = cc (w.text-is, w.in_ok-add_line.ensures) in
+          appended c.loop-file.text.items c.if-is_wanted.text.items (file_line file) rest _ _ c.loop-file.invariant (step ∙ ap (λ b. cond b (file_line file) [] ++ rest) wanted) text
       | else-is_wanted w ↦
           let other : is_wanted c.args.user file ≡ false = sym c.is_wanted.ensures ∙ w.if-is_wanted.false in
           let text : c.if-is_wanted.text.items ≡ c.loop-file.text.items ++ [] = ap (λ v. v.items) w.text-is ∙ sym (append-nil c.loop-file.text.items) in
-          appended c.loop-file.text.items c.if-is_wanted.text.items [] rest _ _ c.loop-file.invariant (step ∙ ap (λ b. cond b (line_of file) [] ++ rest) other) text
+          appended c.loop-file.text.items c.if-is_wanted.text.items [] rest _ _ c.loop-file.invariant (step ∙ ap (λ b. cond b (file_line file) [] ++ rest) other) text
     ]
 
 pub returns : goal.returns

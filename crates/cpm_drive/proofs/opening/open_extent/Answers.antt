@@ -2,7 +2,7 @@ use Rattle.std.proofs.Common.{◌≡◌, ◌≤◌, ◌∙◌, Some, length, sym
 use Rattle.cpm_geom.specs.Geometry.{dpb_of}
 use Rattle.cpm_volume.specs.declared.extent.Entry.{Entry}
 use Rattle.cpm_volume.specs.Files.{group_of, first_match}
-use Rattle.cpm_volume.specs.Operations.{opened}
+use Rattle.cpm_volume.specs.Operations.{opened_extent}
 use Rattle.cpm_directory.specs.Directory.{entries_of}
 use Rattle.cpm_directory.proofs.DriveLemmas.{entries_length}
 use Rattle.cpm_drive.specs.Judged.{entries_after}
@@ -26,4 +26,4 @@ returns-in-Some c =
     let within = c.in-Some.ensures.1 in
     let found = open_found (dpb_of c.args.image.now.format) (entries_after (entries_of c.args.image.now) c.args.change) c.args.user c.args.name.now c.args.number c.in-Some.index is (omega arith) in
     let entry = ap (λ (e : Entry). e.extent) c.entry_after.ensures in
-    ap Some (c.opened.ensures ∙ ap (λ x. opened x c.args.number) entry) ∙ sym found
+    ap Some (c.opened_extent.ensures ∙ ap (λ x. opened_extent x c.args.number) entry) ∙ sym found

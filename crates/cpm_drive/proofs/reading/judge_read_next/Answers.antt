@@ -1,13 +1,13 @@
 use Rattle.std.proofs.Common.{◌≡◌, None, refl}
 use Rattle.cpm_geom.specs.Geometry.{dpb_of}
-use Rattle.cpm_volume.specs.Operations.{read_next}
+use Rattle.cpm_volume.specs.Operations.{read_next_on_volume}
 use Rattle.cpm_drive.specs.Drive.{volume_of}
 use Rattle.cpm_drive.specs.Reads.{lent_drive}
 use Rattle.cpm_drive.proofs.ReadLemmas.{reading_is}
 use Rattle.cpm_drive.proofs.reading.judge_read_next.Goals as goal
 
 pub returns-clause-value : goal.returns-clause-value
-unfolding read_next
+unfolding read_next_on_volume
 returns-clause-value c = λ buffer.
     let arrival = c.next_place-arrival in
     let none : arrival.result.made ≡ None = arrival.ensures.made refl in
@@ -15,7 +15,7 @@ returns-clause-value c = λ buffer.
     rw (← arrival.ensures.place) (reading_is (dpb_of c.args.image.now.format) (lent_drive c.args.image.now c.args.marks.now) c.args.fcb.now _ arrival.result 1 c.find_arrived-found.result buffer none value)
 
 pub returns-clause-record : goal.returns-clause-record
-unfolding read_next
+unfolding read_next_on_volume
 returns-clause-record c =
     let value = rw c.format.ensures.format at c.find_arrived-found.ensures.value (volume_of c.args.image.now c.args.marks.now.reserved) in
     rw (← c.next_place-arrival.ensures.place) value

@@ -3,7 +3,7 @@ use Rattle.std.proofs.Math.Seq.{take-length}
 use Rattle.cpm_geom.specs.Geometry.{dpb_of}
 use Rattle.cpm_geom.specs.declared.dpb.Dpb.{Dpb}
 use Rattle.cpm_volume.specs.Files.{entry_at, no_entry}
-use Rattle.cpm_volume.specs.Names.{is_named, compute_size}
+use Rattle.cpm_volume.specs.Names.{is_named, compute_size_on_volume}
 use Rattle.cpm_directory.specs.Directory.{entries_of}
 use Rattle.cpm_directory.proofs.DriveLemmas.{last_entry_small, entries_length}
 use Rattle.cpm_drive.proofs.NamedLemmas.{size_named, size_other}
@@ -17,7 +17,7 @@ overflow_add-index-end c =
     omega (arith, last_entry_small c.args.image.now.format)
 
 pub loop-index-init : goal.loop-index-init
-unfolding compute_size
+unfolding compute_size_on_volume
 loop-index-init c = (refl, tt)
 
 pub loop-index-preserved : goal.loop-index-preserved
@@ -40,4 +40,4 @@ returns-clause-value c =
     let last = ap (λ (p : Dpb). p.last_entry) d in
     let size = entries_length c.args.image.now in
     let all : take c.loop-index.index (entries_of c.args.image.now) ≡ entries_of c.args.image.now = ap (λ k. take k (entries_of c.args.image.now)) (let e : c.loop-index.index ≡ length (entries_of c.args.image.now) = omega arith in e) ∙ take-length (entries_of c.args.image.now) in
-    c.loop-index.invariant.0 ∙ ap (λ es. compute_size es c.args.user c.args.name.now) all
+    c.loop-index.invariant.0 ∙ ap (λ es. compute_size_on_volume es c.args.user c.args.name.now) all

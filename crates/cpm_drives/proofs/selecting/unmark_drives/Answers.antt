@@ -9,7 +9,7 @@ loop-number-init c = (refl, c.told-drives)
 
 pub loop-number-preserved : goal.loop-number-preserved
 loop-number-preserved c =
-    (reset_step c.args.vector c.loop-number.number c.loop-number.drives c.index-drives-number.result c.unmark_drive.new.drive (omega arith) (c.unmark_drive.ensures ∙ ap (λ (b : Bool). if b then drive_unmarked (get_or c.loop-number.drives c.loop-number.number c.index-drives-number.result) else get_or c.loop-number.drives c.loop-number.number c.index-drives-number.result) c.has_bit.ensures) ∙ c.loop-number.invariant.0, length-set c.loop-number.drives c.loop-number.number c.unmark_drive.new.drive ∙ c.loop-number.invariant.1)
+    (reset_step c.args.vector c.loop-number.number c.loop-number.drives c.index-drives-number.result c.unmark_drive.new.drive (omega arith) (c.unmark_drive.ensures ∙ ap (λ (b : Bool). if b then drive_unmarked (get_or c.loop-number.drives c.loop-number.number c.index-drives-number.result) else get_or c.loop-number.drives c.loop-number.number c.index-drives-number.result) c.has_drive_bit.ensures) ∙ c.loop-number.invariant.0, length-set c.loop-number.drives c.loop-number.number c.unmark_drive.new.drive ∙ c.loop-number.invariant.1)
 
 pub returns : goal.returns
 returns c =

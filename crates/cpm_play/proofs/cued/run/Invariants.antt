@@ -1,13 +1,13 @@
 use Rattle.std.proofs.Common.{◌≡◌, ◌++◌, ◌-◌, ◌≤◌, true}
 use Rattle.cpm_machine.specs.Step.{after}
-use Rattle.cpm_play.specs.Cued.{HasRun, IsBusyFor}
+use Rattle.cpm_play.specs.Cued.{HasExecuted, IsBusyFor}
 use Rattle.cpm_play.specs.Playing.{IsQuiet}
 use Rattle.cpm_play.proofs.cued.run.Given as goal
 
 abbrev pub invariant-loop-executed : goal.invariant-loop-executed
 invariant-loop-executed g l = record {
   within : l.executed ≤ l.steps;
-  run : HasRun l.system l.executed l.fn.machine l.machine (g.W.Write.contents l.fn.out) (g.W.Write.contents l.out);
+  run : HasExecuted l.system l.executed l.fn.machine l.machine (g.W.Write.contents l.fn.out) (g.W.Write.contents l.out);
   quiet : IsQuiet l.machine;
   busy : l.to_wait ≡ true → IsBusyFor l.system l.executed l.fn.machine;
   kept : l.keeps ≡ true → l.kept.items ≡ l.fn.kept.items ++ (after l.system l.executed l.fn.machine).session.console.screen;

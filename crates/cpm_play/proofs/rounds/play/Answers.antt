@@ -9,7 +9,7 @@ loop-alloc-init g c = record { none = λ no. sym c.has_fork-may_fork.ensures ∙
 
 pub loop-alloc-smaller : goal.loop-alloc-smaller
 loop-alloc-smaller g c =
-    c.in_ok-round.ensures.left c.args.host.now.host c.args.players.now c.requires.ready c.loop-alloc.invariant.come (some-left c.loop-alloc.players (sym c.goes_on.ensures ∙ c.loop-alloc-test.true))
+    c.in_ok-round.ensures.left c.args.host.now.host c.args.players.now c.requires.ready c.loop-alloc.invariant.come (some-left c.loop-alloc.players (sym c.still_plays.ensures ∙ c.loop-alloc-test.true))
 
 pub loop-alloc-preserved : goal.loop-alloc-preserved
 loop-alloc-preserved g c = record {
@@ -28,11 +28,11 @@ returns-in_err-round-clause-refused g c =
 
 pub returns-clause-played : goal.returns-clause-played
 returns-clause-played g c =
-    played-all c.args.host.now.host c.loop-alloc.host.host c.args.players.now c.loop-alloc.players c.loop-alloc.invariant.come (sym c.goes_on.ensures ∙ c.loop-alloc-test.false)
+    played-all c.args.host.now.host c.loop-alloc.host.host c.args.players.now c.loop-alloc.players c.loop-alloc.invariant.come (sym c.still_plays.ensures ∙ c.loop-alloc-test.false)
 
 pub returns-clause-others : goal.returns-clause-others
 returns-clause-others g c = c.loop-alloc.invariant.come.rest
 
 pub returns-clause-room : goal.returns-clause-room
 returns-clause-room g c =
-    room-all c.args.host.now.host c.loop-alloc.host.host c.args.players.now c.loop-alloc.players c.loop-alloc.invariant.come (sym c.goes_on.ensures ∙ c.loop-alloc-test.false)
+    room-all c.args.host.now.host c.loop-alloc.host.host c.args.players.now c.loop-alloc.players c.loop-alloc.invariant.come (sym c.still_plays.ensures ∙ c.loop-alloc-test.false)

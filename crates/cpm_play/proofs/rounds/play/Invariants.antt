@@ -1,5 +1,5 @@
 use Rattle.std.proofs.Common.{◌≡◌, false}
-use Rattle.cpm_play.specs.Players.{HasCome, has_fork, left_of}
+use Rattle.cpm_play.specs.Players.{HasCome, has_fork, players_left}
 use Rattle.cpm_play.proofs.rounds.play.Given as goal
 
 abbrev pub invariant-loop-alloc : goal.invariant-loop-alloc
@@ -9,4 +9,4 @@ invariant-loop-alloc g l = record {
 }
 
 abbrev pub decreases-loop-alloc : goal.decreases-loop-alloc
-decreases-loop-alloc g l = left_of l.players
+decreases-loop-alloc g l = players_left l.players

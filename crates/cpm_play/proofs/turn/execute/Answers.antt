@@ -7,7 +7,7 @@ use Rattle.cpm_machine.specs.Serve.{executed}
 use Rattle.cpm_play.specs.declared.scripted_slot.ScriptedSlot.{ScriptedSlot}
 use Rattle.cpm_play.specs.Pacing.{turn_of}
 use Rattle.cpm_play.specs.Players.{AllBefore}
-use Rattle.cpm_play.specs.ScriptedSlots.{keys_of}
+use Rattle.cpm_play.specs.ScriptedSlots.{script_keys}
 use Rattle.cpm_play.proofs.HostLemmas.{moves-ask, moves-on}
 use Rattle.cpm_play.proofs.ScriptedSlotLemmas.{playing-turn}
 use Rattle.cpm_play.proofs.turn.execute.Goals as goal
@@ -18,7 +18,7 @@ returns-clause-playing c = λ steps start r.
     let h = c.press_due.new.host.host in
     let next : ScriptedSlot = record p { pace = c.advance.new.self } in
     let k = c.grant-executed.result in
-    let most : c.turn-most.result ≡ turn_of p.pace (keys_of p) c.args.quantum =
+    let most : c.turn-most.result ≡ turn_of p.pace (script_keys p) c.args.quantum =
     c.turn-most.ensures ∙ ap (λ (ks : List Key). turn_of p.pace ks c.args.quantum) c.deref.ensures.value in
     playing-turn steps k c.args.quantum start p next h c.grant-executed.new.host.host c.press_due.ensures.due c.requires
     (subst (λ (n : ℕ). k ≤ n) most c.grant-executed.ensures.within)
@@ -37,5 +37,5 @@ returns-clause-moves c =
 
 pub returns-clause-early : goal.returns-clause-early
 returns-clause-early c = λ at above before.
-    let keys = keys_of c.press_due.new.slot in
+    let keys = script_keys c.press_due.new.slot in
     subst (λ (n : ℕ). AllBefore at (take n keys)) (sym c.advance.ensures.pressed) (c.press_due.ensures.early at above before)

@@ -6,7 +6,7 @@ use Rattle.cpm_script.specs.declared.script.Key.{Key}
 use Rattle.cpm_slots.specs.Host.{slot_at}
 use Rattle.cpm_play.specs.declared.pace.Pace.{Pace}
 use Rattle.cpm_play.specs.Players.{AllBefore}
-use Rattle.cpm_play.specs.ScriptedSlots.{keys_of, waits_in}
+use Rattle.cpm_play.specs.ScriptedSlots.{script_keys, waits_in}
 use Rattle.cpm_play.proofs.ScriptedSlotLemmas.{resting-empty}
 use Rattle.cpm_play.proofs.TextLemmas.{on_ok}
 use Rattle.cpm_play.proofs.turn.turn.Goals as goal
@@ -29,7 +29,7 @@ returns-clause-early c =
     let pace : q.pace ≡ p.pace = c.take_all-2.ensures.pace ∙ c.take_all.ensures.pace in
     on_ok_weaker c.take_all-2.result
     (λ last. λ at above before.
-    let keys : keys_of q ≡ keys_of p = last.keys ∙ first.moves.keys in
+    let keys : script_keys q ≡ script_keys p = last.keys ∙ first.moves.keys in
     subst (λ (ks : List Key). AllBefore at (take q.pace.pressed ks)) (sym keys)
-    (subst (λ (x : Pace). AllBefore at (take x.pressed (keys_of p))) (sym pace) (c.execute.ensures.early at above before)))
+    (subst (λ (x : Pace). AllBefore at (take x.pressed (script_keys p))) (sym pace) (c.execute.ensures.early at above before)))
     c.take_all-2.ensures.moves

@@ -2,7 +2,7 @@ use Rattle.std.proofs.Common.{◌∙◌, ap, subst, List, map}
 use Rattle.cpm_batch.specs.Inputs.{SessionInput, given}
 use Rattle.cpm_slots.specs.Host.{Host}
 use Rattle.cpm_machine.specs.declared.opening.OpenError.{OpenError}
-use Rattle.cpm_run.specs.Playing.{IsPlayRefusal}
+use Rattle.cpm_run.specs.Playing.{IsSessionsRefusal}
 use Rattle.cpm_run.specs.Run.{AllAccepted, AreOpenable, HasForkRoom, IsFirstRefused, IsShortFor, fork_pages_in, forks_in}
 use Rattle.cpm_run.proofs.play.prepare_host.Goals as goal
 
@@ -29,5 +29,5 @@ returns-in-Ok-prepare_all-clause-system c = c.in-Ok-prepare_all.ensures.system �
 pub returns-in-Err-prepare_all-clause-refusal : goal.returns-in-Err-prepare_all-clause-refusal
 returns-in-Err-prepare_all-clause-refusal c =
     let inputs = map given c.args.inputs.sessions.items in
-    subst (λ (h : Host). IsPlayRefusal c.args.config.now h inputs c.play_refusal.result) c.in-Ok.ensures.made
+    subst (λ (h : Host). IsSessionsRefusal c.args.config.now h inputs c.play_refusal.result) c.in-Ok.ensures.made
     (c.play_refusal.ensures c.in-Ok.host.host inputs (c.in-Err-prepare_all.ensures.refusal inputs))

@@ -2,7 +2,7 @@ use Rattle.std.proofs.Common.{◌∙◌, ap, map, sym}
 use Rattle.std.proofs.lemmas.Result.{err_from_is_err_and}
 use Rattle.cpm_batch.specs.Inputs.{given}
 use Rattle.cpm_config.proofs.FaultLemmas.{neither}
-use Rattle.cpm_store.specs.Writes.{named}
+use Rattle.cpm_store.specs.Writes.{named_output}
 use Rattle.cpm_run.proofs.RunLemmas.{fails_at_write, play_refused, play_stopped, read_and_written, reading_refused, reading_stopped, writing_stopped}
 use Rattle.cpm_run.proofs.ScriptLemmas.{inputs_pressable}
 use Rattle.cpm_run.specs.Run.{top_fault}
@@ -35,8 +35,8 @@ returns-in_err-write_files-clause-stopped_log g c =
     let start = c.args.store.now in
     let between = c.read_inputs.new.store in
     let end = c.write_files.new.store in
-    let outputs = map named c.as_slice.result.now in
-    let are = ap (map named) c.as_slice.ensures.value ∙ c.in_ok-reports.ensures.outputs in
+    let outputs = map named_output c.as_slice.result.now in
+    let are = ap (map named_output) c.as_slice.ensures.value ∙ c.in_ok-reports.ensures.outputs in
     let stopped = c.in_err-write_files.ensures.stopped_log in
     rw (p.1, p.2) (writing_stopped does config start end outputs (g.S.Store.files between) (g.S.Store.files end) c.in_err-write_files.field-0.0 c.in_err-write_files.ensures.refusal
     (fails_at_write does config start end between c.in_ok-inputs.inputs.system (map given c.in_ok-inputs.inputs.sessions.items) outputs stopped.0 are c.in_ok-inputs.ensures.log stopped.1))
@@ -47,12 +47,12 @@ returns-clause-log g c =
     let config = c.args.config.now in
     let system = c.in_ok-inputs.inputs.system in
     let inputs = map given c.in_ok-inputs.inputs.sessions.items in
-    let are = ap (map named) c.as_slice.ensures.value ∙ c.in_ok-reports.ensures.outputs in
+    let are = ap (map named_output) c.as_slice.ensures.value ∙ c.in_ok-reports.ensures.outputs in
     record {
       system = system;
       inputs = inputs;
       accepted = c.in_ok-reports.ensures.accepted;
-      calls = read_and_written does config c.args.store.now c.write_files.new.store c.read_inputs.new.store system inputs (map named c.as_slice.result.now) are c.in_ok-inputs.ensures.log
+      calls = read_and_written does config c.args.store.now c.write_files.new.store c.read_inputs.new.store system inputs (map named_output c.as_slice.result.now) are c.in_ok-inputs.ensures.log
           c.in_ok-write_files.ensures.log;
       reported = c.in_ok-reports.ensures.reports;
     }

@@ -6,5 +6,5 @@ use Rattle.cpm_script.proofs.cue.push_key.Goals as goal
 pub returns-clause-reading : goal.returns-clause-reading
 returns-clause-reading c =
     let old = c.args.reading.now in
-    let added = said-pushed old.cues c.push.new.self c.pressed.result c.in_ok-push.ensures.items ∙ ap (λ x. all_said old.cues ++ x ∷ []) c.pressed.ensures in
+    let added = said-pushed old.cues c.push.new.self c.key_cue.result c.in_ok-push.ensures.items ∙ ap (λ x. all_said old.cues ++ x ∷ []) c.key_cue.ensures in
     rw c.unwrap_or-reading.ensures (key-pushed old c.push.new.self c.args.at c.args.byte c.requires.reading c.requires.room added)

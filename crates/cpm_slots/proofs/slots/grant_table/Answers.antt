@@ -8,7 +8,7 @@ use Rattle.cpm_memory.specs.View as view
 use Rattle.cpm_decode.specs.Cache.{IsRightFor}
 use Rattle.cpm_machine.specs.MachineState.{MachineState}
 use Rattle.cpm_machine.specs.Serve.{executed}
-use Rattle.cpm_machine.specs.Runner.{state_of, IsSound}
+use Rattle.cpm_machine.specs.Runner.{state_of, IsRunnerSound}
 use Rattle.cpm_slots.specs.Serving.{executed_to}
 use Rattle.cpm_slots.specs.Slots.{contents_at}
 use Rattle.cpm_slots.proofs.ViewLaws.{Lent, Leaves, lent-view, leaves, leaves-copied, changes, contents-of, right-lent, right-left, right-copied, right-put, stored-copied, keeps-stamps}
@@ -43,7 +43,7 @@ returns-then-is_some-clause-others c =
 pub returns-then-is_some-clause-sound : goal.returns-then-is_some-clause-sound
 returns-then-is_some-clause-sound c =
     let now = (lent_leaves (goal.at.returns-then-is_some-clause-sound c).After-grant_to).now in
-    subst (λ m. IsSound (state_of c.grant_to.new.runner m)) (grind (arith, common_steps)) c.grant_to.ensures.sound
+    subst (λ m. IsRunnerSound (state_of c.grant_to.new.runner m)) (grind (arith, common_steps)) c.grant_to.ensures.sound
 
 pub returns-then-is_some-clause-right : goal.returns-then-is_some-clause-right
 returns-then-is_some-clause-right c =
@@ -63,7 +63,7 @@ copied_leaves c =
 
 pub grant-granted-requires-clause-sound : goal.grant-granted-requires-clause-sound
 grant-granted-requires-clause-sound c =
-    subst (λ m. IsSound (state_of c.args.runner.now m)) (contents-of c.args.store.now c.args.table c.requires.taken ∙ sym c.reflect.ensures.contents) c.requires.sound
+    subst (λ m. IsRunnerSound (state_of c.args.runner.now m)) (contents-of c.args.store.now c.args.table c.requires.taken ∙ sym c.reflect.ensures.contents) c.requires.sound
 
 pub grant-granted-requires-clause-right : goal.grant-granted-requires-clause-right
 grant-granted-requires-clause-right c =
@@ -98,7 +98,7 @@ pub returns-clause-others : goal.returns-clause-others
 returns-clause-others c = changes c.args.store.now c.put_back.new.self c.args.table _ _ (copied_leaves (goal.at.returns-clause-others c).After-put_back)
 
 pub returns-clause-sound : goal.returns-clause-sound
-returns-clause-sound c = subst (λ m. IsSound (state_of c.grant-granted.new.runner m)) (sym (copied_leaves (goal.at.returns-clause-sound c).After-put_back).now) c.grant-granted.ensures.sound
+returns-clause-sound c = subst (λ m. IsRunnerSound (state_of c.grant-granted.new.runner m)) (sym (copied_leaves (goal.at.returns-clause-sound c).After-put_back).now) c.grant-granted.ensures.sound
 
 pub returns-clause-right : goal.returns-clause-right
 returns-clause-right c =

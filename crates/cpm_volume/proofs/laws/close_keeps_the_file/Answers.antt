@@ -1,10 +1,10 @@
 use Rattle.std.proofs.Common.{inl, inr}
-use Rattle.cpm_volume.specs.Operations.{with_entry, close_file}
+use Rattle.cpm_volume.specs.Operations.{with_entry, close_file_on_volume}
 use Rattle.cpm_volume.proofs.Closing as closing
 use Rattle.cpm_volume.proofs.laws.close_keeps_the_file.Goals as goal
 
 pub returns : goal.returns
-unfolding close_file with_entry
+unfolding close_file_on_volume with_entry
 returns c = λ d protected v user x ok wf kept. elim (closing.answer d v.entries v.reserved user x ok wf kept protected) [
   | inl a ↦ inl (record {
     index = kept.index;

@@ -2,7 +2,7 @@ use Rattle.std.proofs.Common.{ℕ, List, ap, ◌∙◌}
 use Rattle.cpm_memory.specs.Contents.{Contents, after_run}
 use Rattle.cpm_drives.specs.declared.disks.Disks.{Disks}
 use Rattle.cpm_drives.specs.Disks.{drive_at}
-use Rattle.cpm_drives.specs.Selecting.{used}
+use Rattle.cpm_drives.specs.Selecting.{drive_in_use}
 use Rattle.cpm_drives.specs.Vectors.{allocation_of}
 use Rattle.cpm_bdos.specs.Did.{answered}
 use Rattle.cpm_bdos.specs.Disks.{with_disks, give_allocation}
@@ -17,7 +17,7 @@ returns-clause-step g c =
     let n = g.M.Memory.contents c.change_run.new.memory in
     let system = c.args.system.now in
     let at = c.vector_of-at.result in
-    let disks = used s.disks system s.disks.current in
+    let disks = drive_in_use s.disks system s.disks.current in
     let vector = allocation_of (drive_at disks system s.disks.current) in
     let of_disks = ap (λ (d : Disks). allocation_of (drive_at d system d.current)) c.use_drive.ensures in
     let of_current = ap (λ (k : ℕ). allocation_of (drive_at disks system k)) (current-used s.disks system s.disks.current) in

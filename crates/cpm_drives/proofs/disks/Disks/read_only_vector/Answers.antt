@@ -8,4 +8,4 @@ pub returns : goal.returns
 unfolding read_only_vector
 returns c =
     let own = vector_of_four (λ (marks : Marks). marks.is_protected) c.args.self.now.drives c.index-self-0.result c.index-self-1.result c.index-self-2.result c.index-self-3.result c.is_protected.result c.is_protected-2.result c.is_protected-3.result c.is_protected-4.result (omega arith) c.is_protected.ensures c.is_protected-2.ensures c.is_protected-3.ensures c.is_protected-4.ensures in
-    rw (c.vector_of-own.ensures.value, c.bit.ensures.value) (let e = own in omega arith)
+    rw (c.vector_of-own.ensures.value, c.drive_bit.ensures.value) (let e = own in omega arith)

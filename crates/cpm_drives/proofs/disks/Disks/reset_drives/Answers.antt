@@ -5,9 +5,9 @@ use Rattle.cpm_drives.proofs.disks.Disks.reset_drives.Goals as goal
 pub returns-then-has_bit : goal.returns-then-has_bit
 unfolding drives_reset
 returns-then-has_bit c =
-    rw (c.unmark_drives.ensures, c.unmark.ensures, ← c.has_bit.ensures, c.if-has_bit.true) refl
+    rw (c.unmark_drives.ensures, c.unmark.ensures, ← c.has_drive_bit.ensures, c.if-has_bit.true) refl
 
 pub returns-else-has_bit : goal.returns-else-has_bit
 unfolding drives_reset
 returns-else-has_bit c =
-    rw (c.unmark_drives.ensures, ← c.has_bit.ensures, c.if-has_bit.false) refl
+    rw (c.unmark_drives.ensures, ← c.has_drive_bit.ensures, c.if-has_bit.false) refl

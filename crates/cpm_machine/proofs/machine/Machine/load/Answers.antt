@@ -5,7 +5,7 @@ use Rattle.cpm_decode.specs.Cache.{IsRightFor}
 use Rattle.cpm_decode.specs.Cached.{stays-right}
 use Rattle.cpm_memory.specs.Room.{limit-after_sets}
 use Rattle.cpm_memory.specs.Sets.{after_sets-append}
-use Rattle.cpm_machine.specs.MachineState.{MachineState, loaded, program_puts}
+use Rattle.cpm_machine.specs.MachineState.{MachineState, program_loaded, program_puts}
 use Rattle.cpm_machine.specs.Runner.{state_of}
 use Rattle.cpm_machine.proofs.machine.Machine.load.Goals as goal
 use Rattle.cpm_machine.proofs.machine.Machine.load.Goals.{After-set_word}
@@ -54,4 +54,4 @@ returns c =
     let memory : flat_contents c.set_word.new.memory ≡ after_sets before (program_puts program) = c.set_word.ensures.contents
     ∙ ap (λ m. after_sets m (word_puts 60414 58374)) c.set_run.ensures.contents
     ∙ sym (after_sets-append before (run_puts 256 program) (word_puts 60414 58374)) in
-    ap (begun (state_of c.self.inside.runner before)) memory ∙ ap (loaded program) c.self.view_is
+    ap (begun (state_of c.self.inside.runner before)) memory ∙ ap (program_loaded program) c.self.view_is

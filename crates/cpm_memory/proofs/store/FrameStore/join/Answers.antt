@@ -1,7 +1,7 @@
 use Rattle.std.proofs.Common.{◌≡◌, ◌+◌, ◌<◌, arith, ap, sym, ◌∙◌, subst, refl, ℕ, Some, None, get_or, set, length}
 use Rattle.std.proofs.lemmas.List.{get_or_read}
 use Rattle.cpm_memory.specs.Frames.{Frames, Table, private_at, table_at, blank_table, used_by, reserved_by}
-use Rattle.cpm_memory.specs.Kept.{IsKept, with_place}
+use Rattle.cpm_memory.specs.Kept.{IsKept, table_with_frame}
 use Rattle.cpm_memory.proofs.Copies.{private_at-read, counts-length}
 use Rattle.cpm_memory.proofs.Joins.{IsKept-joined, count-most}
 use Rattle.cpm_memory.proofs.store.FrameStore.join.Goals as goal
@@ -42,8 +42,8 @@ invariant_of-self c =
     let s = before o in
     let f = c.in-Some.frame in
     let owners = c.self.inside.owners.items in
-    let table : c.put.new.self ≡ with_place (table_at s c.args.table) c.args.page (Some f) =
-    c.put.ensures ∙ ap (λ (x : Table). with_place x c.args.page (Some f)) (get_or_read s.tables c.args.table c.index_mut-in-Some.result.now (omega (arith, c.requires.table, c.self.invariant.sound.tables)) c.index_mut-in-Some.ensures.value blank_table) in
+    let table : c.put.new.self ≡ table_with_frame (table_at s c.args.table) c.args.page (Some f) =
+    c.put.ensures ∙ ap (λ (x : Table). table_with_frame x c.args.page (Some f)) (get_or_read s.tables c.args.table c.index_mut-in-Some.result.now (omega (arith, c.requires.table, c.self.invariant.sound.tables)) c.index_mut-in-Some.ensures.value blank_table) in
     subst (λ n. IsKept (record s { tables = set s.tables c.args.table c.put.new.self }) (set owners f (n + 1)) c.self.inside.reserved) (sym (read o c.index_mut.result.now c.index_mut.ensures.value))
     (subst (λ (x : Table). IsKept (record s { tables = set s.tables c.args.table x }) (set owners f (get_or owners f 0 + 1)) c.self.inside.reserved) (sym table)
     (IsKept-joined s owners c.self.inside.reserved c.args.table c.args.page c.args.source c.args.page f c.self.invariant c.requires.table (omega arith) (none o) (at o) (room o)))

@@ -1,7 +1,7 @@
 use Rattle.std.proofs.Common.{◌≡◌, ℕ, ◌<◌, length, sum, get_or, arith, ap, sym, ◌∙◌, subst, None, Some, ◌+◌, List, []}
 use Rattle.std.proofs.lemmas.List.{get_or_read}
 use Rattle.cpm_memory.specs.Frames.{Frames, Table, blank_table, owners_of, private_at, used_by, reserved_by, table_at}
-use Rattle.cpm_memory.specs.Kept.{IsKept, with_place}
+use Rattle.cpm_memory.specs.Kept.{IsKept, table_with_frame}
 use Rattle.cpm_memory.proofs.Copies.{owners_of-free, IsKept-copied, sum-lt, counts-length}
 use Rattle.cpm_memory.proofs.store.FrameStore.make_private.Goals as goal
 
@@ -66,7 +66,7 @@ invariant_of-self c =
     shared
     (room_as s c.args.self.now c.args.table c.self.view_is c.requires.reserved)
     (get_or_read i.frames.items c.args.source c.index-bytes.result.now (omega (arith, c.self.invariant.sound.frames, from)) c.index-bytes.ensures [])
-    (c.put.ensures ∙ ap (λ (x : Table). with_place x c.args.page (Some c.find_free_frame-frame.result)) (get_or_read i.tables.items c.args.table c.index_mut-3.result.now (omega (arith, c.requires.table, c.self.invariant.sound.tables)) c.index_mut-3.ensures.value blank_table))
+    (c.put.ensures ∙ ap (λ (x : Table). table_with_frame x c.args.page (Some c.find_free_frame-frame.result)) (get_or_read i.tables.items c.args.table c.index_mut-3.result.now (omega (arith, c.requires.table, c.self.invariant.sound.tables)) c.index_mut-3.ensures.value blank_table))
 
 pub returns-clause-sound : goal.returns-clause-sound
 returns-clause-sound c = (invariant_of-self c).sound

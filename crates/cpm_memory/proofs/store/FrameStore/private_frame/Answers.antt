@@ -1,5 +1,5 @@
 use Rattle.std.proofs.Common.{◌≢◌, refl, arith, sym, ap, ◌∙◌}
-use Rattle.cpm_memory.specs.Frames.{Frames, owners_at, place_of, memory_of}
+use Rattle.cpm_memory.specs.Frames.{Frames, owners_at, frame_of_page, memory_of}
 use Rattle.cpm_memory.proofs.Bytes.{IsAlone-counted, is_written-at, place_of-cases}
 use Rattle.cpm_memory.proofs.Copies.{Copied, Copied-from, alone-after, free-before, copied-detached, room-detached}
 use Rattle.cpm_memory.proofs.store.FrameStore.private_frame.Goals as goal
@@ -42,4 +42,4 @@ returns-then-owners_at-eq1-clause-written c =
     let t = c.args.table in
     let page = c.args.page in
     let alone = returns-then-owners_at-eq1-clause-alone c in
-    ap (λ w. record (memory_of s t) { written = w }) (sym (is_written-at s t page (place_of s t page) (place_of-cases s t page (place_of s t page) alone.private refl)))
+    ap (λ w. record (memory_of s t) { written = w }) (sym (is_written-at s t page (frame_of_page s t page) (place_of-cases s t page (frame_of_page s t page) alone.private refl)))

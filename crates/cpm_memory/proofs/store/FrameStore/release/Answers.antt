@@ -1,7 +1,7 @@
 use Rattle.std.proofs.Common.{◌≡◌, ◌≢◌, ℕ, ◌+◌, ◌<◌, ◌-◌, arith, ap, sym, ◌∙◌, subst, None, set}
 use Rattle.std.proofs.lemmas.List.{get_or_read, set-set}
-use Rattle.cpm_memory.specs.Frames.{Frames, Table, IsSound, table_at, blank_table, empty_table, used_by, reserved_by, memories, private_at, owners_of, pages_on}
-use Rattle.cpm_memory.specs.Kept.{IsKept, with_place, with_table}
+use Rattle.cpm_memory.specs.Frames.{Frames, Table, IsStoreSound, table_at, blank_table, empty_table, used_by, reserved_by, memories, private_at, owners_of, pages_on}
+use Rattle.cpm_memory.specs.Kept.{IsKept, table_with_frame, with_table}
 use Rattle.cpm_memory.proofs.Reservations.{private_at-shared, used-none, reserved_by-le, IsKept-reservation, memories-released, owners_of-released, empty-from, released-from}
 use Rattle.cpm_memory.proofs.store.FrameStore.release.Goals as goal
 use Rattle.cpm_memory.proofs.store.FrameStore.release.Goals.{After-give_up-pages}
@@ -17,7 +17,7 @@ loop-page-preserved c =
       private = ap (λ (x : Frames). x.private) e ∙ c.loop-page.invariant.private;
       frames = ap (λ (x : Frames). x.frames) e ∙ c.loop-page.invariant.frames;
       stamps = ap (λ (x : Frames). x.stamps) e ∙ c.loop-page.invariant.stamps;
-      others = ap (λ (x : Frames). set x.tables t empty_table) e ∙ set-set s.tables t (with_place (table_at s t) page None) empty_table ∙ c.loop-page.invariant.others;
+      others = ap (λ (x : Frames). set x.tables t empty_table) e ∙ set-set s.tables t (table_with_frame (table_at s t) page None) empty_table ∙ c.loop-page.invariant.others;
       shared = λ k l. ap (λ x. private_at x t k) e ∙ private_at-shared s t page k c.loop-page.invariant.sound (omega arith) c.loop-page-test.true (λ (ne : k ≢ page). c.loop-page.invariant.shared k (omega arith));
     }
 
@@ -41,7 +41,7 @@ invariant_of-self c =
     let i = c.self-2.inside in
     let s = cleared o in
     let t = c.index-index.result in
-    let ok : IsSound s = c.self-2.invariant.sound in
+    let ok : IsStoreSound s = c.self-2.invariant.sound in
     let lt : t < 64 = c.index-index.ensures.within in
     let blank : used_by (table_at s t) ≡ 0 = used-none s t ok lt (none-private o) in
     let pages : c.give_up-pages.result ≡ reserved_by (table_at s t) = c.give_up-pages.ensures.pages ∙ ap reserved_by (read o) in
@@ -52,8 +52,8 @@ invariant_of-self c =
 pub returns-clause-sound : goal.returns-clause-sound
 returns-clause-sound c = (invariant_of-self c).sound
 
-before : (c : After-give_up-pages) → IsSound c.args.self.now
-before c = subst IsSound c.self.view_is c.self.invariant.sound
+before : (c : After-give_up-pages) → IsStoreSound c.args.self.now
+before c = subst IsStoreSound c.self.view_is c.self.invariant.sound
 
 within : (c : After-give_up-pages) → c.args.table < 64
 within c = omega (arith, c.index-index.ensures.index, c.index-index.ensures.within)

@@ -3,7 +3,7 @@ use Rattle.std.proofs.lemmas.Bool.{false≢true}
 use Rattle.std.proofs.lemmas.List.{get_or_read, get_or-set_same}
 use Rattle.cpm_memory.specs.Opening.{opening}
 use Rattle.cpm_memory.specs.Tabulated.{length-tabulated}
-use Rattle.cpm_memory.specs.Frames.{Frames, Table, table_at, blank_table, is_taken, memory_at, memories, used_by, reserved_by, reserved_of}
+use Rattle.cpm_memory.specs.Frames.{Frames, Table, table_at, blank_table, is_table_taken, memory_at, memories, used_by, reserved_by, reserved_of}
 use Rattle.cpm_memory.specs.Reserved.{taken_in, reserved_in}
 use Rattle.cpm_memory.specs.Kept.{IsKept}
 use Rattle.cpm_memory.proofs.Reservations.{memories-reserved, IsKept-reservation}
@@ -15,7 +15,7 @@ pub find_free_table-index-requires : goal.find_free_table-index-requires
 find_free_table-index-requires c =
     let i = c.self.inside in
     let s : Frames = record { private = i.private; frames = i.frames.items; tables = i.tables.items; stamps = i.stamps.items } in
-    subst (λ (xs : List Table). count_by is_taken xs < length xs) (sym c.deref.ensures.value) (omega (arith, c.requires.tables, ap (λ x. taken_in (memories x)) c.self.view_is, taken_in-tables s c.self.invariant.sound, c.self.invariant.sound.tables))
+    subst (λ (xs : List Table). count_by is_table_taken xs < length xs) (sym c.deref.ensures.value) (omega (arith, c.requires.tables, ap (λ x. taken_in (memories x)) c.self.view_is, taken_in-tables s c.self.invariant.sound, c.self.invariant.sound.tables))
 
 pub returns-then-self-pages-clause-refused : goal.returns-then-self-pages-clause-refused
 returns-then-self-pages-clause-refused c =

@@ -1,5 +1,5 @@
 use Rattle.std.proofs.Common.{◌≡◌, ◌≢◌, ◌<◌, arith, ap, sym, ◌∙◌, subst, None, Some}
-use Rattle.cpm_memory.specs.Frames.{HasReservation, IsTaken, table_at, memories, memory_at, place_of}
+use Rattle.cpm_memory.specs.Frames.{HasReservation, IsTableTaken, table_at, memories, memory_at, frame_of_page}
 use Rattle.cpm_memory.specs.Kept.{with_table, with_reservation}
 use Rattle.cpm_memory.specs.Memories.{HasReservation-taken}
 use Rattle.cpm_memory.proofs.Joins.{Shares, Shares-none, Shares-more, apart, room-joined, shared-whole, places-shared, others-shared, memories-shared, taken-shared}
@@ -60,10 +60,10 @@ pub returns-clause-memories : goal.returns-clause-memories
 returns-clause-memories c = ap memories (shared c) ∙ memories-shared c.args.self.now c.in_ok-target.target c.args.table c.limit-pages.ensures.sound (within c) (held c)
 
 pub returns-clause-taken : goal.returns-clause-taken
-returns-clause-taken c = subst (λ x. IsTaken x c.in_ok-target.target) (sym (shared c)) (taken-shared c.args.self.now c.in_ok-target.target c.args.table c.limit-pages.ensures.sound (within c) (held c))
+returns-clause-taken c = subst (λ x. IsTableTaken x c.in_ok-target.target) (sym (shared c)) (taken-shared c.args.self.now c.in_ok-target.target c.args.table c.limit-pages.ensures.sound (within c) (held c))
 
 pub returns-clause-places : goal.returns-clause-places
-returns-clause-places c page = ap (λ x. place_of x c.in_ok-target.target page) (shared c) ∙ places-shared c.args.self.now c.in_ok-target.target c.args.table c.limit-pages.ensures.sound (within c) (held c) page
+returns-clause-places c page = ap (λ x. frame_of_page x c.in_ok-target.target page) (shared c) ∙ places-shared c.args.self.now c.in_ok-target.target c.args.table c.limit-pages.ensures.sound (within c) (held c) page
 
 pub returns-clause-others : goal.returns-clause-others
-returns-clause-others c t page ne = ap (λ x. place_of x t page) (shared c) ∙ others-shared c.args.self.now c.in_ok-target.target c.args.table c.limit-pages.ensures.sound (within c) (held c) t page ne
+returns-clause-others c t page ne = ap (λ x. frame_of_page x t page) (shared c) ∙ others-shared c.args.self.now c.in_ok-target.target c.args.table c.limit-pages.ensures.sound (within c) (held c) t page ne

@@ -1,7 +1,7 @@
 use Rattle.std.proofs.Common.{◌≡◌, ◌/◌, true, arith, ap, sym, ◌∙◌, subst}
 use Rattle.std.proofs.lemmas.List.{length-set}
 use Rattle.cpm_memory.specs.Contents.{touched_of, after_set}
-use Rattle.cpm_memory.specs.Frames.{IsAlone, ChangesTable, MovesAtMost, memory_of, place_of}
+use Rattle.cpm_memory.specs.Frames.{IsAlone, ChangesTable, MovesAtMost, memory_of, frame_of_page}
 use Rattle.cpm_memory.specs.Memories.{surroundings_at-kept}
 use Rattle.cpm_memory.specs.Sets.{IsAfterSets-one, IsStored-one}
 use Rattle.cpm_memory.specs.Kept.{with_stamp}
@@ -76,7 +76,7 @@ invariant_of-self-clause-placed c =
     let o = (goal.at.invariant_of-self-clause-placed c).After-place_at in
     let v = c.args.self.now in
     placed-after v.store.now c.raise_stamp.new.self v.table (c.args.address / 256) c.place_at.result v.places v.pages (omega arith) v.placed (moves o)
-    (c.place_at.ensures.place ∙ ap (λ t. place_of c.raise_stamp.new.self t (c.args.address / 256)) c.index-table.ensures.index)
+    (c.place_at.ensures.place ∙ ap (λ t. frame_of_page c.raise_stamp.new.self t (c.args.address / 256)) c.index-table.ensures.index)
 
 pub invariant_of-self-clause-alone : goal.invariant_of-self-clause-alone
 invariant_of-self-clause-alone c =

@@ -1,7 +1,7 @@
 use Rattle.std.proofs.Common.{◌≡◌, None, ℕ, ◌+◌, ◌<◌, Bool, false, List, [], ◌∷◌, ◌++◌, Option, length, get_or, refl, sym, ap, ◌∙◌, subst}
 use Rattle.std.specs.Prelude.{slice_get, IfSome}
 use Rattle.cpm_memory.specs.Contents.{Contents}
-use Rattle.cpm_memory.specs.Frames.{Frames, memories, memory_of, place_of, reserved_by, table_at}
+use Rattle.cpm_memory.specs.Frames.{Frames, memories, memory_of, frame_of_page, reserved_by, table_at}
 use Rattle.cpm_memory.specs.Reserved.{reserved_in}
 use Rattle.cpm_machine.specs.MachineState.{MachineState}
 use Rattle.cpm_machine.specs.Runner.{state_of}
@@ -136,7 +136,7 @@ returns-clause-pages c =
       named = ap (λ (x : HostWithStore). table_of c.args.id.0 x.tables) (sym c.self.view_is)
           ∙ index-table c.args.id.0 c.in-Some.index p.table (memories i.store) i.slots.items c.self.invariant.0.ordered (all (memories i.store)) at;
       child_named = ap (λ xs. table_of i.openings (tables_of xs)) pushed ∙ table-new i.openings (memories i.store) i.slots.items s c.self.invariant.0.below refl;
-      places = λ page. c.in-Ok-share.ensures.places page ∙ ap (λ (x : HostWithStore). place_of x.store p.table page) c.self.view_is;
-      others = λ t page ne. c.in-Ok-share.ensures.others t page ne ∙ ap (λ (x : HostWithStore). place_of x.store t page) c.self.view_is;
+      places = λ page. c.in-Ok-share.ensures.places page ∙ ap (λ (x : HostWithStore). frame_of_page x.store p.table page) c.self.view_is;
+      others = λ t page ne. c.in-Ok-share.ensures.others t page ne ∙ ap (λ (x : HostWithStore). frame_of_page x.store t page) c.self.view_is;
       frames = c.share.ensures.frames ∙ ap (λ (x : HostWithStore). x.store.frames) c.self.view_is;
     }

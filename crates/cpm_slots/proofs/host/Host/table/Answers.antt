@@ -1,7 +1,7 @@
 use Rattle.std.proofs.Common.{◌≡◌, List, Option, None, sym, ap, ◌∙◌, subst}
 use Rattle.std.specs.Prelude.{slice_get, IfSome}
 use Rattle.cpm_memory.specs.Contents.{Contents}
-use Rattle.cpm_memory.specs.Frames.{memories, IsTaken}
+use Rattle.cpm_memory.specs.Frames.{memories, IsTableTaken}
 use Rattle.cpm_slots.specs.declared.slots.Slot.{Slot}
 use Rattle.cpm_slots.specs.Host.{slot_at}
 use Rattle.cpm_slots.specs.Index.{IsAtIndex}
@@ -50,5 +50,5 @@ returns-in-Some-clause-taken c =
     let m = memories s.store in
     let at : IfSome (slice_get s.slots.items c.in-Some.index) (λ (x : Slot). c.table_at.result ≡ x.table) = rw c.deref-in-Some.ensures.value at c.table_at.ensures in
     let all : (m : List (Option Contents)) → IsAtIndex c.args.id.0 (slots_of m s.slots.items) c.in-Some.index = rw c.deref.ensures.value at c.in-Some.ensures in
-    subst (λ (x : HostWithStore). IsTaken x.store c.table_at.result) c.self.view_is
+    subst (λ (x : HostWithStore). IsTableTaken x.store c.table_at.result) c.self.view_is
     (index-taken c.args.id.0 c.in-Some.index c.table_at.result m s.slots.items c.self.invariant.1.all (all m) at)

@@ -1,6 +1,6 @@
 use Rattle.std.proofs.Common.{◌≡◌, ◌+◌, ◌-◌, ◌*◌, drop, take, ap, ◌∙◌, arith}
 use Rattle.cpm_image_files.proofs.RecordLemmas.{record_made, record_fits}
-use Rattle.cpm_image_files.proofs.putting.record_of.Goals as goal
+use Rattle.cpm_image_files.proofs.putting.record_of_bytes.Goals as goal
 
 pub returns-clause-value : goal.returns-clause-value
 returns-clause-value c =

@@ -2,7 +2,7 @@ use Rattle.std.proofs.Common.{◌≡◌, ap, ◌∙◌}
 use Rattle.cpm_geom.specs.declared.dpb.Dpb.{Dpb}
 use Rattle.cpm_geom.specs.Geometry.{dpb_of}
 use Rattle.cpm_drive.proofs.ReadLemmas.{place_small}
-use Rattle.cpm_drive.proofs.writing.place_of.Goals as goal
+use Rattle.cpm_drive.proofs.writing.entry_place_of.Goals as goal
 
 pub returns-clause-within : goal.returns-clause-within
 returns-clause-within c =
