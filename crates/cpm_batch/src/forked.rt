@@ -6,6 +6,7 @@ ghost use Rattle.cpm_store.specs.Files.{CountsFailure};
 ghost use Rattle.cpm_store.specs.Log.{AreNoWrites, RanBy};
 ghost use Rattle.cpm_batch.specs.Inputs.{AllInputs, ForkedScriptIn, HasForkedKeys, IsFileFault, IsForkedInput, IsForkedScriptIn, IsNeedRefusal, forked_script_needs, given, keys_of_session, session_place};
 ghost use Rattle.cpm_batch.specs.Reads.{AreForkedKeysRead, IsForkedRead, IsForkedScriptRead, StopsAmongNeeds};
+ghost use Rattle.cpm_script.specs.Script.{most_keys};
 
 use crate::error::ReadError;
 use crate::input::{Input, Start, read_bytes};
@@ -33,7 +34,7 @@ fn read_forked_script<S: Store>(
     at: u64,
     before: Vec<Key>,
 ) -> Result<Vec<Key>, ReadError>
-    requires { length before.items ≤ 4096 }
+    requires { length before.items ≤ most_keys }
     ensures keys { IfOk result (λ v. IsForkedScriptIn (S.files store.old) name.now at before.items v.items) }
     ensures log { IfOk result (λ v. RanBy S.does (IsForkedScriptRead name.now at before.items v.items) store.old store.new) }
     ensures refusal { IfErr result (IsNeedRefusal (S.files store.old) (ForkedScriptIn name.now at before.items ∷ [])) }
@@ -65,7 +66,7 @@ fn read_forked_keys_of<S: Store>(
     at: u64,
     before: Vec<Key>,
 ) -> Result<Vec<Key>, ReadError>
-    requires { length before.items ≤ 4096 }
+    requires { length before.items ≤ most_keys }
     ensures keys { IfOk result (λ v. HasForkedKeys (S.files store.old) name.now at before.items v.items) }
     ensures log { IfOk result (λ v. RanBy S.does (AreForkedKeysRead name.now at before.items v.items) store.old store.new) }
     ensures refusal { IfErr result (IsNeedRefusal (S.files store.old) (forked_script_needs at before.items name.now)) }

@@ -1,6 +1,6 @@
 -- How much a step can change.
 use Rattle.std.specs.Prelude.{◌≡◌, ◌≤◌, ◌+◌, length}
-use Rattle.cpm_console.specs.Terminal.{IsWithin}
+use Rattle.cpm_console.specs.Terminal.{IsWithin, step_output}
 use Rattle.cpm_memory.specs.Contents.{Contents, touched_of}
 use Rattle.cpm_bdos.specs.Registers.{pair_de}
 use Rattle.cpm_bdos.specs.Did.{Did}
@@ -19,4 +19,4 @@ pub record IsFit (s : Session) : Type 0 where
 pub record IsBounded (s : Session) (m : Contents) (d : Did) : Type 0 where
   pub pages : touched_of d.memory ≤ touched_of m + 8
   pub limit : d.memory.limit ≡ m.limit
-  pub output : IsWithin 4096 s.console d.session.console
+  pub output : IsWithin step_output s.console d.session.console

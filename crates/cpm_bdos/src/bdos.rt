@@ -9,6 +9,7 @@ ghost use Rattle.cpm_bdos.specs.Did.{did, answered};
 ghost use Rattle.cpm_bdos.specs.Step.{function_called, bdos};
 ghost use Rattle.cpm_bdos.specs.Bounds.{IsBounded};
 ghost use Rattle.cpm_bdos.specs.Behind.{session_behind, did_behind};
+ghost use Rattle.cpm_console.specs.Terminal.{step_output};
 
 use crate::session::{Session, HeldOutput, Mode, Went};
 use crate::function::Function;
@@ -25,8 +26,8 @@ impl Session {
     /// returns to the program, or boots the session anew. The system drive is lent. Both devices must have room for
     /// 4,096 bytes.
     pub fn bdos_step<M: Memory>(&mut self, memory: &mut M, system: &Image) -> Went
-        requires screen { length self.old.console.screen ≤ 4096 }
-        requires printer { length self.old.console.printer ≤ 4096 }
+        requires screen { length self.old.console.screen ≤ step_output }
+        requires printer { length self.old.console.printer ≤ step_output }
         requires room { HasRoom (M.contents memory.old) }
         ensures step { did self.new (M.contents memory.new) result ≡ bdos system.now self.old (M.contents memory.old) }
         ensures leads { M.Leads memory.old memory.new }
@@ -41,8 +42,8 @@ impl Session {
 
     /// One step, by the mode.
     fn call_step<M: Memory>(&mut self, memory: &mut M, system: &Image) -> Went
-        requires screen { length self.old.console.screen ≤ 4096 }
-        requires printer { length self.old.console.printer ≤ 4096 }
+        requires screen { length self.old.console.screen ≤ step_output }
+        requires printer { length self.old.console.printer ≤ step_output }
         requires room { HasRoom (M.contents memory.old) }
         ensures step { did self.new (M.contents memory.new) result ≡ bdos system.now self.old (M.contents memory.old) }
         ensures leads { M.Leads memory.old memory.new }
@@ -59,8 +60,8 @@ impl Session {
 
     /// The first step of a call.
     fn call<M: Memory>(&mut self, memory: &mut M, system: &Image) -> Went
-        requires screen { length self.old.console.screen ≤ 4096 }
-        requires printer { length self.old.console.printer ≤ 4096 }
+        requires screen { length self.old.console.screen ≤ step_output }
+        requires printer { length self.old.console.printer ≤ step_output }
         requires room { HasRoom (M.contents memory.old) }
         ensures step { did self.new (M.contents memory.new) result ≡ function_called (function_of self.old.regs.c) system.now self.old (M.contents memory.old) }
         ensures leads { M.Leads memory.old memory.new }

@@ -9,6 +9,7 @@ ghost use Rattle.cpm_bdos.specs.BiosDisks.{returned_a};
 ghost use Rattle.cpm_bdos.specs.Step.{booted, console_input, bios};
 ghost use Rattle.cpm_bdos.specs.Bounds.{IsBounded};
 ghost use Rattle.cpm_bdos.specs.Behind.{session_behind, did_behind};
+ghost use Rattle.cpm_console.specs.Terminal.{step_output};
 
 use crate::bdos::READER_BYTE;
 use crate::session::{Session, Went};
@@ -23,8 +24,8 @@ impl Session {
     /// The call of the BIOS with this number. It returns to the program, boots the session anew, or waits for a key.
     /// Both devices must have room for 4,096 bytes.
     pub fn bios_step<M: Memory>(&mut self, memory: &mut M, system: &Image, number: u8) -> Went
-        requires screen { length self.old.console.screen ≤ 4096 }
-        requires printer { length self.old.console.printer ≤ 4096 }
+        requires screen { length self.old.console.screen ≤ step_output }
+        requires printer { length self.old.console.printer ≤ step_output }
         requires room { HasRoom (M.contents memory.old) }
         ensures step { did self.new (M.contents memory.new) result ≡ bios number system.now self.old (M.contents memory.old) }
         ensures leads { M.Leads memory.old memory.new }
@@ -39,8 +40,8 @@ impl Session {
 
     /// A call of the BIOS.
     fn bios_call<M: Memory>(&mut self, memory: &mut M, system: &Image, number: u8) -> Went
-        requires screen { length self.old.console.screen ≤ 4096 }
-        requires printer { length self.old.console.printer ≤ 4096 }
+        requires screen { length self.old.console.screen ≤ step_output }
+        requires printer { length self.old.console.printer ≤ step_output }
         requires room { HasRoom (M.contents memory.old) }
         ensures step { did self.new (M.contents memory.new) result ≡ bios number system.now self.old (M.contents memory.old) }
         ensures leads { M.Leads memory.old memory.new }
@@ -99,7 +100,7 @@ impl Session {
 
     /// Shows the byte in C as it is.
     fn console_output<M: Memory>(&mut self, memory: &M) -> Went
-        requires { length self.old.console.screen ≤ 4096 }
+        requires { length self.old.console.screen ≤ step_output }
         ensures { did self.new (M.contents memory.now) result ≡ call_returned (showed self.old self.old.regs.c) (M.contents memory.now) }
     {
         self.console.put(self.regs.c);
@@ -108,7 +109,7 @@ impl Session {
 
     /// Sends the byte in C to the list device.
     fn list<M: Memory>(&mut self, memory: &M) -> Went
-        requires { length self.old.console.printer ≤ 4096 }
+        requires { length self.old.console.printer ≤ step_output }
         ensures { did self.new (M.contents memory.now) result ≡ call_returned (list_byte self.old self.old.regs.c) (M.contents memory.now) }
     {
         self.console.put_list(self.regs.c);

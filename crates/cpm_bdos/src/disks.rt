@@ -8,6 +8,7 @@ ghost use Rattle.cpm_drives.specs.Vectors.{login_vector, read_only_vector};
 ghost use Rattle.cpm_bdos.specs.Did.{did, answered};
 ghost use Rattle.cpm_bdos.specs.Registers.{pair_de};
 ghost use Rattle.cpm_bdos.specs.Disks.{with_disks, by_answer, call_file_function, bios_table_of, vector_of, format_in, header_of, reset_disks, select_disk, give_allocation, user_code};
+ghost use Rattle.cpm_console.specs.Terminal.{step_output};
 
 use crate::session::{Session, Went};
 use crate::registers::pair_de;
@@ -35,7 +36,7 @@ impl Session {
         answer: Result<u8, Fault>,
         drive: u8,
     ) -> Went
-        requires { length self.old.console.screen ≤ 4096 }
+        requires { length self.old.console.screen ≤ step_output }
         ensures { did self.new (M.contents memory.now) result ≡ by_answer answer drive self.old (M.contents memory.now) }
     {
         match answer {
@@ -52,7 +53,7 @@ impl Session {
         system: &Image,
         function: FileFunction,
     ) -> Went
-        requires screen { length self.old.console.screen ≤ 4096 }
+        requires screen { length self.old.console.screen ≤ step_output }
         requires room { HasRoom (M.contents memory.old) }
         ensures step { did self.new (M.contents memory.new) result ≡ call_file_function function system.now self.old (M.contents memory.old) }
         ensures leads { M.Leads memory.old memory.new }
@@ -80,7 +81,7 @@ impl Session {
     /// Selects the drive in E.
     #[tactic(auto, unfolding(crate::specs::Disks::select_disk))]
     pub(crate) fn select_disk<M: Memory>(&mut self, memory: &M, system: &Image) -> Went
-        requires { length self.old.console.screen ≤ 4096 }
+        requires { length self.old.console.screen ≤ step_output }
         ensures { did self.new (M.contents memory.now) result ≡ select_disk system.now self.old (M.contents memory.now) }
     {
         let drive = self.regs.e;

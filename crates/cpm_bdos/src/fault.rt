@@ -2,7 +2,7 @@
 
 ghost use Rattle.std.specs.Prelude.{◌≡◌, ◌≤◌, ◌+◌, length};
 ghost use Rattle.cpm_memory.specs.Room.{HasRoom};
-ghost use Rattle.cpm_console.specs.Terminal.{shown, IsWithin};
+ghost use Rattle.cpm_console.specs.Terminal.{shown, IsWithin, step_output};
 ghost use Rattle.cpm_bdos.specs.Did.{did};
 ghost use Rattle.cpm_bdos.specs.Keys.{first_key};
 ghost use Rattle.cpm_bdos.specs.Faults.{fault_name, in_fault, after_fault};
@@ -29,10 +29,10 @@ impl Session {
     /// boots it anew. The console must have room for 4,096 bytes.
     #[tactic(auto, using(crate::proofs::Showing::showing))]
     pub fn fault(&mut self, fault: Fault, drive: u8) -> Went
-        requires { length self.old.console.screen ≤ 4096 }
+        requires { length self.old.console.screen ≤ step_output }
         ensures session { self.new ≡ in_fault self.old fault drive }
         ensures went { result ≡ Went.GoesOn }
-        ensures output { IsWithin 4096 self.old.console self.new.console }
+        ensures output { IsWithin step_output self.old.console self.new.console }
     {
         show_all(&mut self.console, b"\r\nBdos Err On ");
         self.console.put(b'A' + drive % 16);

@@ -4,6 +4,7 @@ ghost use Rattle.std.specs.Prelude.{◌≡◌, ◌≤◌, length};
 ghost use Rattle.cpm_bdos.specs.Did.{did};
 ghost use Rattle.cpm_bdos.specs.Keys.{first_key, console_status};
 ghost use Rattle.cpm_bdos.specs.Input.{is_echoed, read_key, direct_console};
+ghost use Rattle.cpm_console.specs.Terminal.{step_output};
 
 use crate::session::{Session, Went};
 use cpm_memory::Memory;
@@ -27,8 +28,8 @@ impl Session {
 
     /// Reads a key, and echoes it where it is a character or moves the cursor.
     pub(crate) fn read_key<M: Memory>(&mut self, memory: &M) -> Went
-        requires screen { length self.old.console.screen ≤ 4096 }
-        requires printer { length self.old.console.printer ≤ 4096 }
+        requires screen { length self.old.console.screen ≤ step_output }
+        requires printer { length self.old.console.printer ≤ step_output }
         ensures { did self.new (M.contents memory.now) result ≡ read_key (first_key self.old) self.old (M.contents memory.now) }
     {
         let Some(key) = self.console.next_key() else {
@@ -42,7 +43,7 @@ impl Session {
 
     /// The console without echo: a key, whether there is one, or the byte in E shown as it is.
     pub(crate) fn direct_console<M: Memory>(&mut self, memory: &M) -> Went
-        requires { length self.old.console.screen ≤ 4096 }
+        requires { length self.old.console.screen ≤ step_output }
         ensures { did self.new (M.contents memory.now) result ≡ direct_console self.old.regs.e self.old (M.contents memory.now) }
     {
         match self.regs.e {

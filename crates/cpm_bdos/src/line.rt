@@ -6,6 +6,7 @@ ghost use Rattle.cpm_memory.specs.Room.{HasRoom};
 ghost use Rattle.cpm_bdos.specs.Did.{did};
 ghost use Rattle.cpm_bdos.specs.ReadLine.{LineReader, is_open, line_ended, line_step, edit_line, read_line};
 ghost use Rattle.cpm_bdos.specs.declared.session.Went.TheVariants.{Waits};
+ghost use Rattle.cpm_console.specs.Terminal.{step_output};
 
 use crate::session::{Session, Mode, Went};
 use crate::registers::pair_de;
@@ -15,8 +16,8 @@ use cpm_memory::{Memory, change_run};
 impl Session {
     /// The first step of a line.
     pub(crate) fn read_line<M: Memory>(&mut self, memory: &mut M) -> Went
-        requires screen { length self.old.console.screen ≤ 4096 }
-        requires printer { length self.old.console.printer ≤ 4096 }
+        requires screen { length self.old.console.screen ≤ step_output }
+        requires printer { length self.old.console.printer ≤ step_output }
         requires room { HasRoom (M.contents memory.old) }
         ensures step { did self.new (M.contents memory.new) result ≡ read_line self.old (M.contents memory.old) }
         ensures leads { M.Leads memory.old memory.new }
@@ -32,8 +33,8 @@ impl Session {
 
     /// A step of function 10's line.
     pub(crate) fn edit_line<M: Memory>(&mut self, memory: &mut M) -> Went
-        requires screen { length self.old.console.screen ≤ 4096 }
-        requires printer { length self.old.console.printer ≤ 4096 }
+        requires screen { length self.old.console.screen ≤ step_output }
+        requires printer { length self.old.console.printer ≤ step_output }
         requires room { HasRoom (M.contents memory.old) }
         ensures step { did self.new (M.contents memory.new) result ≡ edit_line self.old.line self.old (M.contents memory.old) }
         ensures leads { M.Leads memory.old memory.new }
@@ -52,8 +53,8 @@ impl Session {
     /// A step of the line that is being read, by function 10 or by the command processor: how the line goes on, or
     /// nothing where it needs a key and none is pending, and then nothing has changed.
     pub fn step_line(&mut self) -> Option<LineState>
-        requires screen { length self.old.console.screen ≤ 4096 }
-        requires printer { length self.old.console.printer ≤ 4096 }
+        requires screen { length self.old.console.screen ≤ step_output }
+        requires printer { length self.old.console.printer ≤ step_output }
         ensures step { (goes_on : LineReader) (m : Contents) → MatchOption result
             (did self.old m Waits ≡ line_step goes_on self.old.line self.old m)
             (λ progress. goes_on progress self.new m ≡ line_step goes_on self.old.line self.old m) }

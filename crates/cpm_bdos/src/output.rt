@@ -6,6 +6,7 @@ ghost use Rattle.cpm_bdos.specs.Did.{did, answered};
 ghost use Rattle.cpm_bdos.specs.Keys.{first_key};
 ghost use Rattle.cpm_bdos.specs.Hold.{is_stop, stopped, release};
 ghost use Rattle.cpm_bdos.specs.Output.{list_byte, write_byte, write_text};
+ghost use Rattle.cpm_console.specs.Terminal.{step_output};
 
 use crate::session::{Session, HeldOutput, Mode, Went};
 use cpm_memory::Memory;
@@ -19,8 +20,8 @@ const BREAK: u8 = 0x03;
 impl Session {
     /// Shows the byte in E.
     pub(crate) fn write_byte<M: Memory>(&mut self, memory: &M) -> Went
-        requires screen { length self.old.console.screen ≤ 4096 }
-        requires printer { length self.old.console.printer ≤ 4096 }
+        requires screen { length self.old.console.screen ≤ step_output }
+        requires printer { length self.old.console.printer ≤ step_output }
         ensures { did self.new (M.contents memory.now) result ≡ write_byte self.old (M.contents memory.now) }
     {
         if self.is_stopped() {
@@ -32,8 +33,8 @@ impl Session {
 
     /// Shows a character of a text, or ends at `$`.
     pub(crate) fn write_text<M: Memory>(&mut self, memory: &M, next: u16, held: HeldOutput) -> Went
-        requires screen { length self.old.console.screen ≤ 4096 }
-        requires printer { length self.old.console.printer ≤ 4096 }
+        requires screen { length self.old.console.screen ≤ step_output }
+        requires printer { length self.old.console.printer ≤ step_output }
         ensures { did self.new (M.contents memory.now) result ≡ write_text held self.old (M.contents memory.now) next }
     {
         let byte = memory.get(next);
@@ -52,7 +53,7 @@ impl Session {
 
     /// Sends the byte in E to the list device.
     pub(crate) fn list_byte<M: Memory>(&mut self, memory: &M) -> Went
-        requires { length self.old.console.printer ≤ 4096 }
+        requires { length self.old.console.printer ≤ step_output }
         ensures { did self.new (M.contents memory.now) result ≡ answered (list_byte self.old self.old.regs.e) (M.contents memory.now) 0 }
     {
         self.console.put_list(self.regs.e);

@@ -2,6 +2,7 @@
 
 ghost use Rattle.std.specs.Prelude.{◌≡◌, ◌<◌, ◌≤◌, length};
 ghost use Rattle.cpm_ccp.specs.FileCommands.{by_code, erased, all_files_asked, is_yes, erased_all, is_name_taken, has_new_name, renamed, saving, after_save_make, file_made, save_begun, after_save_write, saved, file_closed};
+ghost use Rattle.cpm_console.specs.Terminal.{step_output};
 
 use crate::message::Message;
 use crate::parts::{NONE, fail, finish, go_to, read_line, say_below, tell};
@@ -14,8 +15,8 @@ use cpm_memory::layout::PROGRAM;
 
 /// Ends ERA or REN by the code of its function, or in its fault on a drive.
 fn end_by(session: &mut Session, answer: Result<u8, Fault>, drive: u8)
-    requires screen { length session.old.console.screen ≤ 4096 }
-    requires printer { length session.old.console.printer ≤ 4096 }
+    requires screen { length session.old.console.screen ≤ step_output }
+    requires printer { length session.old.console.printer ≤ step_output }
     ensures { session.new ≡ by_code answer drive session.old }
 {
     match answer {
@@ -30,8 +31,8 @@ fn end_by(session: &mut Session, answer: Result<u8, Fault>, drive: u8)
 /// ERA: erases all files of a name.
 #[tactic(auto, unfolding(crate::specs::FileCommands::erased))]
 pub(crate) fn erase(session: &mut Session, system: &Image, file: &Fcb)
-    requires screen { length session.old.console.screen ≤ 4096 }
-    requires printer { length session.old.console.printer ≤ 4096 }
+    requires screen { length session.old.console.screen ≤ step_output }
+    requires printer { length session.old.console.printer ≤ step_output }
     ensures { session.new ≡ erased system.now file.now session.old }
 {
     let drive = session.disks.drive_named(file.drive);
@@ -41,8 +42,8 @@ pub(crate) fn erase(session: &mut Session, system: &Image, file: &Fcb)
 
 /// Asks whether all files are to be erased.
 pub(crate) fn ask(session: &mut Session, file: &Fcb)
-    requires screen { length session.old.console.screen ≤ 4096 }
-    requires printer { length session.old.console.printer ≤ 4096 }
+    requires screen { length session.old.console.screen ≤ step_output }
+    requires printer { length session.old.console.printer ≤ step_output }
     ensures { session.new ≡ all_files_asked file.now session.old }
 {
     session.file = *file;
@@ -60,8 +61,8 @@ fn is_yes(answer: &[u8]) -> bool
 /// Erases all files, if the answer is yes.
 #[tactic(auto, unfolding(crate::specs::FileCommands::erased_all))]
 pub(crate) fn erase_all(session: &mut Session, system: &Image)
-    requires screen { length session.old.console.screen ≤ 4096 }
-    requires printer { length session.old.console.printer ≤ 4096 }
+    requires screen { length session.old.console.screen ≤ step_output }
+    requires printer { length session.old.console.printer ≤ step_output }
     ensures { session.new ≡ erased_all system.now session.old }
 {
     if is_yes(session.line.characters()) {
@@ -96,8 +97,8 @@ fn has_new_name(disks: &Disks, system: &Image, new: &Fcb) -> bool
 /// REN: gives a file a new name, which no other has.
 #[tactic(auto, unfolding(crate::specs::FileCommands::renamed))]
 pub(crate) fn rename(session: &mut Session, system: &Image, old: &Fcb, new: &Fcb)
-    requires screen { length session.old.console.screen ≤ 4096 }
-    requires printer { length session.old.console.printer ≤ 4096 }
+    requires screen { length session.old.console.screen ≤ step_output }
+    requires printer { length session.old.console.printer ≤ step_output }
     ensures { session.new ≡ renamed system.now old.now new.now session.old }
 {
     if has_new_name(&session.disks, system, new) {
@@ -125,8 +126,8 @@ fn saving(next: u16, left: u16) -> CommandPart
 /// SAVE: erases the files of the name, and makes one.
 #[tactic(auto, unfolding(crate::specs::FileCommands::save_begun))]
 pub(crate) fn begin_save(session: &mut Session, system: &Image, pages: u8, file: &Fcb)
-    requires screen { length session.old.console.screen ≤ 4096 }
-    requires printer { length session.old.console.printer ≤ 4096 }
+    requires screen { length session.old.console.screen ≤ step_output }
+    requires printer { length session.old.console.printer ≤ step_output }
     ensures { session.new ≡ save_begun system.now pages file.now session.old }
 {
     session.file = *file;
@@ -139,8 +140,8 @@ pub(crate) fn begin_save(session: &mut Session, system: &Image, pages: u8, file:
 /// Makes the file of SAVE.
 #[tactic(auto, unfolding(crate::specs::FileCommands::made))]
 fn make(session: &mut Session, system: &Image, pages: u8)
-    requires screen { length session.old.console.screen ≤ 4096 }
-    requires printer { length session.old.console.printer ≤ 4096 }
+    requires screen { length session.old.console.screen ≤ step_output }
+    requires printer { length session.old.console.printer ≤ step_output }
     ensures { session.new ≡ file_made system.now pages session.old }
 {
     match session.disks.make_file(system, &mut session.file) {
@@ -153,8 +154,8 @@ fn make(session: &mut Session, system: &Image, pages: u8)
 /// Saves a record of memory, so many being left.
 #[tactic(auto, unfolding(crate::specs::FileCommands::saved))]
 pub(crate) fn save(session: &mut Session, system: &Image, next: u16, left: u16, record: &[u8; 128])
-    requires screen { length session.old.console.screen ≤ 4096 }
-    requires printer { length session.old.console.printer ≤ 4096 }
+    requires screen { length session.old.console.screen ≤ step_output }
+    requires printer { length session.old.console.printer ≤ step_output }
     ensures { session.new ≡ saved system.now next left record.now session.old }
 {
     match session.disks.write_next(system, &mut session.file, record) {
@@ -167,7 +168,7 @@ pub(crate) fn save(session: &mut Session, system: &Image, next: u16, left: u16, 
 /// Closes the saved file.
 #[tactic(auto, unfolding(crate::specs::FileCommands::closed))]
 pub(crate) fn close(session: &mut Session, system: &Image)
-    requires { length session.old.console.screen ≤ 4096 }
+    requires { length session.old.console.screen ≤ step_output }
     ensures { session.new ≡ file_closed system.now session.old }
 {
     match session.disks.close_file(system, &mut session.file) {

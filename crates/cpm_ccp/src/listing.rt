@@ -2,7 +2,7 @@
 
 ghost use Rattle.std.specs.Prelude.{◌≡◌, ◌+◌, ◌<◌, ◌≤◌, MatchOption, length, map};
 ghost use Rattle.cpm_geom.specs.Geometry.{dpb_of};
-ghost use Rattle.cpm_console.specs.Terminal.{said};
+ghost use Rattle.cpm_console.specs.Terminal.{said, step_output};
 ghost use Rattle.cpm_directory.specs.Directory.{entries_of};
 ghost use Rattle.cpm_ccp.specs.Listing.{is_listed, listed_from, before_file, low_seven, file_text, entries_listed, next_listed, has_next, file_shown, listing_ended, drive_used, list_next, shows_file, listed_on};
 
@@ -68,8 +68,8 @@ fn say_low_seven(console: &mut Console, text: &[u8])
 
 /// Shows what stands in front of a file.
 fn say_before(console: &mut Console, column: u8, drive: u8)
-    requires screen { length console.old.screen ≤ 4096 }
-    requires printer { length console.old.printer ≤ 4096 }
+    requires screen { length console.old.screen ≤ step_output }
+    requires printer { length console.old.printer ≤ step_output }
     ensures { console.new ≡ said console.old (before_file column drive) }
 {
     if column == 0 {
@@ -82,8 +82,8 @@ fn say_before(console: &mut Console, column: u8, drive: u8)
 /// Shows a file.
 #[tactic(auto, unfolding(crate::specs::Listing::file_text), using(crate::proofs::Texts::texts))]
 fn say_file(console: &mut Console, column: u8, drive: u8, name: &[u8; 11])
-    requires screen { length console.old.screen ≤ 4096 }
-    requires printer { length console.old.printer ≤ 4096 }
+    requires screen { length console.old.screen ≤ step_output }
+    requires printer { length console.old.printer ≤ step_output }
     ensures { console.new ≡ said console.old (file_text column drive name.now) }
 {
     say_before(console, column, drive);
@@ -95,8 +95,8 @@ fn say_file(console: &mut Console, column: u8, drive: u8, name: &[u8; 11])
 /// Shows the file of an entry; the next entry is looked at then.
 fn show_file(session: &mut Session, index: u16, column: u8, name: &[u8; 11])
     requires index { index < 65535 }
-    requires screen { length session.old.console.screen ≤ 4096 }
-    requires printer { length session.old.console.printer ≤ 4096 }
+    requires screen { length session.old.console.screen ≤ step_output }
+    requires printer { length session.old.console.printer ≤ step_output }
     ensures { session.new ≡ file_shown index column name.now session.old }
 {
     let drive = session.disks.drive_named(session.file.drive);
@@ -110,8 +110,8 @@ fn show_file(session: &mut Session, index: u16, column: u8, name: &[u8; 11])
 
 /// Ends a listing, of which it may be the first part.
 fn end_listing(session: &mut Session, is_first: bool)
-    requires screen { length session.old.console.screen ≤ 4096 }
-    requires printer { length session.old.console.printer ≤ 4096 }
+    requires screen { length session.old.console.screen ≤ step_output }
+    requires printer { length session.old.console.printer ≤ step_output }
     ensures { session.new ≡ listing_ended is_first session.old }
 {
     if is_first {
@@ -124,8 +124,8 @@ fn end_listing(session: &mut Session, is_first: bool)
 /// Lists one file from an entry on, or ends the listing.
 #[tactic(auto, unfolding(crate::specs::Listing::list_next, crate::specs::Listing::has_next))]
 pub(crate) fn list(session: &mut Session, system: &Image, from: u16, column: u8, is_first: bool)
-    requires screen { length session.old.console.screen ≤ 4096 }
-    requires printer { length session.old.console.printer ≤ 4096 }
+    requires screen { length session.old.console.screen ≤ step_output }
+    requires printer { length session.old.console.printer ≤ step_output }
     ensures { session.new ≡ list_next system.now from column is_first session.old }
 {
     let drive = session.disks.drive_named(session.file.drive);
@@ -159,8 +159,8 @@ fn shows_file(session: &Session, system: &Image, from: u16) -> bool
 /// Goes on with a listing, unless ^S holds what it would show.
 #[tactic(auto, unfolding(crate::specs::Listing::listed_on))]
 pub(crate) fn list_on(session: &mut Session, system: &Image, from: u16, column: u8)
-    requires screen { length session.old.console.screen ≤ 4096 }
-    requires printer { length session.old.console.printer ≤ 4096 }
+    requires screen { length session.old.console.screen ≤ step_output }
+    requires printer { length session.old.console.printer ≤ step_output }
     ensures { session.new ≡ listed_on system.now from column session.old }
 {
     if session.is_stopped() && shows_file(session, system, from) {

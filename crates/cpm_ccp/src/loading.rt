@@ -7,6 +7,7 @@ ghost use Rattle.cpm_bdos.specs.Did.{did};
 ghost use Rattle.cpm_bdos.specs.Bounds.{IsBounded};
 ghost use Rattle.cpm_bdos.specs.Behind.{session_behind, did_behind};
 ghost use Rattle.cpm_ccp.specs.Loading.{unknown, load_begun, name_bytes, default_files, memory_started, started, record_loaded, load_record, load};
+ghost use Rattle.cpm_console.specs.Terminal.{step_output};
 
 use crate::message::Message;
 use crate::parts::{NO_RECORD, NONE, fail, finish, go_to, typed_line, say_below, tell};
@@ -23,8 +24,8 @@ const LAST_RECORD: u16 = 0xE380;
 /// Ends a command whose first word is none.
 #[tactic(auto, using(crate::proofs::Texts::texts))]
 pub(crate) fn refuse_word(session: &mut Session)
-    requires screen { length session.old.console.screen ≤ 4096 }
-    requires printer { length session.old.console.printer ≤ 4096 }
+    requires screen { length session.old.console.screen ≤ step_output }
+    requires printer { length session.old.console.printer ≤ step_output }
     ensures { session.new ≡ unknown session.old }
 {
     let line = typed_line(session);
@@ -36,8 +37,8 @@ pub(crate) fn refuse_word(session: &mut Session)
 /// Opens the file of a program.
 #[tactic(auto, unfolding(crate::specs::Loading::load_begun))]
 pub(crate) fn begin_load(session: &mut Session, system: &Image, file: &Fcb)
-    requires screen { length session.old.console.screen ≤ 4096 }
-    requires printer { length session.old.console.printer ≤ 4096 }
+    requires screen { length session.old.console.screen ≤ step_output }
+    requires printer { length session.old.console.printer ≤ step_output }
     ensures { session.new ≡ load_begun system.now file.now session.old }
 {
     session.file = *file;
@@ -114,8 +115,8 @@ fn start<M: Memory>(session: &mut Session, memory: &mut M) -> Went
 
 /// Stores a record of a program, unless it is too long.
 fn load_at<M: Memory>(session: &mut Session, memory: &mut M, next: u16, record: &[u8; 128]) -> Went
-    requires screen { length session.old.console.screen ≤ 4096 }
-    requires printer { length session.old.console.printer ≤ 4096 }
+    requires screen { length session.old.console.screen ≤ step_output }
+    requires printer { length session.old.console.printer ≤ step_output }
     requires room { HasRoom (M.contents memory.old) }
     ensures step { did session.new (M.contents memory.new) result ≡ record_loaded next «record».now session.old (M.contents memory.old) }
     ensures leads { M.Leads memory.old memory.new }
@@ -137,8 +138,8 @@ pub(crate) fn load_record<M: Memory>(
     system: &Image,
     next: u16,
 ) -> Went
-    requires screen { length session.old.console.screen ≤ 4096 }
-    requires printer { length session.old.console.printer ≤ 4096 }
+    requires screen { length session.old.console.screen ≤ step_output }
+    requires printer { length session.old.console.printer ≤ step_output }
     requires room { HasRoom (M.contents memory.old) }
     ensures step { did session.new (M.contents memory.new) result ≡ load_record system.now next session.old (M.contents memory.old) }
     ensures leads { M.Leads memory.old memory.new }
@@ -158,8 +159,8 @@ pub(crate) fn load_record<M: Memory>(
 /// file, where the program starts. Where no program is loaded nothing changes. Both devices must have room for 4,096
 /// bytes.
 pub fn load_step<M: Memory>(session: &mut Session, memory: &mut M, system: &Image) -> Went
-    requires screen { length session.old.console.screen ≤ 4096 }
-    requires printer { length session.old.console.printer ≤ 4096 }
+    requires screen { length session.old.console.screen ≤ step_output }
+    requires printer { length session.old.console.printer ≤ step_output }
     requires room { HasRoom (M.contents memory.old) }
     ensures step { did session.new (M.contents memory.new) result ≡ load system.now session.old (M.contents memory.old) }
     ensures leads { M.Leads memory.old memory.new }
@@ -174,8 +175,8 @@ pub fn load_step<M: Memory>(session: &mut Session, memory: &mut M, system: &Imag
 
 /// One step of the loader, by the mode.
 fn do_load<M: Memory>(session: &mut Session, memory: &mut M, system: &Image) -> Went
-    requires screen { length session.old.console.screen ≤ 4096 }
-    requires printer { length session.old.console.printer ≤ 4096 }
+    requires screen { length session.old.console.screen ≤ step_output }
+    requires printer { length session.old.console.printer ≤ step_output }
     requires room { HasRoom (M.contents memory.old) }
     ensures step { did session.new (M.contents memory.new) result ≡ load system.now session.old (M.contents memory.old) }
     ensures leads { M.Leads memory.old memory.new }

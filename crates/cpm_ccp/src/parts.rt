@@ -3,6 +3,7 @@
 ghost use Rattle.std.specs.Prelude.{◌≡◌, ◌≤◌, length, map};
 ghost use Rattle.cpm_ccp.specs.Capitals.{capital};
 ghost use Rattle.cpm_ccp.specs.Parts.{at_part, finished, went_of, says_below, message_told, failed, reads_line, typed_line};
+ghost use Rattle.cpm_console.specs.Terminal.{step_output};
 
 use crate::capitals::capital;
 use crate::message::Message;
@@ -47,8 +48,8 @@ pub(crate) fn went_of(mode: Mode) -> Went
 /// Shows a text on a fresh line.
 #[tactic(auto, using(crate::proofs::Texts::texts))]
 pub(crate) fn say_below(session: &mut Session, text: &[u8])
-    requires screen { length session.old.console.screen ≤ 4096 }
-    requires printer { length session.old.console.printer ≤ 4096 }
+    requires screen { length session.old.console.screen ≤ step_output }
+    requires printer { length session.old.console.printer ≤ step_output }
     requires short { length text.now ≤ 1024 }
     ensures { session.new ≡ says_below session.old text.now }
 {
@@ -58,8 +59,8 @@ pub(crate) fn say_below(session: &mut Session, text: &[u8])
 
 /// Ends the command with a message.
 pub(crate) fn tell(session: &mut Session, message: Message)
-    requires screen { length session.old.console.screen ≤ 4096 }
-    requires printer { length session.old.console.printer ≤ 4096 }
+    requires screen { length session.old.console.screen ≤ step_output }
+    requires printer { length session.old.console.printer ≤ step_output }
     ensures { session.new ≡ message_told session.old message }
 {
     say_below(session, message.text());
@@ -68,7 +69,7 @@ pub(crate) fn tell(session: &mut Session, message: Message)
 
 /// Ends the command in a fault of the drive of its file.
 pub(crate) fn fail(session: &mut Session, fault: Fault)
-    requires { length session.old.console.screen ≤ 4096 }
+    requires { length session.old.console.screen ≤ step_output }
     ensures { session.new ≡ failed fault session.old }
 {
     let drive = session.disks.drive_named(session.file.drive);

@@ -5,6 +5,7 @@ ghost use Rattle.cpm_memory.specs.Contents.{byte_at};
 ghost use Rattle.cpm_memory.specs.Room.{HasRoom};
 ghost use Rattle.cpm_bdos.specs.Did.{did};
 ghost use Rattle.cpm_ccp.specs.Prompt.{drive_asked, prompted, edit_command_line, with_drive_and_user, with_user, drive_selected, user_selected};
+ghost use Rattle.cpm_console.specs.Terminal.{step_output};
 
 use crate::parts::{finish, go_to, read_line, say_below};
 use cpm_bdos::{CommandPart, Session, Went};
@@ -27,8 +28,8 @@ fn drive_asked(disks: &Disks, byte: u8) -> u8
 /// Shows the prompt of the drive and the user in a byte, and begins a line.
 #[tactic(auto, unfolding(crate::specs::Prompt::prompted))]
 pub(crate) fn prompt(session: &mut Session, system: &Image, byte: u8)
-    requires screen { length session.old.console.screen ≤ 4096 }
-    requires printer { length session.old.console.printer ≤ 4096 }
+    requires screen { length session.old.console.screen ≤ step_output }
+    requires printer { length session.old.console.printer ≤ step_output }
     ensures { session.new ≡ prompted system.now byte session.old }
 {
     let drive = drive_asked(&session.disks, byte);
@@ -42,8 +43,8 @@ pub(crate) fn prompt(session: &mut Session, system: &Image, byte: u8)
 
 /// A step of the line, after which a part comes.
 pub(crate) fn edit_command_line<M: Memory>(session: &mut Session, memory: &mut M, next: CommandPart) -> Went
-    requires screen { length session.old.console.screen ≤ 4096 }
-    requires printer { length session.old.console.printer ≤ 4096 }
+    requires screen { length session.old.console.screen ≤ step_output }
+    requires printer { length session.old.console.printer ≤ step_output }
     requires room { HasRoom (M.contents memory.old) }
     ensures step { did session.new (M.contents memory.new) result ≡ edit_command_line next session.old (M.contents memory.old) }
     ensures leads { M.Leads memory.old memory.new }
@@ -61,7 +62,7 @@ pub(crate) fn edit_command_line<M: Memory>(session: &mut Session, memory: &mut M
 
 /// Makes another drive the one that the prompt takes.
 pub(crate) fn select_drive<M: Memory>(session: &mut Session, memory: &mut M, drive: u8) -> Went
-    requires screen { length session.old.console.screen ≤ 4096 }
+    requires screen { length session.old.console.screen ≤ step_output }
     requires room { HasRoom (M.contents memory.old) }
     requires drive { drive < 16 }
     ensures step { did session.new (M.contents memory.new) result ≡ drive_selected drive session.old (M.contents memory.old) }

@@ -4,6 +4,7 @@ ghost use Rattle.std.specs.Prelude.{◌≡◌, ◌≤◌, length, position};
 ghost use Rattle.std.specs.List.{position_or_len};
 ghost use Rattle.cpm_ccp.specs.Showing.{show_begun, ends_text, record_text, ends_in, wrote_all, record_shown, next_shown, shows_record, shown_on};
 ghost use Rattle.cpm_drives.specs.Files.{next_ahead};
+ghost use Rattle.cpm_console.specs.Terminal.{step_output};
 
 use crate::message::Message;
 use crate::parts::{NO_RECORD, NONE, fail, finish, go_to, say_below, tell};
@@ -18,8 +19,8 @@ const END_OF_TEXT: u8 = 0x1A;
 /// TYPE: opens the file, which is shown from a fresh line on.
 #[tactic(auto, unfolding(crate::specs::Showing::show_begun))]
 pub(crate) fn begin_show(session: &mut Session, system: &Image, file: &Fcb)
-    requires screen { length session.old.console.screen ≤ 4096 }
-    requires printer { length session.old.console.printer ≤ 4096 }
+    requires screen { length session.old.console.screen ≤ step_output }
+    requires printer { length session.old.console.printer ≤ step_output }
     ensures { session.new ≡ show_begun system.now file.now session.old }
 {
     session.file = *file;
@@ -64,8 +65,8 @@ fn ends_in(record: &[u8]) -> bool
 /// Shows characters, each tab as spaces.
 fn write_all(console: &mut Console, text: &[u8])
     requires short { length text.now ≤ 128 }
-    requires screen { length console.old.screen ≤ 4096 }
-    requires printer { length console.old.printer ≤ 4096 }
+    requires screen { length console.old.screen ≤ step_output }
+    requires printer { length console.old.printer ≤ step_output }
     ensures { console.new ≡ wrote_all console.old text.now }
 {
     for character in text {
@@ -75,8 +76,8 @@ fn write_all(console: &mut Console, text: &[u8])
 
 /// Shows a record, with which the command may be done.
 fn show_record(session: &mut Session, record: &[u8; 128])
-    requires screen { length session.old.console.screen ≤ 4096 }
-    requires printer { length session.old.console.printer ≤ 4096 }
+    requires screen { length session.old.console.screen ≤ step_output }
+    requires printer { length session.old.console.printer ≤ step_output }
     ensures { session.new ≡ record_shown «record».now session.old }
 {
     write_all(&mut session.console, record_text(record));
@@ -90,8 +91,8 @@ fn show_record(session: &mut Session, record: &[u8; 128])
 /// Shows the next record, or ends the command.
 #[tactic(auto, unfolding(crate::specs::Showing::next_shown))]
 fn show_next(session: &mut Session, system: &Image)
-    requires screen { length session.old.console.screen ≤ 4096 }
-    requires printer { length session.old.console.printer ≤ 4096 }
+    requires screen { length session.old.console.screen ≤ step_output }
+    requires printer { length session.old.console.printer ≤ step_output }
     ensures { session.new ≡ next_shown system.now session.old }
 {
     let mut record = NO_RECORD;
@@ -116,8 +117,8 @@ fn shows_record(session: &Session, system: &Image) -> bool
 /// Goes on with a file, unless ^S holds what it would show.
 #[tactic(auto, unfolding(crate::specs::Showing::shown_on))]
 pub(crate) fn show_on(session: &mut Session, system: &Image)
-    requires screen { length session.old.console.screen ≤ 4096 }
-    requires printer { length session.old.console.printer ≤ 4096 }
+    requires screen { length session.old.console.screen ≤ step_output }
+    requires printer { length session.old.console.printer ≤ step_output }
     ensures { session.new ≡ shown_on system.now session.old }
 {
     if session.is_stopped() && shows_record(session, system) {

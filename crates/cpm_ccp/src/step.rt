@@ -8,6 +8,7 @@ ghost use Rattle.cpm_bdos.specs.Behind.{session_behind, did_behind};
 ghost use Rattle.cpm_ccp.specs.Command.{HasOperands, command_of};
 ghost use Rattle.cpm_ccp.specs.Parts.{typed_line};
 ghost use Rattle.cpm_ccp.specs.Step.{looks_first, begun_by, begun_command, in_part, ccp};
+ghost use Rattle.cpm_console.specs.Terminal.{step_output};
 
 use crate::command::Command;
 use crate::files::{ask, begin_save, close, erase, erase_all, rename, save};
@@ -27,8 +28,8 @@ use cpm_memory::layout::USER_AND_DRIVE;
 /// names. Once a command is done the program's mode is left, and the prompt comes next; the calls of the BDOS go on by
 /// steps of their own. Both devices must have room for 4,096 bytes.
 pub fn ccp_step<M: Memory>(session: &mut Session, memory: &mut M, system: &Image) -> Went
-    requires screen { length session.old.console.screen ≤ 4096 }
-    requires printer { length session.old.console.printer ≤ 4096 }
+    requires screen { length session.old.console.screen ≤ step_output }
+    requires printer { length session.old.console.printer ≤ step_output }
     requires room { HasRoom (M.contents memory.old) }
     ensures step { did session.new (M.contents memory.new) result ≡ ccp system.now session.old (M.contents memory.old) }
     ensures leads { M.Leads memory.old memory.new }
@@ -43,8 +44,8 @@ pub fn ccp_step<M: Memory>(session: &mut Session, memory: &mut M, system: &Image
 
 /// One step, by the mode.
 fn do_step<M: Memory>(session: &mut Session, memory: &mut M, system: &Image) -> Went
-    requires screen { length session.old.console.screen ≤ 4096 }
-    requires printer { length session.old.console.printer ≤ 4096 }
+    requires screen { length session.old.console.screen ≤ step_output }
+    requires printer { length session.old.console.printer ≤ step_output }
     requires room { HasRoom (M.contents memory.old) }
     ensures step { did session.new (M.contents memory.new) result ≡ ccp system.now session.old (M.contents memory.old) }
     ensures leads { M.Leads memory.old memory.new }
@@ -62,8 +63,8 @@ fn do_step<M: Memory>(session: &mut Session, memory: &mut M, system: &Image) -> 
 
 /// Does a part.
 fn do_part<M: Memory>(session: &mut Session, memory: &mut M, system: &Image, part: CommandPart) -> Went
-    requires screen { length session.old.console.screen ≤ 4096 }
-    requires printer { length session.old.console.printer ≤ 4096 }
+    requires screen { length session.old.console.screen ≤ step_output }
+    requires printer { length session.old.console.printer ≤ step_output }
     requires room { HasRoom (M.contents memory.old) }
     ensures step { did session.new (M.contents memory.new) result ≡ in_part part system.now session.old (M.contents memory.old) }
     ensures leads { M.Leads memory.old memory.new }
@@ -87,8 +88,8 @@ fn do_part<M: Memory>(session: &mut Session, memory: &mut M, system: &Image, par
 
 /// The first step of the command on the line, unless ^S holds what it would show.
 fn begin<M: Memory>(session: &mut Session, memory: &mut M, system: &Image) -> Went
-    requires screen { length session.old.console.screen ≤ 4096 }
-    requires printer { length session.old.console.printer ≤ 4096 }
+    requires screen { length session.old.console.screen ≤ step_output }
+    requires printer { length session.old.console.printer ≤ step_output }
     requires room { HasRoom (M.contents memory.old) }
     ensures step { did session.new (M.contents memory.new) result ≡ begun_command (command_of session.old.disks.current (typed_line session.old)) system.now session.old (M.contents memory.old) }
     ensures leads { M.Leads memory.old memory.new }
@@ -118,8 +119,8 @@ fn begin_command<M: Memory>(
     system: &Image,
     command: &Command,
 ) -> Went
-    requires screen { length session.old.console.screen ≤ 4096 }
-    requires printer { length session.old.console.printer ≤ 4096 }
+    requires screen { length session.old.console.screen ≤ step_output }
+    requires printer { length session.old.console.printer ≤ step_output }
     requires room { HasRoom (M.contents memory.old) }
     requires operands { HasOperands command.now }
     ensures step { did session.new (M.contents memory.new) result ≡ begun_by command.now system.now session.old (M.contents memory.old) }

@@ -17,6 +17,14 @@ pub record Terminal : Type 0 where
   -- whether what is said on the console goes to the list device too
   pub list_echo : Bool
 
+-- own: a step puts at most so many bytes on each device
+abbrev pub step_output : ℕ
+step_output = 4096
+
+-- own: so many keys may be pending
+abbrev pub most_pending : ℕ
+most_pending = 4096
+
 -- own: a console on which nothing was done
 abbrev pub blank_terminal : Terminal
 blank_terminal = record { keys = []; screen = []; printer = []; column = 0; list_echo = false }
@@ -41,7 +49,7 @@ with_waiting device.List bytes t = record t { printer = bytes }
 
 -- own: each device holds 8,192 bytes, and a step begins only where 4,096 more fit on both
 abbrev pub has_room : Terminal → Bool
-has_room t = nat_le (length t.screen) 4096 && nat_le (length t.printer) 4096
+has_room t = nat_le (length t.screen) step_output && nat_le (length t.printer) step_output
 
 -- own: a byte that takes a column is 20h to 7Eh or 80h to FFh
 abbrev pub is_printing : ℕ → Bool

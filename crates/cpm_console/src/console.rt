@@ -1,7 +1,7 @@
 //! Keys that wait to be read, bytes that wait to be taken, and the column of the cursor.
 
 ghost use Rattle.std.specs.Prelude.{◌≡◌, ◌<◌, ◌≤◌, ◌+◌, ◌-◌, ◌%◌, ◌↔◌, ◌++◌, ◌∷◌, [], length, take, drop, min, slice_get, IsTrue, IfNone, IfOk, if◌then◌else◌};
-ghost use Rattle.cpm_console.specs.Terminal.{blank_terminal, pressed, key_read, has_room, shown, printed, said, expanded, column_after, column_past, waiting_on, with_waiting};
+ghost use Rattle.cpm_console.specs.Terminal.{blank_terminal, pressed, key_read, has_room, shown, printed, said, expanded, column_after, column_past, waiting_on, with_waiting, most_pending};
 
 use crate::device::Device;
 use circular_buffer::HeapCircularBuffer;
@@ -89,7 +89,7 @@ impl Console {
 
     /// Adds a key, unless 4,096 are pending: then nothing changes, and the answer is false.
     pub fn give(&mut self, key: u8) -> bool
-        ensures taken { IsTrue result ↔ (length self.old.keys < 4096) }
+        ensures taken { IsTrue result ↔ (length self.old.keys < most_pending) }
         ensures after { self.new ≡ (if result then pressed self.old key else self.old) }
     {
         self.pending.try_push_back(key).is_ok()

@@ -1,7 +1,7 @@
 //! The editing of a line, one key at a time.
 
 ghost use Rattle.std.specs.Prelude.{◌≡◌, ◌<◌, ◌≤◌, ◌+◌, ◌*◌, ◌-◌, ◌↔◌, ◌++◌, ◌∷◌, ◌==◌, [], ℕ, length, take, drop, min, slice_get, IsTrue, IfOk, if◌then◌else◌, true, false, not, fold, replicate};
-ghost use Rattle.cpm_console.specs.Terminal.{said, IsWithin};
+ghost use Rattle.cpm_console.specs.Terminal.{said, IsWithin, step_output};
 ghost use Rattle.cpm_console.specs.Draft.{Draft};
 ghost use Rattle.cpm_console.specs.Editing.{echo_at, next_column, columns, echo, erasure, without_last, last_echo, with_character, emptied, fresh_line, keystroke, edited, put_in, begun_line, key_into_line};
 
@@ -137,8 +137,8 @@ impl Line {
     #[tactic(auto, using(crate::proofs::Growth::editing))]
     pub fn key_into_line(&mut self, console: &mut Console, key: u8) -> LineState
         requires open { length self.old.characters < self.old.limit }
-        requires screen { length console.old.screen ≤ 4096 }
-        requires printer { length console.old.printer ≤ 4096 }
+        requires screen { length console.old.screen ≤ step_output }
+        requires printer { length console.old.printer ≤ step_output }
         ensures line { edited console.new self.new result ≡ key_into_line console.old self.old key }
         ensures open { result ≡ LineState.GoesOn → length self.new.characters < self.new.limit }
         ensures output { IsWithin 2304 console.old console.new }
@@ -159,8 +159,8 @@ impl Line {
     #[tactic(auto, using(crate::proofs::Said::saying))]
     fn by_keystroke(&mut self, console: &mut Console, key: u8) -> LineState
         requires open { length self.old.characters < self.old.limit }
-        requires screen { length console.old.screen ≤ 4096 }
-        requires printer { length console.old.printer ≤ 4096 }
+        requires screen { length console.old.screen ≤ step_output }
+        requires printer { length console.old.printer ≤ step_output }
         ensures { edited console.new self.new result ≡ key_into_line console.old self.old key }
     {
         match Keystroke::of(key, self.characters.is_empty()) {
@@ -209,8 +209,8 @@ impl Line {
     /// Removes the last character, and erases its columns.
     #[tactic(auto, using(crate::proofs::Said::saying))]
     fn erase_last(&mut self, console: &mut Console)
-        requires screen { length console.old.screen ≤ 4096 }
-        requires printer { length console.old.printer ≤ 4096 }
+        requires screen { length console.old.screen ≤ step_output }
+        requires printer { length console.old.printer ≤ step_output }
         ensures line { self.new ≡ without_last self.old }
         ensures console { console.new ≡ said console.old (erasure (length (last_echo self.old))) }
     {
@@ -223,8 +223,8 @@ impl Line {
     /// Removes the last character, and shows it again.
     #[tactic(auto, using(crate::proofs::Said::saying))]
     fn repeat_last(&mut self, console: &mut Console)
-        requires screen { length console.old.screen ≤ 4096 }
-        requires printer { length console.old.printer ≤ 4096 }
+        requires screen { length console.old.screen ≤ step_output }
+        requires printer { length console.old.printer ≤ step_output }
         ensures line { self.new ≡ without_last self.old }
         ensures console { console.new ≡ said console.old (last_echo self.old) }
     {
@@ -238,8 +238,8 @@ impl Line {
     /// all that a step may put.
     #[tactic(auto, using(crate::proofs::Said::saying))]
     pub fn retype(&self, console: &mut Console)
-        requires screen { length console.old.screen ≤ 4096 }
-        requires printer { length console.old.printer ≤ 4096 }
+        requires screen { length console.old.screen ≤ step_output }
+        requires printer { length console.old.printer ≤ step_output }
         ensures shown { console.new ≡ said console.old (fresh_line self.now ++ echo self.now.start self.now.characters) }
         ensures output { IsWithin 1024 console.old console.new }
     {
@@ -250,8 +250,8 @@ impl Line {
     /// Goes to a fresh line, and to the column where this one began.
     #[tactic(auto, using(crate::proofs::Said::saying))]
     fn begin_again(&self, console: &mut Console)
-        requires screen { length console.old.screen ≤ 4096 }
-        requires printer { length console.old.printer ≤ 4096 }
+        requires screen { length console.old.screen ≤ step_output }
+        requires printer { length console.old.printer ≤ step_output }
         ensures { console.new ≡ said console.old (fresh_line self.now) }
     {
         console.say_all(b"#\r\n");
@@ -262,8 +262,8 @@ impl Line {
     #[tactic(auto, using(crate::proofs::Said::saying))]
     fn put(&mut self, console: &mut Console, character: u8) -> LineState
         requires open { length self.old.characters < self.old.limit }
-        requires screen { length console.old.screen ≤ 4096 }
-        requires printer { length console.old.printer ≤ 4096 }
+        requires screen { length console.old.screen ≤ step_output }
+        requires printer { length console.old.printer ≤ step_output }
         ensures { edited console.new self.new result ≡ put_in console.old self.old character }
     {
         let limit = usize::from(self.limit);

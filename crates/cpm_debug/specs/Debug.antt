@@ -9,6 +9,7 @@ use Rattle.cpm_debug.specs.Dialog.{dialog}
 use Rattle.cpm_debug.specs.Hearing.{heard}
 use Rattle.cpm_debug.specs.declared.error.DebugError.{DebugError}
 use Rattle.cpm_debug.specs.declared.error.DebugError.TheVariants.{ProgramTooLong, Unreadable, Unwritable, OutOfMemory}
+use Rattle.cpm_machine.specs.Opening.{most_program}
 
 -- A dialog was held with a machine: the writer's known bytes grew by what is answered to some lines. Where the bytes of
 -- the reader are known, these are the lines that are heard of them.
@@ -53,5 +54,5 @@ debugged cpu program = opened_with cpu (blank_disk Ibm3740 ∷ []) program
 
 -- When the debugger of a program is refused: the program is too long, and nothing was written, or the dialog ended early.
 abbrev pub IsDebugRefusal : {W : Type 0} → Cpu → List ℕ → List ℕ → Option (List ℕ) → Option (List ℕ) → Option (List ℕ) → W → W → DebugError → Type 0
-IsDebugRefusal cpu listing program known before now old new (ProgramTooLong count) = (58112 < length program) × (count ≡ length program) × (new ≡ old)
-IsDebugRefusal cpu listing program known before now old new error = (length program ≤ 58112) × IsFailure debug_system_drive cpu listing (debugged cpu program) known before now error
+IsDebugRefusal cpu listing program known before now old new (ProgramTooLong count) = (most_program < length program) × (count ≡ length program) × (new ≡ old)
+IsDebugRefusal cpu listing program known before now old new error = (length program ≤ most_program) × IsFailure debug_system_drive cpu listing (debugged cpu program) known before now error

@@ -2,6 +2,7 @@
 ghost use Rattle.std.specs.Prelude.{◌≡◌, ◌∷◌, [], ◌↔◌, ◌<◌, ◌≤◌, length, IfErr, IfOk, IsErrOf, OnOk};
 ghost use Rattle.cpm_geom.specs.Disk.{blank_disk};
 ghost use Rattle.cpm_debug.specs.Debug.{IsDebugRefusal, IsFailure, IsHeld, debugged, debug_system_drive};
+ghost use Rattle.cpm_machine.specs.Opening.{most_program};
 
 use crate::answer::obey;
 use crate::error::DebugError;
@@ -31,7 +32,7 @@ fn blank_drives(alloc: Global) -> Result<Vec<Image>, DebugError>
 
 /// The system drive, and the machine with a program.
 fn made(alloc: Global, cpu: Cpu, program: Vec<u8>) -> Result<(Image, Machine), DebugError>
-    requires { length program.items ≤ 58112 }
+    requires { length program.items ≤ most_program }
     ensures made { IfOk result (λ parts. (parts.0 ≡ debug_system_drive) × (parts.1 ≡ debugged cpu program.items)) }
     ensures refusal { IfErr result (λ e. e ≡ DebugError.OutOfMemory) }
 {
@@ -100,7 +101,7 @@ pub fn run_debug<R: BufRead, W: Write>(
         (R.remaining input.old) (W.contents out.old) (W.contents out.new)) }
 
     ensures too_long { IsErrOf result (DebugError.ProgramTooLong (length program.items))
-        ↔ (58112 < length program.items) }
+        ↔ (most_program < length program.items) }
     ensures refusal { IfErr result (IsDebugRefusal cpu listing.now program.items
         (R.remaining input.old) (W.contents out.old) (W.contents out.new) out.old out.new) }
 {

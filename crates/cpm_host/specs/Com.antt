@@ -21,6 +21,7 @@ use Rattle.cpm_host.specs.declared.ending.Ending.{Ending}
 use Rattle.cpm_host.specs.declared.error.HostError.{HostError}
 use Rattle.cpm_host.specs.declared.error.HostError.TheVariants.{OpeningRefused, OutputUnwritable, OutOfMemory, ProgramTooLong, RunRefused}
 use Rattle.cpm_run.specs.declared.error.RunError.TheVariants.{FileRefused}
+use Rattle.cpm_machine.specs.Opening.{most_program}
 
 -- the console bytes of a machine from which none was taken
 abbrev pub console_text : MachineState → List ℕ
@@ -98,9 +99,9 @@ IsScriptRefusal script _ = ⊥
 
 -- how the machine of a program is refused: the program is too long, then there are too many drives, then memory is refused
 abbrev pub IsProgramRefusal : Given → HostError → Type 0
-IsProgramRefusal g (ProgramTooLong count) = (58112 < length g.program) × (count ≡ length g.program)
-IsProgramRefusal g (OpeningRefused fault) = (length g.program ≤ 58112) × (4 < length g.drives) × (fault ≡ BadDrives)
-IsProgramRefusal g OutOfMemory = (length g.program ≤ 58112) × (length g.drives ≤ 4)
+IsProgramRefusal g (ProgramTooLong count) = (most_program < length g.program) × (count ≡ length g.program)
+IsProgramRefusal g (OpeningRefused fault) = (length g.program ≤ most_program) × (4 < length g.drives) × (fault ≡ BadDrives)
+IsProgramRefusal g OutOfMemory = (length g.program ≤ most_program) × (length g.drives ≤ 4)
 IsProgramRefusal g _ = ⊥
 
 -- When a program that runs for so many steps is refused: it is too long, it has too many drives, a line of its script is wrong, memory is refused, or the
@@ -109,8 +110,8 @@ abbrev pub IsComRefusal : {W : Type 0} → Given → Option Script → ℕ → H
 IsComRefusal {W} g script steps (ProgramTooLong count) old new = IsProgramRefusal g (ProgramTooLong count) × (new ≡ old)
 IsComRefusal {W} g script steps (OpeningRefused fault) old new = IsProgramRefusal g (OpeningRefused fault) × (new ≡ old)
 IsComRefusal {W} g script steps (RunRefused (FileRefused (read.Script shown line fault))) old new =
-    (length g.program ≤ 58112) × (length g.drives ≤ 4) × IsBadLine script shown.bytes line fault × (new ≡ old)
-IsComRefusal {W} g script steps OutOfMemory old new = (length g.program ≤ 58112) × (length g.drives ≤ 4) × (new ≡ old)
+    (length g.program ≤ most_program) × (length g.drives ≤ 4) × IsBadLine script shown.bytes line fault × (new ≡ old)
+IsComRefusal {W} g script steps OutOfMemory old new = (length g.program ≤ most_program) × (length g.drives ≤ 4) × (new ≡ old)
 IsComRefusal {W} g script steps (OutputUnwritable reason) old new =
-    (length g.program ≤ 58112) × (length g.drives ≤ 4) × HasScript script (keys_given script) × HasText (ran_alone g (keys_given script) steps)
+    (length g.program ≤ most_program) × (length g.drives ≤ 4) × HasScript script (keys_given script) × HasText (ran_alone g (keys_given script) steps)
 IsComRefusal {W} g script steps _ old new = ⊥

@@ -9,7 +9,7 @@ use Rattle.cpm_geom.specs.declared.format.Format.TheVariants.{Ibm3740}
 use Rattle.cpm_script.specs.Cues.{Counted, CueText, all_said, cues}
 use Rattle.cpm_script.specs.Fork.{forked_cues, keys_before}
 use Rattle.cpm_script.specs.Recording.{recorded}
-use Rattle.cpm_script.specs.Script.{script}
+use Rattle.cpm_script.specs.Script.{script, most_keys}
 use Rattle.cpm_script.specs.declared.cue.Cue.{Cue}
 use Rattle.cpm_script.specs.declared.script.Key.{Key}
 use Rattle.cpm_machine.specs.MachineState.{MachineState}
@@ -33,7 +33,7 @@ use Rattle.cpm_run.specs.declared.error.RunError.TheVariants.{FileRefused}
 -- a machine takes all keys of a script
 pub record AreFit (cues : List Cue) : Type 0 where
   pub ascii : AreAscii cues
-  pub few : key_count cues ≤ 4096
+  pub few : key_count cues ≤ most_keys
 
 -- how a script is refused that may wait
 abbrev pub IsCueRefusal : Script → HostError → Type 0

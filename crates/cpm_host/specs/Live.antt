@@ -6,7 +6,7 @@ use Rattle.cpm_drives.specs.Disks.{images_of}
 use Rattle.cpm_geom.specs.Disk.{Disk, blank_disk}
 use Rattle.cpm_geom.specs.declared.format.Format.TheVariants.{Ibm3740}
 use Rattle.cpm_script.specs.Recording.{recorded}
-use Rattle.cpm_script.specs.Script.{script}
+use Rattle.cpm_script.specs.Script.{script, most_keys}
 use Rattle.cpm_machine.specs.MachineState.{MachineState, opened_machine}
 use Rattle.cpm_machine.specs.Opening.{opening_fault}
 use Rattle.cpm_machine.specs.declared.opening.OpenError.{OpenError}
@@ -53,7 +53,7 @@ pub record IsPlayedLive (system : Disk) (start : MachineState) (steps most : ℕ
   pub drives : t.ran.drives ≡ images_of (alone_by system t.keys.items t.steps start).session.disks
   pub waits : t.waits ≡ waits_at system start t.keys.items t.steps
   pub lines : Appends io.unrecorded io.record_now (recorded t.keys.items)
-  pub replays : most ≤ 4096 → script (recorded t.keys.items) ≡ Ok t.keys.items
+  pub replays : most ≤ most_keys → script (recorded t.keys.items) ≡ Ok t.keys.items
 
 -- it was not played to its end, and this is told of it
 pub record IsLiveCut (system : Disk) (start : MachineState) (steps most : ℕ) (io : Streams) (e : HostError) : Type 0 where

@@ -3,7 +3,7 @@ ghost use Rattle.std.specs.Prelude.{◌≡◌, ◌≢◌, ◌↔◌, ◌<◌, �
 ghost use Rattle.std.specs.Io.KnownBytes.{Appends};
 ghost use Rattle.cpm_drives.specs.Disks.{images_of};
 ghost use Rattle.cpm_machine.specs.MachineState.{opened_with};
-ghost use Rattle.cpm_machine.specs.Opening.{program_fault, IsRefusal};
+ghost use Rattle.cpm_machine.specs.Opening.{program_fault, IsRefusal, most_program};
 ghost use Rattle.cpm_play.specs.Playing.{IsFresh};
 ghost use Rattle.cpm_host.specs.Com.{HasScript, IsComRefusal, IsScriptRefusal, IsScriptTold, IsProgramRefusal, drives_or_blank, ending_of, program_given, keys_given, machine_of, ran_alone, console_text, with_tail_if_any};
 
@@ -72,7 +72,7 @@ pub struct ProgramStart {
 impl ProgramStart {
     /// Refuses a program that no machine runs: `ProgramTooLong`, then `OpeningRefused` for more than four drives.
     pub fn check(&self) -> Result<(), HostError>
-        ensures fits { OnOk result ((length (program_given self.now).program ≤ 58112) × (length (program_given self.now).drives ≤ 4)) }
+        ensures fits { OnOk result ((length (program_given self.now).program ≤ most_program) × (length (program_given self.now).drives ≤ 4)) }
         ensures refusal { IfErr result (λ e. IsProgramRefusal (program_given self.now) e × (e ≢ HostError.OutOfMemory)) }
     {
         if self.program.len() > MOST_PROGRAM {
@@ -110,7 +110,7 @@ fn drives_or_blank(alloc: Global, drives: Vec<Image>) -> Result<Vec<Image>, Host
 pub(crate) fn machine_of(alloc: Global, start: ProgramStart) -> Result<Machine, HostError>
     ensures made { IfOk result (λ m. m ≡ machine_of (program_given start)) }
     ensures fresh { IfOk result IsFresh }
-    ensures fits { OnOk result ((length (program_given start).program ≤ 58112) × (length (program_given start).drives ≤ 4)) }
+    ensures fits { OnOk result ((length (program_given start).program ≤ most_program) × (length (program_given start).drives ≤ 4)) }
     ensures refusal { IfErr result (IsProgramRefusal (program_given start)) }
 {
     start.check()?;
@@ -169,9 +169,9 @@ pub fn run_com<W: Write, T: Watcher>(
     ensures drives { IfOk result (λ r. r.drives ≡ images_of (ran_alone (program_given start) (keys_given script.entry) steps).session.disks) }
     ensures script { IfOk result (λ _. HasScript script.entry (keys_given script.entry)) }
 
-    ensures fits { OnOk result ((length (program_given start).program ≤ 58112) × (length (program_given start).drives ≤ 4)) }
+    ensures fits { OnOk result ((length (program_given start).program ≤ most_program) × (length (program_given start).drives ≤ 4)) }
     ensures too_long { IsErrOf result (HostError.ProgramTooLong (length (program_given start).program))
-        ↔ (58112 < length (program_given start).program) }
+        ↔ (most_program < length (program_given start).program) }
     ensures refusal { IfErr result (λ e. IsComRefusal (program_given start) script.entry steps e out.old out.new) }
 {
     let mut machine = machine_of(alloc, start)?;

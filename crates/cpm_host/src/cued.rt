@@ -9,6 +9,7 @@ ghost use Rattle.cpm_play.specs.Playing.{IsFresh};
 ghost use Rattle.cpm_host.specs.Com.{program_given, machine_of};
 ghost use Rattle.cpm_host.specs.Cued.{AreFit, AreForked, IsCueRefusal, IsCutCued, IsForkedRefusal, IsPlayedCued, IsRehearsalRefusal, IsRehearsed, IsWaitingRefusal};
 ghost use Rattle.cpm_host.specs.Live.{opened_live};
+ghost use Rattle.cpm_machine.specs.Opening.{most_program};
 
 use crate::com::{Script, ProgramStart, keys_of, left_of, machine_of, script_refused};
 use crate::error::HostError;
@@ -145,7 +146,7 @@ pub fn run_waiting<W: Write, S: Write, T: Watcher>(
 ) -> Result<LiveResult, HostError>
     requires fit { AreFit cued.cues.now }
     ensures played { IfOk result (λ t. IsPlayedCued (blank_disk Ibm3740) (machine_of (program_given start)) steps cued.entry t (W.contents out.old) (W.contents out.new) (S.contents «record».old) (S.contents «record».new)) }
-    ensures fits { OnOk result ((length (program_given start).program ≤ 58112) × (length (program_given start).drives ≤ 4)) }
+    ensures fits { OnOk result ((length (program_given start).program ≤ most_program) × (length (program_given start).drives ≤ 4)) }
     ensures refusal { IfErr result (IsWaitingRefusal (program_given start) steps cued.entry (W.contents out.old) (W.contents out.new) (S.contents «record».old) (S.contents «record».new)) }
 {
     let machine = machine_of(alloc, start)?;

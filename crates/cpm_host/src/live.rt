@@ -2,7 +2,7 @@
 
 ghost use Rattle.std.specs.Prelude.{◌≤◌, IfErr, IfOk, OnOk, Option, length};
 ghost use Rattle.cpm_geom.specs.Disk.{blank_disk};
-ghost use Rattle.cpm_machine.specs.Opening.{IsRefusal};
+ghost use Rattle.cpm_machine.specs.Opening.{IsRefusal, most_program};
 ghost use Rattle.cpm_machine.specs.declared.opening.OpenError.{OpenError as OpenErrorValue};
 ghost use Rattle.cpm_play.specs.Playing.{IsFresh};
 ghost use Rattle.cpm_host.specs.Com.{program_given, machine_of};
@@ -85,7 +85,7 @@ pub fn run_live<I: Read, W: Write, S: Write>(
     record: &mut S,
 ) -> Result<LiveResult, HostError>
     ensures played { IfOk result (λ t. IsPlayedLive (blank_disk Format.Ibm3740) (machine_of (program_given start)) steps most_keys t (streams (I.remaining input.old) (I.remaining input.new) (W.contents out.old) (W.contents out.new) (S.contents «record».old) (S.contents «record».new))) }
-    ensures fits { OnOk result ((length (program_given start).program ≤ 58112) × (length (program_given start).drives ≤ 4)) }
+    ensures fits { OnOk result ((length (program_given start).program ≤ most_program) × (length (program_given start).drives ≤ 4)) }
     ensures refusal { IfErr result (IsLiveRefusal (program_given start) steps most_keys (streams (I.remaining input.old) (I.remaining input.new) (W.contents out.old) (W.contents out.new) (S.contents «record».old) (S.contents «record».new))) }
 {
     let machine = machine_of(alloc, start)?;

@@ -2,7 +2,7 @@
 use Rattle.std.specs.Prelude.{◌≡◌, ℕ, ◌+◌, ◌<◌, ◌≤◌, List, [], ◌++◌, length, Bool, true, false}
 use Rattle.cpm_geom.specs.Disk.{Disk}
 use Rattle.cpm_memory.specs.Contents.{touched_of}
-use Rattle.cpm_console.specs.Terminal.{IsWithin}
+use Rattle.cpm_console.specs.Terminal.{IsWithin, step_output}
 use Rattle.cpm_bdos.specs.Bounds.{IsFit}
 use Rattle.cpm_bdos.specs.KeysTaken.{IsFromFront}
 use Rattle.cpm_machine.specs.declared.steps.Outcome.TheVariants as outcome
@@ -38,7 +38,7 @@ Cutting = (system : Disk) (a b : ℕ) (s : MachineState) →
 -- a step newly writes at most 8 pages, and puts at most 4,096 bytes on each device
 pub record IsStepBounded (old new : MachineState) : Type 0 where
   pub pages : touched_of new.memory ≤ touched_of old.memory + 8
-  pub output : IsWithin 4096 old.session.console new.session.console
+  pub output : IsWithin step_output old.session.console new.session.console
 
 abbrev pub Bounded : Type 0
 Bounded = (system : Disk) (s : MachineState) → IsFit s.session → IsStepBounded s (step system s)

@@ -2,7 +2,7 @@
 use Rattle.std.specs.Prelude.{ℕ, zero, suc, length, drop, min, ◌&&◌, ◌==◌, not, nat_lt, Bool, if◌then◌else◌}
 use Rattle.cpm_geom.specs.Disk.{Disk}
 use Rattle.cpm_memory.specs.Contents.{touched_of}
-use Rattle.cpm_console.specs.Terminal.{pressed}
+use Rattle.cpm_console.specs.Terminal.{pressed, most_pending}
 use Rattle.cpm_bdos.specs.Waiting.{is_waiting}
 use Rattle.cpm_machine.specs.declared.reply.Why.{Why}
 use Rattle.cpm_machine.specs.declared.reply.Why.TheVariants.{All, Stopped, Blocked}
@@ -25,7 +25,7 @@ why n k s = if k == n then All else if not (is_running s.ended) then Stopped els
 
 -- own: 4,096 keys may be pending
 abbrev pub takes_key : MachineState → Bool
-takes_key s = nat_lt (length s.session.console.keys) 4096
+takes_key s = nat_lt (length s.session.console.keys) most_pending
 
 -- the state after a key was pressed, which the next step can read
 abbrev pub keyed : ℕ → MachineState → MachineState

@@ -1,7 +1,7 @@
 -- Laws over key scripts. (own)
 use Rattle.std.specs.Prelude.{◌≡◌, ℕ, ◌<◌, ◌≤◌, List, length, map, true, IfOk}
 use Rattle.cpm_geom.specs.Disk.{Disk}
-use Rattle.cpm_script.specs.Script.{script}
+use Rattle.cpm_script.specs.Script.{script, most_keys}
 use Rattle.cpm_script.specs.declared.cue.Cue.TheVariants.{Key as Timed}
 use Rattle.cpm_script.specs.declared.script.Key.{Key}
 use Rattle.cpm_machine.specs.MachineState.{MachineState}
@@ -11,7 +11,7 @@ use Rattle.cpm_play.specs.Playing.{IsInOrder}
 
 -- the keys of a script are in order and not too many, so that they can be played
 abbrev pub ScriptsInOrder : Type 0
-ScriptsInOrder = (text : List ℕ) → IfOk (script text) (λ keys. IsInOrder 0 keys × (length keys ≤ 4096))
+ScriptsInOrder = (text : List ℕ) → IfOk (script text) (λ keys. IsInOrder 0 keys × (length keys ≤ most_keys))
 
 -- a script that never waits gives its keys, where all of them come within the steps and the machine still runs behind these
 abbrev pub PlainCuesGiveTheirKeys : Type 0

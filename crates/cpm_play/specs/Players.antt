@@ -17,6 +17,7 @@ use Rattle.cpm_play.specs.declared.scripted_slot.ScriptedSlot.{ScriptedSlot}
 use Rattle.cpm_play.specs.Pacing.{forked_pace}
 use Rattle.cpm_play.specs.Playing.{IsInOrder, IsPlayed}
 use Rattle.cpm_play.specs.ScriptedSlots.{AreDifferent, IsNone, IsReady, IsResting, script_keys, steps_of}
+use Rattle.cpm_script.specs.Script.{most_keys}
 
 -- ---- what is to be played
 
@@ -46,7 +47,7 @@ pub record IsForkReady (players : List Player) (fork : Fork) : Type 0 where
   pub own : List Key
   pub keys : fork.keys.items ≡ keys_before fork.at (script_keys parent) ++ own
   pub order : IsInOrder fork.at own
-  pub few : length fork.keys.items ≤ 4096
+  pub few : length fork.keys.items ≤ most_keys
   pub within : fork.at ≤ fork.steps
 
 abbrev pub IsPlayerReady : List SlotState → List Player → Player → Type 0

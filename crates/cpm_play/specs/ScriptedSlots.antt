@@ -9,6 +9,7 @@ use Rattle.cpm_machine.specs.MachineState.{MachineState}
 use Rattle.cpm_play.specs.declared.scripted_slot.ScriptedSlot.{ScriptedSlot}
 use Rattle.cpm_play.specs.Pacing.{left_in, IsOn}
 use Rattle.cpm_play.specs.Playing.{IsFresh, IsInOrder, IsQuiet}
+use Rattle.cpm_script.specs.Script.{most_keys}
 
 -- the keys that a scripted slot was given
 abbrev pub script_keys : ScriptedSlot → List Key
@@ -29,7 +30,7 @@ pub record IsNew (p : ScriptedSlot) : Type 0 where
 pub record IsReady (slots : List SlotState) (p : ScriptedSlot) : Type 0 where
   pub unplayed : IsNew p
   pub order : IsInOrder 0 (script_keys p)
-  pub few : length (script_keys p) ≤ 4096
+  pub few : length (script_keys p) ≤ most_keys
   pub start : MachineState
   pub opened : slot_at p.id.0 slots ≡ Some start
   pub fresh : IsFresh start
@@ -81,7 +82,7 @@ pub record HasAdded (on : Device) (bytes : List ℕ) (p q : ScriptedSlot) : Type
 pub record IsPlaying (steps : ℕ) (start : MachineState) (p : ScriptedSlot) (h : Host) : Type 0 where
   pub now : MachineState
   pub stands : slot_at p.id.0 h.slots ≡ Some now
-  pub few : length (script_keys p) ≤ 4096
+  pub few : length (script_keys p) ≤ most_keys
   pub on : IsOn h.system (script_keys p) steps start p.pace p.console.items p.list.items now
 
 -- and all its bytes are taken

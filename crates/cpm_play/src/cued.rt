@@ -9,6 +9,7 @@ ghost use Rattle.cpm_play.specs.Cued.{AreAscii, HasEndedCued, HasIdled, HasMisse
 ghost use Rattle.cpm_play.specs.Live.{AreGiven, IsGoing};
 ghost use Rattle.cpm_play.specs.Pacing.{without_text};
 ghost use Rattle.cpm_play.specs.Playing.{EndsAs, HasText, IsFresh, IsQuiet, alone_by};
+ghost use Rattle.cpm_script.specs.Script.{most_keys};
 
 use crate::live::{Live, LiveError, show};
 use crate::machine::{CHUNK, QUANTUM, drop_list, quantum_of};
@@ -250,7 +251,7 @@ fn follow<W: Write, S: Write, T: Watcher>(
 ) -> Result<Live, LiveError>
     requires fresh { IsFresh machine.old }
     requires ascii { AreAscii cued.cues.now }
-    requires few { key_count cued.cues.now ≤ 4096 }
+    requires few { key_count cued.cues.now ≤ most_keys }
     ensures going { IfOk result (λ live. IsGoing system.now steps (key_count cued.entry.cues.now) machine.old machine.new (W.contents out.old) (W.contents out.new)
         (S.contents record.old) (S.contents record.new) live.keys.items live.steps) }
     ensures keys { IfOk result (λ live. IsCued system.now machine.old steps cued.entry.waits_from cued.entry.cues.now live.keys.items) }
@@ -315,7 +316,7 @@ pub fn play_cues<W: Write, S: Write, T: Watcher>(
 ) -> Result<Live, LiveError>
     requires fresh { IsFresh machine.old }
     requires ascii { AreAscii cued.cues.now }
-    requires few { key_count cued.cues.now ≤ 4096 }
+    requires few { key_count cued.cues.now ≤ most_keys }
     ensures within { IfOk result (λ live. live.steps ≤ steps) }
     ensures keys { IfOk result (λ live. IsCued system.now machine.old steps cued.entry.waits_from cued.entry.cues.now live.keys.items) }
     ensures given { IfOk result (λ live. AreGiven (key_count cued.entry.cues.now) live.steps live.keys.items) }

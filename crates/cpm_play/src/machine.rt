@@ -4,6 +4,7 @@ ghost use Rattle.std.specs.Prelude.{◌≡◌, ◌<◌, ◌≤◌, OnOk, OnErr, 
 ghost use Rattle.std.specs.Io.KnownBytes.{Appends};
 ghost use Rattle.cpm_play.specs.Pacing.{IsPressed, due_at, without_list, without_text};
 ghost use Rattle.cpm_play.specs.Playing.{EndsAs, HasText, IsFresh, IsInOrder, alone_by};
+ghost use Rattle.cpm_script.specs.Script.{most_keys};
 
 use crate::pace::Pace;
 use crate::progress::{Watcher, progress_of_one};
@@ -32,7 +33,7 @@ pub(crate) const CHUNK: usize = 8192;
 
 /// Presses the keys that are due.
 fn press_due(machine: &mut Machine, keys: &[Key], pace: &mut Pace)
-    requires { length keys.now ≤ 4096 }
+    requires { length keys.now ≤ most_keys }
     ensures pressed { IsPressed keys.now pace.old pace.new machine.old machine.new }
     ensures due { due_at pace.new.done (slice_get keys.now pace.new.pressed) ≡ None }
     ensures done { pace.new.done ≡ pace.old.done }
@@ -83,7 +84,7 @@ pub fn play_machine<W: Write, T: Watcher>(
     watcher: &mut T,
 ) -> io::Result<()>
     requires order { IsInOrder 0 keys.now }
-    requires few { length keys.now ≤ 4096 }
+    requires few { length keys.now ≤ most_keys }
     requires fresh { IsFresh machine.old }
     ensures text { OnOk result (Appends (W.contents out.old) (W.contents out.new)
         (alone_by system.now keys.now steps machine.old).session.console.screen) }

@@ -26,6 +26,7 @@ use Rattle.cpm_run.specs.Illegal.{bytes_at_pc}
 use Rattle.cpm_run.specs.declared.report.SessionReport.{SessionReport}
 use Rattle.cpm_run.specs.declared.error.RunError.{RunError}
 use Rattle.cpm_run.specs.declared.error.RunError.TheVariants as refusal
+use Rattle.cpm_script.specs.Script.{most_keys}
 
 -- ---- before they are played
 
@@ -85,12 +86,12 @@ pub record IsForkPressable (inputs : List SessionInput) (i : SessionInput) (pare
   pub own : List Key
   pub keys : i.keys ≡ keys_before at other.keys ++ own
   pub order : IsInOrder at own
-  pub few : length i.keys ≤ 4096
+  pub few : length i.keys ≤ most_keys
   pub within : at ≤ i.session.steps
 
 -- those of an opened one: their counts don't fall, and they are not too many
 abbrev pub IsPressableBy : List SessionInput → StartInput → SessionInput → Type 0
-IsPressableBy inputs (Opens cpu quota drives) i = IsInOrder 0 i.keys × (length i.keys ≤ 4096)
+IsPressableBy inputs (Opens cpu quota drives) i = IsInOrder 0 i.keys × (length i.keys ≤ most_keys)
 IsPressableBy inputs (Forks parent at) i = IsForkPressable inputs i parent at
 
 -- those of each session

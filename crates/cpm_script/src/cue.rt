@@ -3,6 +3,7 @@ ghost use Rattle.std.specs.Prelude.{◌≡◌, ◌≤◌, ◌<◌, ◌+◌, ◌+
 ghost use Rattle.std.specs.Str.Lines.{lines};
 ghost use Rattle.cpm_script.specs.KeyText.{count_of, keys_of};
 ghost use Rattle.cpm_script.specs.Cues.{AddsCues, Awaited, IsReading, ReadsCues, all_said, counted_key, cues, cut_at, has_cue, is_cue, is_expect, is_opening, is_plain, is_wait_word, plain_keys, key_cue, quoted, cue_text, with_awaited, with_counted, with_expected, with_line, with_text, cues_with_word};
+ghost use Rattle.cpm_script.specs.Script.{most_keys};
 
 use crate::count::count_of;
 use crate::fault::{LineFault, ScriptError};
@@ -73,7 +74,7 @@ fn key_cue(at: Option<u64>, byte: u8) -> Cue
 /// Adds a key.
 fn push_key(reading: &mut ScriptReading, at: Option<u64>, byte: u8) -> Result<(), AllocError>
     requires reading { IsReading reading.old }
-    requires room { reading.old.keys < 4096 }
+    requires room { reading.old.keys < most_keys }
     ensures added { OnOk result (all_said reading.new.cues ≡ all_said reading.old.cues ++ key_cue at byte ∷ []) }
     ensures counted { OnOk result (reading.new.keys ≡ reading.old.keys + 1) }
     ensures reading { OnOk result (IsReading reading.new) }
@@ -88,7 +89,7 @@ fn push_key(reading: &mut ScriptReading, at: Option<u64>, byte: u8) -> Result<()
 fn push_keys(reading: &mut ScriptReading, at: Option<u64>, text: &[u8]) -> Result<(), AllocError>
     requires reading { IsReading reading.old }
     requires keys { is_some (keys_of text.now) ≡ true }
-    requires room { IfSome (keys_of text.now) (λ ks. reading.old.keys + length ks ≤ 4096) }
+    requires room { IfSome (keys_of text.now) (λ ks. reading.old.keys + length ks ≤ most_keys) }
     ensures added { OnOk result (option_map (λ ks. all_said reading.old.cues ++ map (key_cue at) ks) (keys_of text.now) ≡ Some (all_said reading.new.cues)) }
     ensures reading { OnOk result (IsReading reading.new) }
 {

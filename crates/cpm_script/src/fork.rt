@@ -2,7 +2,7 @@
 ghost use Rattle.std.specs.Prelude.{◌≡◌, ◌≤◌, length, IfOk, IsErrOf, true};
 ghost use Rattle.std.specs.Str.Lines.{lines};
 ghost use Rattle.cpm_script.specs.Fork.{fork_lines_fault, forked_script, keys_before, line_keys, room_left};
-ghost use Rattle.cpm_script.specs.Script.{Reads, has_count};
+ghost use Rattle.cpm_script.specs.Script.{Reads, has_count, most_keys};
 
 use crate::count::count_of;
 use crate::fault::{LineFault, ScriptError};
@@ -79,7 +79,7 @@ pub fn read_forked_keys(
     at: u64,
     before: Vec<Key>,
 ) -> Result<Vec<Key>, ScriptError>
-    requires { length before.items ≤ 4096 }
+    requires { length before.items ≤ most_keys }
     ensures read { Reads result (forked_script at before.items text.now) }
     // Want of memory is answered only where a line has a count.
     ensures memory { IsErrOf result ScriptError.OutOfMemory → has_count (lines text.now) ≡ true }

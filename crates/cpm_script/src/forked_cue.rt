@@ -3,6 +3,7 @@ ghost use Rattle.std.specs.Prelude.{◌≡◌, ◌≤◌, IsErrOf, true};
 ghost use Rattle.std.specs.Str.Lines.{lines};
 ghost use Rattle.cpm_script.specs.Cues.{ReadsCues, has_cue};
 ghost use Rattle.cpm_script.specs.Fork.{cue_fault, forked_cues, line_cues, word_cues};
+ghost use Rattle.cpm_script.specs.Script.{most_keys};
 
 use crate::count::count_of;
 use crate::cue::{Cue, is_expect, is_wait_word, quoted, read_cues};
@@ -69,7 +70,7 @@ pub fn read_forked_cues(
     at: u64,
     before: usize,
 ) -> Result<Vec<Cue>, ScriptError>
-    requires { before ≤ 4096 }
+    requires { before ≤ most_keys }
     ensures read { ReadsCues result (forked_cues at before text.now) }
     // Want of memory is answered only where a line has a count or waits.
     ensures memory { IsErrOf result ScriptError.OutOfMemory → has_cue (lines text.now) ≡ true }

@@ -3,7 +3,7 @@ ghost use Rattle.std.specs.Prelude.{◌≡◌, ◌==◌, ◌≤◌, ◌++◌, �
 ghost use Rattle.std.specs.Str.Lines.{lines};
 ghost use Rattle.cpm_script.specs.KeyText.{count_of};
 ghost use Rattle.std.specs.List.{after_first, before_first, list_all};
-ghost use Rattle.cpm_script.specs.Script.{Adds, Reads, fault_past_last_key, has_count, is_after, is_counted, is_script_space, script, with_counted, with_line, with_text};
+ghost use Rattle.cpm_script.specs.Script.{Adds, Reads, fault_past_last_key, has_count, is_after, is_counted, is_script_space, script, with_counted, with_line, with_text, most_keys};
 
 use crate::count::count_of;
 use crate::fault::{LineFault, ScriptError};
@@ -64,9 +64,9 @@ fn add_key(keys: &mut Vec<Key>, key: Key) -> Result<(), AllocError>
 
 /// Adds the keys that a text stands for, all at one count.
 fn add_keys(keys: &mut Vec<Key>, count: u64, text: &[u8]) -> Result<(), KeyStop>
-    requires { length keys.old.items ≤ 4096 }
+    requires { length keys.old.items ≤ most_keys }
     ensures added { Adds (with_text keys.old.items count text.now) result keys.new.items }
-    ensures room { OnOk result (length keys.new.items ≤ 4096) }
+    ensures room { OnOk result (length keys.new.items ≤ most_keys) }
 {
     if text.is_empty() {
         return Err(KeyStop::Fault(LineFault::NoKey));
@@ -111,9 +111,9 @@ pub(crate) fn parted(line: &[u8]) -> (&[u8], &[u8])
 
 /// Adds the keys of a text at the count that a number writes.
 fn add_counted(keys: &mut Vec<Key>, number: &[u8], text: &[u8]) -> Result<(), KeyStop>
-    requires { length keys.old.items ≤ 4096 }
+    requires { length keys.old.items ≤ most_keys }
     ensures added { Adds (with_counted keys.old.items number.now text.now) result keys.new.items }
-    ensures room { OnOk result (length keys.new.items ≤ 4096) }
+    ensures room { OnOk result (length keys.new.items ≤ most_keys) }
     ensures memory { IsErrOf result KeyStop.OutOfMemory → is_some (count_of number.now) ≡ true }
 {
     let Some(count) = count_of(number) else {
@@ -128,9 +128,9 @@ fn add_counted(keys: &mut Vec<Key>, number: &[u8], text: &[u8]) -> Result<(), Ke
 
 /// Adds the keys of one more line.
 fn add_line(keys: &mut Vec<Key>, line: &[u8]) -> Result<(), KeyStop>
-    requires { length keys.old.items ≤ 4096 }
+    requires { length keys.old.items ≤ most_keys }
     ensures added { Adds (with_line keys.old.items line.now) result keys.new.items }
-    ensures room { OnOk result (length keys.new.items ≤ 4096) }
+    ensures room { OnOk result (length keys.new.items ≤ most_keys) }
     ensures memory { IsErrOf result KeyStop.OutOfMemory → is_counted line.now ≡ true }
 {
     if is_blank(line) || is_comment(line) {

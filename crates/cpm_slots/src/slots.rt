@@ -4,7 +4,7 @@ ghost use Rattle.std.specs.Prelude.{◌≡◌, ℕ, true, false, nat_lt, IfOk, I
 ghost use Rattle.std.specs.List.{All};
 ghost use Rattle.cpm_geom.specs.Disk.{Disk};
 ghost use Rattle.cpm_bdos.specs.Bounds.{IsFit};
-ghost use Rattle.cpm_console.specs.Terminal.{pressed};
+ghost use Rattle.cpm_console.specs.Terminal.{pressed, most_pending};
 ghost use Rattle.cpm_drives.specs.Disks.{images_of};
 ghost use Rattle.cpm_memory.specs.Contents.{Contents, byte_at};
 ghost use Rattle.cpm_memory.specs.Frames.{memories, stamps_at, IsTableTaken, KeepsStamps, IsStoreSound as IsSoundStore};
@@ -73,8 +73,8 @@ pub fn numbers_fit(slots: &[Slot])
 
 /// Presses a key, which is refused where 4,096 are pending.
 fn give(console: &mut Console, key: u8) -> Result<(), Refusal>
-    ensures accepted { IfOk result (λ _. (nat_lt (length console.old.keys) 4096 ≡ true) × (console.new ≡ pressed console.old key)) }
-    ensures refused { IfErr result (λ refusal. (refusal ≡ Refusal.KeysFull) × (nat_lt (length console.old.keys) 4096 ≡ false) × (console.new ≡ console.old)) }
+    ensures accepted { IfOk result (λ _. (nat_lt (length console.old.keys) most_pending ≡ true) × (console.new ≡ pressed console.old key)) }
+    ensures refused { IfErr result (λ refusal. (refusal ≡ Refusal.KeysFull) × (nat_lt (length console.old.keys) most_pending ≡ false) × (console.new ≡ console.old)) }
 {
     if console.give(key) {
         Ok(())
