@@ -2,8 +2,8 @@
 
 use cpm_flags::Cpu;
 use cpm_geom::{Format, Image};
-use cpm_slots::{Host, SlotId};
 use cpm_machine::{Machine, Opening};
+use cpm_slots::{Host, SlotId};
 use std::alloc::Global;
 
 /// What starts the program RUN.COM of the system drive.

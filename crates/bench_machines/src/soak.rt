@@ -4,8 +4,8 @@
 use crate::digest::Digest;
 use cpm_flags::Cpu;
 use cpm_geom::Image;
-use cpm_slots::{Host, SlotId};
 use cpm_machine::{Closed, Granted, Machine, Opening, Why};
+use cpm_slots::{Host, SlotId};
 use std::fs;
 
 /// The most sessions of a host.
@@ -221,7 +221,11 @@ fn tell(rt: &HostRuntime, number: u16, progress: &SoakProgress, memory: Digest, 
 }
 
 /// Gives a session turns until it is over, and answers the digest of its memory.
-fn play<S: Grantee>(session: &mut S, progress: &mut SoakProgress, turns: &SoakTurns) -> Option<Digest> {
+fn play<S: Grantee>(
+    session: &mut S,
+    progress: &mut SoakProgress,
+    turns: &SoakTurns,
+) -> Option<Digest> {
     for _turn in 0..u64::MAX {
         if progress.is_over {
             break;

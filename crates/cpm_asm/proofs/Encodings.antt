@@ -5,10 +5,10 @@ use Rattle.std.proofs.lemmas.List.FromFn.{get_or-map-range_with_len}
 use Rattle.cpm_decode.specs.Rows8080.{decoded8080}
 use Rattle.cpm_decode.specs.declared.operation.Op.{Op}
 use Rattle.cpm_decode.specs.declared.operation.Op.TheVariants as op
-use Rattle.cpm_decode.specs.declared.operation.ByteOperand.{ByteOperand}
-use Rattle.cpm_decode.specs.declared.operation.ByteOperand.TheVariants as p
-use Rattle.cpm_decode.specs.declared.operation.WordOperand.{WordOperand}
-use Rattle.cpm_decode.specs.declared.operation.WordOperand.TheVariants as r
+use Rattle.cpm_decode.specs.declared.operation.Operand.{Operand}
+use Rattle.cpm_decode.specs.declared.operation.Operand.TheVariants as p
+use Rattle.cpm_decode.specs.declared.operation.Pair.{Pair}
+use Rattle.cpm_decode.specs.declared.operation.Pair.TheVariants as r
 use Rattle.cpm_decode.specs.declared.operation.StackPair.{StackPair}
 use Rattle.cpm_decode.specs.declared.operation.StackPair.TheVariants as t
 use Rattle.cpm_decode.specs.declared.operation.Condition.{Condition}
@@ -23,7 +23,7 @@ use Rattle.cpm_asm.specs.Encoding.{Decodes, HasEncoding, IsDirect, IsMove, encod
 halves : (w : ℕ) → w % 256 + 256 * (w / 256) ≡ w
 halves w = omega arith
 
-move : (d s : ByteOperand) → IsMove d s → Decodes (op.Move d s)
+move : (d s : Operand) → IsMove d s → Decodes (op.Move d s)
 unfolding decoded8080 encoded
 move p.B p.B h = refl
 move p.B p.C h = refl
@@ -90,7 +90,7 @@ move p.A p.L h = refl
 move p.A p.AtHl h = refl
 move p.A p.A h = refl
 
-arithmetic : (x : Arithmetic) (s : ByteOperand) → Decodes (op.Arithmetic x s)
+arithmetic : (x : Arithmetic) (s : Operand) → Decodes (op.Arithmetic x s)
 unfolding decoded8080 encoded
 arithmetic a.Add p.B = refl
 arithmetic a.Add p.C = refl
@@ -157,7 +157,7 @@ arithmetic a.Compare p.L = refl
 arithmetic a.Compare p.AtHl = refl
 arithmetic a.Compare p.A = refl
 
-increment : (d : ByteOperand) → Decodes (op.Increment d)
+increment : (d : Operand) → Decodes (op.Increment d)
 unfolding decoded8080 encoded
 increment p.B = refl
 increment p.C = refl
@@ -168,7 +168,7 @@ increment p.L = refl
 increment p.AtHl = refl
 increment p.A = refl
 
-decrement : (d : ByteOperand) → Decodes (op.Decrement d)
+decrement : (d : Operand) → Decodes (op.Decrement d)
 unfolding decoded8080 encoded
 decrement p.B = refl
 decrement p.C = refl
@@ -179,7 +179,7 @@ decrement p.L = refl
 decrement p.AtHl = refl
 decrement p.A = refl
 
-move_immediate : (d : ByteOperand) (n : ℕ) → Decodes (op.MoveImmediate d n)
+move_immediate : (d : Operand) (n : ℕ) → Decodes (op.MoveImmediate d n)
 unfolding decoded8080 encoded
 move_immediate p.B n = refl
 move_immediate p.C n = refl
@@ -201,42 +201,42 @@ arithmetic_immediate a.Xor n = refl
 arithmetic_immediate a.Or n = refl
 arithmetic_immediate a.Compare n = refl
 
-load_pair : (x : WordOperand) (w : ℕ) → Decodes (op.LoadPair x w)
+load_pair : (x : Pair) (w : ℕ) → Decodes (op.LoadPair x w)
 unfolding decoded8080 encoded
 load_pair r.Bc w = ap (λ (x : ℕ). Some (record { op = op.LoadPair r.Bc x; length = 3 })) (halves w)
 load_pair r.De w = ap (λ (x : ℕ). Some (record { op = op.LoadPair r.De x; length = 3 })) (halves w)
 load_pair r.Hl w = ap (λ (x : ℕ). Some (record { op = op.LoadPair r.Hl x; length = 3 })) (halves w)
 load_pair r.Sp w = ap (λ (x : ℕ). Some (record { op = op.LoadPair r.Sp x; length = 3 })) (halves w)
 
-increment_pair : (x : WordOperand) → Decodes (op.IncrementPair x)
+increment_pair : (x : Pair) → Decodes (op.IncrementPair x)
 unfolding decoded8080 encoded
 increment_pair r.Bc = refl
 increment_pair r.De = refl
 increment_pair r.Hl = refl
 increment_pair r.Sp = refl
 
-decrement_pair : (x : WordOperand) → Decodes (op.DecrementPair x)
+decrement_pair : (x : Pair) → Decodes (op.DecrementPair x)
 unfolding decoded8080 encoded
 decrement_pair r.Bc = refl
 decrement_pair r.De = refl
 decrement_pair r.Hl = refl
 decrement_pair r.Sp = refl
 
-add_pair : (x : WordOperand) → Decodes (op.AddPair x)
+add_pair : (x : Pair) → Decodes (op.AddPair x)
 unfolding decoded8080 encoded
 add_pair r.Bc = refl
 add_pair r.De = refl
 add_pair r.Hl = refl
 add_pair r.Sp = refl
 
-store_at_pair : (x : WordOperand) → IsDirect x → Decodes (op.StoreAAtPair x)
+store_at_pair : (x : Pair) → IsDirect x → Decodes (op.StoreAAtPair x)
 unfolding decoded8080 encoded
 store_at_pair r.Bc h = refl
 store_at_pair r.De h = refl
 store_at_pair r.Hl h = absurd h
 store_at_pair r.Sp h = absurd h
 
-load_at_pair : (x : WordOperand) → IsDirect x → Decodes (op.LoadAAtPair x)
+load_at_pair : (x : Pair) → IsDirect x → Decodes (op.LoadAAtPair x)
 unfolding decoded8080 encoded
 load_at_pair r.Bc h = refl
 load_at_pair r.De h = refl

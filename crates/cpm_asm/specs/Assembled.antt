@@ -18,7 +18,8 @@ UnlessLast false More = More
 -- each label has the address of its statement and each EQU name its value, both under this same table
 abbrev pub IsTableOf : NameTable → Position → List Numbered → Type 0
 IsTableOf names p [] = Unit {0}
-IsTableOf names p (x ∷ xs) = HasLabel names (statement_of p x).label (measure_of names p x).label × UnlessLast (is_end_statement (statement_of p x).deed) (IsTableOf names (position_behind names p x) xs)
+IsTableOf names p (x ∷ xs) = HasLabel names (statement_of p x).label (measure_of names p x).label
+    × UnlessLast (is_end_statement (statement_of p x).deed) (IsTableOf names (position_behind names p x) xs)
 
 abbrev pub OrLater : Bool → Type 0 → Type 0
 OrLater true More = ⊥
@@ -27,12 +28,15 @@ OrLater false More = More
 -- a statement has the name as its label
 abbrev pub IsLabelled : NameTable → Name → Position → List Numbered → Type 0
 IsLabelled names n p [] = ⊥
-IsLabelled names n p (x ∷ xs) = ((statement_of p x).label ≡ Some n) ⊎ OrLater (is_end_statement (statement_of p x).deed) (IsLabelled names n (position_behind names p x) xs)
+IsLabelled names n p (x ∷ xs) = ((statement_of p x).label ≡ Some n)
+    ⊎ OrLater (is_end_statement (statement_of p x).deed) (IsLabelled names n (position_behind names p x) xs)
 
 -- the bytes of each statement at its address, gaps 0, all under one table
 abbrev pub image_from : NameTable → List ℕ → Position → List Numbered → List ℕ
 image_from names image p [] = image
-image_from names image p (x ∷ xs) = last_or (is_end_statement (statement_of p x).deed) (with_statement_bytes names image p x) (image_from names (with_statement_bytes names image p x) (position_behind names p x) xs)
+image_from names image p (x ∷ xs) =
+    last_or (is_end_statement (statement_of p x).deed) (with_statement_bytes names image p x)
+    (image_from names (with_statement_bytes names image p x) (position_behind names p x) xs)
 
 -- bytes stand at an address of an image, which begins at 0100h
 abbrev pub LiesAt : List ℕ → ℕ → List ℕ → Type 0
@@ -41,7 +45,8 @@ LiesAt image a bytes = take (length bytes) (drop (a - 256) image) ≡ bytes
 -- the bytes of each statement stand at its address
 abbrev pub EachLies : NameTable → List ℕ → Position → List Numbered → Type 0
 EachLies names image p [] = Unit {0}
-EachLies names image p (x ∷ xs) = LiesAt image p.address (bytes_given names p x).bytes × UnlessLast (is_end_statement (statement_of p x).deed) (EachLies names image (position_behind names p x) xs)
+EachLies names image p (x ∷ xs) = LiesAt image p.address (bytes_given names p x).bytes
+    × UnlessLast (is_end_statement (statement_of p x).deed) (EachLies names image (position_behind names p x) xs)
 
 -- There is one table of names under which each label has its value, which has no other names, and by which the image
 -- is the bytes of the statements, each at its address, and zeros between them.

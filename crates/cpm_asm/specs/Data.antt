@@ -1,6 +1,7 @@
 -- Values of operands, and the operands of DB and DW.
 -- CP/M 2.2 Operating System Manual, "CP/M Assembler", "The DB Directive" and "The DW Directive"
-use Rattle.std.specs.Prelude.{ℕ, ◌+◌, ◌/◌, ◌%◌, Bool, false, not, ◌||◌, nat_lt, nat_le, if◌then◌else◌, List, [], ◌∷◌, ◌++◌, length, Option, None, Some, is_some, unwrap_or, option_map, option_and_then}
+use Rattle.std.specs.Prelude.{ℕ, ◌+◌, ◌/◌, ◌%◌, Bool, false, not, ◌||◌, nat_lt, nat_le, if◌then◌else◌, List, []}
+use Rattle.std.specs.Prelude.{◌∷◌, ◌++◌, length, Option, None, Some, is_some, unwrap_or, option_map, option_and_then}
 use Rattle.cpm_asm_expression.specs.Letters.{after_blanks}
 use Rattle.cpm_asm_expression.specs.Names.{NameTable, no_names}
 use Rattle.cpm_asm_expression.specs.Quotes.{is_quote, quoted_text}

@@ -31,9 +31,12 @@ emitted names a next (Space e) = certain (replicate (next - a) 0)
 emitted names a next (Bytes list) = list_bytes false names a list
 emitted names a next (Words list) = list_bytes true names a list
 emitted names a next (Plain instruction) = certain (encoded instruction)
-emitted names a next (Byte form e) = record { bytes = encoded (op_with_byte form (low_byte (expression_value names a e).number)); doubt = byte_doubt (expression_value names a e) }
-emitted names a next (Word form e) = record { bytes = encoded (op_with_word form (expression_value names a e).number); doubt = word_doubt (expression_value names a e) }
-emitted names a next (Restart e) = record { bytes = encoded (op.Restart (8 * ((expression_value names a e).number % 8))); doubt = restart_doubt (expression_value names a e) }
+emitted names a next (Byte form e) =
+    record { bytes = encoded (op_with_byte form (low_byte (expression_value names a e).number)); doubt = byte_doubt (expression_value names a e) }
+emitted names a next (Word form e) =
+    record { bytes = encoded (op_with_word form (expression_value names a e).number); doubt = word_doubt (expression_value names a e) }
+emitted names a next (Restart e) =
+    record { bytes = encoded (op.Restart (8 * ((expression_value names a e).number % 8))); doubt = restart_doubt (expression_value names a e) }
 
 -- what the second pass finds
 abbrev pub second_fault : Doubt → Option AsmErrorKind

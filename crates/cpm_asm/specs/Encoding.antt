@@ -5,10 +5,10 @@ use Rattle.std.specs.Prelude.{◌≡◌, ℕ, ◌+◌, ◌*◌, ◌/◌, ◌%◌
 use Rattle.cpm_decode.specs.Rows8080.{decoded8080}
 use Rattle.cpm_decode.specs.declared.operation.Op.{Op}
 use Rattle.cpm_decode.specs.declared.operation.Op.TheVariants as op
-use Rattle.cpm_decode.specs.declared.operation.ByteOperand.{ByteOperand}
-use Rattle.cpm_decode.specs.declared.operation.ByteOperand.TheVariants as p
-use Rattle.cpm_decode.specs.declared.operation.WordOperand.{WordOperand}
-use Rattle.cpm_decode.specs.declared.operation.WordOperand.TheVariants as r
+use Rattle.cpm_decode.specs.declared.operation.Operand.{Operand}
+use Rattle.cpm_decode.specs.declared.operation.Operand.TheVariants as p
+use Rattle.cpm_decode.specs.declared.operation.Pair.{Pair}
+use Rattle.cpm_decode.specs.declared.operation.Pair.TheVariants as r
 use Rattle.cpm_decode.specs.declared.operation.StackPair.{StackPair}
 use Rattle.cpm_decode.specs.declared.operation.StackPair.TheVariants as t
 use Rattle.cpm_decode.specs.declared.operation.Condition.{Condition}
@@ -24,7 +24,7 @@ use Rattle.cpm_asm_expression.specs.declared.words.WordForm.TheVariants as w
 
 -- ---- the numbers of registers, pairs, conditions and operations
 
-abbrev pub place_code : ByteOperand → ℕ
+abbrev pub place_code : Operand → ℕ
 place_code p.B = 0
 place_code p.C = 1
 place_code p.D = 2
@@ -34,7 +34,7 @@ place_code p.L = 5
 place_code p.AtHl = 6
 place_code p.A = 7
 
-abbrev pub pair_code : WordOperand → ℕ
+abbrev pub pair_code : Pair → ℕ
 pair_code r.Bc = 0
 pair_code r.De = 1
 pair_code r.Hl = 2
@@ -148,12 +148,12 @@ op_with_word (w.CallIf condition) word = op.CallIf condition word
 -- ---- the law of encodings
 
 -- STAX and LDAX have the pairs BC and DE
-abbrev pub IsDirect : WordOperand → Type 0
+abbrev pub IsDirect : Pair → Type 0
 IsDirect r.Bc = Unit {0}
 IsDirect r.De = Unit {0}
 IsDirect _ = ⊥
 
-abbrev pub IsMove : ByteOperand → ByteOperand → Type 0
+abbrev pub IsMove : Operand → Operand → Type 0
 IsMove p.AtHl p.AtHl = ⊥
 IsMove _ _ = Unit {0}
 

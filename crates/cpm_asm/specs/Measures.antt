@@ -20,13 +20,27 @@ sized a size = record {
 }
 
 abbrev pub origin : ℕ → CheckedValue → Measure
-origin a target = record { label = a % 65536; next = target.number; is_unknown = target.is_unknown; is_outside = target.is_outside; is_below = nat_lt target.number a; holds = false }
+origin a target = record {
+  label = a % 65536;
+  next = target.number;
+  is_unknown = target.is_unknown;
+  is_outside = target.is_outside;
+  is_below = nat_lt target.number a;
+  holds = false;
+}
 
 abbrev pub equated : ℕ → CheckedValue → Measure
 equated a own = record { label = own.number; next = a; is_unknown = own.is_unknown; is_outside = own.is_outside; is_below = false; holds = false }
 
 abbrev pub tested : ℕ → CheckedValue → Measure
-tested a condition = record { label = a % 65536; next = a; is_unknown = condition.is_unknown; is_outside = condition.is_outside; is_below = false; holds = not (condition.number == 0) }
+tested a condition = record {
+  label = a % 65536;
+  next = a;
+  is_unknown = condition.is_unknown;
+  is_outside = condition.is_outside;
+  is_below = false;
+  holds = not (condition.number == 0);
+}
 
 -- a space whose size isn't known takes nothing
 abbrev pub known_size : CheckedValue → ℕ

@@ -7,10 +7,10 @@ use Rattle.cpm_asm_expression.specs.declared.words.Keyword.{Keyword}
 use Rattle.cpm_asm_expression.specs.declared.words.Keyword.TheVariants as k
 use Rattle.cpm_asm_expression.specs.declared.words.Register.{Register}
 use Rattle.cpm_asm_expression.specs.declared.words.Register.TheVariants as s
-use Rattle.cpm_decode.specs.declared.operation.ByteOperand.{ByteOperand}
-use Rattle.cpm_decode.specs.declared.operation.ByteOperand.TheVariants as p
-use Rattle.cpm_decode.specs.declared.operation.WordOperand.{WordOperand}
-use Rattle.cpm_decode.specs.declared.operation.WordOperand.TheVariants as r
+use Rattle.cpm_decode.specs.declared.operation.Operand.{Operand}
+use Rattle.cpm_decode.specs.declared.operation.Operand.TheVariants as p
+use Rattle.cpm_decode.specs.declared.operation.Pair.{Pair}
+use Rattle.cpm_decode.specs.declared.operation.Pair.TheVariants as r
 use Rattle.cpm_decode.specs.declared.operation.StackPair.{StackPair}
 use Rattle.cpm_decode.specs.declared.operation.StackPair.TheVariants as t
 use Rattle.cpm_asm.specs.Lines.{parts}
@@ -48,7 +48,7 @@ abbrev pub register_in : List ℕ → Option Register
 register_in operand = register_front (word_front operand)
 
 -- B C D E H L A, and M for the byte at HL
-abbrev pub place_named : Register → Option ByteOperand
+abbrev pub place_named : Register → Option Operand
 place_named s.B = Some p.B
 place_named s.C = Some p.C
 place_named s.D = Some p.D
@@ -60,7 +60,7 @@ place_named s.A = Some p.A
 place_named _ = None
 
 -- B D H SP
-abbrev pub pair_named : Register → Option WordOperand
+abbrev pub pair_named : Register → Option Pair
 pair_named s.B = Some r.Bc
 pair_named s.D = Some r.De
 pair_named s.H = Some r.Hl
@@ -68,7 +68,7 @@ pair_named s.StackPointer = Some r.Sp
 pair_named _ = None
 
 -- B D
-abbrev pub direct_pair_named : Register → Option WordOperand
+abbrev pub direct_pair_named : Register → Option Pair
 direct_pair_named s.B = Some r.Bc
 direct_pair_named s.D = Some r.De
 direct_pair_named _ = None
@@ -81,13 +81,13 @@ stack_pair_named s.H = Some t.Hl
 stack_pair_named s.StatusWord = Some t.Psw
 stack_pair_named _ = None
 
-abbrev pub byte_operand_in : List ℕ → Option ByteOperand
+abbrev pub byte_operand_in : List ℕ → Option Operand
 byte_operand_in operand = option_and_then place_named (register_in operand)
 
-abbrev pub pair_in : List ℕ → Option WordOperand
+abbrev pub pair_in : List ℕ → Option Pair
 pair_in operand = option_and_then pair_named (register_in operand)
 
-abbrev pub direct_pair_in : List ℕ → Option WordOperand
+abbrev pub direct_pair_in : List ℕ → Option Pair
 direct_pair_in operand = option_and_then direct_pair_named (register_in operand)
 
 abbrev pub stack_pair_in : List ℕ → Option StackPair

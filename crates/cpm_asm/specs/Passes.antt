@@ -1,5 +1,6 @@
 -- The two passes: the first fault of the first, else the first fault of the second, else the image. All of it is own.
-use Rattle.std.specs.Prelude.{◌≡◌, ◌⊎◌, ℕ, List, [], ◌∷◌, ◌++◌, ◌-◌, ◌==◌, Bool, true, false, if◌then◌else◌, length, replicate, Option, None, Some, Result, Ok, Err, Vec}
+use Rattle.std.specs.Prelude.{◌≡◌, ◌⊎◌, ℕ, List, [], ◌∷◌, ◌++◌, ◌-◌, ◌==◌, Bool, true, false}
+use Rattle.std.specs.Prelude.{if◌then◌else◌, length, replicate, Option, None, Some, Result, Ok, Err, Vec}
 use Rattle.std.specs.declared.alloc.Global.{Global}
 use Rattle.cpm_asm_expression.specs.Names.{NameTable, no_names, with_name}
 use Rattle.cpm_asm_expression.specs.declared.names.Name.{Name}
@@ -85,7 +86,8 @@ unless_second line (Some kind) r = Err (record { line = line; kind = kind })
 abbrev pub second_pass : NameTable → List ℕ → Position → List Numbered → Result (List ℕ) AsmError
 second_pass names image p [] = Ok image
 second_pass names image p (x ∷ xs) = unless_second x.line (second_fault (bytes_given names p x).doubt)
-    (last_or (is_end_statement (statement_of p x).deed) (Ok (with_statement_bytes names image p x)) (second_pass names (with_statement_bytes names image p x) (position_behind names p x) xs))
+    (last_or (is_end_statement (statement_of p x).deed) (Ok (with_statement_bytes names image p x))
+    (second_pass names (with_statement_bytes names image p x) (position_behind names p x) xs))
 
 -- ---- both
 

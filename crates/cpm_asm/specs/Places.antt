@@ -1,7 +1,8 @@
 -- Where a pass stands, and what the first pass finds in a statement.
 -- CP/M 2.2 Operating System Manual, "CP/M Assembler", "The IF and ENDIF Directives". The depth of 8 and the order
 -- of faults are own.
-use Rattle.std.specs.Prelude.{ℕ, ◌+◌, ◌-◌, ◌≤◌, List, [], ◌∷◌, Option, None, Some, Bool, true, false, not, ◌==◌, nat_lt, nat_le, if◌then◌else◌, ◌||◌, ◌&&◌, is_some}
+use Rattle.std.specs.Prelude.{ℕ, ◌+◌, ◌-◌, ◌≤◌, List, [], ◌∷◌, Option, None, Some, Bool, true}
+use Rattle.std.specs.Prelude.{false, not, ◌==◌, nat_lt, nat_le, if◌then◌else◌, ◌||◌, ◌&&◌, is_some}
 use Rattle.cpm_asm_expression.specs.Names.{NameTable}
 use Rattle.cpm_asm_expression.specs.declared.names.Name.{Name}
 use Rattle.cpm_asm_expression.specs.declared.words.Operation.{Operation}

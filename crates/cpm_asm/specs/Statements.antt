@@ -11,8 +11,8 @@ use Rattle.cpm_asm_expression.specs.declared.words.Operation.{Operation}
 use Rattle.cpm_asm_expression.specs.declared.words.Operation.TheVariants as o
 use Rattle.cpm_decode.specs.declared.operation.Op.{Op}
 use Rattle.cpm_decode.specs.declared.operation.Op.TheVariants as op
-use Rattle.cpm_decode.specs.declared.operation.ByteOperand.{ByteOperand}
-use Rattle.cpm_decode.specs.declared.operation.ByteOperand.TheVariants as p
+use Rattle.cpm_decode.specs.declared.operation.Operand.{Operand}
+use Rattle.cpm_decode.specs.declared.operation.Operand.TheVariants as p
 use Rattle.cpm_asm.specs.Heads.{Fronted, statement_front, is_blank_text}
 use Rattle.cpm_asm.specs.Operands.{direct_pair_in, one_operand, pair_in, byte_operand_in, stack_pair_in, two_operands}
 use Rattle.cpm_asm.specs.declared.statement.Work.{Work}
@@ -83,7 +83,7 @@ with_register o.Pop operand = option_map op.Pop (stack_pair_in operand)
 with_register _ operand = None
 
 -- from M to M there is no MOV
-abbrev pub move_deed : Option ByteOperand → Option ByteOperand → Deed
+abbrev pub move_deed : Option Operand → Option Operand → Deed
 move_deed (Some p.AtHl) (Some p.AtHl) = Wrong
 move_deed (Some target) (Some source) = Plain (op.Move target source)
 move_deed _ _ = Wrong

@@ -10,9 +10,9 @@ use crate::encode::{encoded, op_with_byte, op_with_word};
 use crate::error::AsmErrorKind;
 use crate::lines::first_part;
 use crate::statement::Work;
-use crate::values::{text_in, expression_value};
+use crate::values::{expression_value, text_in};
+use cpm_asm_expression::{CheckedValue, Names};
 use cpm_decode::Op;
-use cpm_asm_expression::{Names, CheckedValue};
 use std::alloc::{AllocError, Global};
 
 /// What may be wrong with bytes.

@@ -1,39 +1,40 @@
 //! The bytes of an instruction.
 ghost use Rattle.std.specs.Prelude.{◌≡◌, ◌<◌, ◌≤◌, ◌∷◌, [], ◌/◌, ◌%◌};
-ghost use Rattle.cpm_asm.specs.Encoding.{arithmetic_code, condition_code, encoded, pair_code, place_code, rotation_code, stack_pair_code, op_with_byte, op_with_word};
+ghost use Rattle.cpm_asm.specs.Encoding.{arithmetic_code, condition_code, encoded, pair_code, place_code};
+ghost use Rattle.cpm_asm.specs.Encoding.{rotation_code, stack_pair_code, op_with_byte, op_with_word};
 
 use arrayvec::ArrayVec;
-use cpm_decode::{Arithmetic, Condition, Op, WordOperand, ByteOperand, Rotation, StackPair};
 use cpm_asm_expression::{ByteForm, WordForm};
+use cpm_decode::{Arithmetic, Condition, Op, Operand, Pair, Rotation, StackPair};
 
 /// The bytes of an instruction.
 pub type Encoding = ArrayVec<u8, 3>;
 
-fn place_code(place: ByteOperand) -> u8
+fn place_code(place: Operand) -> u8
     ensures code { result ≡ place_code place }
     ensures low { result < 8 }
 {
     match place {
-        ByteOperand::B => 0,
-        ByteOperand::C => 1,
-        ByteOperand::D => 2,
-        ByteOperand::E => 3,
-        ByteOperand::H => 4,
-        ByteOperand::L => 5,
-        ByteOperand::AtHl => 6,
-        ByteOperand::A => 7,
+        Operand::B => 0,
+        Operand::C => 1,
+        Operand::D => 2,
+        Operand::E => 3,
+        Operand::H => 4,
+        Operand::L => 5,
+        Operand::AtHl => 6,
+        Operand::A => 7,
     }
 }
 
-fn pair_code(pair: WordOperand) -> u8
+fn pair_code(pair: Pair) -> u8
     ensures code { result ≡ pair_code pair }
     ensures low { result < 4 }
 {
     match pair {
-        WordOperand::Bc => 0,
-        WordOperand::De => 1,
-        WordOperand::Hl => 2,
-        WordOperand::Sp => 3,
+        Pair::Bc => 0,
+        Pair::De => 1,
+        Pair::Hl => 2,
+        Pair::Sp => 3,
     }
 }
 

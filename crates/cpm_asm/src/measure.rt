@@ -8,8 +8,8 @@ ghost use Rattle.cpm_asm.specs.Measures.{equated, is_wrong, list_measure, measur
 use crate::encode::encoded;
 use crate::lines::first_part;
 use crate::statement::Work;
-use crate::values::{is_expression, text_in, expression_value};
-use cpm_asm_expression::{Names, CheckedValue};
+use crate::values::{expression_value, is_expression, text_in};
+use cpm_asm_expression::{CheckedValue, Names};
 use std::alloc::{AllocError, Global};
 
 /// What a statement at an address takes.
@@ -176,10 +176,19 @@ pub(crate) fn measured(
         Work::Wrong | Work::Nothing | Work::End | Work::EndIf | Work::Nest | Work::Unnest => Ok(
             sized(address, 0),
         ),
-        Work::Origin(target) => Ok(origin(address, expression_value(alloc, names, address, target)?)),
+        Work::Origin(target) => Ok(origin(
+            address,
+            expression_value(alloc, names, address, target)?,
+        )),
         Work::Equate(own) => Ok(equated(address, expression_value(alloc, names, address, own)?)),
-        Work::If(condition) => Ok(tested(address, expression_value(alloc, names, address, condition)?)),
-        Work::Space(size) => Ok(space_measure(address, expression_value(alloc, names, address, size)?)),
+        Work::If(condition) => Ok(tested(
+            address,
+            expression_value(alloc, names, address, condition)?,
+        )),
+        Work::Space(size) => Ok(space_measure(
+            address,
+            expression_value(alloc, names, address, size)?,
+        )),
         Work::Bytes(list) => list_measure(alloc, false, address, list),
         Work::Words(list) => list_measure(alloc, true, address, list),
         Work::Plain(op) => Ok(sized(address, encoded(op).len())),

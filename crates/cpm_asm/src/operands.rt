@@ -1,11 +1,12 @@
 //! The operands of a statement.
 ghost use Rattle.std.specs.Prelude.{◌≡◌, option_map};
-ghost use Rattle.cpm_asm.specs.Operands.{direct_pair_in, one_operand, pair_in, pair_named, byte_operand_in, place_named, register_in, stack_pair_in, stack_pair_named, two_operands};
+ghost use Rattle.cpm_asm.specs.Operands.{direct_pair_in, one_operand, pair_in, pair_named, byte_operand_in};
+ghost use Rattle.cpm_asm.specs.Operands.{place_named, register_in, stack_pair_in, stack_pair_named, two_operands};
 
 use crate::lines::first_part;
 use crate::word::{First, is_blank_text, word_front};
-use cpm_decode::{WordOperand, ByteOperand, StackPair};
 use cpm_asm_expression::{Keyword, Register, keyword_of};
+use cpm_decode::{Operand, Pair, StackPair};
 
 /// The operand of a list with only one.
 pub(crate) fn one_operand(list: &[u8]) -> Option<&[u8]>
@@ -49,31 +50,31 @@ fn register_in(operand: &[u8]) -> Option<Register>
 }
 
 /// The place of eight bits that a register is.
-fn place_named(register: Register) -> Option<ByteOperand>
+fn place_named(register: Register) -> Option<Operand>
     ensures { result ≡ place_named register }
 {
     match register {
-        Register::B => Some(ByteOperand::B),
-        Register::C => Some(ByteOperand::C),
-        Register::D => Some(ByteOperand::D),
-        Register::E => Some(ByteOperand::E),
-        Register::H => Some(ByteOperand::H),
-        Register::L => Some(ByteOperand::L),
-        Register::M => Some(ByteOperand::AtHl),
-        Register::A => Some(ByteOperand::A),
+        Register::B => Some(Operand::B),
+        Register::C => Some(Operand::C),
+        Register::D => Some(Operand::D),
+        Register::E => Some(Operand::E),
+        Register::H => Some(Operand::H),
+        Register::L => Some(Operand::L),
+        Register::M => Some(Operand::AtHl),
+        Register::A => Some(Operand::A),
         Register::StackPointer | Register::StatusWord => None,
     }
 }
 
 /// The pair whose first register, or whose name, this is.
-fn pair_named(register: Register) -> Option<WordOperand>
+fn pair_named(register: Register) -> Option<Pair>
     ensures { result ≡ pair_named register }
 {
     match register {
-        Register::B => Some(WordOperand::Bc),
-        Register::D => Some(WordOperand::De),
-        Register::H => Some(WordOperand::Hl),
-        Register::StackPointer => Some(WordOperand::Sp),
+        Register::B => Some(Pair::Bc),
+        Register::D => Some(Pair::De),
+        Register::H => Some(Pair::Hl),
+        Register::StackPointer => Some(Pair::Sp),
         _ => None,
     }
 }
@@ -92,26 +93,26 @@ fn stack_pair_named(register: Register) -> Option<StackPair>
 }
 
 /// The place that an operand is.
-pub(crate) fn byte_operand_in(operand: &[u8]) -> Option<ByteOperand>
+pub(crate) fn byte_operand_in(operand: &[u8]) -> Option<Operand>
     ensures { result ≡ byte_operand_in operand.now }
 {
     place_named(register_in(operand)?)
 }
 
 /// The pair that an operand is.
-pub(crate) fn pair_in(operand: &[u8]) -> Option<WordOperand>
+pub(crate) fn pair_in(operand: &[u8]) -> Option<Pair>
     ensures { result ≡ pair_in operand.now }
 {
     pair_named(register_in(operand)?)
 }
 
 /// The pair of STAX and LDAX that an operand is.
-pub(crate) fn direct_pair_in(operand: &[u8]) -> Option<WordOperand>
+pub(crate) fn direct_pair_in(operand: &[u8]) -> Option<Pair>
     ensures { result ≡ direct_pair_in operand.now }
 {
     match register_in(operand) {
-        Some(Register::B) => Some(WordOperand::Bc),
-        Some(Register::D) => Some(WordOperand::De),
+        Some(Register::B) => Some(Pair::Bc),
+        Some(Register::D) => Some(Pair::De),
         _ => None,
     }
 }

@@ -151,8 +151,11 @@ fn lay_statement(
     requires { IsPlace place }
     ensures measure { IfOk result (λ p. p.0 ≡ measured (in_table names.now) place.address (seen_work statement.now.work)) }
     ensures within { IfOk result (λ p. p.0.next ≤ 65536) }
-    ensures bytes { IfOk result (λ p. assembly.new.image.items ≡ laid assembly.old.image.items place.address (emitted (in_table names.now) place.address p.0.next (seen_work statement.now.work)).bytes) }
-    ensures placement { IfOk result (λ p. assembly.new.places.items ≡ assembly.old.places.items ++ placement_of (placement line place.address (emitted (in_table names.now) place.address p.0.next (seen_work statement.now.work)).bytes) (seen_statement statement.now)) }
+    ensures bytes { IfOk result (λ p. assembly.new.image.items
+        ≡ laid assembly.old.image.items place.address (emitted (in_table names.now) place.address p.0.next (seen_work statement.now.work)).bytes) }
+    ensures placement { IfOk result (λ p. assembly.new.places.items ≡ assembly.old.places.items
+        ++ placement_of (placement line place.address (emitted (in_table names.now) place.address p.0.next (seen_work statement.now.work)).bytes)
+        (seen_statement statement.now)) }
     ensures doubt { IfOk result (λ p. p.1 ≡ (emitted (in_table names.now) place.address p.0.next (seen_work statement.now.work)).doubt) }
 {
     let measure = measured(alloc, names, place.address, &statement.work)?;

@@ -2,7 +2,7 @@
 ghost use Rattle.std.specs.Prelude.{◌≡◌, ◌∷◌, ◌+◌, ◌<◌, ◌≤◌, ◌^◌, [], IfSome, MatchOption, length};
 ghost use Rattle.cpm_asm.specs.Pieces.{bytes_left, statements_left, pieces, seen_piece};
 
-use crate::lines::{line_code, first_line, first_part, source_text};
+use crate::lines::{first_line, first_part, line_code, source_text};
 
 /// A statement's text, and its line.
 #[derive(Clone, Copy)]

@@ -1,15 +1,16 @@
 //! What a statement does.
 ghost use Rattle.std.specs.Prelude.{◌≡◌, option_map};
 ghost use Rattle.cpm_asm.specs.Heads.{seen_head};
-ghost use Rattle.cpm_asm.specs.Statements.{deed_of, move_deed, read_head, seen_statement, seen_work, skipped_deed, skipped_head, statement_at, with_expression, with_register, with_two};
+ghost use Rattle.cpm_asm.specs.Statements.{deed_of, move_deed, read_head, seen_statement, seen_work, skipped_deed};
+ghost use Rattle.cpm_asm.specs.Statements.{skipped_head, statement_at, with_expression, with_register, with_two};
 
 use crate::head::{Head, statement_front};
 use crate::operands::{
-    direct_pair_in, one_operand, pair_in, byte_operand_in, stack_pair_in, two_operands,
+    byte_operand_in, direct_pair_in, one_operand, pair_in, stack_pair_in, two_operands,
 };
 use crate::word::is_blank_text;
-use cpm_decode::{Op, ByteOperand};
 use cpm_asm_expression::{ByteForm, Name, Operation, WordForm};
+use cpm_decode::{Op, Operand};
 
 /// What a statement does. Texts are expressions, or lists of operands.
 #[derive(Clone, Copy)]
@@ -65,7 +66,10 @@ fn with_register(operation: Operation, operand: &[u8]) -> Option<Op>
     match operation {
         Operation::Increment => Some(Op::Increment(byte_operand_in(operand)?)),
         Operation::Decrement => Some(Op::Decrement(byte_operand_in(operand)?)),
-        Operation::Arithmetic(arithmetic) => Some(Op::Arithmetic(arithmetic, byte_operand_in(operand)?)),
+        Operation::Arithmetic(arithmetic) => Some(Op::Arithmetic(
+            arithmetic,
+            byte_operand_in(operand)?,
+        )),
         Operation::IncrementPair => Some(Op::IncrementPair(pair_in(operand)?)),
         Operation::DecrementPair => Some(Op::DecrementPair(pair_in(operand)?)),
         Operation::AddPair => Some(Op::AddPair(pair_in(operand)?)),
@@ -78,11 +82,11 @@ fn with_register(operation: Operation, operand: &[u8]) -> Option<Op>
 }
 
 /// MOV; from M to M there is none.
-fn move_work(target: Option<ByteOperand>, source: Option<ByteOperand>) -> Work<'static>
+fn move_work(target: Option<Operand>, source: Option<Operand>) -> Work<'static>
     ensures { seen_work result ≡ move_deed target source }
 {
     match (target, source) {
-        (Some(ByteOperand::AtHl), Some(ByteOperand::AtHl)) => Work::Wrong,
+        (Some(Operand::AtHl), Some(Operand::AtHl)) => Work::Wrong,
         (Some(target), Some(source)) => Work::Plain(Op::Move(target, source)),
         _ => Work::Wrong,
     }

@@ -5,7 +5,7 @@ ghost use Rattle.cpm_asm.specs.Data.{is_expression, text_in, expression_value};
 
 use crate::word::is_blank_text;
 use arrayvec::ArrayVec;
-use cpm_asm_expression::{Names, CheckedValue, after_blanks, quoted_text, value_of};
+use cpm_asm_expression::{CheckedValue, Names, after_blanks, quoted_text, value_of};
 use std::alloc::{AllocError, Global};
 use std::collections::BTreeMap;
 

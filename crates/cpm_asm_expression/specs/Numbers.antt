@@ -1,7 +1,8 @@
 -- Numbers: digits, and a last letter that tells the base.
 -- CP/M 2.2 Operating System Manual, "CP/M Assembler", "Numeric Constants". That a number is taken modulo 65,536 is
 -- own.
-use Rattle.std.specs.Prelude.{ℕ, ◌+◌, ◌-◌, ◌*◌, ◌%◌, nat_le, nat_lt, ◌==◌, ◌||◌, ◌&&◌, if◌then◌else◌, List, [], ◌∷◌, length, take, slice_index, Option, Some, None, option_and_then}
+use Rattle.std.specs.Prelude.{ℕ, ◌+◌, ◌-◌, ◌*◌, ◌%◌, nat_le, nat_lt, ◌==◌, ◌||◌, ◌&&◌, if◌then◌else◌, List}
+use Rattle.std.specs.Prelude.{[], ◌∷◌, length, take, slice_index, Option, Some, None, option_and_then}
 use Rattle.std.specs.Char.{to_ascii_uppercase}
 use Rattle.cpm_asm_expression.specs.Letters.{is_dollar}
 

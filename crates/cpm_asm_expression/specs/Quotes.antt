@@ -1,6 +1,7 @@
 -- Quoted text.
 -- CP/M 2.2 Operating System Manual, "CP/M Assembler", "String Constants"
-use Rattle.std.specs.Prelude.{ℕ, ◌+◌, ◌*◌, Bool, ◌==◌, nat_le, nat_lt, ◌&&◌, if◌then◌else◌, List, [], ◌∷◌, length, Option, None, Some, option_map, option_and_then}
+use Rattle.std.specs.Prelude.{ℕ, ◌+◌, ◌*◌, Bool, ◌==◌, nat_le, nat_lt, ◌&&◌, if◌then◌else◌, List}
+use Rattle.std.specs.Prelude.{[], ◌∷◌, length, Option, None, Some, option_map, option_and_then}
 use Rattle.cpm_asm_expression.specs.declared.quotes.Next.{Next}
 use Rattle.cpm_asm_expression.specs.declared.quotes.Next.TheVariants as next
 

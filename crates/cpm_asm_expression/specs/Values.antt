@@ -1,7 +1,8 @@
 -- Values of expressions, modulo 65,536.
 -- CP/M 2.2 Operating System Manual, "CP/M Assembler", "Arithmetic and Logical Operators". That a shift of 16
 -- or more gives 0, and that a division by 0 is outside, is own.
-use Rattle.std.specs.Prelude.{ℕ, ◌+◌, ◌-◌, ◌*◌, ◌/◌, ◌%◌, ◌^◌, Option, None, Some, Bool, true, false, not, nat_lt, ◌==◌, if◌then◌else◌, ◌||◌, ◌&&◌, bit_and, bit_or, bit_xor}
+use Rattle.std.specs.Prelude.{ℕ, ◌+◌, ◌-◌, ◌*◌, ◌/◌, ◌%◌, ◌^◌, Option, None, Some, Bool, true, false}
+use Rattle.std.specs.Prelude.{not, nat_lt, ◌==◌, if◌then◌else◌, ◌||◌, ◌&&◌, bit_and, bit_or, bit_xor}
 use Rattle.cpm_asm_expression.specs.Names.{NameTable}
 use Rattle.cpm_asm_expression.specs.declared.tokens.Atom.{Atom}
 use Rattle.cpm_asm_expression.specs.declared.tokens.Atom.TheVariants as atoms

@@ -14,7 +14,8 @@ pub fn exact_reading()
 
 /// A value that is known is the same under each table that has more names.
 pub fn known_values_stay()
-    ensures { (names more : NameTable) (here : ℕ) (text : List ℕ) (v : CheckedValue) → Extends names more → value_at names here text ≡ Some v → v.is_unknown ≡ false → value_at more here text ≡ Some v }
+    ensures { (names more : NameTable) (here : ℕ) (text : List ℕ) (v : CheckedValue) → Extends names more
+        → value_at names here text ≡ Some v → v.is_unknown ≡ false → value_at more here text ≡ Some v }
 {}
 
 /// Whether a text is an expression depends on no name and no address.

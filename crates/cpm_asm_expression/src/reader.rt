@@ -3,7 +3,8 @@ ghost use Rattle.std.specs.Prelude.{◌≡◌, ◌∷◌, IfOk, OnOk, reverse};
 ghost use Rattle.cpm_asm_expression.specs.Names.{in_table};
 ghost use Rattle.cpm_asm_expression.specs.Grammar.{level, prefix_level, right_level};
 ghost use Rattle.cpm_asm_expression.specs.Values.{changed, combined};
-ghost use Rattle.cpm_asm_expression.specs.Reading.{after_token, after_operand, value_read, value_behind, binds, group_closed, settled, state, value_at, wanted, with_prefix};
+ghost use Rattle.cpm_asm_expression.specs.Reading.{after_token, after_operand, value_read, value_behind, binds};
+ghost use Rattle.cpm_asm_expression.specs.Reading.{group_closed, settled, state, value_at, wanted, with_prefix};
 ghost use Rattle.cpm_asm_expression.specs.declared.reader.Stage.TheVariants as stages;
 
 use crate::letters::after_blanks;
@@ -143,7 +144,8 @@ fn operand(
     here: usize,
     token: Token,
 ) -> Result<Stage, AllocError>
-    ensures { IfOk result (λ next. state next (reverse waiting.new.items) ≡ after_token (in_table names.now) here (state stages.Wants (reverse waiting.old.items)) token) }
+    ensures { IfOk result (λ next. state next (reverse waiting.new.items)
+        ≡ after_token (in_table names.now) here (state stages.Wants (reverse waiting.old.items)) token) }
 {
     match token {
         Token::Atom(atom) => Ok(Stage::Has(atom_value(names, here, atom))),
@@ -169,7 +171,11 @@ fn close(waiting: &mut Vec<Waiting>, value: CheckedValue) -> Stage
 }
 
 /// A token behind an operand.
-fn operator(waiting: &mut Vec<Waiting>, value: CheckedValue, token: Token) -> Result<Stage, AllocError>
+fn operator(
+    waiting: &mut Vec<Waiting>,
+    value: CheckedValue,
+    token: Token,
+) -> Result<Stage, AllocError>
     ensures { IfOk result (λ next. state next (reverse waiting.new.items) ≡ after_operand value (reverse waiting.old.items) token) }
 {
     match token {
@@ -193,7 +199,8 @@ fn step(
     stage: Stage,
     token: Token,
 ) -> Result<Stage, AllocError>
-    ensures { IfOk result (λ next. state next (reverse waiting.new.items) ≡ after_token (in_table names.now) here (state stage (reverse waiting.old.items)) token) }
+    ensures { IfOk result (λ next. state next (reverse waiting.new.items)
+        ≡ after_token (in_table names.now) here (state stage (reverse waiting.old.items)) token) }
 {
     match stage {
         Stage::Wants => operand(waiting, names, here, token),

@@ -3,7 +3,7 @@ ghost use Rattle.std.specs.Prelude.{◌≡◌};
 ghost use Rattle.cpm_asm_expression.specs.Words.{keyword_of, look, plain_rows};
 
 use crate::tokens::Operator;
-use cpm_decode::{Arithmetic, Condition, Op, WordOperand, ByteOperand, Rotation};
+use cpm_decode::{Arithmetic, Condition, Op, Operand, Pair, Rotation};
 
 /// A register, or a pair that has a name of its own. M is the byte at HL.
 #[derive(Clone, Copy, Debug, PartialEq, Eq)]
@@ -23,7 +23,7 @@ pub enum Register {
 /// An instruction whose last byte is an operand.
 #[derive(Clone, Copy, Debug, PartialEq, Eq)]
 pub enum ByteForm {
-    MoveImmediate(ByteOperand),
+    MoveImmediate(Operand),
     Arithmetic(Arithmetic),
     Input,
     Output,
@@ -32,7 +32,7 @@ pub enum ByteForm {
 /// An instruction whose last two bytes are an operand.
 #[derive(Clone, Copy, Debug, PartialEq, Eq)]
 pub enum WordForm {
-    LoadPair(WordOperand),
+    LoadPair(Pair),
     StoreHl,
     LoadHl,
     StoreA,

@@ -1,5 +1,6 @@
 -- The calls of the BIOS on disks.
--- CP/M 2.2 Operating System Manual, section 6.6, The BIOS Entry Points. Own: the BIOS has a drive, a track, a sector and a buffer of its own, which the BDOS leaves alone.
+-- CP/M 2.2 Operating System Manual, section 6.6, The BIOS Entry Points.
+-- Own: the BIOS has a drive, a track, a sector and a buffer of its own, which the BDOS leaves alone.
 use Rattle.std.specs.Prelude.{ℕ, ◌+◌, ◌%◌, ◌==◌, List, Option, Some, None, if◌then◌else◌}
 use Rattle.cpm_geom.specs.Disk.{Disk}
 use Rattle.cpm_memory.specs.Contents.{Contents, byte_at, run_at}
@@ -29,7 +30,9 @@ home s m = call_returned (at_place s (record s.place { track = 0 })) m
 -- SELDSK: the address of the drive's parameter header, 0 where there is no such drive
 unfoldable pub select_drive : Disk → Session → Contents → Did
 select_drive system s m =
-    if is_there s.disks s.regs.c then returned_hl (at_place s (record s.place { drive = s.regs.c })) m (header_of (format_in s.disks system s.regs.c) s.regs.c) else returned_hl s m 0
+    if is_there s.disks s.regs.c
+    then returned_hl (at_place s (record s.place { drive = s.regs.c })) m (header_of (format_in s.disks system s.regs.c) s.regs.c)
+    else returned_hl s m 0
 
 -- SETTRK, SETSEC, SETDMA
 abbrev pub set_track : Session → Contents → Did

@@ -26,7 +26,16 @@ call_returned s m = did (record s { regs = returned_to s.regs (word_at m s.regs.
 abbrev pub answered : Session → Contents → ℕ → Did
 answered s m value = call_returned (record s { regs = with_call_result s.regs value }) m
 
--- CP/M 2.2 Operating System Manual, section 6.6, The BIOS Entry Points, WBOOT: the jumps at 0000h and 0005h are restored; own: SP is EBFEh, and PC E406h, where the command processor begins; the echo to the list device is off; no drive is logged in or protected, no search is under way, and the buffer is at 0080h. Only bytes that change are stored.
+-- CP/M 2.2 Operating System Manual, section 6.6, The BIOS Entry Points, WBOOT: the jumps at 0000h and 0005h are restored;
+-- own: SP is EBFEh, and PC E406h, where the command processor begins; the echo to the list device is off;
+-- no drive is logged in or protected, no search is under way, and the buffer is at 0080h. Only bytes that change are stored.
 abbrev pub rebooted : Session → Contents → Did
 rebooted s m =
-    did (record s { regs = record s.regs { sp = stack_address; pc = command_processor_address }; console = record s.console { list_echo = false }; mode = Program; disks = rebooted_disks s.disks; buffer = default_buffer_address }) (after_run (after_run m 0x0000 warm_boot_jump) 0x0005 bdos_jump) Reboot
+    did (record s {
+      regs = record s.regs { sp = stack_address; pc = command_processor_address };
+      console = record s.console { list_echo = false };
+      mode = Program;
+      disks = rebooted_disks s.disks;
+      buffer = default_buffer_address;
+    })
+    (after_run (after_run m 0x0000 warm_boot_jump) 0x0005 bdos_jump) Reboot

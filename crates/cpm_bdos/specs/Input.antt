@@ -7,7 +7,8 @@ use Rattle.cpm_bdos.specs.Output.{wrote, showed}
 use Rattle.cpm_bdos.specs.declared.session.Session.{Session}
 use Rattle.cpm_bdos.specs.declared.session.Went.TheVariants.{Waits}
 
--- CP/M 2.2 Operating System Manual, section 5.2, function 1: graphic characters are echoed, with backspace, tab, line feed and carriage return; own: all from 20h on are
+-- CP/M 2.2 Operating System Manual, section 5.2, function 1: graphic characters are echoed, with backspace, tab, line feed and carriage return;
+-- own: all from 20h on are
 abbrev pub is_echoed : ℕ → Bool
 is_echoed key = (key == 0x08) || (key == 0x09) || (key == 0x0A) || (key == 0x0D) || nat_le 0x20 key
 

@@ -43,7 +43,8 @@ held_in Program number = held_by (function_of number)
 held_in (Text next) number = Some (held.Text next)
 held_in _ number = None
 
--- Where ^S is read next, a step that looks for it is held if with no key pending it would show a byte, and else it does what it would do with no key pending, and takes none. Every other step, and each with another key or none, is never held.
+-- Where ^S is read next, a step that looks for it is held if with no key pending it would show a byte,
+-- and else it does what it would do with no key pending, and takes none. Every other step, and each with another key or none, is never held.
 pub record HoldsOutput (system : Disk) (s : Session) (m : Contents) : Type 0 where
   pub shows : (held : HeldOutput) → held_in s.mode s.regs.c ≡ Some held → is_stop (first_key s) ≡ true
       → (bdos system (without_keys s) m).session.console.screen ≢ s.console.screen → bdos system s m ≡ held_at held s m

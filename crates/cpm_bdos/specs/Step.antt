@@ -22,7 +22,10 @@ use Rattle.cpm_drives.specs.Vectors.{login_vector, read_only_vector}
 use Rattle.cpm_bdos.specs.Disks.{with_disks, reset_disks, select_disk, call_file_function, format_in, give_allocation, user_code}
 use Rattle.cpm_bdos.specs.BiosDisks.{returned_a, home, select_drive, set_track, set_sector, set_sector_buffer, read_sector, write_sector, translate}
 use Rattle.cpm_bdos.specs.declared.function.Function.{Function}
-use Rattle.cpm_bdos.specs.declared.function.Function.TheVariants.{WarmBoot, ReadKey, WriteByte, ReaderInput, PunchOutput, ListOutput, DirectConsole, GetIoByte, SetIoByte, WriteText, ReadLine, ConsoleStatus, Version, ResetDisks, SelectDisk, File, LoginVector, CurrentDisk, SetBuffer, AllocationVector, ProtectDisk, ReadOnlyVector, DiskParameters, UserCode, ResetDrives, Other}
+use Rattle.cpm_bdos.specs.declared.function.Function.TheVariants.{WarmBoot, ReadKey, WriteByte, ReaderInput, PunchOutput, ListOutput, DirectConsole}
+use Rattle.cpm_bdos.specs.declared.function.Function.TheVariants.{GetIoByte, SetIoByte, WriteText, ReadLine, ConsoleStatus, Version, ResetDisks}
+use Rattle.cpm_bdos.specs.declared.function.Function.TheVariants.{SelectDisk, File, LoginVector, CurrentDisk, SetBuffer, AllocationVector}
+use Rattle.cpm_bdos.specs.declared.function.Function.TheVariants.{ProtectDisk, ReadOnlyVector, DiskParameters, UserCode, ResetDrives, Other}
 use Rattle.cpm_bdos.specs.declared.function.BiosCall.{BiosCall}
 use Rattle.cpm_bdos.specs.declared.function.BiosCall.TheVariants as entry
 use Rattle.cpm_bdos.specs.declared.session.Session.{Session}
@@ -55,7 +58,8 @@ opened_session console images =
       file = no_file;
     }
 
--- CP/M 2.2 Operating System Manual, section 5.2, Operating System Call Conventions: the first step of a call, by its function. Own: the reader gives 1Ah, what is punched is dropped, and a number without a function gives 0.
+-- CP/M 2.2 Operating System Manual, section 5.2, Operating System Call Conventions: the first step of a call, by its function.
+-- Own: the reader gives 1Ah, what is punched is dropped, and a number without a function gives 0.
 abbrev pub function_called : Function → Disk → Session → Contents → Did
 function_called WarmBoot system s m = rebooted s m
 function_called ReadKey system s m = read_key (first_key s) s m
@@ -105,7 +109,8 @@ abbrev pub console_input : Option ℕ → Session → Contents → Did
 console_input None s m = did s m Waits
 console_input (Some key) s m = returned_a (took_key s) m key
 
--- CP/M 2.2 Operating System Manual, section 6.6, The BIOS Entry Points: a call of the BIOS. Own: the list device is always ready, the reader gives 1Ah, what is punched is dropped, and a number without a call returns with nothing changed.
+-- CP/M 2.2 Operating System Manual, section 6.6, The BIOS Entry Points: a call of the BIOS.
+-- Own: the list device is always ready, the reader gives 1Ah, what is punched is dropped, and a number without a call returns with nothing changed.
 abbrev pub bios_called : BiosCall → Disk → Session → Contents → Did
 bios_called entry.Boot system s m = booted s m
 bios_called entry.WarmBoot system s m = rebooted s m

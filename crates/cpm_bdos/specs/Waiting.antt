@@ -30,7 +30,8 @@ part_needs_key part.Line s = is_open s.line
 part_needs_key part.Answer s = is_open s.line
 part_needs_key _ s = false
 
--- the next step needs a key: in a program where PC is at the BDOS (EC06h) with such a function, or at CONIN (FB03h), in a line that may have a character more, in a hold and after a fault
+-- the next step needs a key: in a program where PC is at the BDOS (EC06h) with such a function, or at CONIN (FB03h),
+-- in a line that may have a character more, in a hold and after a fault
 abbrev pub needs_key : Mode → Session → Contents → Bool
 needs_key Program s m =
     if s.regs.pc == bdos_address then function_needs_key (function_of s.regs.c) s m else s.regs.pc == console_input_address
@@ -44,7 +45,8 @@ needs_key (Command part) s m = part_needs_key part s
 abbrev pub is_waiting : Session → Contents → Bool
 is_waiting s m = needs_key s.mode s m && not (is_some (first_key s))
 
--- the step of a call that the mode asks for, or PC in a program: at EC06h the BDOS, from FB00h to FB10h the BIOS; the parts of the command processor are not among them
+-- the step of a call that the mode asks for, or PC in a program: at EC06h the BDOS, from FB00h to FB10h the BIOS;
+-- the parts of the command processor are not among them
 abbrev pub call_in : Mode → Disk → Session → Contents → Option Did
 call_in Program system s m =
     if s.regs.pc == bdos_address then Some (bdos system s m)

@@ -11,9 +11,9 @@ ghost use Rattle.cpm_bdos.specs.Bounds.{IsBounded};
 ghost use Rattle.cpm_bdos.specs.Behind.{session_behind, did_behind};
 ghost use Rattle.cpm_console.specs.Terminal.{step_output};
 
-use crate::session::{Session, HeldOutput, Mode, Went};
 use crate::function::Function;
 use crate::registers::pair_de;
+use crate::session::{HeldOutput, Mode, Session, Went};
 use cpm_geom::Image;
 use cpm_memory::layout::IO_BYTE;
 use cpm_memory::{Memory, change_run};
@@ -34,7 +34,8 @@ impl Session {
         ensures bounds { IsBounded self.old (M.contents memory.old) (did self.new (M.contents memory.new) result) }
 
         // Output that waits already changes nothing in a step, which shows its own behind it.
-        ensures behind { (p q : List ℕ) → bdos system.now (session_behind p q self.old) (M.contents memory.old) ≡ did_behind p q (did self.new (M.contents memory.new) result) }
+        ensures behind { (p q : List ℕ) → bdos system.now (session_behind p q self.old) (M.contents memory.old)
+            ≡ did_behind p q (did self.new (M.contents memory.new) result) }
     {
         self.numbers_fit();
         self.call_step(memory, system)
@@ -101,7 +102,8 @@ impl Session {
     /// Stores E as the I/O byte.
     fn set_io_byte<M: Memory>(&mut self, memory: &mut M) -> Went
         requires { HasRoom (M.contents memory.old) }
-        ensures step { did self.new (M.contents memory.new) result ≡ answered self.old (after_run (M.contents memory.old) io_byte_address (self.old.regs.e ∷ [])) 0 }
+        ensures step { did self.new (M.contents memory.new) result
+            ≡ answered self.old (after_run (M.contents memory.old) io_byte_address (self.old.regs.e ∷ [])) 0 }
         ensures leads { M.Leads memory.old memory.new }
     {
         change_run(memory, IO_BYTE, &[self.regs.e]);

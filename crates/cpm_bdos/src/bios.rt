@@ -12,8 +12,8 @@ ghost use Rattle.cpm_bdos.specs.Behind.{session_behind, did_behind};
 ghost use Rattle.cpm_console.specs.Terminal.{step_output};
 
 use crate::bdos::READER_BYTE;
-use crate::session::{Session, Went};
 use crate::function::BiosCall;
+use crate::session::{Session, Went};
 use cpm_geom::Image;
 use cpm_memory::{Memory, change_run};
 
@@ -32,7 +32,8 @@ impl Session {
         ensures bounds { IsBounded self.old (M.contents memory.old) (did self.new (M.contents memory.new) result) }
 
         // Output that waits already changes nothing in a step, which shows its own behind it.
-        ensures behind { (p q : List ℕ) → bios number system.now (session_behind p q self.old) (M.contents memory.old) ≡ did_behind p q (did self.new (M.contents memory.new) result) }
+        ensures behind { (p q : List ℕ) → bios number system.now (session_behind p q self.old) (M.contents memory.old)
+            ≡ did_behind p q (did self.new (M.contents memory.new) result) }
     {
         self.numbers_fit();
         self.bios_call(memory, system, number)

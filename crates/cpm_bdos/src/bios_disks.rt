@@ -5,9 +5,9 @@ ghost use Rattle.cpm_memory.specs.Room.{HasRoom};
 ghost use Rattle.cpm_bdos.specs.Did.{did};
 ghost use Rattle.cpm_bdos.specs.BiosDisks.{returned_hl, home, select_drive, set_track, set_sector, set_sector_buffer, read_sector, write_sector, translate};
 
-use crate::session::{Session, Went};
 use crate::disks::header_of;
 use crate::registers::{pair_bc, pair_de, put_hl};
+use crate::session::{Session, Went};
 use crate::transfer::{get_record, store_record};
 use cpm_geom::Image;
 use cpm_memory::Memory;

@@ -4,8 +4,8 @@ ghost use Rattle.std.specs.Prelude.{◌≡◌};
 ghost use Rattle.cpm_memory.specs.Room.{HasRoomFor};
 ghost use Rattle.cpm_bdos.specs.Did.{did, call_returned, answered, rebooted};
 
-use crate::session::{Session, Mode, Went};
 use crate::registers::{put_result, return_to};
+use crate::session::{Mode, Session, Went};
 use cpm_memory::layout::{BDOS_JUMP, COMMAND_PROCESSOR, DEFAULT_BUFFER, STACK, WARM_BOOT_JUMP};
 use cpm_memory::{Memory, change_run, get_word};
 

@@ -7,20 +7,21 @@ ghost use Rattle.cpm_drives.specs.Selecting.{drives_reset, protect};
 ghost use Rattle.cpm_drives.specs.Vectors.{login_vector, read_only_vector};
 ghost use Rattle.cpm_bdos.specs.Did.{did, answered};
 ghost use Rattle.cpm_bdos.specs.Registers.{pair_de};
-ghost use Rattle.cpm_bdos.specs.Disks.{with_disks, by_answer, call_file_function, bios_table_of, vector_of, format_in, header_of, reset_disks, select_disk, give_allocation, user_code};
+ghost use Rattle.cpm_bdos.specs.Disks.{with_disks, by_answer, call_file_function, bios_table_of, vector_of};
+ghost use Rattle.cpm_bdos.specs.Disks.{format_in, header_of, reset_disks, select_disk, give_allocation, user_code};
 ghost use Rattle.cpm_console.specs.Terminal.{step_output};
 
-use crate::session::{Session, Went};
 use crate::registers::pair_de;
+use crate::session::{Session, Went};
 use crate::transfer::{get_fcb, get_record, store_fcb, store_record};
 use cpm_drives::FileFunction;
-use cpm_volume::Fault;
 use cpm_geom::{Format, Image};
 use cpm_memory::disk_tables::format_offset;
 use cpm_memory::layout::{
     DEFAULT_BUFFER, FIRST_ALLOCATION_VECTOR, FIRST_HEADER, FIRST_PARAMETER_BLOCK,
 };
 use cpm_memory::{Memory, change_run};
+use cpm_volume::Fault;
 
 /// The number of the system drive.
 const SYSTEM: u8 = 15;
@@ -130,7 +131,8 @@ impl Session {
 
     /// Gives the address of the current drive's parameter block.
     pub(crate) fn give_parameters<M: Memory>(&mut self, memory: &M, system: &Image) -> Went
-        ensures { did self.new (M.contents memory.now) result ≡ answered self.old (M.contents memory.now) (parameter_block_address (format_in self.old.disks system.now self.old.disks.current)) }
+        ensures { did self.new (M.contents memory.now) result
+            ≡ answered self.old (M.contents memory.now) (parameter_block_address (format_in self.old.disks system.now self.old.disks.current)) }
     {
         let format = self.disks.image_at(system, self.disks.current).format();
         self.answer(memory, FIRST_PARAMETER_BLOCK + format_offset(format))
@@ -146,7 +148,8 @@ impl Session {
 
     /// Resets the drives of the vector in DE.
     pub(crate) fn reset_drives<M: Memory>(&mut self, memory: &M) -> Went
-        ensures { did self.new (M.contents memory.now) result ≡ answered (with_disks self.old (drives_reset self.old.disks (pair_de self.old.regs))) (M.contents memory.now) 0 }
+        ensures { did self.new (M.contents memory.now) result
+            ≡ answered (with_disks self.old (drives_reset self.old.disks (pair_de self.old.regs))) (M.contents memory.now) 0 }
     {
         self.disks.reset_drives(pair_de(&self.regs));
         self.answer(memory, 0)

@@ -7,10 +7,10 @@ ghost use Rattle.cpm_bdos.specs.Did.{did};
 ghost use Rattle.cpm_bdos.specs.Keys.{first_key};
 ghost use Rattle.cpm_bdos.specs.Faults.{fault_name, in_fault, after_fault};
 
-use crate::session::{Session, Mode, Went};
+use crate::session::{Mode, Session, Went};
 use cpm_console::Console;
-use cpm_volume::Fault;
 use cpm_memory::Memory;
+use cpm_volume::Fault;
 
 /// What a fault is called in its message.
 fn name_of(fault: Fault) -> &'static [u8]

@@ -8,8 +8,8 @@ ghost use Rattle.cpm_bdos.specs.ReadLine.{LineReader, is_open, line_ended, line_
 ghost use Rattle.cpm_bdos.specs.declared.session.Went.TheVariants.{Waits};
 ghost use Rattle.cpm_console.specs.Terminal.{step_output};
 
-use crate::session::{Session, Mode, Went};
 use crate::registers::pair_de;
+use crate::session::{Mode, Session, Went};
 use cpm_console::{Line, LineState};
 use cpm_memory::{Memory, change_run};
 

@@ -8,7 +8,7 @@ ghost use Rattle.cpm_bdos.specs.Hold.{is_stop, stopped, release};
 ghost use Rattle.cpm_bdos.specs.Output.{list_byte, write_byte, write_text};
 ghost use Rattle.cpm_console.specs.Terminal.{step_output};
 
-use crate::session::{Session, HeldOutput, Mode, Went};
+use crate::session::{HeldOutput, Mode, Session, Went};
 use cpm_memory::Memory;
 
 /// The key that holds output.

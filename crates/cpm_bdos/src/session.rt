@@ -7,9 +7,9 @@ ghost use Rattle.cpm_bdos.specs.Bounds.{IsFit};
 use crate::registers::{at_opening, pair_de};
 use cpm_console::{Console, Line};
 use cpm_drives::Disks;
-use cpm_volume::{Extent, Fcb};
 use cpm_flags::Regs;
 use cpm_geom::Image;
+use cpm_volume::{Extent, Fcb};
 use std::alloc::{AllocError, Global};
 
 /// How a step of a call ended.

@@ -4,10 +4,10 @@ ghost use Rattle.std.specs.Prelude.{◌≡◌};
 ghost use Rattle.cpm_bdos.specs.Waiting.{function_needs_key, part_needs_key, needs_key, is_waiting, IsWaiting};
 ghost use Rattle.cpm_bdos.specs.Function.{function_of};
 
-use crate::session::{CommandPart, Session, Mode};
 use crate::function::Function;
 use crate::line::is_open;
 use crate::registers::pair_de;
+use crate::session::{CommandPart, Mode, Session};
 use cpm_memory::Memory;
 use cpm_memory::layout::{BDOS, CONSOLE_INPUT};
 

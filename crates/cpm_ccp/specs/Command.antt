@@ -1,5 +1,6 @@
 -- What the command processor makes of a line.
-use Rattle.std.specs.Prelude.{◌≡◌, ◌<◌, ℕ, ◌-◌, ◌==◌, ◌&&◌, ◌||◌, Bool, true, false, not, ⊤, if◌then◌else◌, List, length, drop, slice_index, codes, Option, Some, None}
+use Rattle.std.specs.Prelude.{◌≡◌, ◌<◌, ℕ, ◌-◌, ◌==◌, ◌&&◌, ◌||◌, Bool, true, false, not, ⊤}
+use Rattle.std.specs.Prelude.{if◌then◌else◌, List, length, drop, slice_index, codes, Option, Some, None}
 use Rattle.std.specs.Str.{bytes_eq}
 use Rattle.cpm_volume.specs.declared.fcb.Fcb.{Fcb}
 use Rattle.cpm_volume.specs.Files.{has_wildcard}
@@ -9,7 +10,8 @@ use Rattle.cpm_ccp.specs.Names.{all_of, is_unnamed, is_program_name, is_every, p
 use Rattle.cpm_ccp.specs.declared.built_in.BuiltIn.{BuiltIn}
 use Rattle.cpm_ccp.specs.declared.built_in.BuiltIn.TheVariants as built_in
 use Rattle.cpm_ccp.specs.declared.command.Command.{Command}
-use Rattle.cpm_ccp.specs.declared.command.Command.TheVariants.{Nothing, SelectDrive, Directory, Erase, EraseAll, Rename, RenameForm, Save, SaveForm, TypeFile, TypeForm, User, UserForm, Program, Unknown}
+use Rattle.cpm_ccp.specs.declared.command.Command.TheVariants.{Nothing, SelectDrive, Directory, Erase, EraseAll, Rename, RenameForm}
+use Rattle.cpm_ccp.specs.declared.command.Command.TheVariants.{Save, SaveForm, TypeFile, TypeForm, User, UserForm, Program, Unknown}
 
 -- CP/M 2.2 Operating System Manual, section 1.4, Built-in Commands: the built-in commands; own: without a drive and a type
 unfoldable pub built_in_of : Fcb → Option BuiltIn

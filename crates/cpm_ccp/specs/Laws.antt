@@ -60,14 +60,17 @@ abbrev pub IsReadyFor : CommandPart → Disk → Session → Type 0
 IsReadyFor part.Show system s = IsInUse system s
 IsReadyFor _ system s = ⊤
 
--- where ^S is read next, a part that looks for it is held if with no key pending its step would show a byte, and else does what it would do with no key pending, and takes none
+-- where ^S is read next, a part that looks for it is held if with no key pending its step would show a byte,
+-- and else does what it would do with no key pending, and takes none
 pub record CommandHoldsOutput (part : CommandPart) (system : Disk) (s : Session) (m : Contents) : Type 0 where
   pub shows : (ccp system (without_keys s) m).session.console.screen ≢ s.console.screen → ccp system s m ≡ stepped (held_at_part s part) m
-  pub silent : (ccp system (without_keys s) m).session.console.screen ≡ s.console.screen → ccp system s m ≡ did_with_keys s.console.keys (ccp system (without_keys s) m)
+  pub silent : (ccp system (without_keys s) m).session.console.screen ≡ s.console.screen
+      → ccp system s m ≡ did_with_keys s.console.keys (ccp system (without_keys s) m)
 
 -- every other step, and each with another key or none, is never held
 pub record IsHeldRight (system : Disk) (s : Session) (m : Contents) : Type 0 where
-  pub looking : (part : CommandPart) → s.mode ≡ in_part part → looks_for_stop part (command_now s) ≡ true → is_stopped s ≡ true → IsReadyFor part system s → CommandHoldsOutput part system s m
+  pub looking : (part : CommandPart) → s.mode ≡ in_part part → looks_for_stop part (command_now s) ≡ true
+      → is_stopped s ≡ true → IsReadyFor part system s → CommandHoldsOutput part system s m
   pub others : is_hold s.mode ≡ false → looks_in s.mode (command_now s) ≡ false → is_hold (ccp system s m).session.mode ≡ false
   pub other_keys : is_hold s.mode ≡ false → is_stopped s ≡ false → is_hold (ccp system s m).session.mode ≡ false
 
@@ -76,7 +79,8 @@ CommandHoldingLaw = (system : Disk) (s : Session) (m : Contents) → IsHeldRight
 
 -- TYPE uses the drive with its first step, and goes on with it: its records come from a drive that was used
 pub record KeepsMarks (system : Disk) (s : Session) (m : Contents) : Type 0 where
-  pub opened : (file : Fcb) → s.mode ≡ in_part part.Begin → command_now s ≡ TypeFile file → is_stopped s ≡ false → (ccp system s m).session.mode ≡ in_part part.Show → IsMarked (ccp system s m).session
+  pub opened : (file : Fcb) → s.mode ≡ in_part part.Begin → command_now s ≡ TypeFile file
+      → is_stopped s ≡ false → (ccp system s m).session.mode ≡ in_part part.Show → IsMarked (ccp system s m).session
   pub shown : s.mode ≡ in_part part.Show → IsMarked s → IsMarked (ccp system s m).session
 
 abbrev pub MarksLaw : Type 0

@@ -1,5 +1,6 @@
 -- DIR: CP/M 2.2 Operating System Manual, section 1.4, Built-in Commands.
-use Rattle.std.specs.Prelude.{ℕ, ◌+◌, ◌%◌, ◌==◌, ◌&&◌, ◌||◌, Bool, false, not, nat_le, nat_lt, List, [], ◌∷◌, ◌++◌, length, map, take, drop, slice_index, slice_range, if◌then◌else◌}
+use Rattle.std.specs.Prelude.{ℕ, ◌+◌, ◌%◌, ◌==◌, ◌&&◌, ◌||◌, Bool, false, not, nat_le, nat_lt, List, []}
+use Rattle.std.specs.Prelude.{◌∷◌, ◌++◌, length, map, take, drop, slice_index, slice_range, if◌then◌else◌}
 use Rattle.std.specs.List.{position_or_len}
 use Rattle.cpm_geom.specs.Disk.{Disk}
 use Rattle.cpm_geom.specs.Geometry.{dpb_of}

@@ -42,12 +42,14 @@ default_files tail = name_bytes (fcb_named tail) ++ (name_bytes (fcb_named (text
 -- the tail with its length at 0080h; own: a 0 behind it, and E406h at EBFEh, where a program returns to
 unfoldable pub memory_started : List ℕ → Contents → Contents
 memory_started tail m =
-    after_run (after_run (after_run (after_run m default_fcbs_address (default_files tail)) default_buffer_address (length tail ∷ [])) (default_buffer_address + 1) (tail ++ (0 ∷ []))) stack_address (word_bytes command_processor_address)
+    after_run (after_run (after_run (after_run m default_fcbs_address (default_files tail)) default_buffer_address (length tail ∷ []))
+    (default_buffer_address + 1) (tail ++ (0 ∷ []))) stack_address (word_bytes command_processor_address)
 
 -- the program begins at 0100h, with SP at EBFEh; other registers are kept
 abbrev pub started : Session → Contents → Did
 started s m =
-    did (record s { regs = record s.regs { sp = stack_address; pc = program_address }; buffer = default_buffer_address; mode = Program }) (memory_started (tail_of (typed_line s)) m) Returned
+    did (record s { regs = record s.regs { sp = stack_address; pc = program_address }; buffer = default_buffer_address; mode = Program })
+    (memory_started (tail_of (typed_line s)) m) Returned
 
 -- own: a record is read before it is judged; one that would reach E400h ends the command
 abbrev pub record_loaded : ℕ → List ℕ → Session → Contents → Did

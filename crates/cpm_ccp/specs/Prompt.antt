@@ -36,7 +36,8 @@ prompt_text drive = (0x41 + drive) ∷ 0x3E ∷ []
 
 unfoldable pub prompted : Disk → ℕ → Session → Session
 prompted system byte s =
-    reads_line (says_below (record s { disks = drives_chosen s.disks system byte; buffer = default_buffer_address }) (prompt_text (drive_asked s.disks byte))) part.Line
+    reads_line (says_below (record s { disks = drives_chosen s.disks system byte; buffer = default_buffer_address })
+    (prompt_text (drive_asked s.disks byte))) part.Line
 
 -- ---- a line, and the part that comes after it
 
@@ -61,7 +62,9 @@ with_user user byte = 16 * user + byte % 16
 -- section 1, d: a drive that is not there is a fault
 abbrev pub drive_selected : ℕ → Session → Contents → Did
 drive_selected drive s m =
-    if is_there s.disks drive then did (finished s) (after_change m user_and_drive_address (with_drive_and_user drive (byte_at m user_and_drive_address))) Returned else faulted s m Select drive
+    if is_there s.disks drive
+    then did (finished s) (after_change m user_and_drive_address (with_drive_and_user drive (byte_at m user_and_drive_address))) Returned
+    else faulted s m Select drive
 
 -- section 1, USER
 abbrev pub user_selected : ℕ → Session → Contents → Did

@@ -10,7 +10,8 @@ use Rattle.cpm_bdos.specs.declared.session.Mode.{Mode}
 use Rattle.cpm_bdos.specs.declared.session.Mode.TheVariants as mode
 use Rattle.cpm_bdos.specs.declared.session.Went.TheVariants.{GoesOn}
 use Rattle.cpm_ccp.specs.declared.command.Command.{Command}
-use Rattle.cpm_ccp.specs.declared.command.Command.TheVariants.{Nothing, SelectDrive, Directory, Erase, EraseAll, Rename, RenameForm, Save, SaveForm, TypeFile, TypeForm, User, UserForm, Program, Unknown}
+use Rattle.cpm_ccp.specs.declared.command.Command.TheVariants.{Nothing, SelectDrive, Directory, Erase, EraseAll, Rename, RenameForm}
+use Rattle.cpm_ccp.specs.declared.command.Command.TheVariants.{Save, SaveForm, TypeFile, TypeForm, User, UserForm, Program, Unknown}
 use Rattle.cpm_ccp.specs.declared.message.Message.TheVariants as message
 use Rattle.cpm_ccp.specs.Command.{command_of}
 use Rattle.cpm_ccp.specs.Parts.{finished, stepped, message_told, is_stopped, held_at_part, typed_line, on_file}

@@ -1,7 +1,8 @@
 //! ERA, REN and SAVE.
 
 ghost use Rattle.std.specs.Prelude.{◌≡◌, ◌<◌, ◌≤◌, length};
-ghost use Rattle.cpm_ccp.specs.FileCommands.{by_code, erased, all_files_asked, is_yes, erased_all, is_name_taken, has_new_name, renamed, saving, after_save_make, file_made, save_begun, after_save_write, saved, file_closed};
+ghost use Rattle.cpm_ccp.specs.FileCommands.{by_code, erased, all_files_asked, is_yes, erased_all, is_name_taken, has_new_name, renamed};
+ghost use Rattle.cpm_ccp.specs.FileCommands.{saving, after_save_make, file_made, save_begun, after_save_write, saved, file_closed};
 ghost use Rattle.cpm_console.specs.Terminal.{step_output};
 
 use crate::message::Message;
@@ -9,9 +10,9 @@ use crate::parts::{NONE, fail, finish, go_to, read_line, say_below, tell};
 use cpm_bdos::{CommandPart, Session};
 use cpm_directory::{Pattern, find};
 use cpm_drives::Disks;
-use cpm_volume::{Fault, Fcb};
 use cpm_geom::Image;
 use cpm_memory::layout::PROGRAM;
+use cpm_volume::{Fault, Fcb};
 
 /// Ends ERA or REN by the code of its function, or in its fault on a drive.
 fn end_by(session: &mut Session, answer: Result<u8, Fault>, drive: u8)
@@ -159,7 +160,10 @@ pub(crate) fn save(session: &mut Session, system: &Image, next: u16, left: u16, 
     ensures { session.new ≡ saved system.now next left record.now session.old }
 {
     match session.disks.write_next(system, &mut session.file, record) {
-        Ok(0) => go_to(session, saving(next.wrapping_add(128), left.saturating_sub(1))),
+        Ok(0) => go_to(
+            session,
+            saving(next.wrapping_add(128), left.saturating_sub(1)),
+        ),
         Ok(_) => tell(session, Message::NoSpace),
         Err(fault) => fail(session, fault),
     }

@@ -4,15 +4,16 @@ ghost use Rattle.std.specs.Prelude.{◌≡◌, ◌+◌, ◌<◌, ◌≤◌, Matc
 ghost use Rattle.cpm_geom.specs.Geometry.{dpb_of};
 ghost use Rattle.cpm_console.specs.Terminal.{said, step_output};
 ghost use Rattle.cpm_directory.specs.Directory.{entries_of};
-ghost use Rattle.cpm_ccp.specs.Listing.{is_listed, listed_from, before_file, low_seven, file_text, entries_listed, next_listed, has_next, file_shown, listing_ended, drive_used, list_next, shows_file, listed_on};
+ghost use Rattle.cpm_ccp.specs.Listing.{is_listed, listed_from, before_file, low_seven, file_text, entries_listed, next_listed};
+ghost use Rattle.cpm_ccp.specs.Listing.{has_next, file_shown, listing_ended, drive_used, list_next, shows_file, listed_on};
 
 use crate::message::Message;
 use crate::parts::{finish, go_to, tell};
-use cpm_bdos::{CommandPart, Session, HeldOutput};
+use cpm_bdos::{CommandPart, HeldOutput, Session};
 use cpm_console::Console;
 use cpm_directory::{Entry, LentImage, is_named};
-use cpm_volume::Fault;
 use cpm_geom::{Dpb, Image};
+use cpm_volume::Fault;
 
 /// How many files stand on a line.
 const COLUMNS: u8 = 4;

@@ -10,13 +10,13 @@ ghost use Rattle.cpm_ccp.specs.Loading.{unknown, load_begun, name_bytes, default
 ghost use Rattle.cpm_console.specs.Terminal.{step_output};
 
 use crate::message::Message;
-use crate::parts::{NO_RECORD, NONE, fail, finish, go_to, typed_line, say_below, tell};
+use crate::parts::{NO_RECORD, NONE, fail, finish, go_to, say_below, tell, typed_line};
 use crate::words::{default_fcbs, first_word, tail};
-use cpm_bdos::{CommandPart, Session, Mode, Went};
-use cpm_volume::Fcb;
+use cpm_bdos::{CommandPart, Mode, Session, Went};
 use cpm_geom::Image;
 use cpm_memory::layout::{DEFAULT_BUFFER, DEFAULT_FCBS, PROGRAM, STACK};
 use cpm_memory::{Memory, change_run};
+use cpm_volume::Fcb;
 
 /// Where the last record begins that a program may have.
 const LAST_RECORD: u16 = 0xE380;
@@ -145,7 +145,10 @@ pub(crate) fn load_record<M: Memory>(
     ensures leads { M.Leads memory.old memory.new }
 {
     let mut record = NO_RECORD;
-    match session.disks.read_next(system, &mut session.file, &mut record) {
+    match session
+        .disks
+        .read_next(system, &mut session.file, &mut record)
+    {
         Ok(0) => load_at(session, memory, next, &record),
         Ok(_) => start(session, memory),
         Err(fault) => {
@@ -167,7 +170,8 @@ pub fn load_step<M: Memory>(session: &mut Session, memory: &mut M, system: &Imag
     ensures bounds { IsBounded session.old (M.contents memory.old) (did session.new (M.contents memory.new) result) }
 
     // Output that waits already changes nothing in a step, which shows its own behind it.
-    ensures behind { (p q : List ℕ) → load system.now (session_behind p q session.old) (M.contents memory.old) ≡ did_behind p q (did session.new (M.contents memory.new) result) }
+    ensures behind { (p q : List ℕ) → load system.now (session_behind p q session.old) (M.contents memory.old)
+        ≡ did_behind p q (did session.new (M.contents memory.new) result) }
 {
     session.numbers_fit();
     do_load(session, memory, system)

@@ -4,7 +4,7 @@ ghost use Rattle.std.specs.Prelude.{◌≡◌, option_map};
 ghost use Rattle.cpm_ccp.specs.Command.{directory_command, erase_of, rename_of, save_of, type_command, user_of, behind_equals, is_elsewhere, effective_drive};
 
 use crate::command::Command;
-use crate::names::{all_of, has_wildcard, is_unnamed, is_every};
+use crate::names::{all_of, has_wildcard, is_every, is_unnamed};
 use crate::number::number_up_to;
 use crate::words::{after_spaces, first_word, split_first_word};
 use cpm_directory::{Fcb, parse_fcb};

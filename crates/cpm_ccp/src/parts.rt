@@ -8,7 +8,7 @@ ghost use Rattle.cpm_console.specs.Terminal.{step_output};
 use crate::capitals::capital;
 use crate::message::Message;
 use arrayvec::ArrayVec;
-use cpm_bdos::{CommandPart, Session, Mode, Went};
+use cpm_bdos::{CommandPart, Mode, Session, Went};
 use cpm_console::Line;
 use cpm_volume::Fault;
 

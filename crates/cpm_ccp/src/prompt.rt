@@ -11,10 +11,10 @@ use crate::parts::{finish, go_to, read_line, say_below};
 use cpm_bdos::{CommandPart, Session, Went};
 use cpm_console::LineState;
 use cpm_drives::Disks;
-use cpm_volume::Fault;
 use cpm_geom::Image;
 use cpm_memory::layout::{DEFAULT_BUFFER, USER_AND_DRIVE};
 use cpm_memory::{Memory, change_byte};
+use cpm_volume::Fault;
 
 /// The drive in a byte, or A where that one isn't there.
 fn drive_asked(disks: &Disks, byte: u8) -> u8
@@ -42,7 +42,11 @@ pub(crate) fn prompt(session: &mut Session, system: &Image, byte: u8)
 }
 
 /// A step of the line, after which a part comes.
-pub(crate) fn edit_command_line<M: Memory>(session: &mut Session, memory: &mut M, next: CommandPart) -> Went
+pub(crate) fn edit_command_line<M: Memory>(
+    session: &mut Session,
+    memory: &mut M,
+    next: CommandPart,
+) -> Went
     requires screen { length session.old.console.screen ≤ step_output }
     requires printer { length session.old.console.printer ≤ step_output }
     requires room { HasRoom (M.contents memory.old) }

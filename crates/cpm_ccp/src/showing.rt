@@ -8,10 +8,10 @@ ghost use Rattle.cpm_console.specs.Terminal.{step_output};
 
 use crate::message::Message;
 use crate::parts::{NO_RECORD, NONE, fail, finish, go_to, say_below, tell};
-use cpm_bdos::{CommandPart, Session, HeldOutput};
+use cpm_bdos::{CommandPart, HeldOutput, Session};
 use cpm_console::Console;
-use cpm_volume::{Answer, Fcb};
 use cpm_geom::Image;
+use cpm_volume::{Answer, Fcb};
 
 /// What ends a text.
 const END_OF_TEXT: u8 = 0x1A;
@@ -96,7 +96,10 @@ fn show_next(session: &mut Session, system: &Image)
     ensures { session.new ≡ next_shown system.now session.old }
 {
     let mut record = NO_RECORD;
-    match session.disks.read_next(system, &mut session.file, &mut record) {
+    match session
+        .disks
+        .read_next(system, &mut session.file, &mut record)
+    {
         Ok(0) => show_record(session, &record),
         Ok(_) => finish(session),
         Err(fault) => fail(session, fault),

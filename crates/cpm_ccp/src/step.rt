@@ -16,10 +16,10 @@ use crate::listing::{list, list_on};
 use crate::loading::{begin_load, load_record, refuse_word};
 use crate::message::Message;
 use crate::parse::parse_command;
-use crate::parts::{finish, typed_line, tell, went_of};
+use crate::parts::{finish, tell, typed_line, went_of};
 use crate::prompt::{edit_command_line, prompt, select_drive, select_user};
 use crate::showing::{begin_show, show_on};
-use cpm_bdos::{CommandPart, Session, HeldOutput, Mode, Went, get_record};
+use cpm_bdos::{CommandPart, HeldOutput, Mode, Session, Went, get_record};
 use cpm_geom::Image;
 use cpm_memory::Memory;
 use cpm_memory::layout::USER_AND_DRIVE;
@@ -36,7 +36,8 @@ pub fn ccp_step<M: Memory>(session: &mut Session, memory: &mut M, system: &Image
     ensures bounds { IsBounded session.old (M.contents memory.old) (did session.new (M.contents memory.new) result) }
 
     // Output that waits already changes nothing in a step, which shows its own behind it.
-    ensures behind { (p q : List ℕ) → ccp system.now (session_behind p q session.old) (M.contents memory.old) ≡ did_behind p q (did session.new (M.contents memory.new) result) }
+    ensures behind { (p q : List ℕ) → ccp system.now (session_behind p q session.old) (M.contents memory.old)
+        ≡ did_behind p q (did session.new (M.contents memory.new) result) }
 {
     session.numbers_fit();
     do_step(session, memory, system)
@@ -62,7 +63,12 @@ fn do_step<M: Memory>(session: &mut Session, memory: &mut M, system: &Image) -> 
 }
 
 /// Does a part.
-fn do_part<M: Memory>(session: &mut Session, memory: &mut M, system: &Image, part: CommandPart) -> Went
+fn do_part<M: Memory>(
+    session: &mut Session,
+    memory: &mut M,
+    system: &Image,
+    part: CommandPart,
+) -> Went
     requires screen { length session.old.console.screen ≤ step_output }
     requires printer { length session.old.console.printer ≤ step_output }
     requires room { HasRoom (M.contents memory.old) }
@@ -91,7 +97,8 @@ fn begin<M: Memory>(session: &mut Session, memory: &mut M, system: &Image) -> We
     requires screen { length session.old.console.screen ≤ step_output }
     requires printer { length session.old.console.printer ≤ step_output }
     requires room { HasRoom (M.contents memory.old) }
-    ensures step { did session.new (M.contents memory.new) result ≡ begun_command (command_of session.old.disks.current (typed_line session.old)) system.now session.old (M.contents memory.old) }
+    ensures step { did session.new (M.contents memory.new) result
+        ≡ begun_command (command_of session.old.disks.current (typed_line session.old)) system.now session.old (M.contents memory.old) }
     ensures leads { M.Leads memory.old memory.new }
 {
     let line = typed_line(session);

@@ -1,7 +1,9 @@
 //! The command of `clap` that reads the words.
 ghost use Rattle.std.specs.Prelude.{◌≡◌, IfOk};
 ghost use Rattle.clap.specs.Words.{App, Rule, new_app, with_rule, with_subcommand};
-ghost use Rattle.cpm_command_line.specs.CommandLine.{IsArgumentOf, IsCommandOf, asm_app, check_app, com_app, debug_app, flag, host_app, list_app, operand, program_app, repeated_option, run_app, steps_option, top_app, value_option, words_left_out};
+ghost use Rattle.cpm_command_line.specs.CommandLine.{IsArgumentOf, IsCommandOf, asm_app, check_app, com_app, debug_app};
+ghost use Rattle.cpm_command_line.specs.CommandLine.{flag, host_app, list_app, operand, program_app, repeated_option};
+ghost use Rattle.cpm_command_line.specs.CommandLine.{run_app, steps_option, top_app, value_option, words_left_out};
 
 use clap::{Arg, ArgAction, Command};
 use std::alloc::{AllocError, Global};

@@ -1,7 +1,8 @@
 //! The command of `clap` that reads the words from `disk` on.
 ghost use Rattle.std.specs.Prelude.{IfOk};
 ghost use Rattle.cpm_command_line.specs.CommandLine.{IsArgumentOf, IsCommandOf};
-ghost use Rattle.cpm_command_line.specs.DiskLine.{disk_app, get_app, image_app, list_disk_app, new_disk_app, operands, put_app, remove_app, rename_app, user_if_any_option, user_option};
+ghost use Rattle.cpm_command_line.specs.DiskLine.{disk_app, get_app, image_app, list_disk_app, new_disk_app, operands};
+ghost use Rattle.cpm_command_line.specs.DiskLine.{put_app, remove_app, rename_app, user_if_any_option, user_option};
 
 use crate::build::{
     flag_argument, named, required_word, top_command, value_argument, with_argument, with_command,

@@ -2,7 +2,8 @@
 //! of its own: the contracts of `clap` are of commands with one level of subcommands.
 ghost use Rattle.std.specs.Prelude.{◌≡◌, [], IfErr, IfOk, IsSomeAnd, codes, map, true};
 ghost use Rattle.clap.specs.Words.{fault_of, found_of, rows_of, subcommand_of, subcommand_rows_of, takes};
-ghost use Rattle.cpm_command_line.specs.DiskLine.{HasDiskEntriesOf, IsWholeDisk, IsWholeDiskOf, IsWholeGet, IsWholeListing, IsWholeNew, IsWholePut, IsWholeRemove, IsWholeRename, disk_app};
+ghost use Rattle.cpm_command_line.specs.DiskLine.{HasDiskEntriesOf, IsWholeDisk, IsWholeDiskOf, IsWholeGet, IsWholeListing};
+ghost use Rattle.cpm_command_line.specs.DiskLine.{IsWholeNew, IsWholePut, IsWholeRemove, IsWholeRename, disk_app};
 ghost use Rattle.cpm_command_line.specs.Refusals.{IsRefusalBy};
 
 use crate::build_disk::disk_command;

@@ -11,7 +11,7 @@ mod read;
 mod task;
 mod usage;
 
-pub use fault::{UsageFault, UsageError, ShownWord, shown, shown_line};
+pub use fault::{ShownWord, UsageError, UsageFault, shown, shown_line};
 pub use read::command;
 pub use task::{ComTask, DiskTask, RunTask, Task};
 pub use usage::{HELP_TEXT, help};

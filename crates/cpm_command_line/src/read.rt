@@ -1,7 +1,8 @@
 //! Reading the entries that a command line gave.
 ghost use Rattle.std.specs.Prelude.{◌≡◌, [], IfOk, IfErr, IsSomeAnd, None, codes, map, true, false};
 ghost use Rattle.clap.specs.Words.{fault_of, found_of, rows_of, subcommand_of, subcommand_rows_of, takes};
-ghost use Rattle.cpm_command_line.specs.CommandLine.{HasEntriesOf, IsWhole, IsWholeAsm, IsWholeCheck, IsWholeCom, IsWholeDebug, IsWholeList, IsWholeOf, IsWholeRun, host_app};
+ghost use Rattle.cpm_command_line.specs.CommandLine.{HasEntriesOf, IsWhole, IsWholeAsm, IsWholeCheck, IsWholeCom};
+ghost use Rattle.cpm_command_line.specs.CommandLine.{IsWholeDebug, IsWholeList, IsWholeOf, IsWholeRun, host_app};
 ghost use Rattle.cpm_command_line.specs.Line.{HasUsers, IsTaskOf, app_of_line, names_disk, words_of_line};
 ghost use Rattle.cpm_command_line.specs.Options.{task_fault};
 ghost use Rattle.cpm_command_line.specs.Refusals.{IsRefusalBy, IsRefusalOf, IsTaskRefusal};

@@ -2,7 +2,8 @@
 ghost use Rattle.std.specs.Prelude.{◌≡◌, ◌↔◌, IsTrue, IsSome, IfSome, codes, map, not, take_while};
 ghost use Rattle.std.specs.List.{list_any};
 ghost use Rattle.std.specs.Str.{bytes_eq};
-ghost use Rattle.cpm_command_line.specs.HelpWords.{asks_after_disk, asks_below, asks_help, begins_with_help, is_command_name, is_disk_command_name, is_help_flag};
+ghost use Rattle.cpm_command_line.specs.HelpWords.{asks_after_disk, asks_below, asks_help, begins_with_help};
+ghost use Rattle.cpm_command_line.specs.HelpWords.{is_command_name, is_disk_command_name, is_help_flag};
 
 /// What `cpmhost --help` prints.
 pub const HELP_TEXT: &str = "\

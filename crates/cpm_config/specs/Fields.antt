@@ -1,7 +1,8 @@
 -- The keys of a configuration. All of it is own: this project's form of configurations.
 use Rattle.std.specs.Prelude.{ℕ, List, codes}
 use Rattle.cpm_config.specs.declared.field.Field.{Field}
-use Rattle.cpm_config.specs.declared.field.Field.TheVariants.{Frames, Quantum, System, Sessions, Name, Cpu, Quota, Fork, At, Steps, Drives, Console, Keys, List as ListKey, Out}
+use Rattle.cpm_config.specs.declared.field.Field.TheVariants.{Frames, Quantum, System, Sessions, Name, Cpu, Quota, Fork}
+use Rattle.cpm_config.specs.declared.field.Field.TheVariants.{At, Steps, Drives, Console, Keys, List as ListKey, Out}
 
 -- each key as it stands in the file
 abbrev pub field_name : Field → List ℕ

@@ -1,5 +1,6 @@
 -- The rules on a configuration's entries, and what is read of a file. All of it is own.
-use Rattle.std.specs.Prelude.{◌≡◌, ℕ, ◌+◌, ◌^◌, ℤ, pos, int_le, nat_le, List, [], ◌∷◌, ◌++◌, length, map, Bool, true, false, not, ◌==◌, ◌&&◌, ◌||◌, if◌then◌else◌, Option, Some, None, option_map, codes, string_bytes, Result, Ok, Err, String, Vec}
+use Rattle.std.specs.Prelude.{◌≡◌, ℕ, ◌+◌, ◌^◌, ℤ, pos, int_le, nat_le, List, [], ◌∷◌, ◌++◌, length, map, Bool, true, false, not, ◌==◌}
+use Rattle.std.specs.Prelude.{◌&&◌, ◌||◌, if◌then◌else◌, Option, Some, None, option_map, codes, string_bytes, Result, Ok, Err, String, Vec}
 use Rattle.std.specs.List.{find, list_all, list_any, position_from}
 use Rattle.std.specs.Str.{IsUtf8, bytes_eq}
 use Rattle.std.specs.declared.alloc.Global.{Global}

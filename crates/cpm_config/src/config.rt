@@ -9,7 +9,7 @@ ghost use Rattle.cpm_config.specs.Rules.{IsJudged, IsRead};
 
 use crate::copies::config_of;
 use crate::draft::draft_of;
-use crate::fault::{ConfigError, KeyRefusal, DocumentStop};
+use crate::fault::{ConfigError, DocumentStop, KeyRefusal};
 use crate::names::twice_fault;
 use crate::ranges::range_fault;
 use crate::unknown::unknown_key;

@@ -1,7 +1,8 @@
 //! A configuration of its own, from one that borrows its document.
 ghost use Rattle.std.specs.Prelude.{◌≡◌, ◌^◌, [], IfOk, None, map, option_map, pos, string_bytes, true};
 ghost use Rattle.cpm_config.specs.Entries.{draft_view, origin_draft_view, session_draft_view, text_view, texts_view};
-ghost use Rattle.cpm_config.specs.Rules.{IsOriginKept, config_view, cpu_text, is_between, is_cpu, origin_view, range_fault, session_view, sessions_fault, texts_of_strings};
+ghost use Rattle.cpm_config.specs.Rules.{IsOriginKept, config_view, cpu_text, is_between, is_cpu, origin_view};
+ghost use Rattle.cpm_config.specs.Rules.{range_fault, session_view, sessions_fault, texts_of_strings};
 
 use crate::config::{Config, Origin, SessionConfig};
 use crate::draft::{Draft, OriginDraft, SessionDraft};

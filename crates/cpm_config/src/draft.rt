@@ -2,10 +2,13 @@
 ghost use Rattle.std.specs.Prelude.{◌≡◌, [], ℤ, Err, IfErr, IfOk, IsErrOf, Ok, map};
 ghost use Rattle.toml.specs.Data.{no_members};
 ghost use Rattle.toml.specs.View.{items_view, table_view, view};
-ghost use Rattle.cpm_config.specs.Entries.{◌>>=◌ as ◌and_then◌, Forks, Opens, OriginEntries, ReadsEntry, Text, config_in, draft_view, forked_of_table, known_at_top, known_in_session, misplaced, opened_of_table, optional_text_at, origin_draft_view, session_draft_view, session_in, session_of_table, session_with, sessions_at, sessions_of, text_at, text_view, texts_at};
+ghost use Rattle.cpm_config.specs.Entries.{◌>>=◌ as ◌and_then◌, Forks, Opens, OriginEntries, ReadsEntry, Text};
+ghost use Rattle.cpm_config.specs.Entries.{config_in, draft_view, forked_of_table, known_at_top, known_in_session, misplaced};
+ghost use Rattle.cpm_config.specs.Entries.{opened_of_table, optional_text_at, origin_draft_view, session_draft_view, session_in};
+ghost use Rattle.cpm_config.specs.Entries.{session_of_table, session_with, sessions_at, sessions_of, text_at, text_view, texts_at};
 
-use crate::fault::{KeyFault, DocumentStop};
-use crate::field::{Field, ConfigKey};
+use crate::fault::{DocumentStop, KeyFault};
+use crate::field::{ConfigKey, Field};
 use crate::values::{
     SESSION_FIELDS, TOP_FIELDS, has_only, number_at, optional_text_at, optional_texts_at, text_at,
     texts_at, value_at,
@@ -239,7 +242,11 @@ fn session_of_table<'a>(
 }
 
 /// The entries of a value that has to be a session's table.
-fn session_in<'a>(alloc: Global, value: &'a Value, session: u64) -> Result<SessionDraft<'a>, DocumentStop>
+fn session_in<'a>(
+    alloc: Global,
+    value: &'a Value,
+    session: u64,
+) -> Result<SessionDraft<'a>, DocumentStop>
     ensures { ReadsEntry session_draft_view result (session_in session (view value.now)) }
 {
     match value {
@@ -271,7 +278,10 @@ fn add_sessions<'a>(
 }
 
 /// The entries of all sessions.
-fn sessions_of<'a>(alloc: Global, values: &'a [Value]) -> Result<Vec<SessionDraft<'a>>, DocumentStop>
+fn sessions_of<'a>(
+    alloc: Global,
+    values: &'a [Value],
+) -> Result<Vec<SessionDraft<'a>>, DocumentStop>
     ensures { ReadsEntry (λ v. map session_draft_view v.items) result (sessions_of 1 (items_view values.now)) }
 {
     let mut sessions = Vec::new(alloc);

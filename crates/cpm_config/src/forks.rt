@@ -3,7 +3,7 @@ ghost use Rattle.std.specs.Prelude.{◌≡◌, [], Some, map, option_map, pos};
 ghost use Rattle.cpm_config.specs.Rules.{at_fault, config_view, fork_field_fault, forks_fault, if_opened, named_in, place_of, session_view};
 
 use crate::config::{Config, Origin, SessionConfig};
-use crate::field::{Field, ConfigKey};
+use crate::field::{ConfigKey, Field};
 
 /// The place of the first of these sessions that has a name.
 pub fn place_of(sessions: &[SessionConfig], name: &str) -> Option<usize>

@@ -15,6 +15,6 @@ mod values;
 
 pub use config::{Config, Origin, SessionConfig};
 pub use fault::{ConfigError, KeyFault, KeyRefusal, UnknownKey};
-pub use field::{Field, ConfigKey};
+pub use field::{ConfigKey, Field};
 pub use forks::place_of;
 pub use laws::forks_stand;

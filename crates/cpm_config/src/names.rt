@@ -3,10 +3,11 @@ ghost use Rattle.std.specs.Prelude.{◌≡◌, ◌++◌, ◌∷◌, [], IfOk, On
 ghost use Rattle.std.specs.List.{list_any};
 ghost use Rattle.std.specs.Str.{bytes_eq};
 ghost use Rattle.cpm_config.specs.Entries.{draft_view, config_key, session_draft_view, text_view, texts_view};
-ghost use Rattle.cpm_config.specs.Rules.{all_placed, all_placed_if_any, file_names_of, file_names_of_all, name_placed, placed_if_any, repeated, session_names, twice_fault};
+ghost use Rattle.cpm_config.specs.Rules.{all_placed, all_placed_if_any, file_names_of, file_names_of_all};
+ghost use Rattle.cpm_config.specs.Rules.{name_placed, placed_if_any, repeated, session_names, twice_fault};
 
 use crate::draft::{Draft, SessionDraft};
-use crate::field::{Field, ConfigKey};
+use crate::field::{ConfigKey, Field};
 use std::alloc::{AllocError, Global};
 
 /// A name, and where it stands.
@@ -37,7 +38,8 @@ fn add_if_any<'a>(
     field: Field,
     name: Option<&'a str>,
 ) -> Result<(), AllocError>
-    ensures { OnOk result (map name_placed names.new.items ≡ map name_placed names.old.items ++ placed_if_any (config_key session field) (text_view name.entry)) }
+    ensures { OnOk result (map name_placed names.new.items
+        ≡ map name_placed names.old.items ++ placed_if_any (config_key session field) (text_view name.entry)) }
 {
     match name {
         Some(name) => add(names, session, field, name),
@@ -52,7 +54,8 @@ fn add_all<'a>(
     field: Field,
     more: &[&'a str],
 ) -> Result<(), AllocError>
-    ensures { OnOk result (map name_placed names.new.items ≡ map name_placed names.old.items ++ all_placed (config_key session field) (map (λ t. t.now) more.now)) }
+    ensures { OnOk result (map name_placed names.new.items
+        ≡ map name_placed names.old.items ++ all_placed (config_key session field) (map (λ t. t.now) more.now)) }
 {
     for name in more {
         add(names, session, field, name)?;
@@ -67,7 +70,8 @@ fn add_all_if_any<'a>(
     field: Field,
     more: &Option<Vec<&'a str>>,
 ) -> Result<(), AllocError>
-    ensures { OnOk result (map name_placed names.new.items ≡ map name_placed names.old.items ++ all_placed_if_any (config_key session field) (option_map texts_view more.now)) }
+    ensures { OnOk result (map name_placed names.new.items
+        ≡ map name_placed names.old.items ++ all_placed_if_any (config_key session field) (option_map texts_view more.now)) }
 {
     match more {
         Some(more) => add_all(names, session, field, more.as_slice()),

@@ -2,10 +2,12 @@
 ghost use Rattle.std.specs.Prelude.{◌≡◌, [], Some, map, option_map};
 ghost use Rattle.std.specs.List.{list_all};
 ghost use Rattle.cpm_config.specs.Entries.{Forks, draft_view, config_key, session_draft_view, texts_view};
-ghost use Rattle.cpm_config.specs.Rules.{at_fault, drives_if_any, forked_fault, if_opened, is_between, is_cpu, is_length_between, is_name, is_name_byte, is_out, is_steps, named_in, opened_fault, origin_fault, range_fault, session_fault, sessions_fault};
+ghost use Rattle.cpm_config.specs.Rules.{at_fault, drives_if_any, forked_fault, if_opened, is_between, is_cpu};
+ghost use Rattle.cpm_config.specs.Rules.{is_length_between, is_name, is_name_byte, is_out, is_steps, named_in};
+ghost use Rattle.cpm_config.specs.Rules.{opened_fault, origin_fault, range_fault, session_fault, sessions_fault};
 
 use crate::draft::{Draft, OriginDraft, SessionDraft};
-use crate::field::{Field, ConfigKey};
+use crate::field::{ConfigKey, Field};
 
 fn is_between(low: u64, high: u64, number: i64) -> bool
     ensures { result ≡ is_between low high number }

@@ -6,10 +6,11 @@ ghost use Rattle.std.specs.Str.{bytes_eq};
 ghost use Rattle.toml.specs.Data.{get_member};
 ghost use Rattle.toml.specs.View.{items_view, table_view, view};
 ghost use Rattle.cpm_config.specs.Fields.{field_name};
-ghost use Rattle.cpm_config.specs.Entries.{ReadsEntry, has_only, number_at, optional_text_at, optional_texts_at, or_wanted, result_map, text_at, texts_at, texts_of, texts_view};
+ghost use Rattle.cpm_config.specs.Entries.{ReadsEntry, has_only, number_at, optional_text_at, optional_texts_at};
+ghost use Rattle.cpm_config.specs.Entries.{or_wanted, result_map, text_at, texts_at, texts_of, texts_view};
 
-use crate::fault::{KeyFault, DocumentStop};
-use crate::field::{Field, ConfigKey};
+use crate::fault::{DocumentStop, KeyFault};
+use crate::field::{ConfigKey, Field};
 use std::alloc::Global;
 use toml::{Table, Value};
 
@@ -80,7 +81,11 @@ pub(crate) fn optional_text_at<'a>(
 
 /// Adds the texts of an array that holds nothing else to none yet. The owner is the caller, so that
 /// no fault here has texts to drop.
-fn add_texts<'a>(values: &'a [Value], place: ConfigKey, texts: &mut Vec<&'a str>) -> Result<(), DocumentStop>
+fn add_texts<'a>(
+    values: &'a [Value],
+    place: ConfigKey,
+    texts: &mut Vec<&'a str>,
+) -> Result<(), DocumentStop>
     requires { texts.old.items ≡ [] }
     ensures { ReadsEntry (λ _. texts_view texts.new) result (or_wanted place (texts_of (items_view values.now))) }
 {
@@ -94,7 +99,11 @@ fn add_texts<'a>(values: &'a [Value], place: ConfigKey, texts: &mut Vec<&'a str>
 }
 
 /// The texts of an array that holds nothing else.
-fn texts_of<'a>(alloc: Global, values: &'a [Value], place: ConfigKey) -> Result<Vec<&'a str>, DocumentStop>
+fn texts_of<'a>(
+    alloc: Global,
+    values: &'a [Value],
+    place: ConfigKey,
+) -> Result<Vec<&'a str>, DocumentStop>
     ensures { ReadsEntry texts_view result (or_wanted place (texts_of (items_view values.now))) }
 {
     let mut texts = Vec::new(alloc);

@@ -1,5 +1,6 @@
 -- The editing of a line, one key at a time: what a key means, what it shows, and the line that it leaves.
-use Rattle.std.specs.Prelude.{ℕ, zero, suc, ◌+◌, ◌-◌, ◌%◌, Bool, List, [], ◌∷◌, ◌++◌, length, drop, take, min, not, nat_lt, ◌&&◌, ◌||◌, ◌==◌, if◌then◌else◌, fold, replicate, bit_xor}
+use Rattle.std.specs.Prelude.{ℕ, zero, suc, ◌+◌, ◌-◌, ◌%◌, Bool, List, [], ◌∷◌, ◌++◌, length, drop, take}
+use Rattle.std.specs.Prelude.{min, not, nat_lt, ◌&&◌, ◌||◌, ◌==◌, if◌then◌else◌, fold, replicate, bit_xor}
 use Rattle.cpm_console.specs.Terminal.{Terminal, said}
 use Rattle.cpm_console.specs.declared.line.Keystroke.{Keystroke}
 use Rattle.cpm_console.specs.declared.line.Keystroke.TheVariants.{Interrupt, NewLine, Erase, Repeat, End, ListEcho, Retype, Restart, EraseAll, Character}

@@ -1,6 +1,7 @@
 -- The console and the list device: keys that were not read yet, bytes that were not taken yet, the column of the cursor,
 -- and whether the list device gets what the console shows.
-use Rattle.std.specs.Prelude.{ℕ, ◌+◌, ◌-◌, ◌%◌, ◌≤◌, Bool, false, List, [], ◌∷◌, ◌++◌, length, drop, min, not, nat_le, ◌&&◌, ◌==◌, if◌then◌else◌, fold, replicate}
+use Rattle.std.specs.Prelude.{ℕ, ◌+◌, ◌-◌, ◌%◌, ◌≤◌, Bool, false, List, [], ◌∷◌, ◌++◌, length}
+use Rattle.std.specs.Prelude.{drop, min, not, nat_le, ◌&&◌, ◌==◌, if◌then◌else◌, fold, replicate}
 use Rattle.cpm_console.specs.declared.device.Device.{Device}
 use Rattle.cpm_console.specs.declared.device.Device.TheVariants as device
 

@@ -1,7 +1,8 @@
 //! Keys that wait to be read, bytes that wait to be taken, and the column of the cursor.
 
 ghost use Rattle.std.specs.Prelude.{◌≡◌, ◌<◌, ◌≤◌, ◌+◌, ◌-◌, ◌%◌, ◌↔◌, ◌++◌, ◌∷◌, [], length, take, drop, min, slice_get, IsTrue, IfNone, IfOk, if◌then◌else◌};
-ghost use Rattle.cpm_console.specs.Terminal.{blank_terminal, pressed, key_read, has_room, shown, printed, said, expanded, column_after, column_past, waiting_on, with_waiting, most_pending};
+ghost use Rattle.cpm_console.specs.Terminal.{blank_terminal, pressed, key_read, has_room, shown, printed, said, expanded};
+ghost use Rattle.cpm_console.specs.Terminal.{column_after, column_past, waiting_on, with_waiting, most_pending};
 
 use crate::device::Device;
 use circular_buffer::HeapCircularBuffer;

@@ -1,9 +1,11 @@
 //! The editing of a line, one key at a time.
 
-ghost use Rattle.std.specs.Prelude.{◌≡◌, ◌<◌, ◌≤◌, ◌+◌, ◌*◌, ◌-◌, ◌↔◌, ◌++◌, ◌∷◌, ◌==◌, [], ℕ, length, take, drop, min, slice_get, IsTrue, IfOk, if◌then◌else◌, true, false, not, fold, replicate};
+ghost use Rattle.std.specs.Prelude.{◌≡◌, ◌<◌, ◌≤◌, ◌+◌, ◌*◌, ◌-◌, ◌↔◌, ◌++◌, ◌∷◌, ◌==◌, [], ℕ, length, take, drop};
+ghost use Rattle.std.specs.Prelude.{min, slice_get, IsTrue, IfOk, if◌then◌else◌, true, false, not, fold, replicate};
 ghost use Rattle.cpm_console.specs.Terminal.{said, IsWithin, step_output};
 ghost use Rattle.cpm_console.specs.Draft.{Draft};
-ghost use Rattle.cpm_console.specs.Editing.{echo_at, next_column, columns, echo, erasure, without_last, last_echo, with_character, emptied, fresh_line, keystroke, edited, put_in, begun_line, key_into_line};
+ghost use Rattle.cpm_console.specs.Editing.{echo_at, next_column, columns, echo, erasure, without_last, last_echo, with_character};
+ghost use Rattle.cpm_console.specs.Editing.{emptied, fresh_line, keystroke, edited, put_in, begun_line, key_into_line};
 
 use crate::Console;
 use arrayvec::ArrayVec;

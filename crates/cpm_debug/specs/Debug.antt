@@ -55,4 +55,5 @@ debugged cpu program = opened_with cpu (blank_disk Ibm3740 ∷ []) program
 -- When the debugger of a program is refused: the program is too long, and nothing was written, or the dialog ended early.
 abbrev pub IsDebugRefusal : {W : Type 0} → Cpu → List ℕ → List ℕ → Option (List ℕ) → Option (List ℕ) → Option (List ℕ) → W → W → DebugError → Type 0
 IsDebugRefusal cpu listing program known before now old new (ProgramTooLong count) = (most_program < length program) × (count ≡ length program) × (new ≡ old)
-IsDebugRefusal cpu listing program known before now old new error = (length program ≤ most_program) × IsFailure debug_system_drive cpu listing (debugged cpu program) known before now error
+IsDebugRefusal cpu listing program known before now old new error =
+    (length program ≤ most_program) × IsFailure debug_system_drive cpu listing (debugged cpu program) known before now error

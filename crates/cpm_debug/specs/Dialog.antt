@@ -96,7 +96,8 @@ reply_to_line listing text s = reply (with_source text (source_line listing s.se
 -- what is answered with this system drive and this listing, and the state after it
 unfoldable pub debug_answer : Disk → Cpu → List ℕ → Request → MachineState → Reply
 debug_answer system cpu listing (Grant steps) s = reply_to_line listing (grant_line (granted system steps s)) (after system (executed system steps s) s)
-debug_answer system cpu listing (GrantUntil pc steps) s = reply_to_line listing (grant_line (granted_until system pc steps s)) (after system (executed_until system pc steps s) s)
+debug_answer system cpu listing (GrantUntil pc steps) s =
+    reply_to_line listing (grant_line (granted_until system pc steps s)) (after system (executed_until system pc steps s) s)
 debug_answer system cpu listing (Dump address) s = reply (ended_line (dump_line address (bytes_from s.memory address 16))) s
 debug_answer system cpu listing (ListAt address) s = reply (ended_line (instruction_line cpu address (bytes_from s.memory address 4))) s
 debug_answer system cpu listing Registers s = reply_to_line listing (regs_line cpu s.session.regs s.count) s

@@ -2,7 +2,8 @@
 ghost use Rattle.std.specs.Prelude.{◌≡◌, ◌<◌, IfSome};
 ghost use Rattle.cpm_script.specs.KeyText.{count_of};
 ghost use Rattle.cpm_debug.specs.Dialog.{is_quit};
-ghost use Rattle.cpm_debug.specs.Orders.{address_of, addressed_grant, request_of_order, byte_of_digits, hex_digit_of, dump_of, grant_of, list_of, request_of, text_request, word_of_digits};
+ghost use Rattle.cpm_debug.specs.Orders.{address_of, addressed_grant, request_of_order, byte_of_digits, hex_digit_of};
+ghost use Rattle.cpm_debug.specs.Orders.{dump_of, grant_of, list_of, request_of, text_request, word_of_digits};
 
 use cpm_script::count_of;
 
@@ -107,7 +108,10 @@ impl<'a> Order<'a> {
         ensures { request_of_order result ≡ addressed_grant text.now }
     {
         match text {
-            [a, b, c, d, b' ', count @ ..] => match (word_of_digits([*a, *b, *c, *d]), count_of(count)) {
+            [a, b, c, d, b' ', count @ ..] => match (
+                word_of_digits([*a, *b, *c, *d]),
+                count_of(count),
+            ) {
                 (Some(pc), Some(steps)) => Order::GrantUntil(pc, steps),
                 _ => Order::Unknown,
             },

@@ -4,8 +4,8 @@ ghost use Rattle.cpm_script.specs.KeyText.{keys_of};
 ghost use Rattle.cpm_debug.specs.Dialog.{keys_in_text, press, request_pressed};
 ghost use Rattle.cpm_debug.specs.Orders.{press_of};
 
-use cpm_script::{are_keys, first_key};
 use cpm_machine::Machine;
+use cpm_script::{are_keys, first_key};
 
 /// Presses the keys that a text stands for, up to one that is refused, and says whether all were accepted.
 fn press(machine: &mut Machine, text: &[u8]) -> bool

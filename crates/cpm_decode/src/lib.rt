@@ -13,7 +13,7 @@ pub mod operation_z80;
 pub use cache::DecodeCache;
 pub use decoder::{decode8080, row8080};
 pub use decoder_z80::{decodez80, rowz80};
-pub use operation::{Arithmetic, Condition, Decoded, Op, WordOperand, ByteOperand, Ran, Rotation, StackPair};
+pub use operation::{Arithmetic, Condition, Decoded, Op, Operand, Pair, Ran, Rotation, StackPair};
 pub use operation_z80::{
     BitOp, DecodedZ80, Direction, ExtendedOp, IndexRegister, IndexedOp, OpZ80, Repeat, Shift,
 };

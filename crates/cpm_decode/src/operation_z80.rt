@@ -1,5 +1,5 @@
 //! The operations of the Zilog Z80 that the 8080 does not have.
-use crate::operation::{Arithmetic, Condition, Op, WordOperand, ByteOperand};
+use crate::operation::{Arithmetic, Condition, Op, Operand, Pair};
 
 /// A shift or rotation of a byte: RLC, RRC, RL, RR, SLA, SRA and SRL.
 #[derive(Clone, Copy, Debug, PartialEq, Eq)]
@@ -40,17 +40,17 @@ pub enum Repeat {
 #[derive(Clone, Copy, Debug, PartialEq, Eq)]
 pub enum ExtendedOp {
     /// IN r, (C).
-    Input(ByteOperand),
+    Input(Operand),
     /// OUT (C), r.
-    Output(ByteOperand),
+    Output(Operand),
     /// SBC HL, ss.
-    SubtractBorrowPair(WordOperand),
+    SubtractBorrowPair(Pair),
     /// ADC HL, ss.
-    AddCarryPair(WordOperand),
+    AddCarryPair(Pair),
     /// LD (nn), ss.
-    StorePair(WordOperand, u16),
+    StorePair(Pair, u16),
     /// LD ss, (nn).
-    LoadPair(WordOperand, u16),
+    LoadPair(Pair, u16),
     /// NEG.
     Negate,
     /// RETN.
@@ -94,8 +94,8 @@ pub enum IndexedOp {
     Increment,
     Decrement,
     StoreImmediate(u8),
-    Load(ByteOperand),
-    Store(ByteOperand),
+    Load(Operand),
+    Store(Operand),
     Arithmetic(Arithmetic),
     Bits(BitOp),
 }
@@ -110,7 +110,7 @@ pub enum OpZ80 {
     JumpRelative(u8),
     JumpRelativeIf(Condition, u8),
     DecrementJump(u8),
-    Bits(BitOp, ByteOperand),
+    Bits(BitOp, Operand),
     Extended(ExtendedOp),
     /// One of the 8080's, with an index register in the place of HL.
     WithIndex(IndexRegister, Op),

@@ -1,5 +1,6 @@
 -- File names of command lines.
-use Rattle.std.specs.Prelude.{ℕ, ◌-◌, Bool, not, ◌||◌, ◌&&◌, ◌==◌, nat_lt, nat_le, if◌then◌else◌, List, [], ◌++◌, length, map, take, drop, replicate, slice_index}
+use Rattle.std.specs.Prelude.{ℕ, ◌-◌, Bool, not, ◌||◌, ◌&&◌, ◌==◌, nat_lt, nat_le, if◌then◌else◌}
+use Rattle.std.specs.Prelude.{List, [], ◌++◌, length, map, take, drop, replicate, slice_index}
 use Rattle.std.specs.List.{position_or_len, range_with_len}
 use Rattle.cpm_volume.specs.declared.fcb.Fcb.{Fcb}
 

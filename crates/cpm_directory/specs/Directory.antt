@@ -32,7 +32,8 @@ record_with_entry bytes slot entry = take (32 * slot) bytes ++ (entry ++ drop 32
 
 -- one entry is written: its 32 bytes in their record change, no other entry and no other record
 pub record PutsEntry (old : Disk) (index : ℕ) (e : Entry) (new : Disk) : Type 0 where
-  pub bytes : new ≡ with_sector old (record_index old.format (index / 4)) (record_with_entry (sector_at old (record_index old.format (index / 4))) (index % 4) (entry_bytes (dpb_of old.format) e))
+  pub bytes : new ≡ with_sector old (record_index old.format (index / 4))
+      (record_with_entry (sector_at old (record_index old.format (index / 4))) (index % 4) (entry_bytes (dpb_of old.format) e))
   pub entry : IsStorable (dpb_of old.format) e.extent → entries_of new ≡ slice_set (entries_of old) index e
   pub others : (k : ℕ) → k ≢ index → entry_at (entries_of new) k ≡ entry_at (entries_of old) k
   pub records : (n : ℕ) → n ≢ index / 4 → slice_index_or (records_of new) n [] ≡ slice_index_or (records_of old) n []

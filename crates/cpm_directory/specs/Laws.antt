@@ -18,7 +18,8 @@ OutsideLaw =
 -- a drive that is logged in has reserved the directory's blocks and those in its entries, and no others
 pub record ReservesAtLogin (d : Dpb) (es : List Entry) : Type 0 where
   pub directory : (b : ℕ) → b * (d.block_mask + 1) < directory_records d → is_reserved (reserved_at_login d es) b ≡ true
-  pub numbers : (i s : ℕ) → InUse es i → block_number (entry_at es i).extent s ≢ 0 → is_reserved (reserved_at_login d es) (block_number (entry_at es i).extent s) ≡ true
+  pub numbers : (i s : ℕ) → InUse es i → block_number (entry_at es i).extent s ≢ 0
+      → is_reserved (reserved_at_login d es) (block_number (entry_at es i).extent s) ≡ true
   pub others : (b : ℕ) → b ≤ d.last_block → is_reserved (reserved_at_login d es) b ≡ true
       → (b * (d.block_mask + 1) < directory_records d) ⊎ ((i : ℕ) × (s : ℕ) × InUse es i × (block_number (entry_at es i).extent s ≡ b))
 

@@ -12,7 +12,8 @@ abbrev pub is_in_group : Dpb → Option ℕ → ℕ → Bool
 is_in_group d None number = true
 is_in_group d (Some group) number = group_of d number == group
 
--- CP/M 2.2 Operating System Manual, section 5.2, Operating System Call Conventions, SEARCH FOR FIRST: a question mark matches any character; own: in the low seven bits of each
+-- CP/M 2.2 Operating System Manual, section 5.2, Operating System Call Conventions, SEARCH FOR FIRST: a question mark matches any character;
+-- own: in the low seven bits of each
 unfoldable pub is_match : Dpb → Pattern → Entry → Bool
 is_match d Every e = true
 is_match d (Files user name group) e =

@@ -1,5 +1,6 @@
 -- Whether the directory of a drive agrees with itself, and what is wrong with it. What a disk is refused for is own.
-use Rattle.std.specs.Prelude.{◌≡◌, ℕ, ◌<◌, Bool, not, ◌==◌, ◌&&◌, ◌||◌, nat_lt, if◌then◌else◌, List, Option, Some, None, option_map, Result, Ok, Err, length, take, slice_index_or, true}
+use Rattle.std.specs.Prelude.{◌≡◌, ℕ, ◌<◌, Bool, not, ◌==◌, ◌&&◌, ◌||◌, nat_lt, if◌then◌else◌, List, Option}
+use Rattle.std.specs.Prelude.{Some, None, option_map, Result, Ok, Err, length, take, slice_index_or, true}
 use Rattle.std.specs.Option.{option_or}
 use Rattle.std.specs.List.{find, list_any, position, position_or_len, range_with_len}
 use Rattle.cpm_geom.specs.declared.dpb.Dpb.{Dpb}

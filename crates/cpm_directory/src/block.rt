@@ -4,17 +4,21 @@ ghost use Rattle.std.specs.Prelude.{◌≡◌, ◌≤◌, ◌<◌, MatchResult};
 ghost use Rattle.cpm_volume.specs.Files.{block_number, entry_place_of};
 
 use crate::directory::DirectoryError;
-use cpm_volume::{Extent, Fcb};
 use cpm_geom::Dpb;
+use cpm_volume::{Extent, Fcb};
 
 /// The block of the record that a file control block stands at, 0 for none. A number that the drive has no block for
 /// is refused.
 pub fn block_at(dpb: &Dpb, fcb: &Fcb) -> Result<u16, DirectoryError>
     ensures { MatchResult result
         (λ block. (block ≡ block_number fcb.now.extent (entry_place_of dpb.now fcb.now.extent fcb.now.current_record)) × (block ≤ dpb.now.last_block))
-        (λ e. (e ≡ DirectoryError.BlockAboveLast) × (dpb.now.last_block < block_number fcb.now.extent (entry_place_of dpb.now fcb.now.extent fcb.now.current_record))) }
+        (λ e. (e ≡ DirectoryError.BlockAboveLast)
+        × (dpb.now.last_block < block_number fcb.now.extent (entry_place_of dpb.now fcb.now.extent fcb.now.current_record))) }
 {
-    let block = number_at(&fcb.extent, entry_place_of(dpb, &fcb.extent, fcb.current_record));
+    let block = number_at(
+        &fcb.extent,
+        entry_place_of(dpb, &fcb.extent, fcb.current_record),
+    );
     if block > dpb.last_block {
         return Err(DirectoryError::BlockAboveLast);
     }

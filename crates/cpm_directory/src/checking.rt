@@ -13,8 +13,8 @@ use crate::directory::{DELETED, entry};
 use crate::fault::DriveFault;
 use crate::pattern::group_of;
 use crate::reserved::{is_directory_block, mark};
-use cpm_volume::Entry;
 use cpm_geom::{Dpb, Image};
+use cpm_volume::Entry;
 
 /// Whether the directory of a drive agrees with itself: each number in an entry is of a block that files can have, and stands once; and no two
 /// entries are of the same user, name and group of extents. The fault of the first entry that has one is answered, in it a bad number

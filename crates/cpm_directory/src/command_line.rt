@@ -2,7 +2,8 @@
 
 ghost use Rattle.std.specs.Prelude.{◌≡◌, ◌≤◌, ◌==◌, ◌++◌, length, not};
 ghost use Rattle.std.specs.List.{position_or_len, position};
-ghost use Rattle.cpm_directory.specs.CommandLine.{is_delimiter, after_spaces, drive_of, after_drive, word_in, after_word, type_of, after_type, character_of, name_field, fcb_named, text_behind_name};
+ghost use Rattle.cpm_directory.specs.CommandLine.{is_delimiter, after_spaces, drive_of, after_drive, word_in, after_word};
+ghost use Rattle.cpm_directory.specs.CommandLine.{type_of, after_type, character_of, name_field, fcb_named, text_behind_name};
 
 use cpm_volume::{Extent, Fcb};
 

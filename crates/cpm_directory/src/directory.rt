@@ -10,8 +10,8 @@ ghost use Rattle.cpm_directory.specs.Matching.{match_from};
 
 use crate::lent::LentImage;
 use crate::pattern::Pattern;
-use cpm_volume::Entry;
 use cpm_geom::Image;
+use cpm_volume::Entry;
 use thiserror::Error;
 
 /// Why a directory has not what is asked of it.

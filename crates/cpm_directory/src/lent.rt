@@ -8,8 +8,8 @@ ghost use Rattle.cpm_directory.specs.Directory.{entries_of, Lists};
 
 use crate::directory::entry;
 use crate::listed::MOST_ENTRIES;
-use cpm_volume::Entry;
 use cpm_geom::{Format, GeomError, Image};
+use cpm_volume::Entry;
 use std::marker::Model;
 
 /// An image that is lent to a call, seen as its disk. The entries of its directory may be lent with it.

@@ -8,8 +8,8 @@ ghost use Rattle.cpm_directory.specs.Directory.{entries_of, Lists, PutsEntry};
 
 use crate::directory;
 use crate::lent::LentImage;
-use cpm_volume::Entry;
 use cpm_geom::{Format, GeomError, Image};
+use cpm_volume::Entry;
 use std::alloc::{AllocError, Global};
 use std::marker::Model;
 

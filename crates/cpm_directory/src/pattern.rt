@@ -6,8 +6,8 @@ ghost use Rattle.cpm_volume.specs.Files.{extent_number, group_of, name_matches, 
 ghost use Rattle.cpm_volume.specs.Names.{is_named};
 ghost use Rattle.cpm_directory.specs.Matching.{is_in_group};
 
-use cpm_volume::Entry;
 use cpm_geom::Dpb;
+use cpm_volume::Entry;
 
 /// Which entries are looked for.
 #[derive(Clone, Copy, PartialEq, Eq, Debug)]

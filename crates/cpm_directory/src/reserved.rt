@@ -1,6 +1,7 @@
 //! The reserved blocks of a drive.
 
-ghost use Rattle.std.specs.Prelude.{◌≡◌, ◌<◌, ◌≤◌, ◌+◌, ◌⊎◌, ◌==◌, ◌&&◌, ◌||◌, ℕ, length, replicate, MatchResult, not, nat_lt, slice_set, slice_index_or, false, true};
+ghost use Rattle.std.specs.Prelude.{◌≡◌, ◌<◌, ◌≤◌, ◌+◌, ◌⊎◌, ◌==◌, ◌&&◌, ◌||◌, ℕ, length, replicate};
+ghost use Rattle.std.specs.Prelude.{MatchResult, not, nat_lt, slice_set, slice_index_or, false, true};
 ghost use Rattle.std.specs.List.{list_any};
 ghost use Rattle.cpm_geom.specs.Geometry.{dpb_of};
 ghost use Rattle.cpm_volume.specs.Reserved.{least_free, is_reserved, is_directory_block};
@@ -131,7 +132,8 @@ pub(crate) fn mark(blocks: &mut Bits, numbers: &[u16])
     requires { length blocks.old ≡ 512 }
     ensures size { length blocks.new ≡ 512 }
     ensures zero { slice_index_or blocks.new 0 true ≡ slice_index_or blocks.old 0 true }
-    ensures others { (b : ℕ) → 0 < b → b < 512 → slice_index_or blocks.new b true ≡ (slice_index_or blocks.old b true || list_any (λ number. number == b) numbers.now) }
+    ensures others { (b : ℕ) → 0 < b → b < 512 → slice_index_or blocks.new b true
+        ≡ (slice_index_or blocks.old b true || list_any (λ number. number == b) numbers.now) }
 {
     for number in numbers {
         if 0 < *number {
@@ -167,7 +169,8 @@ pub fn without_files(
 fn release(dpb: &Dpb, blocks: &mut Bits, numbers: &[u16])
     requires { length blocks.old ≡ 512 }
     ensures size { length blocks.new ≡ 512 }
-    ensures value { (b : ℕ) → b < 512 → slice_index_or blocks.new b true ≡ (slice_index_or blocks.old b true && (is_directory_block dpb.now b || not (nat_lt 0 b && list_any (λ number. number == b) numbers.now))) }
+    ensures value { (b : ℕ) → b < 512 → slice_index_or blocks.new b true
+        ≡ (slice_index_or blocks.old b true && (is_directory_block dpb.now b || not (nat_lt 0 b && list_any (λ number. number == b) numbers.now))) }
 {
     for number in numbers {
         if 0 < *number && !is_directory_block(dpb, *number) {

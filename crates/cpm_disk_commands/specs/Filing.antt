@@ -47,5 +47,6 @@ pub record IsTaken (disk : Disk) (file : FileName) (is_text : Bool) (bytes : Lis
 -- own: bytes that a disk has, as a file that was put, are taken off it filled up to whole records, and a text with line feeds alone as it was
 abbrev pub RoundLaw : Type 0
 RoundLaw =
-    (disk : Disk) (file : FileName) (is_text : Bool) (bytes got : List ℕ) → DiskHasFile disk file.user file.name (stored is_text bytes) → IsTaken disk file is_text got
+    (disk : Disk) (file : FileName) (is_text : Bool) (bytes got : List ℕ)
+    → DiskHasFile disk file.user file.name (stored is_text bytes) → IsTaken disk file is_text got
     → (is_text ≡ false → got ≡ filled bytes) × (is_text ≡ true → list_any is_control bytes ≡ false → got ≡ bytes)

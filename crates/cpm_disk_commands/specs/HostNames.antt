@@ -1,5 +1,6 @@
 -- The names that files of a disk get on the host. All of it is own.
-use Rattle.std.specs.Prelude.{◌≡◌, ℕ, ◌+◌, ◌%◌, Bool, true, false, not, ◌&&◌, ◌==◌, nat_le, if◌then◌else◌, List, [], ◌∷◌, ◌++◌, Option, Some, None, take, drop, chars}
+use Rattle.std.specs.Prelude.{◌≡◌, ℕ, ◌+◌, ◌%◌, Bool, true, false, not, ◌&&◌, ◌==◌, nat_le}
+use Rattle.std.specs.Prelude.{if◌then◌else◌, List, [], ◌∷◌, ◌++◌, Option, Some, None, take, drop, chars}
 use Rattle.std.specs.List.{list_all, list_any}
 use Rattle.cpm_command_line.specs.Shown.{shown_of}
 use Rattle.cpm_volume.specs.Files.{same_name}

@@ -1,5 +1,6 @@
 -- The list of a disk's files as it is written. All of it is own.
-use Rattle.std.specs.Prelude.{⊤, ◌≡◌, ℕ, ◌<◌, ◌-◌, ◌%◌, Bool, true, false, ◌&&◌, ◌||◌, ◌==◌, nat_lt, if◌then◌else◌, List, [], ◌∷◌, ◌++◌, Option, Some, None, length, take, drop, replicate, slice_index, slice_index_or, codes, chars, decimal, Err}
+use Rattle.std.specs.Prelude.{⊤, ◌≡◌, ℕ, ◌<◌, ◌-◌, ◌%◌, Bool, true, false, ◌&&◌, ◌||◌, ◌==◌, nat_lt, if◌then◌else◌, List, [], ◌∷◌, ◌++◌}
+use Rattle.std.specs.Prelude.{Option, Some, None, length, take, drop, replicate, slice_index, slice_index_or, codes, chars, decimal, Err}
 use Rattle.std.specs.List.{insert, list_all, position_or_len}
 use Rattle.std.specs.List.Sorted.{IsPermutation}
 use Rattle.cpm_command_line.specs.Shown.{shown_of}

@@ -1,11 +1,13 @@
 -- The names of files and the patterns of names, as a person writes them.
-use Rattle.std.specs.Prelude.{◌≡◌, ◌≢◌, ◌⊎◌, ℕ, ◌<◌, ◌+◌, ◌-◌, ◌%◌, Bool, not, ◌||◌, ◌&&◌, ◌==◌, nat_lt, nat_le, if◌then◌else◌, List, [], ◌∷◌, ◌++◌, Option, Some, None, length, map, take, drop, slice_index, slice_set}
+use Rattle.std.specs.Prelude.{◌≡◌, ◌≢◌, ◌⊎◌, ℕ, ◌<◌, ◌+◌, ◌-◌, ◌%◌, Bool, not, ◌||◌, ◌&&◌, ◌==◌, nat_lt, nat_le, if◌then◌else◌}
+use Rattle.std.specs.Prelude.{List, [], ◌∷◌, ◌++◌, Option, Some, None, length, map, take, drop, slice_index, slice_set}
 use Rattle.std.specs.List.{list_all, position_or_len, range_with_len}
 
 -- CP/M 2.2 Operating System Manual, section 1.4, File References: < > . , ; : = ? * [ ] and _ stand in no name
 abbrev pub is_special : ℕ → Bool
 is_special c =
-    (c == 0x3C) || (c == 0x3E) || (c == 0x2E) || (c == 0x2C) || (c == 0x3B) || (c == 0x3A) || (c == 0x3D) || (c == 0x3F) || (c == 0x2A) || (c == 0x5B) || (c == 0x5D) || (c == 0x5F)
+    (c == 0x3C) || (c == 0x3E) || (c == 0x2E) || (c == 0x2C) || (c == 0x3B) || (c == 0x3A)
+    || (c == 0x3D) || (c == 0x3F) || (c == 0x2A) || (c == 0x5B) || (c == 0x5D) || (c == 0x5F)
 
 -- a character of a name: one that is seen, above the blank and below DEL (own)
 unfoldable pub is_name_character : ℕ → Bool
@@ -78,7 +80,8 @@ pub record IsBaseName (path name : List ℕ) : Type 0 where
 unfoldable pub with_bit : Bool → ℕ → ℕ
 with_bit is_set c = if is_set then c % 128 + 128 else c % 128
 
--- CP/M 2.2 Operating System Manual, section 5.2, SET FILE ATTRIBUTES: the high bits of the type's first two characters mark a file as read-only and as the system's
+-- CP/M 2.2 Operating System Manual, section 5.2, SET FILE ATTRIBUTES: the high bits of the type's first two characters
+-- mark a file as read-only and as the system's
 unfoldable pub with_marks : (is_read_only is_system : Bool) → List ℕ → List ℕ
 with_marks is_read_only is_system name =
     slice_set (slice_set name 8 (with_bit is_read_only (slice_index name 8))) 9 (with_bit is_system (slice_index name 9))

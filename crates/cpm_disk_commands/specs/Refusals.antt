@@ -15,7 +15,8 @@ use Rattle.cpm_disk_commands.specs.Damage.{damage_of}
 use Rattle.cpm_disk_commands.specs.Names.{one_name}
 use Rattle.cpm_disk_commands.specs.declared.damage.NamedFile.{NamedFile}
 use Rattle.cpm_disk_commands.specs.declared.error.FilingError.{FilingError}
-use Rattle.cpm_disk_commands.specs.declared.error.FilingError.TheVariants.{NotName, NotPattern, NotPair, PutTwice, NotImage, Damaged, NoFile, NoHostName, Refused, OutputUnwritable, OutOfMemory}
+use Rattle.cpm_disk_commands.specs.declared.error.FilingError.TheVariants.{NotName, NotPattern, NotPair, PutTwice, NotImage, Damaged}
+use Rattle.cpm_disk_commands.specs.declared.error.FilingError.TheVariants.{NoFile, NoHostName, Refused, OutputUnwritable, OutOfMemory}
 
 -- the number of the code that the text begins with
 abbrev pub filing_status_of : FilingError → ℕ

@@ -7,8 +7,8 @@ ghost use Rattle.cpm_geom.specs.Geometry.{dpb_of};
 ghost use Rattle.cpm_disk_commands.specs.Damage.{damage_of, fault_entry, file_of, other_of};
 
 use cpm_directory::{DriveFault, entry};
-use cpm_volume::Entry;
 use cpm_geom::Image;
+use cpm_volume::Entry;
 use std::fmt;
 
 /// A file as a directory entry names it. Its text is `NAME.TYP of user N`.

@@ -3,7 +3,8 @@
 ghost use Rattle.std.specs.Prelude.{◌≡◌, ◌≤◌, ◌<◌, ◌++◌, ◌-◌, OnOk, decimal, length, replicate};
 ghost use Rattle.std.specs.List.{list_all};
 ghost use Rattle.cpm_geom.specs.Geometry.{dpb_of};
-ghost use Rattle.cpm_disk_commands.specs.Listing.{free_line, is_blank_byte, is_wanted, left_aligned, file_line, lines_of, read_only_of, right, visible, seen_name, seen_part, system_of, unit_of};
+ghost use Rattle.cpm_disk_commands.specs.Listing.{free_line, is_blank_byte, is_wanted, left_aligned, file_line, lines_of};
+ghost use Rattle.cpm_disk_commands.specs.Listing.{read_only_of, right, visible, seen_name, seen_part, system_of, unit_of};
 
 use cpm_geom::Format;
 use cpm_image_files::DiskFile;

@@ -2,7 +2,8 @@
 
 ghost use Rattle.std.specs.Prelude.{◌≡◌, ◌≤◌, ◌+◌, ◌==◌, ◌&&◌, length};
 ghost use Rattle.std.specs.List.{list_all, position, position_or_len};
-ghost use Rattle.cpm_disk_commands.specs.Names.{capital_letter, character_at, fields, has_parts, is_name_character, is_part, is_pattern_character, is_special, is_sized, one_name, name_part, pattern_text, star_of, type_part};
+ghost use Rattle.cpm_disk_commands.specs.Names.{capital_letter, character_at, fields, has_parts, is_name_character, is_part};
+ghost use Rattle.cpm_disk_commands.specs.Names.{is_pattern_character, is_special, is_sized, one_name, name_part, pattern_text, star_of, type_part};
 
 /// The name of one file: 1 to 8 characters and, behind a dot, up to 3. Letters become capitals, and blanks fill both parts up.
 /// None where the text is no such name.

@@ -64,7 +64,8 @@ made_file code drive fcb = record { code = code; drive = drive; fcb = fcb }
 unfoldable pub after_make : Drive → Fcb → ℕ → Option (List Entry × Extent) → MadeFile
 after_make drive fcb index None = made_file None drive fcb
 after_make drive fcb index (Some made) =
-    made_file (Some (directory_code index)) (drive_after drive (with_entry (volume_of drive.image drive.marks.reserved) index made.0)) (record fcb { extent = made.1 })
+    made_file (Some (directory_code index))
+    (drive_after drive (with_entry (volume_of drive.image drive.marks.reserved) index made.0)) (record fcb { extent = made.1 })
 
 -- the marks of a drive that is logged in
 abbrev pub logged_in_marks : Disk → Marks → Marks

@@ -28,7 +28,8 @@ volume_of disk reserved = record { entries = entries_of disk; reserved = reserve
 -- one entry of the directory, or one record, written to a disk
 unfoldable pub after_write : DiskWrite → Disk → Disk
 after_write (entry_put index e) disk =
-    with_sector disk (record_index disk.format (index / 4)) (record_with_entry (sector_at disk (record_index disk.format (index / 4))) (index % 4) (entry_bytes (dpb_of disk.format) e))
+    with_sector disk (record_index disk.format (index / 4))
+    (record_with_entry (sector_at disk (record_index disk.format (index / 4))) (index % 4) (entry_bytes (dpb_of disk.format) e))
 after_write (record_put n bytes) disk = with_sector disk (record_index disk.format n) bytes
 
 -- one after the other
@@ -39,7 +40,10 @@ after_writes (w ∷ ws) disk = after_writes ws (after_write w disk)
 -- own: a protected drive is never written
 unfoldable pub drive_after : Drive → Volume → Drive
 drive_after drive v =
-    record drive { image = if drive.marks.is_protected then drive.image else after_writes v.written drive.image; marks = record drive.marks { reserved = v.reserved } }
+    record drive {
+      image = if drive.marks.is_protected then drive.image else after_writes v.written drive.image;
+      marks = record drive.marks { reserved = v.reserved };
+    }
 
 -- what a call on a record of a file leaves: its answer, the drive, the file control block and the buffer of a record
 pub record Called : Type 0 where
@@ -59,4 +63,5 @@ buffer_after disk (Some n) buffer = slice_index_or (records_of disk) n []
 -- by the outcome on the drive's volume: what is written reaches the disk before a record is read
 unfoldable pub after_call : Drive → Fcb → List ℕ → Outcome → Called
 after_call drive fcb buffer o =
-    call_result o.answer (drive_after drive o.volume) (record fcb { extent = o.extent; current_record = o.current }) (buffer_after (drive_after drive o.volume).image o.read buffer)
+    call_result o.answer (drive_after drive o.volume) (record fcb { extent = o.extent; current_record = o.current })
+    (buffer_after (drive_after drive o.volume).image o.read buffer)

@@ -6,9 +6,11 @@ use Rattle.cpm_geom.specs.Geometry.{dpb_of}
 use Rattle.cpm_geom.specs.Disk.{Disk, IsDisk, record_count, records_of, sector_at}
 use Rattle.cpm_volume.specs.declared.extent.Extent.{Extent}
 use Rattle.cpm_volume.specs.declared.extent.Entry.{Entry}
-use Rattle.cpm_volume.specs.Files.{deleted, directory_records, file_record, open_file_record, Volume, DiskWrite, entry_put, record_put, first_free, IsVolume, IsSound, IsSoundDrive}
+use Rattle.cpm_volume.specs.Files.{deleted, directory_records, file_record, open_file_record, Volume, DiskWrite}
+use Rattle.cpm_volume.specs.Files.{entry_put, record_put, first_free, IsVolume, IsSound, IsSoundDrive}
 use Rattle.cpm_volume.specs.Encoding.{IsStorable, AreBytes}
-use Rattle.cpm_volume.specs.Operations.{Outcome, with_entry, closed, close_file_on_volume, make_file_on_volume, read_next_on_volume, read_random_on_volume, write_next_on_volume, write_random_on_volume, write_random_cleared_on_volume}
+use Rattle.cpm_volume.specs.Operations.{Outcome, with_entry, closed, close_file_on_volume, make_file_on_volume, read_next_on_volume}
+use Rattle.cpm_volume.specs.Operations.{read_random_on_volume, write_next_on_volume, write_random_on_volume, write_random_cleared_on_volume}
 use Rattle.cpm_volume.specs.Names.{named, erase_files_on_volume, rename_files_on_volume, set_attributes_on_volume}
 use Rattle.cpm_volume.specs.LogLaws.{logged_all}
 use Rattle.cpm_directory.specs.Directory.{entries_of}
@@ -81,15 +83,21 @@ pub record OutcomeReaches (drive : Drive) (o : Outcome) : Type 0 where
   pub disk : Reaches drive o.volume
   pub extent : IsOfBytes (dpb_of drive.image.format) o.extent
 
--- own: what a call on a file leaves of the drive's volume is what the disk holds then: a read, a close and a make on any drive, a write on one that agrees with the file control block
+-- own: what a call on a file leaves of the drive's volume is what the disk holds then:
+-- a read, a close and a make on any drive, a write on one that agrees with the file control block
 pub record CallsReach (drive : Drive) (d : Dpb) (v : Volume) (user : ℕ) (x : Extent) : Type 0 where
   pub sequential_read : (current : ℕ) → OutcomeReaches drive (read_next_on_volume d false v user x current)
   pub random_read : (current n : ℕ) → n < 65536 → OutcomeReaches drive (read_random_on_volume d false v user x current n)
-  pub sequential_write : (current : ℕ) (bytes : List ℕ) → user ≢ deleted → IsSound d v user x → AreBytes 128 bytes → OutcomeReaches drive (write_next_on_volume d v user x current bytes)
-  pub random_write : (current n : ℕ) (bytes : List ℕ) → user ≢ deleted → IsSound d v user x → n < 65536 → AreBytes 128 bytes → OutcomeReaches drive (write_random_on_volume d v user x current n bytes)
-  pub clearing_write : (current n : ℕ) (bytes : List ℕ) → user ≢ deleted → IsSound d v user x → n < 65536 → AreBytes 128 bytes → OutcomeReaches drive (write_random_cleared_on_volume d v user x current n bytes)
-  pub close : (index : ℕ) (after : List Entry) (x' : Extent) → close_file_on_volume d false v.entries user x ≡ closed index after x' → Reaches drive (with_entry v index after) × IsOfBytes d x'
-  pub make : (after : List Entry) (x' : Extent) → make_file_on_volume v.entries user x ≡ Some (after, x') → Reaches drive (with_entry v (first_free v.entries) after) × IsOfBytes d x'
+  pub sequential_write : (current : ℕ) (bytes : List ℕ) → user ≢ deleted → IsSound d v user x
+      → AreBytes 128 bytes → OutcomeReaches drive (write_next_on_volume d v user x current bytes)
+  pub random_write : (current n : ℕ) (bytes : List ℕ) → user ≢ deleted → IsSound d v user x → n < 65536
+      → AreBytes 128 bytes → OutcomeReaches drive (write_random_on_volume d v user x current n bytes)
+  pub clearing_write : (current n : ℕ) (bytes : List ℕ) → user ≢ deleted → IsSound d v user x → n < 65536
+      → AreBytes 128 bytes → OutcomeReaches drive (write_random_cleared_on_volume d v user x current n bytes)
+  pub close : (index : ℕ) (after : List Entry) (x' : Extent) → close_file_on_volume d false v.entries user x ≡ closed index after x'
+      → Reaches drive (with_entry v index after) × IsOfBytes d x'
+  pub make : (after : List Entry) (x' : Extent) → make_file_on_volume v.entries user x ≡ Some (after, x')
+      → Reaches drive (with_entry v (first_free v.entries) after) × IsOfBytes d x'
 
 -- own: so is what a call on all entries of a name leaves
 pub record NamedCallsReach (drive : Drive) (d : Dpb) (v : Volume) (user : ℕ) (pattern : List ℕ) : Type 0 where
@@ -101,7 +109,9 @@ pub record NamedCallsReach (drive : Drive) (d : Dpb) (v : Volume) (user : ℕ) (
 abbrev pub CallsLaw : Type 0
 CallsLaw =
     (drive : Drive) → IsWritable drive
-    → ((user : ℕ) (x : Extent) → user < 256 → IsOfBytes (dpb_of drive.image.format) x → CallsReach drive (dpb_of drive.image.format) (volume_of drive.image drive.marks.reserved) user x) × ((user : ℕ) (pattern : List ℕ) → NamedCallsReach drive (dpb_of drive.image.format) (volume_of drive.image drive.marks.reserved) user pattern)
+    → ((user : ℕ) (x : Extent) → user < 256 → IsOfBytes (dpb_of drive.image.format) x
+    → CallsReach drive (dpb_of drive.image.format) (volume_of drive.image drive.marks.reserved) user x)
+    × ((user : ℕ) (pattern : List ℕ) → NamedCallsReach drive (dpb_of drive.image.format) (volume_of drive.image drive.marks.reserved) user pattern)
 
 -- ---- the volume that a disk holds and the disk's own
 

@@ -49,7 +49,8 @@ record_ahead disk answer (Some n) = Ok (slice_index_or (records_of disk) n [])
 
 unfoldable pub ahead : Drive → ℕ → Fcb → Result (List ℕ) Answer
 ahead drive user fcb =
-    let o = read_next_on_volume (dpb_of drive.image.format) drive.marks.is_protected (volume_of drive.image drive.marks.reserved) user fcb.extent fcb.current_record in
+    let o = read_next_on_volume (dpb_of drive.image.format) drive.marks.is_protected
+    (volume_of drive.image drive.marks.reserved) user fcb.extent fcb.current_record in
     record_ahead drive.image o.answer o.read
 
 -- a drive of an image and marks that are lent

@@ -44,7 +44,8 @@ pub(crate) fn first_match(
 ) -> Option<u16>
     ensures { MatchOption result
         (length (entries_of image.now) ≤ first_match (dpb_of image.now.format) (entries_after (entries_of image.now) change) user name.now group)
-        (λ index. (index ≡ first_match (dpb_of image.now.format) (entries_after (entries_of image.now) change) user name.now group) × (index ≤ (dpb_of image.now.format).last_entry)) }
+        (λ index. (index ≡ first_match (dpb_of image.now.format) (entries_after (entries_of image.now) change) user name.now group)
+        × (index ≤ (dpb_of image.now.format).last_entry)) }
 {
     let dpb = image.format().dpb();
     let pattern = Pattern::Files {

@@ -12,8 +12,8 @@ ghost use Rattle.cpm_drive.specs.Judged.{close_of, change_of, IsEntryWithin, agr
 use crate::change::{Change, first_match};
 use crate::drive::{Drive, directory_code};
 use cpm_directory::LentImage;
-use cpm_volume::{Entry, Extent, Fault, Fcb};
 use cpm_geom::{Dpb, Image};
+use cpm_volume::{Entry, Extent, Fault, Fcb};
 
 /// What a close of an extent comes to.
 #[derive(Clone, Copy, PartialEq, Eq, Debug)]
@@ -64,7 +64,8 @@ impl Drive {
     /// entry is of the extent or a place has two different numbers. A block number above the last block is a fault, and
     /// so is a close that would change a protected drive.
     pub fn close_file(&mut self, user: u8, fcb: &mut Fcb) -> Result<Option<u8>, Fault>
-        ensures { closed_file result self.new fcb.new ≡ after_close self.old fcb.old (close_file_on_volume (dpb_of self.old.image.format) self.old.marks.is_protected (entries_of self.old.image) user fcb.old.extent) }
+        ensures { closed_file result self.new fcb.new ≡ after_close self.old fcb.old
+            (close_file_on_volume (dpb_of self.old.image.format) self.old.marks.is_protected (entries_of self.old.image) user fcb.old.extent) }
     {
         let closing = judge_close(
             &self.image.lent(),

@@ -102,7 +102,8 @@ impl Drive {
         requires { IsEntryWithin (dpb_of self.old.image.format) change }
         ensures drive { self.new ≡ drive_after self.old (with_change (volume_of self.old.image self.old.marks.reserved) change) }
         ensures format { self.new.image.format ≡ self.old.image.format }
-        ensures records { (n : ℕ) → directory_records (dpb_of self.old.image.format) ≤ n → slice_index_or (records_of self.new.image) n [] ≡ slice_index_or (records_of self.old.image) n [] }
+        ensures records { (n : ℕ) → directory_records (dpb_of self.old.image.format) ≤ n
+            → slice_index_or (records_of self.new.image) n [] ≡ slice_index_or (records_of self.old.image) n [] }
     {
         if let Some(change) = change {
             if !self.marks.is_protected {

@@ -3,7 +3,8 @@
 ghost use Rattle.std.specs.Prelude.{◌≡◌, ◌<◌, ◌≤◌, false, MatchOption, Ok, length};
 ghost use Rattle.std.specs.List.{list_any};
 ghost use Rattle.cpm_geom.specs.Geometry.{dpb_of};
-ghost use Rattle.cpm_volume.specs.Names.{first_named, protects, change_named, named_writes, renaming, with_attributes, erase_files_on_volume, rename_files_on_volume, set_attributes_on_volume};
+ghost use Rattle.cpm_volume.specs.Names.{first_named, protects, change_named, named_writes, renaming, with_attributes};
+ghost use Rattle.cpm_volume.specs.Names.{erase_files_on_volume, rename_files_on_volume, set_attributes_on_volume};
 ghost use Rattle.cpm_directory.specs.Directory.{entries_of};
 ghost use Rattle.cpm_drive.specs.Drive.{volume_of};
 ghost use Rattle.cpm_drive.specs.Named.{altered, after_named};
@@ -106,7 +107,8 @@ fn protects(user: u8, name: &[u8; 11], entry: &Entry) -> bool
 impl Drive {
     /// Changes each entry of a name.
     fn alter_files(&mut self, user: u8, name: &[u8; 11], alteration: &Alteration)
-        ensures { self.new ≡ drive_written self.old (named_writes user name.now 0 (entries_of self.old.image) (change_named user name.now (altered alteration.now) (entries_of self.old.image))) }
+        ensures { self.new ≡ drive_written self.old
+            (named_writes user name.now 0 (entries_of self.old.image) (change_named user name.now (altered alteration.now) (entries_of self.old.image))) }
     {
         for index in 0..self.image.format().dpb().last_entry + 1 {
             let entry = self.image.entry(index);
@@ -120,7 +122,8 @@ impl Drive {
     /// where no entry has the name; a read-only file among them is a fault, and nothing is erased.
     pub fn erase_files(&mut self, user: u8, name: &[u8; 11]) -> Result<Option<u8>, Fault>
         requires { self.old.marks.is_protected ≡ false }
-        ensures { (result, self.new) ≡ after_named self.old (erase_files_on_volume (dpb_of self.old.image.format) (volume_of self.old.image self.old.marks.reserved) user name.now) }
+        ensures { (result, self.new) ≡ after_named self.old
+            (erase_files_on_volume (dpb_of self.old.image.format) (volume_of self.old.image self.old.marks.reserved) user name.now) }
     {
         let image = self.image.lent();
         let Some(first) = first_named(&image, user, name) else {
@@ -143,7 +146,8 @@ impl Drive {
         new_name: &[u8; 11],
     ) -> Result<Option<u8>, Fault>
         requires { self.old.marks.is_protected ≡ false }
-        ensures { (result, self.new) ≡ after_named self.old (rename_files_on_volume (volume_of self.old.image self.old.marks.reserved) user old_name.now new_name.now) }
+        ensures { (result, self.new) ≡ after_named self.old
+            (rename_files_on_volume (volume_of self.old.image self.old.marks.reserved) user old_name.now new_name.now) }
     {
         let image = self.image.lent();
         let Some(first) = first_named(&image, user, old_name) else {

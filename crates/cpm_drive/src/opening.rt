@@ -16,7 +16,8 @@ use cpm_volume::{Entry, Extent, Fcb};
 
 /// OPEN FILE on an image that is lent: as `Drive::open_file`.
 pub fn open_file_lent(image: &LentImage<'_>, user: u8, fcb: &mut Fcb) -> Option<u8>
-    ensures { (result, fcb.new) ≡ after_open fcb.old (open_index (dpb_of image.now.format) (entries_of image.now) user fcb.old.extent) (open_file_on_volume (dpb_of image.now.format) (entries_of image.now) user fcb.old.extent) }
+    ensures { (result, fcb.new) ≡ after_open fcb.old (open_index (dpb_of image.now.format) (entries_of image.now) user fcb.old.extent)
+        (open_file_on_volume (dpb_of image.now.format) (entries_of image.now) user fcb.old.extent) }
 {
     let number = u16::from(fcb.extent.ex % 32);
     let group = group_of(&image.format().dpb(), number);
@@ -37,7 +38,8 @@ impl Drive {
     /// OPEN FILE: the file control block takes the extent of its EX, with S2 as 0. The directory code, or none where no
     /// entry is of the extent or the first has a lesser number.
     pub fn open_file(&self, user: u8, fcb: &mut Fcb) -> Option<u8>
-        ensures { (result, fcb.new) ≡ after_open fcb.old (open_index (dpb_of self.now.image.format) (entries_of self.now.image) user fcb.old.extent) (open_file_on_volume (dpb_of self.now.image.format) (entries_of self.now.image) user fcb.old.extent) }
+        ensures { (result, fcb.new) ≡ after_open fcb.old (open_index (dpb_of self.now.image.format) (entries_of self.now.image) user fcb.old.extent)
+            (open_file_on_volume (dpb_of self.now.image.format) (entries_of self.now.image) user fcb.old.extent) }
     {
         open_file_lent(&self.image.lent(), user, fcb)
     }
@@ -45,7 +47,8 @@ impl Drive {
     /// MAKE FILE: the first entry that is not in use and the file control block become a new extent of its EX, with S2
     /// as 0. The directory code, or none where no entry is free. A protected drive is not written.
     pub fn make_file(&mut self, user: u8, fcb: &mut Fcb) -> Option<u8>
-        ensures { made_file result self.new fcb.new ≡ after_make self.old fcb.old (first_free (entries_of self.old.image)) (make_file_on_volume (entries_of self.old.image) user fcb.old.extent) }
+        ensures { made_file result self.new fcb.new
+            ≡ after_make self.old fcb.old (first_free (entries_of self.old.image)) (make_file_on_volume (entries_of self.old.image) user fcb.old.extent) }
     {
         let number = u16::from(fcb.extent.ex % 32);
         match make_extent(&self.image.lent(), None, user, &fcb.extent, number) {
@@ -161,7 +164,8 @@ pub(crate) fn make_extent(
     number: u16,
 ) -> Option<Change>
     requires { number < 512 }
-    ensures value { make_of (entries_after (entries_of image.now) change) result ≡ make_extent (entries_after (entries_of image.now) change) user extent.now number }
+    ensures value { make_of (entries_after (entries_of image.now) change) result
+        ≡ make_extent (entries_after (entries_of image.now) change) user extent.now number }
     ensures within { IsEntryWithin (dpb_of image.now.format) result }
     ensures first { IfSome result (λ made_extent. made_extent.index ≡ first_free (entries_after (entries_of image.now) change)) }
 {

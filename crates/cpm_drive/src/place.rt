@@ -94,7 +94,9 @@ fn have_extent(
 ) -> Arrival
     requires number { sought.now.number < 512 }
     requires within { closed.index ≤ (dpb_of image.now.format).last_entry }
-    ensures place { place_of_arrival (volume_of image.now marks.now.reserved) result ≡ have_extent (dpb_of image.now.format) (purpose_of access) (with_change (volume_of image.now marks.now.reserved) (Some closed)) user extent.now (target_by sought.now) }
+    ensures place { place_of_arrival (volume_of image.now marks.now.reserved) result
+        ≡ have_extent (dpb_of image.now.format) (purpose_of access)
+        (with_change (volume_of image.now marks.now.reserved) (Some closed)) user extent.now (target_by sought.now) }
     ensures within { IsArrival (dpb_of image.now.format) result }
     ensures made { access ≡ Access.Read → result.made ≡ None }
     ensures current { IfOk result.current (λ here. here ≡ sought.now.current) }
@@ -132,7 +134,9 @@ fn cross(
     sought: &SoughtRecord,
 ) -> Arrival
     requires { sought.now.number < 512 }
-    ensures place { place_of_arrival (volume_of image.now marks.now.reserved) result ≡ cross (dpb_of image.now.format) (purpose_of access) marks.now.is_protected (volume_of image.now marks.now.reserved) user extent.now (target_by sought.now) }
+    ensures place { place_of_arrival (volume_of image.now marks.now.reserved) result
+        ≡ cross (dpb_of image.now.format) (purpose_of access) marks.now.is_protected
+        (volume_of image.now marks.now.reserved) user extent.now (target_by sought.now) }
     ensures within { IsArrival (dpb_of image.now.format) result }
     ensures made { access ≡ Access.Read → result.made ≡ None }
     ensures current { IfOk result.current (λ here. here ≡ sought.now.current) }
@@ -154,7 +158,9 @@ pub(crate) fn next_place(
     user: u8,
     fcb: &Fcb,
 ) -> Arrival
-    ensures place { place_of_arrival (volume_of image.now marks.now.reserved) result ≡ next_place (dpb_of image.now.format) (purpose_of access) marks.now.is_protected (volume_of image.now marks.now.reserved) user fcb.now.extent fcb.now.current_record }
+    ensures place { place_of_arrival (volume_of image.now marks.now.reserved) result
+        ≡ next_place (dpb_of image.now.format) (purpose_of access) marks.now.is_protected
+        (volume_of image.now marks.now.reserved) user fcb.now.extent fcb.now.current_record }
     ensures within { IsArrival (dpb_of image.now.format) result }
     ensures made { access ≡ Access.Read → result.made ≡ None }
     ensures current { IfOk result.current (λ here. here < 128) }
@@ -185,7 +191,9 @@ pub(crate) fn place_at(
     number: u16,
     missing: Answer,
 ) -> Arrival
-    ensures place { place_of_arrival (volume_of image.now marks.now.reserved) result ≡ place_at (dpb_of image.now.format) (purpose_of access) marks.now.is_protected (volume_of image.now marks.now.reserved) user extent.now (target_of missing number) }
+    ensures place { place_of_arrival (volume_of image.now marks.now.reserved) result
+        ≡ place_at (dpb_of image.now.format) (purpose_of access) marks.now.is_protected
+        (volume_of image.now marks.now.reserved) user extent.now (target_of missing number) }
     ensures within { IsArrival (dpb_of image.now.format) result }
     ensures made { access ≡ Access.Read → result.made ≡ None }
     ensures current { IfOk result.current (λ here. here < 128) }

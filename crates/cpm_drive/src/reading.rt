@@ -13,8 +13,8 @@ use crate::change::Change;
 use crate::drive::{Drive, Marks};
 use crate::place::{Access, Arrival, next_place, place_at};
 use cpm_directory::{LentImage, block_at};
-use cpm_volume::{Answer, Fault, Fcb};
 use cpm_geom::{Format, Image};
+use cpm_volume::{Answer, Fault, Fcb};
 
 /// What a read comes to before anything is written: the number of its record or what it answers without one, and the
 /// entry of the extent that it closed.
@@ -37,7 +37,8 @@ pub(crate) fn record_in_block(format: Format, block: u16, current: u8) -> u16
 /// Finds the record that a file control block stands at, which goes `step` records on.
 fn find_record(format: Format, fcb: &mut Fcb, step: u8) -> Result<u16, Answer>
     requires { fcb.old.current_record + step < 256 }
-    ensures value { (v : Volume) → record_found result fcb.new ≡ after_record fcb.old (get_record (dpb_of format) v fcb.old.extent fcb.old.current_record (fcb.old.current_record + step)) }
+    ensures value { (v : Volume) → record_found result fcb.new
+        ≡ after_record fcb.old (get_record (dpb_of format) v fcb.old.extent fcb.old.current_record (fcb.old.current_record + step)) }
     ensures there { IfOk result (λ number. IsRecord format number) }
 {
     if fcb.current_record >= fcb.extent.record_count {
@@ -59,7 +60,8 @@ fn find_record(format: Format, fcb: &mut Fcb, step: u8) -> Result<u16, Answer>
 fn find_arrived(format: Format, arrival: &Arrival, step: u8, fcb: &mut Fcb) -> Result<u16, Answer>
     requires step { step ≤ 1 }
     requires current { IfOk arrival.now.current (λ here. here < 128) }
-    ensures value { (v : Volume) → record_found result fcb.new ≡ after_record fcb.old (read_in (dpb_of format) fcb.old.current_record step (place_of_arrival v arrival.now)) }
+    ensures value { (v : Volume) → record_found result fcb.new
+        ≡ after_record fcb.old (read_in (dpb_of format) fcb.old.current_record step (place_of_arrival v arrival.now)) }
     ensures there { IfOk result (λ number. IsRecord format number) }
 {
     fcb.extent = arrival.extent;
@@ -89,8 +91,12 @@ fn take_record(image: &Image, found: Result<u16, Answer>, buffer: &mut [u8; 128]
 
 /// What READ SEQUENTIAL comes to. Nothing is written.
 fn judge_read_next(image: &LentImage<'_>, marks: &Marks, user: u8, fcb: &mut Fcb) -> Reading
-    ensures value { (buffer : List ℕ) → after_reading (lent_drive image.now marks.now) result fcb.new buffer ≡ after_call (lent_drive image.now marks.now) fcb.old buffer (read_next_on_volume (dpb_of image.now.format) marks.now.is_protected (volume_of image.now marks.now.reserved) user fcb.old.extent fcb.old.current_record) }
-    ensures record { record_found result.found fcb.new ≡ after_record fcb.old (read_next_on_volume (dpb_of image.now.format) marks.now.is_protected (volume_of image.now marks.now.reserved) user fcb.old.extent fcb.old.current_record) }
+    ensures value { (buffer : List ℕ) → after_reading (lent_drive image.now marks.now) result fcb.new buffer
+        ≡ after_call (lent_drive image.now marks.now) fcb.old buffer (read_next_on_volume (dpb_of image.now.format) marks.now.is_protected
+        (volume_of image.now marks.now.reserved) user fcb.old.extent fcb.old.current_record) }
+    ensures record { record_found result.found fcb.new
+        ≡ after_record fcb.old (read_next_on_volume (dpb_of image.now.format) marks.now.is_protected
+        (volume_of image.now marks.now.reserved) user fcb.old.extent fcb.old.current_record) }
     ensures within { IsEntryWithin (dpb_of image.now.format) result.closed }
     ensures there { IfOk result.found (λ number. IsRecord image.now.format number) }
 {
@@ -110,7 +116,9 @@ fn judge_read_random(
     number: u16,
     fcb: &mut Fcb,
 ) -> Reading
-    ensures value { (buffer : List ℕ) → after_reading (lent_drive image.now marks.now) result fcb.new buffer ≡ after_call (lent_drive image.now marks.now) fcb.old buffer (read_random_on_volume (dpb_of image.now.format) marks.now.is_protected (volume_of image.now marks.now.reserved) user fcb.old.extent fcb.old.current_record number) }
+    ensures value { (buffer : List ℕ) → after_reading (lent_drive image.now marks.now) result fcb.new buffer
+        ≡ after_call (lent_drive image.now marks.now) fcb.old buffer (read_random_on_volume (dpb_of image.now.format) marks.now.is_protected
+        (volume_of image.now marks.now.reserved) user fcb.old.extent fcb.old.current_record number) }
     ensures within { IsEntryWithin (dpb_of image.now.format) result.closed }
     ensures there { IfOk result.found (λ number. IsRecord image.now.format number) }
 {
@@ -157,7 +165,8 @@ pub fn read_next_protected(
     buffer: &mut [u8; 128],
 ) -> Answer
     requires { marks.now.is_protected ≡ true }
-    ensures value { call_result result (lent_drive image.now marks.now) fcb.new buffer.new ≡ after_call (lent_drive image.now marks.now) fcb.old buffer.old (read_next_on_volume (dpb_of image.now.format) true (volume_of image.now marks.now.reserved) user fcb.old.extent fcb.old.current_record) }
+    ensures value { call_result result (lent_drive image.now marks.now) fcb.new buffer.new ≡ after_call (lent_drive image.now marks.now) fcb.old buffer.old
+        (read_next_on_volume (dpb_of image.now.format) true (volume_of image.now marks.now.reserved) user fcb.old.extent fcb.old.current_record) }
     ensures file { GivesRecord (lent_drive image.now marks.now) user fcb.old (position fcb.old.extent fcb.old.current_record) result buffer.new }
 {
     let reading = judge_read_next(&LentImage::new(image), marks, user, fcb);
@@ -174,7 +183,8 @@ pub fn read_random_protected(
     buffer: &mut [u8; 128],
 ) -> Answer
     requires { marks.now.is_protected ≡ true }
-    ensures value { call_result result (lent_drive image.now marks.now) fcb.new buffer.new ≡ after_call (lent_drive image.now marks.now) fcb.old buffer.old (read_random_on_volume (dpb_of image.now.format) true (volume_of image.now marks.now.reserved) user fcb.old.extent fcb.old.current_record number) }
+    ensures value { call_result result (lent_drive image.now marks.now) fcb.new buffer.new ≡ after_call (lent_drive image.now marks.now) fcb.old buffer.old
+        (read_random_on_volume (dpb_of image.now.format) true (volume_of image.now marks.now.reserved) user fcb.old.extent fcb.old.current_record number) }
     ensures file { GivesRecord (lent_drive image.now marks.now) user fcb.old number result buffer.new }
 {
     let reading = judge_read_random(&LentImage::new(image), marks, user, number, fcb);
@@ -185,7 +195,9 @@ impl Drive {
     /// READ SEQUENTIAL: the record that is next in sequence, for which the extent may be closed and the next one opened.
     /// The answer says whether the buffer has it, as it is on the disk once the entry is closed.
     pub fn read_next(&mut self, user: u8, fcb: &mut Fcb, buffer: &mut [u8; 128]) -> Answer
-        ensures value { call_result result self.new fcb.new buffer.new ≡ after_call self.old fcb.old buffer.old (read_next_on_volume (dpb_of self.old.image.format) self.old.marks.is_protected (volume_of self.old.image self.old.marks.reserved) user fcb.old.extent fcb.old.current_record) }
+        ensures value { call_result result self.new fcb.new buffer.new
+            ≡ after_call self.old fcb.old buffer.old (read_next_on_volume (dpb_of self.old.image.format) self.old.marks.is_protected
+            (volume_of self.old.image self.old.marks.reserved) user fcb.old.extent fcb.old.current_record) }
         ensures file { GivesRecord self.old user fcb.old (position fcb.old.extent fcb.old.current_record) result buffer.new }
     {
         let reading = judge_read_next(&self.image.lent(), &self.marks, user, fcb);
@@ -202,7 +214,9 @@ impl Drive {
         fcb: &mut Fcb,
         buffer: &mut [u8; 128],
     ) -> Answer
-        ensures value { call_result result self.new fcb.new buffer.new ≡ after_call self.old fcb.old buffer.old (read_random_on_volume (dpb_of self.old.image.format) self.old.marks.is_protected (volume_of self.old.image self.old.marks.reserved) user fcb.old.extent fcb.old.current_record number) }
+        ensures value { call_result result self.new fcb.new buffer.new
+            ≡ after_call self.old fcb.old buffer.old (read_random_on_volume (dpb_of self.old.image.format) self.old.marks.is_protected
+            (volume_of self.old.image self.old.marks.reserved) user fcb.old.extent fcb.old.current_record number) }
         ensures file { GivesRecord self.old user fcb.old number result buffer.new }
     {
         let reading = judge_read_random(&self.image.lent(), &self.marks, user, number, fcb);

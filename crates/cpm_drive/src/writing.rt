@@ -3,7 +3,8 @@
 ghost use Rattle.std.specs.Prelude.{◌≡◌, ◌+◌, ◌<◌, ◌≤◌, IfOk, false, true, [], ◌∷◌};
 ghost use Rattle.cpm_geom.specs.Geometry.{dpb_of};
 ghost use Rattle.cpm_volume.specs.Files.{entry_place_of, record_put};
-ghost use Rattle.cpm_volume.specs.Operations.{writing, place_at, target_of, put_record, taken_writes, record_in_block, with_block, write_in, write_next_on_volume, write_random_on_volume, write_random_cleared_on_volume, counting};
+ghost use Rattle.cpm_volume.specs.Operations.{writing, place_at, target_of, put_record, taken_writes, record_in_block, with_block, write_in};
+ghost use Rattle.cpm_volume.specs.Operations.{write_next_on_volume, write_random_on_volume, write_random_cleared_on_volume, counting};
 ghost use Rattle.cpm_drive.specs.Drive.{volume_of, call_result, after_call};
 ghost use Rattle.cpm_drive.specs.Judged.{IsArrival, place_of_arrival};
 ghost use Rattle.cpm_drive.specs.Writes.{drive_written, stood_on};
@@ -12,8 +13,8 @@ use crate::drive::Drive;
 use crate::place::{Access, Arrival, next_place, place_at};
 use crate::reading::record_in_block;
 use cpm_directory::block_at;
-use cpm_volume::{Answer, Extent, Fault, Fcb};
 use cpm_geom::Format;
+use cpm_volume::{Answer, Extent, Fault, Fcb};
 
 /// The place of a record of an extent in its map.
 #[tactic(auto, unfolding(cpm_volume::specs::Files::place_of))]
@@ -57,7 +58,8 @@ impl Drive {
         requires block { block ≤ (dpb_of self.old.image.format).last_block }
         requires current { fcb.old.current_record < 128 }
         requires step { step ≤ 1 }
-        ensures drive { self.new ≡ drive_written self.old (record_put (record_in_block (dpb_of self.old.image.format) block fcb.old.current_record) bytes.now ∷ []) }
+        ensures drive { self.new ≡ drive_written self.old
+            (record_put (record_in_block (dpb_of self.old.image.format) block fcb.old.current_record) bytes.now ∷ []) }
         ensures fcb { fcb.new ≡ stood_on (counting fcb.old.extent fcb.old.current_record) (fcb.old.current_record + step) fcb.old }
     {
         let number = record_in_block(self.image.format(), block, fcb.current_record);
@@ -94,7 +96,9 @@ impl Drive {
         requires current { fcb.old.current_record < 128 }
         requires step { step ≤ 1 }
         requires writable { self.old.marks.is_protected ≡ false }
-        ensures { call_result result self.new fcb.new bytes.now ≡ after_call self.old fcb.old bytes.now (put_record (dpb_of self.old.image.format) clears (volume_of self.old.image self.old.marks.reserved) fcb.old.extent fcb.old.current_record (fcb.old.current_record + step) bytes.now) }
+        ensures { call_result result self.new fcb.new bytes.now
+            ≡ after_call self.old fcb.old bytes.now (put_record (dpb_of self.old.image.format) clears
+            (volume_of self.old.image self.old.marks.reserved) fcb.old.extent fcb.old.current_record (fcb.old.current_record + step) bytes.now) }
     {
         let format = self.image.format();
         let dpb = format.dpb();
@@ -130,7 +134,9 @@ impl Drive {
         requires step { step ≤ 1 }
         requires within { IsArrival (dpb_of self.old.image.format) arrival.now }
         requires writable { self.old.marks.is_protected ≡ false }
-        ensures { call_result result self.new fcb.new bytes.now ≡ after_call self.old fcb.old bytes.now (write_in (dpb_of self.old.image.format) clears fcb.old.current_record step bytes.now (place_of_arrival (volume_of self.old.image self.old.marks.reserved) arrival.now)) }
+        ensures { call_result result self.new fcb.new bytes.now
+            ≡ after_call self.old fcb.old bytes.now (write_in (dpb_of self.old.image.format) clears fcb.old.current_record step bytes.now
+            (place_of_arrival (volume_of self.old.image self.old.marks.reserved) arrival.now)) }
     {
         self.write_change(arrival.closed);
         self.write_change(arrival.made);
@@ -148,7 +154,9 @@ impl Drive {
     /// or made.
     pub fn write_next(&mut self, user: u8, fcb: &mut Fcb, bytes: &[u8; 128]) -> Answer
         requires { self.old.marks.is_protected ≡ false }
-        ensures { call_result result self.new fcb.new bytes.now ≡ after_call self.old fcb.old bytes.now (write_next_on_volume (dpb_of self.old.image.format) (volume_of self.old.image self.old.marks.reserved) user fcb.old.extent fcb.old.current_record bytes.now) }
+        ensures { call_result result self.new fcb.new bytes.now
+            ≡ after_call self.old fcb.old bytes.now (write_next_on_volume (dpb_of self.old.image.format)
+            (volume_of self.old.image self.old.marks.reserved) user fcb.old.extent fcb.old.current_record bytes.now) }
     {
         let arrival = next_place(&self.image.lent(), &self.marks, Access::Write, user, fcb);
         self.write_arrived(false, &arrival, 1, fcb, bytes)
@@ -164,7 +172,10 @@ impl Drive {
         bytes: &[u8; 128],
     ) -> Answer
         requires { self.old.marks.is_protected ≡ false }
-        ensures { call_result result self.new fcb.new bytes.now ≡ after_call self.old fcb.old bytes.now (write_in (dpb_of self.old.image.format) clears fcb.old.current_record 0 bytes.now (place_at (dpb_of self.old.image.format) writing false (volume_of self.old.image self.old.marks.reserved) user fcb.old.extent (target_of Answer.NoEntryFree number))) }
+        ensures { call_result result self.new fcb.new bytes.now
+            ≡ after_call self.old fcb.old bytes.now (write_in (dpb_of self.old.image.format) clears fcb.old.current_record 0 bytes.now
+            (place_at (dpb_of self.old.image.format) writing false
+            (volume_of self.old.image self.old.marks.reserved) user fcb.old.extent (target_of Answer.NoEntryFree number))) }
     {
         let arrival = place_at(
             &self.image.lent(),
@@ -188,7 +199,9 @@ impl Drive {
         bytes: &[u8; 128],
     ) -> Answer
         requires { self.old.marks.is_protected ≡ false }
-        ensures { call_result result self.new fcb.new bytes.now ≡ after_call self.old fcb.old bytes.now (write_random_on_volume (dpb_of self.old.image.format) (volume_of self.old.image self.old.marks.reserved) user fcb.old.extent fcb.old.current_record number bytes.now) }
+        ensures { call_result result self.new fcb.new bytes.now
+            ≡ after_call self.old fcb.old bytes.now (write_random_on_volume (dpb_of self.old.image.format)
+            (volume_of self.old.image self.old.marks.reserved) user fcb.old.extent fcb.old.current_record number bytes.now) }
     {
         self.write_numbered(false, user, number, fcb, bytes)
     }
@@ -203,7 +216,9 @@ impl Drive {
         bytes: &[u8; 128],
     ) -> Answer
         requires { self.old.marks.is_protected ≡ false }
-        ensures { call_result result self.new fcb.new bytes.now ≡ after_call self.old fcb.old bytes.now (write_random_cleared_on_volume (dpb_of self.old.image.format) (volume_of self.old.image self.old.marks.reserved) user fcb.old.extent fcb.old.current_record number bytes.now) }
+        ensures { call_result result self.new fcb.new bytes.now
+            ≡ after_call self.old fcb.old bytes.now (write_random_cleared_on_volume (dpb_of self.old.image.format)
+            (volume_of self.old.image self.old.marks.reserved) user fcb.old.extent fcb.old.current_record number bytes.now) }
     {
         self.write_numbered(true, user, number, fcb, bytes)
     }

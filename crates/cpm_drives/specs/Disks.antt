@@ -1,5 +1,6 @@
 -- The drives of a session.
-use Rattle.std.specs.Prelude.{ℕ, ◌==◌, ◌||◌, Bool, true, false, List, [], ◌∷◌, Option, Some, None, is_some, if◌then◌else◌, map, slice_get, slice_index_or, slice_set}
+use Rattle.std.specs.Prelude.{ℕ, ◌==◌, ◌||◌, Bool, true, false, List, [], ◌∷◌, Option, Some, None}
+use Rattle.std.specs.Prelude.{is_some, if◌then◌else◌, map, slice_get, slice_index_or, slice_set}
 use Rattle.cpm_geom.specs.Disk.{Disk}
 use Rattle.cpm_geom.specs.declared.format.Format.TheVariants.{Large}
 use Rattle.cpm_drive.specs.declared.drive.Drive.{Drive}

@@ -1,5 +1,6 @@
 -- The calls on files. Each is a call of its drive's.
--- CP/M 2.2 Operating System Manual, section 5.2, Operating System Call Conventions, functions 15, 16, 19 to 23, 30, 33 to 36 and 40; own: what the manual leaves open.
+-- CP/M 2.2 Operating System Manual, section 5.2, Operating System Call Conventions, functions 15, 16, 19 to 23, 30, 33 to 36 and 40;
+-- own: what the manual leaves open.
 use Rattle.std.specs.Prelude.{ℕ, ◌+◌, ◌*◌, ◌/◌, ◌%◌, ◌==◌, List, [], ◌∷◌, Option, Result, Ok, Err, if◌then◌else◌, slice_index, unwrap_or, is_some}
 use Rattle.cpm_geom.specs.Disk.{Disk}
 use Rattle.cpm_geom.specs.Geometry.{dpb_of}
@@ -18,7 +19,8 @@ use Rattle.cpm_drive.specs.Calls.{ClosedFile, after_close, after_open, open_inde
 use Rattle.cpm_drive.specs.Reads.{ahead, lent_drive}
 use Rattle.cpm_drives.specs.declared.disks.Disks.{Disks}
 use Rattle.cpm_drives.specs.Disks.{is_there, own_drive, drive_or}
-use Rattle.cpm_drives.specs.Calls.{code_of_answer, code_or_none, code_or_fault, OnDrive, on_drive, unless_protected, unless_read_only, FileCall, drive_named, on_named_drive}
+use Rattle.cpm_drives.specs.Calls.{code_of_answer, code_or_none, code_or_fault, OnDrive, on_drive}
+use Rattle.cpm_drives.specs.Calls.{unless_protected, unless_read_only, FileCall, drive_named, on_named_drive}
 
 -- ---- on a drive
 
@@ -28,7 +30,8 @@ by_open drive buffer o = on_drive (code_or_none o.0) drive o.1 buffer
 -- OPEN FILE
 unfoldable pub open_file_on : ℕ → Fcb → List ℕ → Drive → OnDrive
 open_file_on user fcb buffer drive =
-    by_open drive buffer (after_open fcb (open_index (dpb_of drive.image.format) (entries_of drive.image) user fcb.extent) (operations.open_file (dpb_of drive.image.format) (entries_of drive.image) user fcb.extent))
+    by_open drive buffer (after_open fcb (open_index (dpb_of drive.image.format) (entries_of drive.image) user fcb.extent)
+    (operations.open_file (dpb_of drive.image.format) (entries_of drive.image) user fcb.extent))
 
 abbrev pub by_close : List ℕ → ClosedFile → OnDrive
 by_close buffer c = on_drive (code_or_fault c.code) c.drive c.fcb buffer
@@ -36,7 +39,8 @@ by_close buffer c = on_drive (code_or_fault c.code) c.drive c.fcb buffer
 -- CLOSE FILE
 unfoldable pub close_file_on : ℕ → Fcb → List ℕ → Drive → OnDrive
 close_file_on user fcb buffer drive =
-    by_close buffer (after_close drive fcb (operations.close_file (dpb_of drive.image.format) drive.marks.is_protected (entries_of drive.image) user fcb.extent))
+    by_close buffer (after_close drive fcb
+    (operations.close_file (dpb_of drive.image.format) drive.marks.is_protected (entries_of drive.image) user fcb.extent))
 
 abbrev pub by_make : List ℕ → MadeFile → OnDrive
 by_make buffer m = on_drive (code_or_none m.code) m.drive m.fcb buffer
@@ -44,7 +48,8 @@ by_make buffer m = on_drive (code_or_none m.code) m.drive m.fcb buffer
 -- MAKE FILE
 unfoldable pub make_file_on : ℕ → Fcb → List ℕ → Drive → OnDrive
 make_file_on user fcb buffer drive =
-    unless_protected drive fcb buffer (by_make buffer (after_make drive fcb (first_free (entries_of drive.image)) (operations.make_file (entries_of drive.image) user fcb.extent)))
+    unless_protected drive fcb buffer
+    (by_make buffer (after_make drive fcb (first_free (entries_of drive.image)) (operations.make_file (entries_of drive.image) user fcb.extent)))
 
 -- a call on all entries of a name
 abbrev pub by_named : Drive → Fcb → List ℕ → NameOutcome → OnDrive
@@ -55,12 +60,14 @@ by_named drive fcb buffer (named first volume) = on_drive (Ok (first % 4)) (driv
 -- DELETE FILE
 unfoldable pub erase_files_on : ℕ → Fcb → List ℕ → Drive → OnDrive
 erase_files_on user fcb buffer drive =
-    unless_protected drive fcb buffer (by_named drive fcb buffer (names.erase_files (dpb_of drive.image.format) (volume_of drive.image drive.marks.reserved) user fcb.extent.name))
+    unless_protected drive fcb buffer
+    (by_named drive fcb buffer (names.erase_files (dpb_of drive.image.format) (volume_of drive.image drive.marks.reserved) user fcb.extent.name))
 
 -- RENAME FILE
 unfoldable pub rename_files_on : List ℕ → ℕ → Fcb → List ℕ → Drive → OnDrive
 rename_files_on new_name user fcb buffer drive =
-    unless_protected drive fcb buffer (by_named drive fcb buffer (names.rename_files (volume_of drive.image drive.marks.reserved) user fcb.extent.name new_name))
+    unless_protected drive fcb buffer
+    (by_named drive fcb buffer (names.rename_files (volume_of drive.image drive.marks.reserved) user fcb.extent.name new_name))
 
 -- SET FILE ATTRIBUTES
 unfoldable pub set_attributes_on : ℕ → Fcb → List ℕ → Drive → OnDrive
@@ -74,12 +81,14 @@ by_record c = on_drive (code_of_answer c.answer) c.drive c.fcb c.buffer
 -- READ SEQUENTIAL
 unfoldable pub read_next_on : ℕ → Fcb → List ℕ → Drive → OnDrive
 read_next_on user fcb buffer drive =
-    by_record (after_call drive fcb buffer (operations.read_next (dpb_of drive.image.format) drive.marks.is_protected (volume_of drive.image drive.marks.reserved) user fcb.extent fcb.current_record))
+    by_record (after_call drive fcb buffer (operations.read_next (dpb_of drive.image.format) drive.marks.is_protected
+    (volume_of drive.image drive.marks.reserved) user fcb.extent fcb.current_record))
 
 -- WRITE SEQUENTIAL
 unfoldable pub write_next_on : ℕ → Fcb → List ℕ → Drive → OnDrive
 write_next_on user fcb buffer drive =
-    unless_protected drive fcb buffer (unless_read_only drive fcb buffer (by_record (after_call drive fcb buffer (operations.write_next (dpb_of drive.image.format) (volume_of drive.image drive.marks.reserved) user fcb.extent fcb.current_record buffer))))
+    unless_protected drive fcb buffer (unless_read_only drive fcb buffer (by_record (after_call drive fcb buffer
+    (operations.write_next (dpb_of drive.image.format) (volume_of drive.image drive.marks.reserved) user fcb.extent fcb.current_record buffer))))
 
 -- the random record's number, of r0 and r1
 unfoldable pub random_number : Fcb → ℕ
@@ -92,17 +101,22 @@ unless_past drive fcb buffer call = if slice_index fcb.random_record 2 == 0 then
 -- READ RANDOM
 unfoldable pub read_random_on : ℕ → Fcb → List ℕ → Drive → OnDrive
 read_random_on user fcb buffer drive =
-    unless_past drive fcb buffer (by_record (after_call drive fcb buffer (operations.read_random (dpb_of drive.image.format) drive.marks.is_protected (volume_of drive.image drive.marks.reserved) user fcb.extent fcb.current_record (random_number fcb))))
+    unless_past drive fcb buffer (by_record (after_call drive fcb buffer (operations.read_random (dpb_of drive.image.format) drive.marks.is_protected
+    (volume_of drive.image drive.marks.reserved) user fcb.extent fcb.current_record (random_number fcb))))
 
 -- WRITE RANDOM
 unfoldable pub write_random_on : ℕ → Fcb → List ℕ → Drive → OnDrive
 write_random_on user fcb buffer drive =
-    unless_protected drive fcb buffer (unless_read_only drive fcb buffer (unless_past drive fcb buffer (by_record (after_call drive fcb buffer (operations.write_random (dpb_of drive.image.format) (volume_of drive.image drive.marks.reserved) user fcb.extent fcb.current_record (random_number fcb) buffer)))))
+    unless_protected drive fcb buffer (unless_read_only drive fcb buffer
+    (unless_past drive fcb buffer (by_record (after_call drive fcb buffer (operations.write_random (dpb_of drive.image.format)
+    (volume_of drive.image drive.marks.reserved) user fcb.extent fcb.current_record (random_number fcb) buffer)))))
 
 -- WRITE RANDOM WITH ZERO FILL
 unfoldable pub write_random_cleared_on : ℕ → Fcb → List ℕ → Drive → OnDrive
 write_random_cleared_on user fcb buffer drive =
-    unless_protected drive fcb buffer (unless_read_only drive fcb buffer (unless_past drive fcb buffer (by_record (after_call drive fcb buffer (operations.write_random_cleared (dpb_of drive.image.format) (volume_of drive.image drive.marks.reserved) user fcb.extent fcb.current_record (random_number fcb) buffer)))))
+    unless_protected drive fcb buffer (unless_read_only drive fcb buffer
+    (unless_past drive fcb buffer (by_record (after_call drive fcb buffer (operations.write_random_cleared (dpb_of drive.image.format)
+    (volume_of drive.image drive.marks.reserved) user fcb.extent fcb.current_record (random_number fcb) buffer)))))
 
 -- the random record of a number, low byte first
 unfoldable pub with_random : Fcb → ℕ → Fcb

@@ -8,13 +8,17 @@ use Rattle.cpm_volume.specs.declared.answer.Fault.{Fault}
 use Rattle.cpm_volume.specs.Encoding.{fcb_of, fcb_bytes}
 use Rattle.cpm_drives.specs.declared.disks.Disks.{Disks}
 use Rattle.cpm_drives.specs.declared.function.FileFunction.{FileFunction}
-use Rattle.cpm_drives.specs.declared.function.FileFunction.TheVariants.{OpenFile, CloseFile, SearchFirst, SearchNext, EraseFiles, ReadNext, WriteNext, MakeFile, RenameFiles, SetAttributes, ReadRandom, WriteRandom, ComputeSize, SetRandomRecord, WriteRandomCleared}
+use Rattle.cpm_drives.specs.declared.function.FileFunction.TheVariants.{OpenFile, CloseFile, SearchFirst, SearchNext, EraseFiles, ReadNext}
+use Rattle.cpm_drives.specs.declared.function.FileFunction.TheVariants.{WriteNext, MakeFile, RenameFiles, SetAttributes, ReadRandom}
+use Rattle.cpm_drives.specs.declared.function.FileFunction.TheVariants.{WriteRandom, ComputeSize, SetRandomRecord, WriteRandomCleared}
 use Rattle.cpm_drives.specs.Disks.{drive_at}
 use Rattle.cpm_drives.specs.Calls.{FileCall, drive_named}
-use Rattle.cpm_drives.specs.Files.{open_file, close_file, make_file, erase_files, rename_files, set_attributes, read_next, write_next, read_random, write_random, write_random_cleared, compute_size, set_random_record}
+use Rattle.cpm_drives.specs.Files.{open_file, close_file, make_file, erase_files, rename_files, set_attributes, read_next}
+use Rattle.cpm_drives.specs.Files.{write_next, read_random, write_random, write_random_cleared, compute_size, set_random_record}
 use Rattle.cpm_drives.specs.Search.{search_first, search_next}
 
--- CP/M 2.2 Operating System Manual, section 6.10, Disk Parameter Tables: the block numbers in a file control block are those of the drive that it names, bytes or words; own: where there is no such drive they are read as the system drive's, and stay as they are
+-- CP/M 2.2 Operating System Manual, section 6.10, Disk Parameter Tables: the block numbers in a file control block are those of the drive that it names,
+-- bytes or words; own: where there is no such drive they are read as the system drive's, and stay as they are
 unfoldable pub dpb_named : Disks → Disk → ℕ → Dpb
 dpb_named disks system dr = dpb_of (drive_at disks system (drive_named disks dr)).image.format
 

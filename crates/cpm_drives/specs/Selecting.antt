@@ -67,4 +67,5 @@ drives_reset disks vector =
 -- WRITE PROTECT DISK: the current drive; own: it isn't logged in by this
 unfoldable pub protect : Disks → Disk → Disks
 protect disks system =
-    with_drive disks disks.current (record (drive_at disks system disks.current) { marks = record (drive_at disks system disks.current).marks { is_protected = true } })
+    with_drive disks disks.current
+    (record (drive_at disks system disks.current) { marks = record (drive_at disks system disks.current).marks { is_protected = true } })

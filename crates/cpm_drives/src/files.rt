@@ -5,15 +5,16 @@ ghost use Rattle.std.specs.Prelude.{◌≡◌, ℕ, List, MatchResult, Ok, Err};
 ghost use Rattle.cpm_drive.specs.Reads.{ahead};
 ghost use Rattle.cpm_drive.specs.declared.drive.Drive.{Drive};
 ghost use Rattle.cpm_drives.specs.Calls.{OnDrive, file_call, on_named_drive, RefusesProtected, IsOwnPlace};
-ghost use Rattle.cpm_drives.specs.Files.{marked_drive, next_ahead, open_file, close_file, make_file, erase_files, rename_files, set_attributes, read_next, write_next, read_random, write_random, write_random_cleared, compute_size, set_random_record};
+ghost use Rattle.cpm_drives.specs.Files.{marked_drive, next_ahead, open_file, close_file, make_file, erase_files, rename_files, set_attributes};
+ghost use Rattle.cpm_drives.specs.Files.{read_next, write_next, read_random, write_random, write_random_cleared, compute_size, set_random_record};
 
 use crate::codes::{NONE, code_or_none, put_random};
 use crate::disks::{Disks, drive_in};
 use crate::{lent, own};
 use cpm_directory::LentImage;
 use cpm_drive::{compute_size, open_file_lent, peek_next};
-use cpm_volume::{Answer, Fault, Fcb};
 use cpm_geom::Image;
+use cpm_volume::{Answer, Fault, Fcb};
 
 impl Disks {
     /// OPEN FILE: a directory code, or FFh where there is no such file.
@@ -213,7 +214,8 @@ impl Disks {
     fn place_to_write(&mut self, system: &Image, fcb: &Fcb) -> Result<usize, Fault>
         ensures { MatchResult result
             (λ place. IsOwnPlace self.old self.new system.now fcb.now place)
-            (λ e. (call : Drive → OnDrive) (buffer : List ℕ) → RefusesProtected call fcb.now buffer → file_call (Err e) self.new fcb.now buffer ≡ on_named_drive call self.old system.now fcb.now buffer) }
+            (λ e. (call : Drive → OnDrive) (buffer : List ℕ) → RefusesProtected call fcb.now buffer
+            → file_call (Err e) self.new fcb.now buffer ≡ on_named_drive call self.old system.now fcb.now buffer) }
     {
         let number = self.use_named(system, fcb.drive)?;
         if !self.is_own(number) {

@@ -5,8 +5,8 @@ ghost use Rattle.cpm_drives.specs.Calls.{file_call};
 ghost use Rattle.cpm_drives.specs.Functions.{dpb_named, new_name, file_function, file_function_bytes, bytes_call};
 
 use crate::disks::Disks;
-use cpm_volume::{Fault, Fcb};
 use cpm_geom::{Dpb, Image};
+use cpm_volume::{Fault, Fcb};
 
 /// A function of the BDOS on a file control block.
 #[derive(Clone, Copy, Debug, PartialEq, Eq)]

@@ -7,12 +7,13 @@ ghost use Rattle.cpm_drives.specs.Files.{close_file_on, read_next_on, read_rando
 
 use crate::codes::{PAST_ANY_DISK, code_of, code_or_fault, random_number};
 use cpm_drive::{Marks, close_file_lent, read_next_protected, read_random_protected};
-use cpm_volume::{Fault, Fcb};
 use cpm_geom::Image;
+use cpm_volume::{Fault, Fcb};
 
 pub(crate) fn close_file(image: &Image, marks: &Marks, user: u8, fcb: &mut Fcb) -> Result<u8, Fault>
     requires { marks.now.is_protected ≡ true }
-    ensures { (buffer : List ℕ) → on_drive result (lent_drive image.now marks.now) fcb.new buffer ≡ close_file_on user fcb.old buffer (lent_drive image.now marks.now) }
+    ensures { (buffer : List ℕ) → on_drive result (lent_drive image.now marks.now) fcb.new buffer
+        ≡ close_file_on user fcb.old buffer (lent_drive image.now marks.now) }
 {
     code_or_fault(close_file_lent(image, user, fcb))
 }

@@ -3,7 +3,8 @@
 ghost use Rattle.std.specs.Prelude.{◌≡◌, ℕ, List, MatchResult, Ok, Err, true, false};
 ghost use Rattle.cpm_volume.specs.Names.{is_read_only};
 ghost use Rattle.cpm_drives.specs.Calls.{code_of_answer, code_or_none, code_or_fault, OnDrive, on_drive, unless_protected, unless_read_only};
-ghost use Rattle.cpm_drives.specs.Files.{close_file_on, make_file_on, erase_files_on, rename_files_on, set_attributes_on, read_next_on, write_next_on, random_number, read_random_on, write_random_on, write_random_cleared_on};
+ghost use Rattle.cpm_drives.specs.Files.{close_file_on, make_file_on, erase_files_on, rename_files_on, set_attributes_on, read_next_on};
+ghost use Rattle.cpm_drives.specs.Files.{write_next_on, random_number, read_random_on, write_random_on, write_random_cleared_on};
 
 use crate::codes::{PAST_ANY_DISK, code_of, code_or_fault, code_or_none, random_number};
 use cpm_drive::Drive;
@@ -131,7 +132,8 @@ fn may_write(drive: &Drive) -> Result<(), Fault>
 fn may_write_file(drive: &Drive, fcb: &Fcb) -> Result<(), Fault>
     ensures { MatchResult result
         (λ _. (drive.now.marks.is_protected ≡ false) × (is_read_only fcb.now.extent.name ≡ false))
-        (λ e. (buffer : List ℕ) (call : OnDrive) → on_drive (Err e) drive.now fcb.now buffer ≡ unless_protected drive.now fcb.now buffer (unless_read_only drive.now fcb.now buffer call)) }
+        (λ e. (buffer : List ℕ) (call : OnDrive)
+        → on_drive (Err e) drive.now fcb.now buffer ≡ unless_protected drive.now fcb.now buffer (unless_read_only drive.now fcb.now buffer call)) }
 {
     may_write(drive)?;
     if fcb.extent.is_read_only() {

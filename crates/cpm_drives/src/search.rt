@@ -9,8 +9,8 @@ use crate::codes::NONE;
 use crate::disks::Disks;
 use cpm_directory::Pattern;
 use cpm_drive::directory_code;
-use cpm_volume::{Fault, Fcb};
 use cpm_geom::{Dpb, Image};
+use cpm_volume::{Fault, Fcb};
 
 /// The place of a search, which goes on from there.
 #[derive(Clone, Copy, Debug, PartialEq, Eq)]

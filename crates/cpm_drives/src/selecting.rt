@@ -4,13 +4,14 @@ ghost use Rattle.std.specs.Prelude.{◌≡◌, true, false, IsTrue, MatchResult,
 ghost use Rattle.cpm_drive.specs.Reads.{lent_drive};
 ghost use Rattle.cpm_drives.specs.Calls.{drive_named};
 ghost use Rattle.cpm_drives.specs.Disks.{own_drive, is_there, drive_at};
-ghost use Rattle.cpm_drives.specs.Selecting.{ready, drive_in_use, select, choice, unmarked, drive_unmarked, has_drive_bit, reset_from, reset, rebooted_disks, drives_reset, protect};
+ghost use Rattle.cpm_drives.specs.Selecting.{ready, drive_in_use, select, choice, unmarked, drive_unmarked};
+ghost use Rattle.cpm_drives.specs.Selecting.{has_drive_bit, reset_from, reset, rebooted_disks, drives_reset, protect};
 
 use crate::disks::{Disks, drive_in, is_in};
 use cpm_directory::LentImage;
 use cpm_drive::{Drive, Marks};
-use cpm_volume::Fault;
 use cpm_geom::Image;
+use cpm_volume::Fault;
 
 /// The number of the system drive P.
 pub(crate) const SYSTEM: u8 = 15;

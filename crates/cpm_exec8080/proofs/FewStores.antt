@@ -7,15 +7,15 @@ use Rattle.cpm_flags.specs.declared.regs.Regs.{Regs}
 use Rattle.cpm_memory.specs.Contents.{Contents}
 use Rattle.cpm_decode.specs.declared.operation.Op.{Op}
 use Rattle.cpm_decode.specs.declared.operation.Op.TheVariants as op
-use Rattle.cpm_decode.specs.declared.operation.ByteOperand.{ByteOperand}
-use Rattle.cpm_decode.specs.declared.operation.ByteOperand.TheVariants as places
+use Rattle.cpm_decode.specs.declared.operation.Operand.{Operand}
+use Rattle.cpm_decode.specs.declared.operation.Operand.TheVariants as places
 use Rattle.cpm_decode.specs.declared.operation.Decoded.{Decoded}
 use Rattle.cpm_decode.specs.Rows8080.{decoded_at}
 use Rattle.cpm_exec8080.specs.Effect.{Effect}
 use Rattle.cpm_exec8080.specs.Operands.{place_stores, holds}
 use Rattle.cpm_exec8080.specs.Meaning8080.{meaning, shared_effect, effect_of_row, shared_step, step8080_of}
 
-pub few_places : (place : ByteOperand) (regs : Regs) (value : ℕ) → length (place_stores regs place value) ≤ 2
+pub few_places : (place : Operand) (regs : Regs) (value : ℕ) → length (place_stores regs place value) ≤ 2
 few_places places.B regs value = omega arith
 few_places places.C regs value = omega arith
 few_places places.D regs value = omega arith

@@ -4,7 +4,7 @@ ghost use Rattle.cpm_memory.specs.Contents.{Contents, after_sets};
 ghost use Rattle.cpm_memory.specs.Room.{HasRoom};
 ghost use Rattle.cpm_execz80.specs.Bits.{shifted, shifted_out, bit_mask, has_bit_at, bit_cleared, applied, is_test, meaning_bits};
 
-use cpm_decode::{BitOp, ByteOperand, Shift};
+use cpm_decode::{BitOp, Operand, Shift};
 use cpm_exec8080::operands::{read_place, write_place};
 use cpm_flags::{ByteResult, Flags, Regs, set_shift_flags, set_test_flags};
 use cpm_memory::Memory;
@@ -114,7 +114,7 @@ pub fn is_test_of_bit(op: BitOp) -> bool
 /// Does an operation of the prefix CBh with the byte in a register or at HL.
 /// Zilog Z80 CPU User Manual, "Rotate and Shift Group" and "Bit Set, Reset, and Test Group".
 #[inline(always)]
-pub fn perform_bits<M: Memory>(regs: &mut Regs, memory: &mut M, op: BitOp, place: ByteOperand)
+pub fn perform_bits<M: Memory>(regs: &mut Regs, memory: &mut M, op: BitOp, place: Operand)
     requires { HasRoom (M.contents memory.old) }
     ensures regs { regs.new ≡ (meaning_bits op place (M.contents memory.old) regs.old).regs }
     ensures memory { M.contents memory.new ≡ after_sets (M.contents memory.old) (meaning_bits op place (M.contents memory.old) regs.old).stores }

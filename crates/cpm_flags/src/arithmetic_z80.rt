@@ -1,6 +1,7 @@
 //! Sums and differences of words with the carry, and flags of single bytes, on the Zilog Z80, which are set in place.
 ghost use Rattle.std.specs.Prelude.{◌≡◌, ◌+◌, ◌<◌, ◌%◌, ◌+ℤ◌, pos};
-ghost use Rattle.cpm_flags.specs.ArithmeticZ80.{signed16, overflows16, add16_carry_of, difference16, sub16_overflows, sub16_borrow_of, byte_flags, shift_flags, test_flags};
+ghost use Rattle.cpm_flags.specs.ArithmeticZ80.{signed16, overflows16, add16_carry_of, difference16, sub16_overflows};
+ghost use Rattle.cpm_flags.specs.ArithmeticZ80.{sub16_borrow_of, byte_flags, shift_flags, test_flags};
 
 use crate::arithmetic::has_even_parity;
 use crate::regs::Flags;

@@ -8,7 +8,8 @@ use Rattle.cpm_geom.specs.declared.format.Format.TheVariants.{Ibm3740, Large}
 unfoldable pub format_of_length : ℕ → Option Format
 format_of_length n = if n == 256256 then Some Ibm3740 else (if n == 2105344 then Some Large else None)
 
--- CP/M 2.2 Operating System Manual, section 6.10, Disk Parameter Tables: the parameter block; own: these numbers, of the standard 8-inch single density disk and of this project's large disk
+-- CP/M 2.2 Operating System Manual, section 6.10, Disk Parameter Tables: the parameter block;
+-- own: these numbers, of the standard 8-inch single density disk and of this project's large disk
 unfoldable pub dpb_of : Format → Dpb
 dpb_of Ibm3740 =
     record {

@@ -7,7 +7,8 @@ use Rattle.cpm_geom.specs.Disk.{Disk, IsDisk, record_count, records_of, sector_a
 -- sectors lie in the image, no two at one place
 pub record AreSectors (f : Format) : Type 0 where
   pub within : (track sector : ℕ) → IsSector f track sector → sector_index f track sector < sector_count f
-  pub apart : (track sector track' sector' : ℕ) → IsSector f track sector → IsSector f track' sector' → sector_index f track sector ≡ sector_index f track' sector' → (track ≡ track') × (sector ≡ sector')
+  pub apart : (track sector track' sector' : ℕ) → IsSector f track sector → IsSector f track' sector'
+      → sector_index f track sector ≡ sector_index f track' sector' → (track ≡ track') × (sector ≡ sector')
 
 -- records are sectors, no two the same one; written, a record changes alone in the list of records
 pub record AreRecords (f : Format) : Type 0 where
@@ -19,7 +20,8 @@ pub record AreRecords (f : Format) : Type 0 where
 pub record IsListOfRecords (d : Disk) : Type 0 where
   pub size : length (records_of d) ≡ record_count d.format
   pub at : (n : ℕ) → IsRecord d.format n → slice_index_or (records_of d) n [] ≡ sector_at d (record_index d.format n)
-  pub written : (n : ℕ) (bytes : List ℕ) → IsDisk d → IsRecord d.format n → records_of (with_sector d (record_index d.format n) bytes) ≡ slice_set (records_of d) n bytes
+  pub written : (n : ℕ) (bytes : List ℕ) → IsDisk d → IsRecord d.format n
+      → records_of (with_sector d (record_index d.format n) bytes) ≡ slice_set (records_of d) n bytes
 
 abbrev pub RecordsLaw : Type 0
 RecordsLaw = ((f : Format) → AreSectors f) × ((f : Format) → AreRecords f) × ((d : Disk) → IsListOfRecords d)

@@ -1,7 +1,8 @@
 //! The formats of disk images, and where a record lies on a disk.
 
 ghost use Rattle.std.specs.Prelude.{◌≡◌, ◌<◌, ◌≤◌, ◌↔◌, IsTrue};
-ghost use Rattle.cpm_geom.specs.Geometry.{format_of_length, dpb_of, tracks_of, first_sector_of, sectors_per_track, sector_of, sector_count, sector_index, record_index, track_of, IsSector, IsRecord};
+ghost use Rattle.cpm_geom.specs.Geometry.{format_of_length, dpb_of, tracks_of, first_sector_of, sectors_per_track};
+ghost use Rattle.cpm_geom.specs.Geometry.{sector_of, sector_count, sector_index, record_index, track_of, IsSector, IsRecord};
 
 use crate::dpb::Dpb;
 

@@ -95,7 +95,8 @@ impl Image {
     /// The bytes of a sector, by its track and its number on it.
     pub fn sector(&self, track: u16, sector: u16) -> Result<&[u8], GeomError>
         ensures { MatchResult result
-            (λ bytes. IsSector self.now.format track sector × (bytes.now ≡ sector_at self.now (sector_index self.now.format track sector)) × (length bytes.now ≡ 128))
+            (λ bytes. IsSector self.now.format track sector
+            × (bytes.now ≡ sector_at self.now (sector_index self.now.format track sector)) × (length bytes.now ≡ 128))
             (λ e. ¬ IsSector self.now.format track sector × (e ≡ GeomError.NoSuchSector)) }
     {
         if self.format.has_sector(track, sector) {

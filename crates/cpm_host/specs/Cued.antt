@@ -60,7 +60,8 @@ IsForkedRefusal parent own at (RunRefused (FileRefused (read.Script shown line f
 IsForkedRefusal parent own at OutOfMemory = ⊤
 IsForkedRefusal parent own at _ = ⊥
 
--- A machine was played by a script that may wait: the keys that came are those that the script gives to the machine run alone; what it left is that of the machine run alone by these keys, for so many steps; it ended as a script has it end; and the keys as lines of a script are one that gives them again.
+-- A machine was played by a script that may wait: the keys that came are those that the script gives to the machine run alone; what it left is that of the
+-- machine run alone by these keys, for so many steps; it ended as a script has it end; and the keys as lines of a script are one that gives them again.
 pub record IsRehearsed (system : Disk) (start : MachineState) (steps : ℕ) (c : CuedKeys) (t : LiveResult) : Type 0 where
   pub within : t.steps ≤ steps
   pub keys : IsCued system start steps c.waits_from c.cues.now t.keys.items
@@ -72,13 +73,15 @@ pub record IsRehearsed (system : Disk) (start : MachineState) (steps : ℕ) (c :
   pub replays : script (recorded t.keys.items) ≡ Ok t.keys.items
 
 -- and what it showed, and its keys as lines of a script, went to two writers
-pub record IsPlayedCued (system : Disk) (start : MachineState) (steps : ℕ) (c : CuedKeys) (t : LiveResult) (before written unrecorded record_now : Option (List ℕ)) : Type 0 where
+pub record IsPlayedCued (system : Disk) (start : MachineState) (steps : ℕ) (c : CuedKeys) (t : LiveResult)
+    (before written unrecorded record_now : Option (List ℕ)) : Type 0 where
   pub rehearsed : IsRehearsed system start steps c t
   pub text : Appends before written (console_text (alone_by system t.keys.items t.steps start))
   pub lines : Appends unrecorded record_now (recorded t.keys.items)
 
 -- it was not played to its end, and this is told of it
-pub record IsCutCued (system : Disk) (start : MachineState) (steps : ℕ) (c : CuedKeys) (before written unrecorded record_now : Option (List ℕ)) (e : HostError) : Type 0 where
+pub record IsCutCued (system : Disk) (start : MachineState) (steps : ℕ) (c : CuedKeys)
+    (before written unrecorded record_now : Option (List ℕ)) (e : HostError) : Type 0 where
   pub error : LiveError
   pub told : e ≡ host_error_of_live error
   pub now : MachineState

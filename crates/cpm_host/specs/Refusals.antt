@@ -3,7 +3,10 @@ use Rattle.std.specs.Prelude.{⊤, ℕ}
 use Rattle.cpm_command_line.specs.declared.fault.UsageError.{UsageError}
 use Rattle.cpm_command_line.specs.declared.fault.UsageError.TheVariants as usage
 use Rattle.cpm_host.specs.declared.error.HostError.{HostError}
-use Rattle.cpm_host.specs.declared.error.HostError.TheVariants.{Usage, NotText, CheckRefused, DiskRefused, FileUnreadable, FileUnwritable, InputUnreadable, NoSession, NotAFolder, NotOpened, OutputUnwritable, SourceRefused, OutOfMemory, OpeningRefused, ProgramTooLong, RecordUnwritable, RunRefused, TailRefused}
+use Rattle.cpm_host.specs.declared.error.HostError.TheVariants.{Usage, NotText, CheckRefused, DiskRefused, FileUnreadable}
+use Rattle.cpm_host.specs.declared.error.HostError.TheVariants.{FileUnwritable, InputUnreadable, NoSession, NotAFolder, NotOpened}
+use Rattle.cpm_host.specs.declared.error.HostError.TheVariants.{OutputUnwritable, SourceRefused, OutOfMemory, OpeningRefused}
+use Rattle.cpm_host.specs.declared.error.HostError.TheVariants.{ProgramTooLong, RecordUnwritable, RunRefused, TailRefused}
 use Rattle.cpm_check.specs.Check.{check_status_of as status_of_check}
 use Rattle.cpm_check.specs.declared.error.CheckError.{CheckError}
 use Rattle.cpm_check.specs.declared.error.CheckError.TheVariants as check

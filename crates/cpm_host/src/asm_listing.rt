@@ -3,7 +3,8 @@ ghost use Rattle.std.specs.Prelude.{◌≡◌, ◌-◌, ◌++◌, ◌<◌, ◌�
 ghost use Rattle.std.specs.List.{position};
 ghost use Rattle.cpm_listing.specs.Digits.{hexadecimal, two_digits};
 ghost use Rattle.cpm_asm.specs.Placing.{bytes_at};
-ghost use Rattle.cpm_host.specs.AsmListing.{address_column, cells_at, cells_of, digits_of, front, further_rows, head, is_behind, later_places, left_after, line_text, listing, own_places, row_start};
+ghost use Rattle.cpm_host.specs.AsmListing.{address_column, cells_at, cells_of, digits_of, front, further_rows, head};
+ghost use Rattle.cpm_host.specs.AsmListing.{is_behind, later_places, left_after, line_text, listing, own_places, row_start};
 
 use cpm_asm::{Assembly, Placement, first_line, source_text};
 use std::alloc::{AllocError, Global};

@@ -5,7 +5,8 @@ ghost use Rattle.cpm_drives.specs.Disks.{images_of};
 ghost use Rattle.cpm_machine.specs.MachineState.{opened_with};
 ghost use Rattle.cpm_machine.specs.Opening.{program_fault, IsRefusal, most_program};
 ghost use Rattle.cpm_play.specs.Playing.{IsFresh};
-ghost use Rattle.cpm_host.specs.Com.{HasScript, IsComRefusal, IsScriptRefusal, IsScriptTold, IsProgramRefusal, drives_or_blank, ending_of, program_given, keys_given, machine_of, ran_alone, console_text, with_tail_if_any};
+ghost use Rattle.cpm_host.specs.Com.{HasScript, IsComRefusal, IsScriptRefusal, IsScriptTold, IsProgramRefusal, drives_or_blank};
+ghost use Rattle.cpm_host.specs.Com.{ending_of, program_given, keys_given, machine_of, ran_alone, console_text, with_tail_if_any};
 
 use crate::ending::Ending;
 use crate::error::HostError;
@@ -13,10 +14,12 @@ use cpm_batch::ReadError;
 use cpm_command_line::shown;
 use cpm_flags::Cpu;
 use cpm_geom::{Format, Image};
+use cpm_machine::{
+    Closed, MOST_DRIVES, MOST_PROGRAM, MOST_QUOTA, Machine, OpenError, Opening, Tail,
+};
+use cpm_play::{Watcher, play_machine};
 use cpm_run::RunError;
 use cpm_script::{Key, ScriptError, read_keys};
-use cpm_machine::{Closed, MOST_DRIVES, MOST_PROGRAM, MOST_QUOTA, Machine, OpenError, Opening, Tail};
-use cpm_play::{Watcher, play_machine};
 use std::alloc::Global;
 use std::io::Write;
 

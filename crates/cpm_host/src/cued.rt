@@ -7,18 +7,19 @@ ghost use Rattle.cpm_script.specs.Cues.{all_said, cues};
 ghost use Rattle.cpm_script.specs.declared.cue.Cue.TheVariants.{Key as Timed};
 ghost use Rattle.cpm_play.specs.Playing.{IsFresh};
 ghost use Rattle.cpm_host.specs.Com.{program_given, machine_of};
-ghost use Rattle.cpm_host.specs.Cued.{AreFit, AreForked, IsCueRefusal, IsCutCued, IsForkedRefusal, IsPlayedCued, IsRehearsalRefusal, IsRehearsed, IsWaitingRefusal};
+ghost use Rattle.cpm_host.specs.Cued.{AreFit, AreForked, IsCueRefusal, IsCutCued, IsForkedRefusal};
+ghost use Rattle.cpm_host.specs.Cued.{IsPlayedCued, IsRehearsalRefusal, IsRehearsed, IsWaitingRefusal};
 ghost use Rattle.cpm_host.specs.Live.{opened_live};
 ghost use Rattle.cpm_machine.specs.Opening.{most_program};
 
-use crate::com::{Script, ProgramStart, keys_of, left_of, machine_of, script_refused};
+use crate::com::{ProgramStart, Script, keys_of, left_of, machine_of, script_refused};
 use crate::error::HostError;
-use crate::live::{SessionStart, LiveResult, opening_refused};
+use crate::live::{LiveResult, SessionStart, opening_refused};
 use cpm_geom::{Format, Image};
-use cpm_script::laws::{cues_in_order, forked_cues_in_order, plain_scripts, recorded_keys};
-use cpm_script::{Cue, Key, keys_before, read_cues, read_forked_cues};
 use cpm_machine::Machine;
 use cpm_play::{CuedKeys, Live, Watcher, play_cues};
+use cpm_script::laws::{cues_in_order, forked_cues_in_order, plain_scripts, recorded_keys};
+use cpm_script::{Cue, Key, keys_before, read_cues, read_forked_cues};
 use std::alloc::{AllocError, Global};
 use std::io;
 use std::io::Write;
@@ -105,8 +106,10 @@ fn play_cued<W: Write, S: Write, T: Watcher>(
 ) -> Result<LiveResult, HostError>
     requires fresh { IsFresh machine }
     requires fit { AreFit cued.cues.now }
-    ensures played { IfOk result (λ t. IsPlayedCued system.now machine steps cued.entry t (W.contents out.old) (W.contents out.new) (S.contents «record».old) (S.contents «record».new)) }
-    ensures refusal { IfErr result (IsCutCued system.now machine steps cued.entry (W.contents out.old) (W.contents out.new) (S.contents «record».old) (S.contents «record».new)) }
+    ensures played { IfOk result (λ t. IsPlayedCued system.now machine steps cued.entry t
+        (W.contents out.old) (W.contents out.new) (S.contents «record».old) (S.contents «record».new)) }
+    ensures refusal { IfErr result (IsCutCued system.now machine steps cued.entry
+        (W.contents out.old) (W.contents out.new) (S.contents «record».old) (S.contents «record».new)) }
 {
     recorded_keys();
     let mut machine = machine;
@@ -129,9 +132,9 @@ fn play_cued<W: Write, S: Write, T: Watcher>(
     })
 }
 
-/// Runs a program on a machine of its own, with a blank system drive and a script that may wait, for at most `steps` steps. It writes what the program
-/// shows as it comes, and each key to `record` as a line of a key script. What it sends to its list device is dropped. The watcher is told on the way how far it
-/// has come.
+/// Runs a program on a machine of its own, with a blank system drive and a script that may wait, for at most `steps` steps.
+/// It writes what the program shows as it comes, and each key to `record` as a line of a key script. What it sends to its list device is dropped.
+/// The watcher is told on the way how far it has come.
 ///
 /// `ProgramTooLong`, `OpeningRefused` for more than four drives, and `OutOfMemory` for the machine come before anything is written.
 /// `OutputUnwritable` and `RecordUnwritable` have the errors of the two.
@@ -145,9 +148,11 @@ pub fn run_waiting<W: Write, S: Write, T: Watcher>(
     watcher: &mut T,
 ) -> Result<LiveResult, HostError>
     requires fit { AreFit cued.cues.now }
-    ensures played { IfOk result (λ t. IsPlayedCued (blank_disk Ibm3740) (machine_of (program_given start)) steps cued.entry t (W.contents out.old) (W.contents out.new) (S.contents «record».old) (S.contents «record».new)) }
+    ensures played { IfOk result (λ t. IsPlayedCued (blank_disk Ibm3740) (machine_of (program_given start)) steps cued.entry t
+        (W.contents out.old) (W.contents out.new) (S.contents «record».old) (S.contents «record».new)) }
     ensures fits { OnOk result ((length (program_given start).program ≤ most_program) × (length (program_given start).drives ≤ 4)) }
-    ensures refusal { IfErr result (IsWaitingRefusal (program_given start) steps cued.entry (W.contents out.old) (W.contents out.new) (S.contents «record».old) (S.contents «record».new)) }
+    ensures refusal { IfErr result (IsWaitingRefusal (program_given start) steps cued.entry
+        (W.contents out.old) (W.contents out.new) (S.contents «record».old) (S.contents «record».new)) }
 {
     let machine = machine_of(alloc, start)?;
     let system = Image::blank(alloc, Format::Ibm3740)?;

@@ -4,8 +4,8 @@ ghost use Rattle.cpm_host.specs.Com.{ending_of};
 ghost use Rattle.cpm_run.specs.Illegal.{illegal_of};
 
 use crate::at_pc::bytes_of_machine;
-use cpm_run::IllegalBytes;
 use cpm_machine::{End, Machine};
+use cpm_run::IllegalBytes;
 use std::fmt;
 
 /// How the run of a program ended, and where. Its text is `end END count N pc HHHH`.

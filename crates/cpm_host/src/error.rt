@@ -1,17 +1,18 @@
 //! Why a command is refused.
 ghost use Rattle.std.specs.Prelude.{◌≡◌};
 ghost use Rattle.cpm_host.specs.declared.error.HostError.TheVariants.{OutOfMemory};
-ghost use Rattle.cpm_host.specs.Refusals.{status_of, host_error_of, host_error_of_check, host_error_of_config, host_error_of_debug, host_error_of_filing, host_error_of_live, host_error_of_opening, host_error_of_run};
+ghost use Rattle.cpm_host.specs.Refusals.{status_of, host_error_of, host_error_of_check, host_error_of_config, host_error_of_debug};
+ghost use Rattle.cpm_host.specs.Refusals.{host_error_of_filing, host_error_of_live, host_error_of_opening, host_error_of_run};
 
 use cpm_asm::AsmErrorKind;
 use cpm_check::CheckError;
-use cpm_command_line::{UsageFault, UsageError, ShownWord};
+use cpm_command_line::{ShownWord, UsageError, UsageFault};
 use cpm_config::ConfigError;
 use cpm_debug::DebugError;
 use cpm_disk_commands::FilingError;
-use cpm_run::RunError;
 use cpm_machine::OpenError;
 use cpm_play::LiveError;
+use cpm_run::RunError;
 use std::alloc::{AllocError, AllocFailed};
 use std::{fmt, io};
 use thiserror::Error;

@@ -15,23 +15,24 @@ mod live;
 mod tail;
 
 pub use asm::{ProgramListing, run_asm, run_asm_listed};
-pub use com::{ProgramResult, Script, ProgramStart, run_com};
+pub use com::{ProgramResult, ProgramStart, Script, run_com};
 pub use cpm_batch::ReadError;
 pub use cpm_check::{CheckError, run_check};
 pub use cpm_command_line::{
-    ComTask, DiskTask, UsageFault, HELP_TEXT, RunTask, Task, UsageError, ShownWord, command, help, shown,
+    ComTask, DiskTask, HELP_TEXT, RunTask, ShownWord, Task, UsageError, UsageFault, command, help,
+    shown,
 };
 pub use cpm_config::{Config, ConfigError, Origin, SessionConfig};
 pub use cpm_debug::{DebugError, run_debug};
+pub use cpm_machine::{End, Opening, Tail};
+pub use cpm_play::{CuedKeys, Progress, Unwatched, Watcher};
 pub use cpm_run::{IllegalBytes, Report, RunError, SessionReport, judge_host, run_host};
 pub use cpm_script::{Cue, Key, LineFault, ScriptError, key_line, read_keys};
-pub use cpm_machine::{End, Opening, Tail};
 pub use cpm_store::{MemoryStore, Store, StoreError};
-pub use cpm_play::{CuedKeys, Progress, Unwatched, Watcher};
 pub use cued::{ForkedCues, cues_of, forked_cues_of, rehearse_session, run_waiting};
 pub use ending::Ending;
 pub use error::HostError;
 pub use input::{MOST_FILE, read_whole};
 pub use list::run_list;
-pub use live::{MOST_SCRIPT, SessionStart, LiveResult, run_live, type_session};
+pub use live::{LiveResult, MOST_SCRIPT, SessionStart, run_live, type_session};
 pub use tail::tail_of;

@@ -12,11 +12,11 @@ use crate::com::{ProgramResult, ProgramStart, left_of, machine_of};
 use crate::error::HostError;
 use cpm_command_line::shown;
 use cpm_geom::{Format, Image};
+use cpm_machine::{Machine, OpenError, Opening};
+use cpm_play::{Live, play_live};
 use cpm_run::RunError;
 use cpm_script::Key;
 use cpm_script::laws::recorded_keys;
-use cpm_machine::{Machine, OpenError, Opening};
-use cpm_play::{Live, play_live};
 use std::alloc::Global;
 use std::io::{Read, Write};
 
@@ -45,8 +45,10 @@ fn play_typed<I: Read, W: Write, S: Write>(
     record: &mut S,
 ) -> Result<LiveResult, HostError>
     requires { IsFresh machine }
-    ensures played { IfOk result (λ t. IsPlayedLive system.now machine steps most_keys t (streams (I.remaining input.old) (I.remaining input.new) (W.contents out.old) (W.contents out.new) (S.contents «record».old) (S.contents «record».new))) }
-    ensures refusal { IfErr result (IsLiveCut system.now machine steps most_keys (streams (I.remaining input.old) (I.remaining input.new) (W.contents out.old) (W.contents out.new) (S.contents «record».old) (S.contents «record».new))) }
+    ensures played { IfOk result (λ t. IsPlayedLive system.now machine steps most_keys t (streams (I.remaining input.old) (I.remaining input.new)
+        (W.contents out.old) (W.contents out.new) (S.contents «record».old) (S.contents «record».new))) }
+    ensures refusal { IfErr result (IsLiveCut system.now machine steps most_keys (streams (I.remaining input.old) (I.remaining input.new)
+        (W.contents out.old) (W.contents out.new) (S.contents «record».old) (S.contents «record».new))) }
 {
     recorded_keys();
     let mut machine = machine;
@@ -84,9 +86,12 @@ pub fn run_live<I: Read, W: Write, S: Write>(
     out: &mut W,
     record: &mut S,
 ) -> Result<LiveResult, HostError>
-    ensures played { IfOk result (λ t. IsPlayedLive (blank_disk Format.Ibm3740) (machine_of (program_given start)) steps most_keys t (streams (I.remaining input.old) (I.remaining input.new) (W.contents out.old) (W.contents out.new) (S.contents «record».old) (S.contents «record».new))) }
+    ensures played { IfOk result (λ t. IsPlayedLive (blank_disk Format.Ibm3740) (machine_of (program_given start)) steps most_keys t
+        (streams (I.remaining input.old) (I.remaining input.new) (W.contents out.old) (W.contents out.new)
+        (S.contents «record».old) (S.contents «record».new))) }
     ensures fits { OnOk result ((length (program_given start).program ≤ most_program) × (length (program_given start).drives ≤ 4)) }
-    ensures refusal { IfErr result (IsLiveRefusal (program_given start) steps most_keys (streams (I.remaining input.old) (I.remaining input.new) (W.contents out.old) (W.contents out.new) (S.contents «record».old) (S.contents «record».new))) }
+    ensures refusal { IfErr result (IsLiveRefusal (program_given start) steps most_keys (streams (I.remaining input.old) (I.remaining input.new)
+        (W.contents out.old) (W.contents out.new) (S.contents «record».old) (S.contents «record».new))) }
 {
     let machine = machine_of(alloc, start)?;
     let system = Image::blank(alloc, Format::Ibm3740)?;
@@ -128,8 +133,11 @@ pub fn type_session<I: Read, W: Write, S: Write>(
     out: &mut W,
     record: &mut S,
 ) -> Result<LiveResult, HostError>
-    ensures played { IfOk result (λ t. IsPlayedLive system.now (opened_live start.entry) start.entry.steps 4096 t (streams (I.remaining input.old) (I.remaining input.new) (W.contents out.old) (W.contents out.new) (S.contents «record».old) (S.contents «record».new))) }
-    ensures refusal { IfErr result (IsTypedRefusal system.now start.entry 4096 (streams (I.remaining input.old) (I.remaining input.new) (W.contents out.old) (W.contents out.new) (S.contents «record».old) (S.contents «record».new))) }
+    ensures played { IfOk result (λ t. IsPlayedLive system.now (opened_live start.entry) start.entry.steps 4096 t
+        (streams (I.remaining input.old) (I.remaining input.new) (W.contents out.old) (W.contents out.new)
+        (S.contents «record».old) (S.contents «record».new))) }
+    ensures refusal { IfErr result (IsTypedRefusal system.now start.entry 4096 (streams (I.remaining input.old) (I.remaining input.new)
+        (W.contents out.old) (W.contents out.new) (S.contents «record».old) (S.contents «record».new))) }
 {
     let SessionStart {
         name,

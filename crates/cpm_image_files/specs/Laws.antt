@@ -15,4 +15,5 @@ AppendingLaw =
     → ((m : ℕ) → position x current ≤ m → open_file_record d v.entries v.records user x m ≡ None)
     × (position x current < 65536
     → IsAppended d user name v (position x current) (write_next_on_volume d v user x current bytes)
-    ⊎ (LacksEntry d v (position x current) (write_next_on_volume d v user x current bytes) ⊎ LacksBlock d v (position x current) (write_next_on_volume d v user x current bytes)))
+    ⊎ (LacksEntry d v (position x current) (write_next_on_volume d v user x current bytes)
+    ⊎ LacksBlock d v (position x current) (write_next_on_volume d v user x current bytes)))

@@ -36,13 +36,15 @@ pub record IsListedFile (disk : Disk) (file : DiskFile) : Type 0 where
   pub name_is : file.name ≡ (entry_on disk (first_listed disk file)).extent.name
   pub records : HasRecords disk file.user file.name file.records
 
--- Each file of the list is on the disk, with its first entry before an index, and they are in the order of these; each entry in use before the index is of exactly one of them. (own)
+-- Each file of the list is on the disk, with its first entry before an index, and they are in the order of these;
+-- each entry in use before the index is of exactly one of them. (own)
 pub record AreListed (disk : Disk) (index : ℕ) (files : List DiskFile) : Type 0 where
   pub each : (k : ℕ) → k < length files → IsListedFile disk (listed_file_at files k)
   pub before : (k : ℕ) → k < length files → first_listed disk (listed_file_at files k) < index
   pub order : (j k : ℕ) → j < k → k < length files → first_listed disk (listed_file_at files j) < first_listed disk (listed_file_at files k)
   pub found : (i : ℕ) → i < index → InUse (entries_of disk) i → (k : ℕ) × (k < length files) × (lists (entry_on disk i) (listed_file_at files k) ≡ true)
-  pub once : (e : Entry) (j k : ℕ) → j < length files → k < length files → lists e (listed_file_at files j) ≡ true → lists e (listed_file_at files k) ≡ true → j ≡ k
+  pub once : (e : Entry) (j k : ℕ) → j < length files → k < length files
+      → lists e (listed_file_at files j) ≡ true → lists e (listed_file_at files k) ≡ true → j ≡ k
 
 -- The list of a sound disk: all its files, each once, in the order of their first entries; and how many blocks are free. (own)
 pub record IsListed (disk : Disk) (shelf : Shelf) : Type 0 where

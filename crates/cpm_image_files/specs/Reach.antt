@@ -23,7 +23,8 @@ pub record IsEnd (d : Dpb) (e : Entry) (end : ℕ) : Type 0 where
 -- Of a file's entries before an index one has a block for the last record before an end, and none has one for those from there on. (own)
 pub record IsEndBefore (d : Dpb) (es : List Entry) (user : ℕ) (name : List ℕ) (index end : ℕ) : Type 0 where
   pub small : end ≤ 65536
-  pub last : 0 < end → (i : ℕ) × (i < index) × (is_of_file user name (entry_at es i) ≡ true) × IsInGroup d (entry_at es i) (end - 1) × (entry_block d (entry_at es i) (end - 1) ≢ 0)
+  pub last : 0 < end → (i : ℕ) × (i < index) × (is_of_file user name (entry_at es i) ≡ true)
+      × IsInGroup d (entry_at es i) (end - 1) × (entry_block d (entry_at es i) (end - 1) ≢ 0)
   pub none : (i n : ℕ) → i < index → is_of_file user name (entry_at es i) ≡ true → IsInGroup d (entry_at es i) n → end ≤ n → entry_block d (entry_at es i) n ≡ 0
 
 -- the index of the entry of a file that has record n (own)

@@ -1,5 +1,6 @@
 -- The files on a disk, and what it is to put one there.
-use Rattle.std.specs.Prelude.{◌≡◌, ◌≢◌, ℕ, ◌+◌, ◌-◌, ◌*◌, ◌/◌, ◌<◌, Bool, true, false, not, ◌||◌, ◌==◌, nat_lt, if◌then◌else◌, List, ◌++◌, Option, Some, None, Err, length, take, drop, replicate, max, count_by}
+use Rattle.std.specs.Prelude.{◌≡◌, ◌≢◌, ℕ, ◌+◌, ◌-◌, ◌*◌, ◌/◌, ◌<◌, Bool, true, false, not, ◌||◌, ◌==◌, nat_lt, if◌then◌else◌}
+use Rattle.std.specs.Prelude.{List, ◌++◌, Option, Some, None, Err, length, take, drop, replicate, max, count_by}
 use Rattle.std.specs.List.{list_any}
 use Rattle.cpm_geom.specs.declared.dpb.Dpb.{Dpb}
 use Rattle.cpm_geom.specs.declared.format.Format.{Format}
@@ -102,7 +103,8 @@ pub record IsPut (old : Disk) (user : ℕ) (name bytes : List ℕ) (new : Disk) 
   pub others : KeepsOtherFiles user name old new
   pub sound : IsSoundDisk new
 
--- Why a file of so many records is not put on a disk: the fault of the first entry that has one; or the disk is sound, and this is the first reason against it; or there is none, but no memory. (own)
+-- Why a file of so many records is not put on a disk: the fault of the first entry that has one;
+-- or the disk is sound, and this is the first reason against it; or there is none, but no memory. (own)
 abbrev pub IsPutRefusal : Disk → ℕ → List ℕ → ℕ → ShelfError → Type 0
 IsPutRefusal old user name records (Damaged fault) = IsChecked (dpb_of old.format) (entries_of old) (Err fault)
 IsPutRefusal old user name records (Refused refusal) =

@@ -5,7 +5,8 @@ use Rattle.cpm_geom.specs.Geometry.{dpb_of}
 use Rattle.cpm_geom.specs.Disk.{Disk, sector_at}
 use Rattle.cpm_volume.specs.declared.extent.Entry.{Entry}
 use Rattle.cpm_volume.specs.Files.{deleted, same_name, InUse, Volume}
-use Rattle.cpm_volume.specs.Names.{is_named, first_named, protects, with_attributes, NameOutcome, none_named, file_read_only, named, erase_files_on_volume, rename_files_on_volume}
+use Rattle.cpm_volume.specs.Names.{is_named, first_named, protects, with_attributes, NameOutcome, none_named}
+use Rattle.cpm_volume.specs.Names.{file_read_only, named, erase_files_on_volume, rename_files_on_volume}
 use Rattle.cpm_directory.specs.Directory.{entries_of}
 use Rattle.cpm_directory.specs.Login.{reserved_at_login}
 use Rattle.cpm_directory.specs.WellFormed.{IsChecked}
@@ -118,7 +119,8 @@ kept_name disk user name new_name = with_attributes new_name (first_entry disk u
 abbrev pub IsFreeName : Disk → ℕ → List ℕ → List ℕ → Type 0
 IsFreeName disk user name new_name = (same_name name new_name ≡ true) ⊎ IsAbsent disk user new_name
 
--- A disk once a file got another name of its user: it is what the call leaves; the file has the name, with the attributes of its first entry, and record for record what it had; each other is as it was, and so is the system; no entry has a fault. (own)
+-- A disk once a file got another name of its user: it is what the call leaves; the file has the name, with the attributes of its first entry,
+-- and record for record what it had; each other is as it was, and so is the system; no entry has a fault. (own)
 -- The call: CP/M 2.2 Operating System Manual, section 5.2, RENAME FILE
 pub record IsRenamed (old : Disk) (user : ℕ) (name new_name : List ℕ) (new : Disk) : Type 0 where
   pub sound_before : IsSoundDisk old

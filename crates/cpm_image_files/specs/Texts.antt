@@ -25,7 +25,8 @@ unfoldable pub begins_with_line_feed : List ℕ → Bool
 begins_with_line_feed [] = false
 begins_with_line_feed (b ∷ bs) = b == line_feed
 
--- CP/M 2.2 Operating System Manual, section 5.2, Operating System Call Conventions: the end of an ASCII file is a control-Z; a carriage return before a line feed is left out (own)
+-- CP/M 2.2 Operating System Manual, section 5.2, Operating System Call Conventions: the end of an ASCII file is a control-Z;
+-- a carriage return before a line feed is left out (own)
 unfoldable pub from_text : List ℕ → List ℕ
 from_text [] = []
 from_text (b ∷ bs) =

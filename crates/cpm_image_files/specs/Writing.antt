@@ -56,6 +56,7 @@ pub record IsWriting (old : Disk) (user : ℕ) (name bytes : List ℕ) (count : 
   pub sound : IsSound (dpb_of old.format) (volume_of drive.image drive.marks.reserved) user fcb.extent
   pub appending : IsAppending (dpb_of old.format) user name (volume_of drive.image drive.marks.reserved) fcb.extent fcb.current_record
   pub count_is : position fcb.extent fcb.current_record ≡ count
-  pub records : (m : ℕ) → m < count → open_file_record (dpb_of old.format) (entries_of drive.image) (records_of drive.image) user fcb.extent m ≡ record_of_bytes bytes m
+  pub records : (m : ℕ) → m < count
+      → open_file_record (dpb_of old.format) (entries_of drive.image) (records_of drive.image) user fcb.extent m ≡ record_of_bytes bytes m
   pub entries_left : unused (entries_of drive.image) + entries_for (dpb_of old.format) count ≡ free_entries user name (entries_of old)
   pub blocks_left : unreserved drive.marks.reserved + blocks_for (dpb_of old.format) count ≡ free_blocks (dpb_of old.format) user name (entries_of old)

@@ -16,8 +16,8 @@ use crate::records::{is_of_file, record_count};
 use crate::refusal::ShelfError;
 use cpm_directory::directory::DELETED;
 use cpm_directory::{LentImage, login, well_formed};
-use cpm_volume::Entry;
 use cpm_geom::Image;
+use cpm_volume::Entry;
 use std::alloc::{AllocError, Global};
 
 /// A file of a disk.

@@ -12,8 +12,8 @@ use crate::name::FileName;
 use crate::refusal::FileRefusal;
 use cpm_directory::directory::DELETED;
 use cpm_directory::{LentImage, Reserved, is_named, login, without_files};
-use cpm_volume::Entry;
 use cpm_geom::Dpb;
+use cpm_volume::Entry;
 
 /// The bytes of a record.
 pub(crate) const RECORD_SIZE: usize = 128;
@@ -33,7 +33,11 @@ pub(crate) fn records_for(bytes: &[u8]) -> usize
 
 /// Why a file of so many records is not put on a disk: the first reason that there is.
 #[tactic(auto, unfolding(crate::specs::Shelf::refusal_of))]
-pub(crate) fn file_refusal_of(image: &LentImage<'_>, file: &FileName, records: usize) -> Option<FileRefusal>
+pub(crate) fn file_refusal_of(
+    image: &LentImage<'_>,
+    file: &FileName,
+    records: usize,
+) -> Option<FileRefusal>
     requires { records < 2 ^ 60 }
     ensures whole { IsDisk image.now }
     ensures value { result ≡ file_refusal_of (dpb_of image.now.format) (entries_of image.now) file.now.user file.now.name records }

@@ -12,12 +12,12 @@ ghost use Rattle.cpm_image_files.specs.Writing.{HasRoomForFile, IsWriting, new_f
 
 use crate::copies::of_bytes;
 use crate::name::FileName;
-use crate::needs::{RECORD_SIZE, records_for, file_refusal_of};
+use crate::needs::{RECORD_SIZE, file_refusal_of, records_for};
 use crate::refusal::ShelfError;
 use cpm_directory::{LentImage, well_formed};
 use cpm_drive::Drive;
-use cpm_volume::{Answer, Extent, Fcb};
 use cpm_geom::Image;
+use cpm_volume::{Answer, Extent, Fcb};
 use std::alloc::Global;
 
 /// What the last record of a file is filled up with.

@@ -13,8 +13,8 @@ ghost use Rattle.cpm_image_files.specs.Taken.{HasRecords, taken_record};
 
 use crate::name::FileName;
 use cpm_directory::{LentImage, is_named};
-use cpm_volume::Entry;
 use cpm_geom::Format;
+use cpm_volume::Entry;
 
 /// The records of an extent.
 const EXTENT_RECORDS: u32 = 128;
@@ -149,7 +149,8 @@ fn drive_record(format: Format, block: u16, number: u32) -> u16
 /// A record of a file as it is taken off a disk, by the entry of its group: zeros where it has no block.
 pub(crate) fn record_by(image: &LentImage<'_>, entry: Option<Entry>, number: u32) -> [u8; 128]
     requires { IfSome entry (λ entry. IsOnDrive (dpb_of image.now.format) entry) }
-    ensures value { result ≡ taken_record (record_in (dpb_of image.now.format) (records_of image.now) (block_by (dpb_of image.now.format) entry number) number) }
+    ensures value { result ≡ taken_record
+        (record_in (dpb_of image.now.format) (records_of image.now) (block_by (dpb_of image.now.format) entry number) number) }
     ensures size { length result ≡ 128 }
 {
     match entry {

@@ -21,7 +21,8 @@ length_z80 bytes = length_of_row (row_at bytes)
 
 -- the bytes that have this row, from a list that begins with them, in eleven places; where none fits, DB of the first byte
 abbrev pub listed_row_z80 : ℕ → List ℕ → Option DecodedZ80 → List ℕ
-listed_row_z80 address bytes (Some d) = listing_line 11 address (take d.length bytes) (statement (mnemonic_z80 d.op) (operands_z80 ((address + d.length) % 0x10000) d.op))
+listed_row_z80 address bytes (Some d) =
+    listing_line 11 address (take d.length bytes) (statement (mnemonic_z80 d.op) (operands_z80 ((address + d.length) % 0x10000) d.op))
 listed_row_z80 address bytes None = listing_line 11 address (take 1 bytes) (statement (codes "DB") (byte_number (slice_index bytes 0)))
 
 -- the instruction that begins four bytes at an address

@@ -3,10 +3,10 @@
 use Rattle.std.specs.Prelude.{ℕ, List, ◌++◌, codes}
 use Rattle.cpm_decode.specs.declared.operation.Op.{Op}
 use Rattle.cpm_decode.specs.declared.operation.Op.TheVariants as op
-use Rattle.cpm_decode.specs.declared.operation.ByteOperand.{ByteOperand}
-use Rattle.cpm_decode.specs.declared.operation.ByteOperand.TheVariants as place
-use Rattle.cpm_decode.specs.declared.operation.WordOperand.{WordOperand}
-use Rattle.cpm_decode.specs.declared.operation.WordOperand.TheVariants as pair
+use Rattle.cpm_decode.specs.declared.operation.Operand.{Operand}
+use Rattle.cpm_decode.specs.declared.operation.Operand.TheVariants as place
+use Rattle.cpm_decode.specs.declared.operation.Pair.{Pair}
+use Rattle.cpm_decode.specs.declared.operation.Pair.TheVariants as pair
 use Rattle.cpm_decode.specs.declared.operation.StackPair.{StackPair}
 use Rattle.cpm_decode.specs.declared.operation.StackPair.TheVariants as stack_pair
 use Rattle.cpm_decode.specs.declared.operation.Condition.{Condition}
@@ -18,7 +18,7 @@ use Rattle.cpm_decode.specs.declared.operation.Rotation.TheVariants as rotation
 
 -- a register, or M for the byte at HL
 -- Intel 8080 Assembly Language Programming Manual, "Data Transfer Instructions"
-unfoldable pub place_name : ByteOperand → List ℕ
+unfoldable pub place_name : Operand → List ℕ
 place_name place.B = codes "B"
 place_name place.C = codes "C"
 place_name place.D = codes "D"
@@ -30,7 +30,7 @@ place_name place.A = codes "A"
 
 -- a pair by its first register
 -- Intel 8080 Assembly Language Programming Manual, "Register Pair Instructions"
-unfoldable pub pair_name : WordOperand → List ℕ
+unfoldable pub pair_name : Pair → List ℕ
 pair_name pair.Bc = codes "B"
 pair_name pair.De = codes "D"
 pair_name pair.Hl = codes "H"

@@ -3,10 +3,10 @@
 use Rattle.std.specs.Prelude.{ℕ, List, codes}
 use Rattle.cpm_decode.specs.declared.operation.Op.{Op}
 use Rattle.cpm_decode.specs.declared.operation.Op.TheVariants as op
-use Rattle.cpm_decode.specs.declared.operation.ByteOperand.{ByteOperand}
-use Rattle.cpm_decode.specs.declared.operation.ByteOperand.TheVariants as place
-use Rattle.cpm_decode.specs.declared.operation.WordOperand.{WordOperand}
-use Rattle.cpm_decode.specs.declared.operation.WordOperand.TheVariants as pair
+use Rattle.cpm_decode.specs.declared.operation.Operand.{Operand}
+use Rattle.cpm_decode.specs.declared.operation.Operand.TheVariants as place
+use Rattle.cpm_decode.specs.declared.operation.Pair.{Pair}
+use Rattle.cpm_decode.specs.declared.operation.Pair.TheVariants as pair
 use Rattle.cpm_decode.specs.declared.operation.StackPair.{StackPair}
 use Rattle.cpm_decode.specs.declared.operation.StackPair.TheVariants as stack_pair
 use Rattle.cpm_decode.specs.declared.operation.Arithmetic.{Arithmetic}
@@ -32,7 +32,7 @@ use Rattle.cpm_decode.specs.declared.operation_z80.OpZ80.TheVariants as op_z80
 
 -- a register, or the byte at HL
 -- Zilog Z80 CPU User Manual, "LD r, r'" and "LD r, (HL)"
-unfoldable pub place_name_z80 : ByteOperand → List ℕ
+unfoldable pub place_name_z80 : Operand → List ℕ
 place_name_z80 place.B = codes "B"
 place_name_z80 place.C = codes "C"
 place_name_z80 place.D = codes "D"
@@ -50,7 +50,7 @@ index_name index.Iy = codes "IY"
 
 -- a pair, with this one for HL
 -- Zilog Z80 CPU User Manual, "LD dd, nn", "ADD IX, pp" and "ADD IY, rr"
-unfoldable pub pair_name_z80 : List ℕ → WordOperand → List ℕ
+unfoldable pub pair_name_z80 : List ℕ → Pair → List ℕ
 pair_name_z80 hl pair.Bc = codes "BC"
 pair_name_z80 hl pair.De = codes "DE"
 pair_name_z80 hl pair.Hl = hl

@@ -1,38 +1,39 @@
 //! How the operations of the 8080 and their operands are called.
 ghost use Rattle.std.specs.Prelude.{◌≡◌, ◌≤◌, length};
-ghost use Rattle.cpm_listing.specs.Mnemonics.{place_name, pair_name, stack_pair_name, arithmetic_name, immediate_name, rotation_name, jump_name, call_name, return_name, mnemonic_of};
+ghost use Rattle.cpm_listing.specs.Mnemonics.{place_name, pair_name, stack_pair_name, arithmetic_name, immediate_name};
+ghost use Rattle.cpm_listing.specs.Mnemonics.{rotation_name, jump_name, call_name, return_name, mnemonic_of};
 
-use cpm_decode::{Arithmetic, Condition, Op, WordOperand, ByteOperand, Rotation, StackPair};
+use cpm_decode::{Arithmetic, Condition, Op, Operand, Pair, Rotation, StackPair};
 
 /// The name of a register, or M for the byte at HL.
 #[tactic(auto, unfolding(crate::specs::Mnemonics::place_name))]
-pub(crate) fn place_name(place: ByteOperand) -> &'static str
+pub(crate) fn place_name(place: Operand) -> &'static str
     ensures text { result.now ≡ place_name place }
     ensures short { length result.now ≤ 1 }
 {
     match place {
-        ByteOperand::B => "B",
-        ByteOperand::C => "C",
-        ByteOperand::D => "D",
-        ByteOperand::E => "E",
-        ByteOperand::H => "H",
-        ByteOperand::L => "L",
-        ByteOperand::AtHl => "M",
-        ByteOperand::A => "A",
+        Operand::B => "B",
+        Operand::C => "C",
+        Operand::D => "D",
+        Operand::E => "E",
+        Operand::H => "H",
+        Operand::L => "L",
+        Operand::AtHl => "M",
+        Operand::A => "A",
     }
 }
 
 /// The name of a pair, which is that of its first register.
 #[tactic(auto, unfolding(crate::specs::Mnemonics::pair_name))]
-pub(crate) fn pair_name(pair: WordOperand) -> &'static str
+pub(crate) fn pair_name(pair: Pair) -> &'static str
     ensures text { result.now ≡ pair_name pair }
     ensures short { length result.now ≤ 2 }
 {
     match pair {
-        WordOperand::Bc => "B",
-        WordOperand::De => "D",
-        WordOperand::Hl => "H",
-        WordOperand::Sp => "SP",
+        Pair::Bc => "B",
+        Pair::De => "D",
+        Pair::Hl => "H",
+        Pair::Sp => "SP",
     }
 }
 

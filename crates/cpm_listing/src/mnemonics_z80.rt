@@ -1,28 +1,30 @@
 //! How the operations of the Z80 and their operands are called.
 ghost use Rattle.std.specs.Prelude.{◌≡◌, ◌≤◌, length};
 ghost use Rattle.cpm_listing.specs.Mnemonics.{condition_name};
-ghost use Rattle.cpm_listing.specs.MnemonicsZ80.{place_name_z80, index_name, pair_name_z80, stack_pair_name_z80, arithmetic_name_z80, rotation_name_z80, shift_name, bit_name, copy_name, search_name, input_name, output_name, shared_name, extended_name, indexed_name, mnemonic_z80};
+ghost use Rattle.cpm_listing.specs.MnemonicsZ80.{place_name_z80, index_name, pair_name_z80, stack_pair_name_z80, arithmetic_name_z80};
+ghost use Rattle.cpm_listing.specs.MnemonicsZ80.{rotation_name_z80, shift_name, bit_name, copy_name, search_name, input_name};
+ghost use Rattle.cpm_listing.specs.MnemonicsZ80.{output_name, shared_name, extended_name, indexed_name, mnemonic_z80};
 
 use cpm_decode::{
-    Arithmetic, BitOp, Condition, Direction, ExtendedOp, IndexRegister, IndexedOp, Op, OpZ80, WordOperand,
-    ByteOperand, Repeat, Rotation, Shift, StackPair,
+    Arithmetic, BitOp, Condition, Direction, ExtendedOp, IndexRegister, IndexedOp, Op, OpZ80,
+    Operand, Pair, Repeat, Rotation, Shift, StackPair,
 };
 
 /// The name of a register, or of the byte at HL.
 #[tactic(auto, unfolding(crate::specs::MnemonicsZ80::place_name_z80))]
-pub(crate) fn place_name_z80(place: ByteOperand) -> &'static str
+pub(crate) fn place_name_z80(place: Operand) -> &'static str
     ensures text { result.now ≡ place_name_z80 place }
     ensures short { length result.now ≤ 4 }
 {
     match place {
-        ByteOperand::B => "B",
-        ByteOperand::C => "C",
-        ByteOperand::D => "D",
-        ByteOperand::E => "E",
-        ByteOperand::H => "H",
-        ByteOperand::L => "L",
-        ByteOperand::AtHl => "(HL)",
-        ByteOperand::A => "A",
+        Operand::B => "B",
+        Operand::C => "C",
+        Operand::D => "D",
+        Operand::E => "E",
+        Operand::H => "H",
+        Operand::L => "L",
+        Operand::AtHl => "(HL)",
+        Operand::A => "A",
     }
 }
 
@@ -57,16 +59,16 @@ pub(crate) fn condition_name(condition: Condition) -> &'static str
 
 /// The name of a pair, with this one for HL.
 #[tactic(auto, unfolding(crate::specs::MnemonicsZ80::pair_name_z80))]
-pub(crate) fn pair_name_z80(hl: &'static str, pair: WordOperand) -> &'static str
+pub(crate) fn pair_name_z80(hl: &'static str, pair: Pair) -> &'static str
     requires { length hl.now ≡ 2 }
     ensures text { result.now ≡ pair_name_z80 hl.now pair }
     ensures short { length result.now ≤ 2 }
 {
     match pair {
-        WordOperand::Bc => "BC",
-        WordOperand::De => "DE",
-        WordOperand::Hl => hl,
-        WordOperand::Sp => "SP",
+        Pair::Bc => "BC",
+        Pair::De => "DE",
+        Pair::Hl => hl,
+        Pair::Sp => "SP",
     }
 }
 

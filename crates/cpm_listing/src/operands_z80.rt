@@ -2,7 +2,8 @@
 ghost use Rattle.std.specs.Prelude.{◌≡◌, ◌≤◌, ◌+◌, ◌++◌, length, codes};
 ghost use Rattle.cpm_listing.specs.Listing.{byte_number, word_number};
 ghost use Rattle.cpm_listing.specs.Mnemonics.{condition_name};
-ghost use Rattle.cpm_listing.specs.OperandsZ80.{in_parentheses, displacement_number, at_index, relative_target, small_number, accumulator_before, bit_before, shared_operands, extended_operands, indexed_operands, operands_z80};
+ghost use Rattle.cpm_listing.specs.OperandsZ80.{in_parentheses, displacement_number, at_index, relative_target, small_number, accumulator_before};
+ghost use Rattle.cpm_listing.specs.OperandsZ80.{bit_before, shared_operands, extended_operands, indexed_operands, operands_z80};
 
 use crate::digits::{ListingLine, add_byte, add_character, add_text};
 use crate::mnemonics_z80::{

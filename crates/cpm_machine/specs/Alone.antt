@@ -19,7 +19,8 @@ abbrev pub with_keys : List ℕ → MachineState → MachineState
 with_keys keys s =
     record s { session = record s.session { console = record s.session.console { keys = s.session.console.keys ++ keys } } }
 
--- own: the machine run alone for so many steps with this system drive. A key that comes after some steps can be read by the step that begins then, and by later ones.
+-- own: the machine run alone for so many steps with this system drive.
+-- A key that comes after some steps can be read by the step that begins then, and by later ones.
 abbrev pub alone : Disk → List Press → ℕ → MachineState → MachineState
 alone system presses zero s = with_keys (due 0 presses) s
 alone system presses (suc n) s = with_keys (due (suc n) presses) (step system (alone system presses n s))

@@ -47,7 +47,8 @@ serve system (Key key) s = served_key (takes_key s) key s
 serve system (Grant steps) s = record { answer = Grants (granted system steps s); state = after system (executed system steps s) s }
 serve system (GrantUntil steps pc) s = record { answer = Grants (granted_until system pc steps s); state = after system (executed_until system pc steps s) s }
 serve system (Take room) s = record { answer = Bytes (take (min room (length s.session.console.screen)) s.session.console.screen); state = taken room s }
-serve system (TakeList room) s = record { answer = Bytes (take (min room (length s.session.console.printer)) s.session.console.printer); state = taken_list room s }
+serve system (TakeList room) s =
+    record { answer = Bytes (take (min room (length s.session.console.printer)) s.session.console.printer); state = taken_list room s }
 serve system LookAt s = record { answer = Looked (look_of s); state = s }
 serve system (Peek address) s = record { answer = Peeked (byte_at s.memory address); state = s }
 

@@ -51,7 +51,8 @@ KeysLeave = (system : Disk) (s : MachineState) → length (step system s).sessio
 abbrev pub KeysFromFront : Type 0
 KeysFromFront = (system : Disk) (s : MachineState) → IsFromFront s.session.console.keys (step system s).session.console.keys
 
--- After any calls the state, with the bytes that were taken put back in front, is that of the machine run alone from the start, for the keys that were accepted and the steps that were executed: whatever was taken and looked at, however the grants were cut, and as if the keys had been known beforehand.
+-- After any calls the state, with the bytes that were taken put back in front, is that of the machine run alone from the start, for the keys that were accepted
+-- and the steps that were executed: whatever was taken and looked at, however the grants were cut, and as if the keys had been known beforehand.
 abbrev pub Alone : Type 0
 Alone = (system : Disk) (calls : List Call) (start : MachineState) →
     let a = account_after system calls no_account start in
@@ -67,4 +68,5 @@ WaitsExactly = (system : Disk) (s : MachineState) → WaitsWhereItSays system s
 
 -- keys that come later make no difference
 abbrev pub LateKeys : Type 0
-LateKeys = (system : Disk) (presses later : List Press) (n : ℕ) (start : MachineState) → ((i : ℕ) → i ≤ n → due i later ≡ []) → alone system (presses ++ later) n start ≡ alone system presses n start
+LateKeys = (system : Disk) (presses later : List Press) (n : ℕ) (start : MachineState) → ((i : ℕ) → i ≤ n → due i later ≡ []) →
+    alone system (presses ++ later) n start ≡ alone system presses n start

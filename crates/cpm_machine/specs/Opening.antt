@@ -24,7 +24,8 @@ most_program = 58112
 -- own: with a program it may write all pages, and the program must end below the command processor at E400h
 abbrev pub program_fault : Opening → List ℕ → Option OpenError
 program_fault o program =
-    if not (o.quota == 256) then Some BadQuota else fault_else (drives_fault (length o.drives.items)) (if nat_lt most_program (length program) then Some ProgramTooLong else None)
+    if not (o.quota == 256) then Some BadQuota
+    else fault_else (drives_fault (length o.drives.items)) (if nat_lt most_program (length program) then Some ProgramTooLong else None)
 
 -- a refusal names the fault, and where there is none the want of memory
 abbrev pub IsRefusal : Option OpenError → OpenError → Type 0

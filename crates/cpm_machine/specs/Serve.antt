@@ -47,8 +47,16 @@ look_of s = record {
 -- the state after up to so many console bytes, or list bytes, were taken
 abbrev pub taken : ℕ → MachineState → MachineState
 taken room s =
-    record s { session = record s.session { console = record s.session.console { screen = drop (min room (length s.session.console.screen)) s.session.console.screen } } }
+    record s {
+      session = record s.session {
+        console = record s.session.console { screen = drop (min room (length s.session.console.screen)) s.session.console.screen };
+      };
+    }
 
 abbrev pub taken_list : ℕ → MachineState → MachineState
 taken_list room s =
-    record s { session = record s.session { console = record s.session.console { printer = drop (min room (length s.session.console.printer)) s.session.console.printer } } }
+    record s {
+      session = record s.session {
+        console = record s.session.console { printer = drop (min room (length s.session.console.printer)) s.session.console.printer };
+      };
+    }

@@ -60,4 +60,5 @@ pub record WaitsWhereItSays (system : Disk) (s : MachineState) : Type 0 where
   -- the step is that call
   pub call : (d : Did) → is_running s.ended ≡ true → next_call system s ≡ Some d → step system s ≡ after_part s (by_call d)
   -- where there is none it is an instruction, or the end of a machine made with a program
-  pub other : is_running s.ended ≡ true → next_call system s ≡ None → (step system s ≡ after_part s (instruction s.cpu s.session s.memory)) ⊎ (step system s ≡ after_part s (part_made s.session s.memory outcome.Exits))
+  pub other : is_running s.ended ≡ true → next_call system s ≡ None
+      → (step system s ≡ after_part s (instruction s.cpu s.session s.memory)) ⊎ (step system s ≡ after_part s (part_made s.session s.memory outcome.Exits))

@@ -8,7 +8,7 @@ ghost use Rattle.cpm_machine.specs.Until.{begins_at, can_go_on, executed_until, 
 
 use crate::reply::{End, Granted, Why};
 use crate::steps::{Runner, can_step, step_or_wait};
-use cpm_bdos::{Session, Mode};
+use cpm_bdos::{Mode, Session};
 use cpm_geom::Image;
 use cpm_memory::Memory;
 

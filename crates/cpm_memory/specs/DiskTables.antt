@@ -4,9 +4,11 @@ use Rattle.cpm_geom.specs.declared.dpb.Dpb.{Dpb}
 use Rattle.cpm_geom.specs.declared.format.Format.{Format}
 use Rattle.cpm_geom.specs.declared.format.Format.TheVariants.{Ibm3740, Large}
 use Rattle.cpm_geom.specs.Geometry.{dpb_of, sector_of}
-use Rattle.cpm_memory.specs.Layout.{skew_address, first_parameter_block_address, first_header_address, directory_buffer_address, first_allocation_vector_address, first_check_vector_address}
+use Rattle.cpm_memory.specs.Layout.{skew_address, first_parameter_block_address, first_header_address}
+use Rattle.cpm_memory.specs.Layout.{directory_buffer_address, first_allocation_vector_address, first_check_vector_address}
 
--- CP/M 2.2 Operating System Manual, section 6.10, Disk Parameter Tables: the bytes of a disk parameter block, SPT, BSH, BLM, EXM, DSM, DRM, AL0, AL1, CKS and OFF; words low byte first
+-- CP/M 2.2 Operating System Manual, section 6.10, Disk Parameter Tables: the bytes of a disk parameter block,
+-- SPT, BSH, BLM, EXM, DSM, DRM, AL0, AL1, CKS and OFF; words low byte first
 abbrev pub parameter_block : Dpb → List ℕ
 parameter_block d =
     d.sectors_per_track % 256 ∷ d.sectors_per_track / 256
@@ -40,7 +42,8 @@ abbrev pub translation_address : Format → ℕ
 translation_address Ibm3740 = skew_address
 translation_address Large = 0
 
--- CP/M 2.2 Operating System Manual, section 6.10, Disk Parameter Tables: the disk parameter header of a drive. Its words are XLT, three words of work area, DIRBUF, DPB, CSV and ALV.
+-- CP/M 2.2 Operating System Manual, section 6.10, Disk Parameter Tables: the disk parameter header of a drive.
+-- Its words are XLT, three words of work area, DIRBUF, DPB, CSV and ALV.
 abbrev pub parameter_header : Format → ℕ → List ℕ
 parameter_header f drive =
     translation_address f ∷ 0 ∷ 0 ∷ 0 ∷ directory_buffer_address ∷ parameter_block_address f ∷ check_vector_address drive ∷ allocation_vector_address drive ∷ []
@@ -53,7 +56,8 @@ word_byte words place = (if place % 2 == 0 then slice_index words (place / 2) % 
 abbrev pub format_at : ℕ → Format
 format_at offset = if offset / 16 % 2 == 0 then Ibm3740 else Large
 
--- own: page FCh has the sector translation vector from 00h on, the parameter block of each format from 20h and 30h on, and from 40h on 32 bytes for each of the drives A to D and P, its header in each format. All else is 0.
+-- own: page FCh has the sector translation vector from 00h on, the parameter block of each format from 20h and 30h on,
+-- and from 40h on 32 bytes for each of the drives A to D and P, its header in each format. All else is 0.
 abbrev pub disk_table_byte : ℕ → ℕ
 disk_table_byte offset =
     (if nat_lt offset 26 then sector_of Ibm3740 offset else

@@ -1,5 +1,6 @@
 -- A store of frames of 256 bytes, from which the pages of many memories are made.
-use Rattle.std.specs.Prelude.{◌≡◌, ◌≢◌, ℕ, ◌+◌, ◌/◌, ◌%◌, ◌<◌, ◌≤◌, Bool, true, false, ◌==◌, if◌then◌else◌, List, [], Option, Some, None, length, map, sum_by, count_by, slice_index, slice_index_or, option_map, unwrap_or, is_some, nat_lt}
+use Rattle.std.specs.Prelude.{◌≡◌, ◌≢◌, ℕ, ◌+◌, ◌/◌, ◌%◌, ◌<◌, ◌≤◌, Bool, true, false, ◌==◌, if◌then◌else◌, List, [], Option, Some}
+use Rattle.std.specs.Prelude.{None, length, map, sum_by, count_by, slice_index, slice_index_or, option_map, unwrap_or, is_some, nat_lt}
 use Rattle.cpm_memory.specs.Contents.{Contents}
 use Rattle.cpm_memory.specs.Opening.{opening_byte}
 use Rattle.cpm_memory.specs.Stamps.{AreStamps}

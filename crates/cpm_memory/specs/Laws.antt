@@ -17,11 +17,13 @@ OpensBlank = (limit : ℕ) →
     (touched_of (opening limit) ≡ 0)
     × ((address : ℕ) → address < 65536 → byte_at (opening limit) address ≡ opening_byte (address / 256) (address % 256))
 
--- A memory at its opening has the disk tables: the skew, and of each format the parameter block byte by byte and the header of each of five drives word by word. (own)
+-- A memory at its opening has the disk tables: the skew, and of each format the parameter block byte by byte
+-- and the header of each of five drives word by word. (own)
 pub record HasDiskTables (limit : ℕ) : Type 0 where
   pub sectors : (k : ℕ) → k < 26 → byte_at (opening limit) (skew_address + k) ≡ sector_of Ibm3740 k
   pub parameters : (f : Format) (k : ℕ) → k < 15 → byte_at (opening limit) (parameter_block_address f + k) ≡ slice_index (parameter_block (dpb_of f)) k
-  pub headers : (f : Format) (drive k : ℕ) → drive < 5 → k < 8 → word_at (opening limit) (header_address f drive + 2 * k) ≡ slice_index (parameter_header f drive) k
+  pub headers : (f : Format) (drive k : ℕ) → drive < 5 → k < 8
+      → word_at (opening limit) (header_address f drive + 2 * k) ≡ slice_index (parameter_header f drive) k
 
 abbrev pub OpensWithDiskTables : Type 0
 OpensWithDiskTables = (limit : ℕ) → HasDiskTables limit
@@ -41,7 +43,8 @@ pub record ChangesOwnTable (v w : View) : Type 0 where
   -- nor was its stamp raised
   pub stamps : (t : ℕ) → t ≢ view_table v → stamps_at (store_of w) t ≡ stamps_at (store_of v) t
   -- and the frames of the other tables have the bytes that they had
-  pub frames : (t page : ℕ) → t ≢ view_table v → t < 64 → page < 256 → IsTableTaken (store_of v) t → frame_of (store_of w) (frame_of_page (store_of v) t page) ≡ frame_of (store_of v) (frame_of_page (store_of v) t page)
+  pub frames : (t page : ℕ) → t ≢ view_table v → t < 64 → page < 256 → IsTableTaken (store_of v) t
+      → frame_of (store_of w) (frame_of_page (store_of v) t page) ≡ frame_of (store_of v) (frame_of_page (store_of v) t page)
 
 -- Whatever is done through a view changes its own table alone. (own)
 abbrev pub ViewsChangeOwnTable : Type 0

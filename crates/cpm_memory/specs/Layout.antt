@@ -1,7 +1,8 @@
 -- Where the system lies in the memory of a session.
 use Rattle.std.specs.Prelude.{ℕ, ◌/◌, ◌%◌, List, [], ◌∷◌}
 
--- CP/M 2.2 Operating System Manual, section 6.9, Reserved Locations in Page Zero: the I/O byte; the current drive in the low four bits and the user in the high four; the default file control blocks; the default buffer of a record
+-- CP/M 2.2 Operating System Manual, section 6.9, Reserved Locations in Page Zero: the I/O byte; the current drive in the low four bits
+-- and the user in the high four; the default file control blocks; the default buffer of a record
 abbrev pub io_byte_address : ℕ
 io_byte_address = 0x0003
 
@@ -38,7 +39,8 @@ console_input_address = 0xFB03
 abbrev pub last_bios_address : ℕ
 last_bios_address = 0xFB10
 
--- own: the tables of the disks: the sector translation vector, the first of the disk parameter blocks, the first of the disk parameter headers, the directory's buffer, the first of the allocation vectors and the first of the check vectors
+-- own: the tables of the disks: the sector translation vector, the first of the disk parameter blocks, the first of the disk parameter headers,
+-- the directory's buffer, the first of the allocation vectors and the first of the check vectors
 abbrev pub skew_address : ℕ
 skew_address = 0xFC00
 
@@ -57,7 +59,8 @@ first_allocation_vector_address = 0xFE00
 abbrev pub first_check_vector_address : ℕ
 first_check_vector_address = 0xFF40
 
--- Intel 8080 Assembly Language Programming Manual, JMP: at 0000h a jump to the warm boot's entry, which is the second of the table, and at 0005h one to the BDOS
+-- Intel 8080 Assembly Language Programming Manual, JMP: at 0000h a jump to the warm boot's entry, which is the second of the table,
+-- and at 0005h one to the BDOS
 abbrev pub warm_boot_jump : List ℕ
 warm_boot_jump = 0xC3 ∷ 0x03 ∷ 0xFA ∷ []
 

@@ -27,7 +27,10 @@ jumps_byte offset = (if nat_lt offset 51 then jump_byte (offset / 3) (offset % 3
 
 -- The byte at an offset of a page.
 unfoldable pub opening_byte : ℕ → ℕ → ℕ
-opening_byte page offset = (if page == 0 then base_byte offset else (if page == 0xFA then jumps_byte offset else (if page == 0xFC then disk_table_byte offset else 0)))
+opening_byte page offset =
+    (if page == 0 then base_byte offset else
+    (if page == 0xFA then jumps_byte offset else
+    (if page == 0xFC then disk_table_byte offset else 0)))
 
 -- the memory at opening, of which so many pages may be written
 abbrev pub opening : ℕ → Contents

@@ -6,7 +6,8 @@ use crate::pages::TableId;
 use crate::store::{FrameStore, MemError};
 
 impl FrameStore {
-    ghost use Rattle.cpm_memory.specs.Frames.{IsStoreSound, IsTableTaken, table_at, private_at, frame_of_page, owners_at, used_by, reserved_by, memory_of, memory_at, memories, KeepsPlaces, KeepsStamps};
+    ghost use Rattle.cpm_memory.specs.Frames.{IsStoreSound, IsTableTaken, table_at, private_at, frame_of_page, owners_at};
+    ghost use Rattle.cpm_memory.specs.Frames.{used_by, reserved_by, memory_of, memory_at, memories, KeepsPlaces, KeepsStamps};
     ghost use Rattle.cpm_memory.specs.Reserved.{taken_in, reserved_in};
     ghost use Rattle.cpm_memory.specs.Kept.{table_with_frame, with_table};
 
@@ -27,7 +28,8 @@ impl FrameStore {
         requires table { table < 64 }
         requires source { source < 64 }
         requires blank { private_at self.old table page ≡ None }
-        requires reserved { (frame : ℕ) → private_at self.old source page ≡ Some frame → used_by (table_at self.old table) < reserved_by (table_at self.old table) }
+        requires reserved { (frame : ℕ) → private_at self.old source page ≡ Some frame
+            → used_by (table_at self.old table) < reserved_by (table_at self.old table) }
         ensures joined { self.new ≡ with_table self.old table (table_with_frame (table_at self.old table) page (private_at self.old source page)) }
         ensures sound { IsStoreSound self.new }
     {

@@ -73,7 +73,8 @@ impl Memory for View<'_> {
     ghost use Rattle.cpm_memory.specs.Contents.{CanSet, after_set, page_of};
     ghost use Rattle.cpm_memory.specs.Stamps.{after_stamp};
     ghost use Rattle.cpm_memory.specs.Frames.{MovesAtMost};
-    ghost use Rattle.cpm_memory.specs.View.{contents_of, stamps_of, surroundings_of, store_of, view_table, ViewLeads, ViewLeads-none, ViewLeads-on, IsContents-view, AreStamps-view};
+    ghost use Rattle.cpm_memory.specs.View.{contents_of, stamps_of, surroundings_of, store_of, view_table, ViewLeads};
+    ghost use Rattle.cpm_memory.specs.View.{ViewLeads-none, ViewLeads-on, IsContents-view, AreStamps-view};
 
     ghost contents = { contents_of };
 

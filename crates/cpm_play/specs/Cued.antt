@@ -1,4 +1,5 @@
--- One machine that is played by a script that may wait: which keys come by the script, where the session ends, and what its parts do. All of it is own: this project's form of key scripts.
+-- One machine that is played by a script that may wait: which keys come by the script, where the session ends, and what its parts do.
+-- All of it is own: this project's form of key scripts.
 use Rattle.std.specs.Prelude.{◌≡◌, ℕ, ◌-◌, ◌<◌, ◌≤◌, max, Bool, true, false, ◌||◌, not, List, [], ◌∷◌, ◌++◌, length, map, drop, ◌==◌, Option, ◌⊎◌}
 use Rattle.std.specs.Io.KnownBytes.{Appends}
 use Rattle.memchr.specs.Find.{OccursAt}
@@ -56,15 +57,19 @@ pub record IsCueMet (system : Disk) (start : MachineState) (steps waits_from : �
   pub within : at < steps
   pub shown : HasShown text (drop mark (screen_at system start keys at))
 
--- The keys of the rest of a script behind those that were given, where its next cue counts from this count on, and so many bytes had been shown when the last key came. A key that does not come is the end of the script, and so is a text that has not been shown where the machine next waits: while it waits it shows nothing more. A wait before `waits_from` steps does not count.
+-- The keys of the rest of a script behind those that were given, where its next cue counts from this count on,
+-- and so many bytes had been shown when the last key came. A key that does not come is the end of the script,
+-- and so is a text that has not been shown where the machine next waits: while it waits it shows nothing more. A wait before `waits_from` steps does not count.
 abbrev pub IsCuedFrom : Disk → MachineState → (steps waits_from : ℕ) → (given : List Key) → (from mark : ℕ) → List Cue → List Key → Type 0
 IsCuedFrom system start steps waits_from given from mark [] keys = keys ≡ given
 IsCuedFrom system start steps waits_from given from mark (Timed k ∷ cues) keys =
     let at = max from k.count in
-    (Comes system start steps given at × IsCuedFrom system start steps waits_from (given ++ record { count = at; byte = k.byte } ∷ []) at (length (screen_at system start given at)) cues keys)
+    (Comes system start steps given at
+    × IsCuedFrom system start steps waits_from (given ++ record { count = at; byte = k.byte } ∷ []) at (length (screen_at system start given at)) cues keys)
     ⊎ ((Comes system start steps given at → ⊥) × (keys ≡ given))
 IsCuedFrom system start steps waits_from given from mark (Press b ∷ cues) keys =
-    (Comes system start steps given from × IsCuedFrom system start steps waits_from (given ++ record { count = from; byte = b } ∷ []) from (length (screen_at system start given from)) cues keys)
+    (Comes system start steps given from
+    × IsCuedFrom system start steps waits_from (given ++ record { count = from; byte = b } ∷ []) from (length (screen_at system start given from)) cues keys)
     ⊎ ((Comes system start steps given from → ⊥) × (keys ≡ given))
 IsCuedFrom system start steps waits_from given from mark (Wait text ∷ cues) keys =
     ((at : ℕ) × IsCueMet system start steps waits_from given from mark text.items at × IsCuedFrom system start steps waits_from given at mark cues keys)
@@ -81,14 +86,17 @@ abbrev pub last_count : ℕ → List Key → ℕ
 last_count n [] = n
 last_count n (k ∷ ks) = last_count k.count ks
 
--- It ends where the machine has, and else behind its steps. One that stops where it is idle ends sooner, where the machine next waits after the last key, if waits count there.
+-- It ends where the machine has, and else behind its steps. One that stops where it is idle ends sooner,
+-- where the machine next waits after the last key, if waits count there.
 abbrev pub HasEndedCued : Disk → MachineState → (steps waits_from : ℕ) → (stops_idle : Bool) → List Key → ℕ → MachineState → Type 0
 HasEndedCued system start steps waits_from false keys done now = (done ≡ steps) ⊎ (is_running now.ended ≡ false)
 HasEndedCued system start steps waits_from true keys done now =
     (is_running now.ended ≡ false)
-    ⊎ (HasNoWait system start keys (max waits_from (last_count 0 keys)) done × ((done ≡ steps) ⊎ ((waits_from ≤ done) × (waits_at system start keys done ≡ true))))
+    ⊎ (HasNoWait system start keys (max waits_from (last_count 0 keys)) done
+    × ((done ≡ steps) ⊎ ((waits_from ≤ done) × (waits_at system start keys done ≡ true))))
 
--- Why it was not played to its end, and what it had come to. The writer fails where there is text, and all keys are recorded. The record fails at a key that is not pressed, and all is shown; where memory is refused all is shown and recorded.
+-- Why it was not played to its end, and what it had come to. The writer fails where there is text, and all keys are recorded.
+-- The record fails at a key that is not pressed, and all is shown; where memory is refused all is shown and recorded.
 abbrev pub IsCutOff : Disk → (steps most : ℕ) → (start now : MachineState) → (before written unrecorded record_now : Option (List ℕ)) → LiveError → Type 0
 IsCutOff system steps most start now before written unrecorded record_now OutOfMemory =
     (keys : List Key) × HasCome system steps most start now before written keys × Appends unrecorded record_now (recorded keys)
@@ -161,11 +169,14 @@ pub record HasMissed (system : Disk) (key : Key) (steps done done_now : ℕ) (ol
   pub run : HasExecuted system (done_now - done) old now before written
   pub why : ((steps ≤ key.count) × (done_now ≡ done)) ⊎ ((key.count < steps) × (done_now ≤ key.count) × (is_running now.ended ≡ false))
 
--- why a key was not pressed after at most so many steps: not all of them were executed, or memory was refused, and nothing was recorded; or it can't be recorded, and all is shown
+-- why a key was not pressed after at most so many steps: not all of them were executed, or memory was refused, and nothing was recorded;
+-- or it can't be recorded, and all is shown
 abbrev pub IsPressCut : Disk → ℕ → (old now : MachineState) → (before written unrecorded record_now : Option (List ℕ)) → LiveError → Type 0
 IsPressCut system steps old now before written unrecorded record_now (Unrecorded e) = (k : ℕ) × (k ≤ steps) × HasExecuted system k old now before written
-IsPressCut system steps old now before written unrecorded record_now (Unwritable e) = IsRunCut system steps old now before written (Unwritable e) × (record_now ≡ unrecorded)
-IsPressCut system steps old now before written unrecorded record_now OutOfMemory = IsRunCut system steps old now before written OutOfMemory × (record_now ≡ unrecorded)
+IsPressCut system steps old now before written unrecorded record_now (Unwritable e) =
+    IsRunCut system steps old now before written (Unwritable e) × (record_now ≡ unrecorded)
+IsPressCut system steps old now before written unrecorded record_now OutOfMemory =
+    IsRunCut system steps old now before written OutOfMemory × (record_now ≡ unrecorded)
 IsPressCut system steps old now before written unrecorded record_now (Unreadable e) = ⊥
 
 -- as far as a session was run on, and why: for all steps, to the machine's end, or to where it waits for a key

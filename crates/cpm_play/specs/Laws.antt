@@ -15,5 +15,6 @@ ScriptsInOrder = (text : List ℕ) → IfOk (script text) (λ keys. IsInOrder 0 
 
 -- a script that never waits gives its keys, where all of them come within the steps and the machine still runs behind these
 abbrev pub PlainCuesGiveTheirKeys : Type 0
-PlainCuesGiveTheirKeys = (system : Disk) (start : MachineState) (steps waits_from last : ℕ) (keys given : List Key) → IsInOrder 0 keys → AreBy last keys → last < steps → runs_at system start keys steps ≡ true →
+PlainCuesGiveTheirKeys = (system : Disk) (start : MachineState) (steps waits_from last : ℕ) (keys given : List Key) →
+    IsInOrder 0 keys → AreBy last keys → last < steps → runs_at system start keys steps ≡ true →
     IsCued system start steps waits_from (map Timed keys) given → given ≡ keys

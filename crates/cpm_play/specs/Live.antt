@@ -31,14 +31,16 @@ bytes_of keys = map (λ k. k.byte) keys
 
 -- ---- how a session goes
 
--- The session went from a start so far: with the bytes that were taken put back in front, it is the machine run alone for its keys and steps, and all of them have come.
+-- The session went from a start so far: with the bytes that were taken put back in front,
+-- it is the machine run alone for its keys and steps, and all of them have come.
 pub record HasGone (system : Disk) (start : MachineState) (keys : List Key) (done : ℕ) (console list : List ℕ) (now : MachineState) : Type 0 where
   pub state : state_behind console list now ≡ alone_by system keys done start
   pub come : AreBy done keys
   pub typed : AreTyped 0 keys
 
 -- and the writer got its text, and the record its keys
-pub record IsGoing (system : Disk) (steps most : ℕ) (start now : MachineState) (before written unrecorded record_now : Option (List ℕ)) (keys : List Key) (done : ℕ) : Type 0 where
+pub record IsGoing (system : Disk) (steps most : ℕ) (start now : MachineState)
+    (before written unrecorded record_now : Option (List ℕ)) (keys : List Key) (done : ℕ) : Type 0 where
   pub console : List ℕ
   pub list : List ℕ
   pub gone : HasGone system start keys done console list now
@@ -76,10 +78,13 @@ pub record HadText (system : Disk) (steps most : ℕ) (start : MachineState) (ke
   pub given : AreGiven most done keys
   pub text : HasText (alone_by system keys done start)
 
--- Why it was not played to its end, and what it had come to. The reader fails where a key is wanted, and all is shown and recorded; so it is where memory is refused. The writer fails where there is text, and all keys are recorded. The record fails at a key that is not pressed, and all is shown.
-abbrev pub IsCutShort : Disk → (steps most : ℕ) → (start now : MachineState) → (before written unrecorded record_now unread left : Option (List ℕ)) → LiveError → Type 0
+-- Why it was not played to its end, and what it had come to. The reader fails where a key is wanted, and all is shown and recorded; so it is where memory is
+-- refused. The writer fails where there is text, and all keys are recorded. The record fails at a key that is not pressed, and all is shown.
+abbrev pub IsCutShort : Disk → (steps most : ℕ) → (start now : MachineState)
+    → (before written unrecorded record_now unread left : Option (List ℕ)) → LiveError → Type 0
 IsCutShort system steps most start now before written unrecorded record_now unread left (Unreadable e) =
-    (keys : List Key) × HasCome system steps most start now before written keys × Appends unrecorded record_now (recorded keys) × HasReadKeys unread left (bytes_of keys)
+    (keys : List Key) × HasCome system steps most start now before written keys × Appends unrecorded record_now (recorded keys)
+    × HasReadKeys unread left (bytes_of keys)
 IsCutShort system steps most start now before written unrecorded record_now unread left OutOfMemory =
     (keys : List Key) × HasCome system steps most start now before written keys × Appends unrecorded record_now (recorded keys)
 IsCutShort system steps most start now before written unrecorded record_now unread left (Unwritable e) =

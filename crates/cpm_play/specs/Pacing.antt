@@ -42,7 +42,8 @@ pub record IsOfAll (steps : ℕ) (pace : Pace) (now : MachineState) : Type 0 whe
   pub most : pace.until ≤ steps
   pub all : (pace.until ≡ steps) ⊎ (is_running now.ended ≡ false)
 
--- The session went from a start so far: with the bytes that were taken put back in front, it is the machine run alone for the keys that were pressed and the steps that were executed. The other keys are still to come.
+-- The session went from a start so far: with the bytes that were taken put back in front,
+-- it is the machine run alone for the keys that were pressed and the steps that were executed. The other keys are still to come.
 pub record IsOn (system : Disk) (keys : List Key) (steps : ℕ) (start : MachineState) (pace : Pace) (console list : List ℕ) (now : MachineState) : Type 0 where
   pub state : state_behind console list now ≡ alone system (presses_of (take pace.pressed keys)) pace.done start
   pub came : (i : ℕ) → pace.done < i → due i (presses_of (take pace.pressed keys)) ≡ []
@@ -53,7 +54,8 @@ pub record IsOn (system : Disk) (keys : List Key) (steps : ℕ) (start : Machine
 
 -- a machine and its pace, after the keys that are due
 pub record IsPressed (keys : List Key) (old new : Pace) (now next : MachineState) : Type 0 where
-  pub on : (system : Disk) (steps : ℕ) (start : MachineState) (console list : List ℕ) → IsOn system keys steps start old console list now → IsOn system keys steps start new console list next
+  pub on : (system : Disk) (steps : ℕ) (start : MachineState) (console list : List ℕ) → IsOn system keys steps start old console list now
+      → IsOn system keys steps start new console list next
   pub quiet : IsQuiet now → IsQuiet next
 
 -- the state with its console bytes taken, and with its list bytes taken
@@ -64,7 +66,8 @@ abbrev pub without_list : MachineState → MachineState
 without_list s = record s { session = record s.session { console = record s.session.console { printer = [] } } }
 
 -- the same of a machine, whose console bytes a writer got and whose list bytes were dropped
-pub record IsShown (system : Disk) (keys : List Key) (steps : ℕ) (start : MachineState) (pace : Pace) (now : MachineState) (before written : Option (List ℕ)) : Type 0 where
+pub record IsShown (system : Disk) (keys : List Key) (steps : ℕ) (start : MachineState) (pace : Pace)
+    (now : MachineState) (before written : Option (List ℕ)) : Type 0 where
   pub text : List ℕ
   pub list : List ℕ
   pub on : IsOn system keys steps start pace text list now

@@ -1,5 +1,6 @@
 -- Players of a host: sessions that are played in turns, of which some are forked from others on the way. All of it is own.
-use Rattle.std.specs.Prelude.{true, ⊤, ◌≡◌, ◌≢◌, ◌⊎◌, ℕ, ◌+◌, ◌<◌, ◌≤◌, List, [], ◌∷◌, ◌++◌, length, take, sum_by, Bool, false, ◌||◌, ◌==◌, nat_le, nat_lt, Option, Some, None, IfSome, slice_get}
+use Rattle.std.specs.Prelude.{true, ⊤, ◌≡◌, ◌≢◌, ◌⊎◌, ℕ, ◌+◌, ◌<◌, ◌≤◌, List, [], ◌∷◌, ◌++◌, length, take, sum_by}
+use Rattle.std.specs.Prelude.{Bool, false, ◌||◌, ◌==◌, nat_le, nat_lt, Option, Some, None, IfSome, slice_get}
 use Rattle.std.specs.List.{list_any}
 use Rattle.cpm_geom.specs.Disk.{Disk}
 use Rattle.cpm_script.specs.declared.script.Key.{Key}
@@ -40,7 +41,8 @@ abbrev pub start_at : List SlotState → List Player → Player → Option Machi
 start_at slots players (Playing slot) = slot_at slot.id.0 slots
 start_at slots players (Waiting fork) = player_slot slots (slice_get players fork.parent)
 
--- A session can be forked: the one that it is forked from is played, its keys are those of that one that come before the fork, and then others that don't, in order and not too many.
+-- A session can be forked: the one that it is forked from is played, its keys are those of that one that come before the fork,
+-- and then others that don't, in order and not too many.
 pub record IsForkReady (players : List Player) (fork : Fork) : Type 0 where
   pub parent : ScriptedSlot
   pub plays : slice_get players fork.parent ≡ Some (Playing parent)
@@ -70,7 +72,8 @@ AllDiffer players = AreDifferent (ids_of players)
 
 -- ---- what was played
 
--- A player has become one that was played: its session came to what the machine run alone for its keys and steps, from the state with which it begins, comes to.
+-- A player has become one that was played: its session came to what the machine run alone for its keys and steps,
+-- from the state with which it begins, comes to.
 pub record HasPlayed (system : Disk) (before now : List SlotState) (players : List Player) (player played : Player) : Type 0 where
   pub slot : ScriptedSlot
   pub plays : played ≡ Playing slot
@@ -84,7 +87,8 @@ pub record HasPlayed (system : Disk) (before now : List SlotState) (players : Li
 pub record AllPlayed (old new : Host) (players played : List Player) : Type 0 where
   pub long : length played ≡ length players
   pub differ : AllDiffer played
-  pub each : (place : ℕ) (p q : Player) → slice_get players place ≡ Some p → slice_get played place ≡ Some q → HasPlayed old.system old.slots new.slots players p q
+  pub each : (place : ℕ) (p q : Player) → slice_get players place ≡ Some p → slice_get played place ≡ Some q
+      → HasPlayed old.system old.slots new.slots players p q
 
 -- nothing of the host is changed but the slots of these numbers, and those that were forked
 pub record LeavesRest (ids : List ℕ) (old new : Host) : Type 0 where
@@ -133,7 +137,8 @@ play_error place fault = ForkRefused place fault
 
 -- how playing is refused: for a session that is to be forked, where there is no room for all of them, or for want of memory
 abbrev pub IsPlayRefusal : Host → List Player → PlayError → Type 0
-IsPlayRefusal h players (ForkRefused place fault) = ((fork : Fork) × (slice_get players place ≡ Some (Waiting fork))) × IsLackFor h (forks_of players) (fork_pages h.slots players) fault
+IsPlayRefusal h players (ForkRefused place fault) =
+    ((fork : Fork) × (slice_get players place ≡ Some (Waiting fork))) × IsLackFor h (forks_of players) (fork_pages h.slots players) fault
 IsPlayRefusal h players OutOfMemory = ⊤
 
 -- ---- on the way
@@ -209,8 +214,8 @@ is_over (Waiting fork) = false
 
 -- The session at a place, if it waits to be forked from that at another place, is not to be forked now; that one may execute so many steps before.
 abbrev pub IsFar : (parent steps : ℕ) → List Player → (place : ℕ) → Type 0
-IsFar parent steps players place = (fork : Fork) (slot : ScriptedSlot) → slice_get players place ≡ Some (Waiting fork) → fork.parent ≡ parent → slice_get players parent ≡ Some (Playing slot) →
-    (is_due fork slot ≡ false) × (slot.pace.done + steps ≤ fork.at)
+IsFar parent steps players place = (fork : Fork) (slot : ScriptedSlot) → slice_get players place ≡ Some (Waiting fork) → fork.parent ≡ parent →
+    slice_get players parent ≡ Some (Playing slot) → (is_due fork slot ≡ false) × (slot.pace.done + steps ≤ fork.at)
 
 abbrev pub NoneIsDue : (parent steps : ℕ) → List Player → Type 0
 NoneIsDue parent steps players = (place : ℕ) → IsFar parent steps players place

@@ -18,7 +18,8 @@ IsInOrder n (k ∷ ks) = (n ≤ k.count) × IsInOrder k.count ks
 abbrev pub alone_by : Disk → List Key → ℕ → MachineState → MachineState
 alone_by system keys steps start = alone system (presses_of keys) steps start
 
--- A session was played: it has shown what the machine run alone for its keys and steps shows, and has come to its end, count, registers, memory and drives, whatever the turns were.
+-- A session was played: it has shown what the machine run alone for its keys and steps shows, and has come to its end, count, registers,
+-- memory and drives, whatever the turns were.
 pub record IsPlayed (system : Disk) (keys : List Key) (steps : ℕ) (start now : MachineState) (console list : List ℕ) : Type 0 where
   pub screen : console ≡ (alone system (presses_of keys) steps start).session.console.screen
   pub printer : list ≡ (alone system (presses_of keys) steps start).session.console.printer

@@ -5,7 +5,8 @@ ghost use Rattle.std.specs.Io.KnownBytes.{Appends};
 ghost use Rattle.cpm_script.specs.Recording.{recorded};
 ghost use Rattle.cpm_machine.specs.Serve.{look_of, takes_key};
 ghost use Rattle.cpm_machine.specs.Step.{after, is_running};
-ghost use Rattle.cpm_play.specs.Cued.{AreAscii, HasEndedCued, HasIdled, HasMissed, HasNoWait, HasPressed, HasExecuted, HasShown, HasStopped, IsCued, IsCutOff, IsPressCut, IsRunCut, IsOutputTaken, IsUntaken, key_count, last_count, looks_back, waits_at};
+ghost use Rattle.cpm_play.specs.Cued.{AreAscii, HasEndedCued, HasIdled, HasMissed, HasNoWait, HasPressed, HasExecuted, HasShown, HasStopped};
+ghost use Rattle.cpm_play.specs.Cued.{IsCued, IsCutOff, IsPressCut, IsRunCut, IsOutputTaken, IsUntaken, key_count, last_count, looks_back, waits_at};
 ghost use Rattle.cpm_play.specs.Live.{AreGiven, IsGoing};
 ghost use Rattle.cpm_play.specs.Pacing.{without_text};
 ghost use Rattle.cpm_play.specs.Playing.{EndsAs, HasText, IsFresh, IsQuiet, alone_by};
@@ -15,8 +16,8 @@ use crate::live::{Live, LiveError, show};
 use crate::machine::{CHUNK, QUANTUM, drop_list, quantum_of};
 use crate::progress::{Watcher, progress_of_one};
 use cpm_geom::Image;
-use cpm_script::{Cue, Key};
 use cpm_machine::{End, Machine};
+use cpm_script::{Cue, Key};
 use memchr::memmem;
 use std::alloc::Global;
 use std::io;
@@ -220,10 +221,12 @@ impl Live {
     ) -> Result<(), LiveError>
         requires quiet { IsQuiet machine.old }
         requires within { self.old.steps ≤ steps }
-        ensures idled { OnOk result (HasIdled system.now steps waits_from self.old.steps self.new.steps machine.old machine.new (W.contents out.old) (W.contents out.new)) }
+        ensures idled { OnOk result (HasIdled system.now steps waits_from self.old.steps self.new.steps
+            machine.old machine.new (W.contents out.old) (W.contents out.new)) }
         ensures within { OnOk result (self.new.steps ≤ steps) }
         ensures still { self.new.keys.items ≡ self.old.keys.items }
-        ensures kept { OnOk result (keeps ≡ true → shown.new.items ≡ shown.old.items ++ (after system.now (self.new.steps - self.old.steps) machine.old).session.console.screen) }
+        ensures kept { OnOk result (keeps ≡ true
+            → shown.new.items ≡ shown.old.items ++ (after system.now (self.new.steps - self.old.steps) machine.old).session.console.screen) }
         ensures refused { IfErr result (IsRunCut system.now (steps - self.old.steps) machine.old machine.new (W.contents out.old) (W.contents out.new)) }
     {
         let pause = waits_from.min(steps).saturating_sub(self.steps);
@@ -252,8 +255,8 @@ fn follow<W: Write, S: Write, T: Watcher>(
     requires fresh { IsFresh machine.old }
     requires ascii { AreAscii cued.cues.now }
     requires few { key_count cued.cues.now ≤ most_keys }
-    ensures going { IfOk result (λ live. IsGoing system.now steps (key_count cued.entry.cues.now) machine.old machine.new (W.contents out.old) (W.contents out.new)
-        (S.contents record.old) (S.contents record.new) live.keys.items live.steps) }
+    ensures going { IfOk result (λ live. IsGoing system.now steps (key_count cued.entry.cues.now) machine.old machine.new
+        (W.contents out.old) (W.contents out.new) (S.contents record.old) (S.contents record.new) live.keys.items live.steps) }
     ensures keys { IfOk result (λ live. IsCued system.now machine.old steps cued.entry.waits_from cued.entry.cues.now live.keys.items) }
     ensures busy { IfOk result (λ live. (is_running machine.new.ended ≡ false)
         ⊎ HasNoWait system.now machine.old live.keys.items (max cued.entry.waits_from (last_count 0 live.keys.items)) live.steps) }
@@ -324,7 +327,8 @@ pub fn play_cues<W: Write, S: Write, T: Watcher>(
         (alone_by system.now live.keys.items live.steps machine.old).session.console.screen) }
     ensures ending { IfOk result (λ live. EndsAs (alone_by system.now live.keys.items live.steps machine.old) machine.new) }
     ensures record { IfOk result (λ live. Appends (S.contents record.old) (S.contents record.new) (recorded live.keys.items)) }
-    ensures ends { IfOk result (λ live. HasEndedCued system.now machine.old steps cued.entry.waits_from cued.entry.stops_idle live.keys.items live.steps machine.new) }
+    ensures ends { IfOk result (λ live. HasEndedCued system.now machine.old steps cued.entry.waits_from cued.entry.stops_idle
+        live.keys.items live.steps machine.new) }
     ensures waits { IfOk result (λ live. (look_of machine.new).waiting ≡ waits_at system.now machine.old live.keys.items live.steps) }
     ensures refused { IfErr result (IsCutOff system.now steps (key_count cued.entry.cues.now) machine.old machine.new (W.contents out.old) (W.contents out.new)
         (S.contents record.old) (S.contents record.new)) }

@@ -9,8 +9,8 @@ ghost use Rattle.cpm_script.specs.Script.{most_keys};
 use crate::pace::Pace;
 use crate::progress::{Watcher, progress_of_one};
 use cpm_geom::Image;
-use cpm_script::Key;
 use cpm_machine::Machine;
+use cpm_script::Key;
 use std::io;
 use std::io::Write;
 

@@ -3,15 +3,16 @@
 ghost use Rattle.std.specs.Prelude.{◌≡◌, ◌≤◌, ◌<◌, List, OnOk, IfErr, false};
 ghost use Rattle.cpm_slots.specs.Host.{Host as HostValue};
 ghost use Rattle.cpm_play.specs.declared.player.Player.{Player as PlayerValue};
-ghost use Rattle.cpm_play.specs.Players.{AllDiffer, AllPlayed, AllReady, HasCome, HasRoomForForks, IsPlayRefusal, LeavesRest, fork_pages, forks_of, still_plays, has_fork, ids_of, is_over, players_left};
+ghost use Rattle.cpm_play.specs.Players.{AllDiffer, AllPlayed, AllReady, HasCome, HasRoomForForks, IsPlayRefusal, LeavesRest};
+ghost use Rattle.cpm_play.specs.Players.{fork_pages, forks_of, still_plays, has_fork, ids_of, is_over, players_left};
 
 use crate::error::PlayError;
 use crate::forks::{fork_if_due, has_fork};
 use crate::player::Player;
 use crate::progress::{Watcher, progress_of};
 use crate::turn::turn;
-use cpm_slots::Host;
 use cpm_machine::Look;
+use cpm_slots::Host;
 use std::alloc::Global;
 
 /// Whether one of the players has steps to execute, or is still to be forked.
@@ -70,10 +71,13 @@ fn round(
 ) -> Result<(), PlayError>
     requires quantum { 1 ≤ quantum }
     requires none { may_fork ≡ false → has_fork players.old ≡ false }
-    ensures come { OnOk result ((old : HostValue) (given : List PlayerValue) → AllReady old.slots given → HasCome old host.old.host given players.old → HasCome old host.new.host given players.new) }
-    ensures left { OnOk result ((old : HostValue) (given : List PlayerValue) → AllReady old.slots given → HasCome old host.old.host given players.old → 0 < players_left players.old → players_left players.new < players_left players.old) }
+    ensures come { OnOk result ((old : HostValue) (given : List PlayerValue) → AllReady old.slots given
+        → HasCome old host.old.host given players.old → HasCome old host.new.host given players.new) }
+    ensures left { OnOk result ((old : HostValue) (given : List PlayerValue) → AllReady old.slots given
+        → HasCome old host.old.host given players.old → 0 < players_left players.old → players_left players.new < players_left players.old) }
     ensures none { OnOk result (may_fork ≡ false → has_fork players.new ≡ false) }
-    ensures refused { IfErr result (λ e. (old : HostValue) (given : List PlayerValue) → AllReady old.slots given → HasCome old host.old.host given players.old → IsPlayRefusal old given e) }
+    ensures refused { IfErr result (λ e. (old : HostValue) (given : List PlayerValue) → AllReady old.slots given
+        → HasCome old host.old.host given players.old → IsPlayRefusal old given e) }
 {
     for place in 0..players.len() {
         if !may_fork && is_over(&players[place]) {
@@ -88,8 +92,9 @@ fn round(
     Ok(())
 }
 
-/// Plays sessions of a host, and forks those that are to be forked. The players have turns in their order, each of at most `quantum` steps (or where the session waits
-/// for a key of as many as it waits) and cut at the count of the next key and at that of the next fork, and all that a session shows is taken after its turn, until each has executed its steps or ended.
+/// Plays sessions of a host, and forks those that are to be forked. The players have turns in their order, each of at most `quantum` steps (or where the
+/// session waits for a key of as many as it waits) and cut at the count of the next key and at that of the next fork,
+/// and all that a session shows is taken after its turn, until each has executed its steps or ended.
 /// A session is forked once the one that it is forked from has executed as many steps, or executes no more, and before that one's keys of this count.
 ///
 /// The watcher is told after each round how far they have come.

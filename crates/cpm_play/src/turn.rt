@@ -24,7 +24,8 @@ fn press_due(host: &mut Host, slot: &mut ScriptedSlot)
     ensures moves { Moves slot.old slot.new host.old.host host.new.host }
     ensures left { steps_of slot.new ≡ steps_of slot.old }
     ensures due { due_at slot.new.pace.done (slice_get (script_keys slot.new) slot.new.pace.pressed) ≡ None }
-    ensures early { (at : ℕ) → slot.old.pace.done < at → AllBefore at (take slot.old.pace.pressed (script_keys slot.old)) → AllBefore at (take slot.new.pace.pressed (script_keys slot.new)) }
+    ensures early { (at : ℕ) → slot.old.pace.done < at → AllBefore at (take slot.old.pace.pressed (script_keys slot.old))
+        → AllBefore at (take slot.new.pace.pressed (script_keys slot.new)) }
     ensures done { slot.new.pace.done ≡ slot.old.pace.done }
 {
     while let Some(key) = slot.pace.due(&slot.keys) {
@@ -49,9 +50,11 @@ fn read(host: &mut Host, id: SlotId, device: Device, chunk: &mut [u8]) -> usize
 
 /// Takes all bytes of a device.
 fn take_all(host: &mut Host, slot: &mut ScriptedSlot, device: Device) -> Result<(), AllocError>
-    ensures playing { OnOk result ((steps : ℕ) (start : MachineState) → IsPlaying steps start slot.old host.old.host → IsPlaying steps start slot.new host.new.host) }
+    ensures playing { OnOk result ((steps : ℕ) (start : MachineState) → IsPlaying steps start slot.old host.old.host
+        → IsPlaying steps start slot.new host.new.host) }
     ensures empty { OnOk result (waits_in device (slot_at slot.new.id.0 host.new.host.slots) ≡ []) }
-    ensures stays { OnOk result ((other : Device) → waits_in other (slot_at slot.old.id.0 host.old.host.slots) ≡ [] → waits_in other (slot_at slot.new.id.0 host.new.host.slots) ≡ []) }
+    ensures stays { OnOk result ((other : Device) → waits_in other (slot_at slot.old.id.0 host.old.host.slots) ≡ []
+        → waits_in other (slot_at slot.new.id.0 host.new.host.slots) ≡ []) }
     ensures moves { OnOk result (Moves slot.old slot.new host.old.host host.new.host) }
     ensures pace { slot.new.pace ≡ slot.old.pace }
 {
@@ -83,7 +86,8 @@ fn execute(host: &mut Host, slot: &mut ScriptedSlot, quantum: u64)
     ensures playing { (steps : ℕ) (start : MachineState) → IsResting steps start slot.old host.old.host → IsPlaying steps start slot.new host.new.host }
     ensures moves { Moves slot.old slot.new host.old.host host.new.host }
     ensures left { steps_of slot.new ≤ steps_of slot.old - 1 }
-    ensures early { (at : ℕ) → slot.old.pace.done < at → AllBefore at (take slot.old.pace.pressed (script_keys slot.old)) → AllBefore at (take slot.new.pace.pressed (script_keys slot.new)) }
+    ensures early { (at : ℕ) → slot.old.pace.done < at → AllBefore at (take slot.old.pace.pressed (script_keys slot.old))
+        → AllBefore at (take slot.new.pace.pressed (script_keys slot.new)) }
     ensures done { slot.new.pace.done ≤ slot.old.pace.done + quantum }
 {
     press_due(host, slot);
@@ -95,10 +99,12 @@ fn execute(host: &mut Host, slot: &mut ScriptedSlot, quantum: u64)
 /// Gives a scripted slot a turn of at most `quantum` steps, which ends at the count of its next key, and takes what it shows.
 pub(crate) fn turn(host: &mut Host, slot: &mut ScriptedSlot, quantum: u64) -> Result<(), AllocError>
     requires { 1 ≤ quantum }
-    ensures playing { OnOk result ((steps : ℕ) (start : MachineState) → IsResting steps start slot.old host.old.host → IsResting steps start slot.new host.new.host) }
+    ensures playing { OnOk result ((steps : ℕ) (start : MachineState) → IsResting steps start slot.old host.old.host
+        → IsResting steps start slot.new host.new.host) }
     ensures moves { OnOk result (Moves slot.old slot.new host.old.host host.new.host) }
     ensures left { OnOk result (steps_of slot.new ≤ steps_of slot.old - 1) }
-    ensures early { OnOk result ((at : ℕ) → slot.old.pace.done < at → AllBefore at (take slot.old.pace.pressed (script_keys slot.old)) → AllBefore at (take slot.new.pace.pressed (script_keys slot.new))) }
+    ensures early { OnOk result ((at : ℕ) → slot.old.pace.done < at → AllBefore at (take slot.old.pace.pressed (script_keys slot.old))
+        → AllBefore at (take slot.new.pace.pressed (script_keys slot.new))) }
     ensures done { OnOk result (slot.new.pace.done ≤ slot.old.pace.done + quantum) }
 {
     if slot.pace.left() == 0 {

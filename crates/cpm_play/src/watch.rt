@@ -3,8 +3,8 @@
 ghost use Rattle.std.specs.Prelude.{◌≡◌, ◌<◌, true};
 
 use cpm_flags::Regs;
-use cpm_memory::layout::{BDOS, FIRST_BIOS};
 use cpm_machine::{Look, Why};
+use cpm_memory::layout::{BDOS, FIRST_BIOS};
 
 /// Where CONST is entered, the BIOS's call 2.
 const CONSOLE_STATUS: u16 = FIRST_BIOS + 2;

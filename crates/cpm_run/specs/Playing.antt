@@ -78,7 +78,8 @@ HavePlayers slots (i ∷ is) (p ∷ ps) = HasPlayer slots i p × HavePlayers slo
 HavePlayers slots [] (p ∷ ps) = ⊥
 HavePlayers slots (i ∷ is) [] = ⊥
 
--- the keys of a forked session can be pressed: they are those of an opened session before the fork and then others in order, not too many, and it has the steps up to the fork
+-- the keys of a forked session can be pressed: they are those of an opened session before the fork and then others in order,
+-- not too many, and it has the steps up to the fork
 pub record IsForkPressable (inputs : List SessionInput) (i : SessionInput) (parent at : ℕ) : Type 0 where
   pub other : SessionInput
   pub there : slice_get inputs parent ≡ Some other
@@ -151,7 +152,8 @@ AllEnded system inputs slots [] (p ∷ ps) = ⊥
 AllEnded system inputs slots (i ∷ is) [] = ⊥
 
 -- the first of the scripted slots, with what is left of its slot, which was closed, and the bytes at its program counter
-pub record IsClosed (p : ScriptedSlot) (ps : List Player) (s : MachineState) (old new : Host) (r : Option (ScriptedSlot × Closed × List ℕ)) (rest : List Player) : Type 0 where
+pub record IsClosed (p : ScriptedSlot) (ps : List Player) (s : MachineState) (old new : Host)
+    (r : Option (ScriptedSlot × Closed × List ℕ)) (rest : List Player) : Type 0 where
   pub closed : Closed
   pub result : r ≡ Some (p, closed, bytes_at_pc s)
   pub look : closed.look ≡ look_of s
@@ -175,7 +177,8 @@ files_by session p closed =
     record { session = session; console = p.console.items; list = p.list.items; drives = closed.drives }
 
 -- one more session that ended so is reported, and leaves its files
-pub record HasReported (session : SessionConfig) (p : ScriptedSlot) (closed : Closed) (at_pc : List ℕ) (reports more : List SessionReport) (files others : List SessionFiles) : Type 0 where
+pub record HasReported (session : SessionConfig) (p : ScriptedSlot) (closed : Closed) (at_pc : List ℕ)
+    (reports more : List SessionReport) (files others : List SessionFiles) : Type 0 where
   pub report : SessionReport
   pub reported : report_view report ≡ report_by session p closed at_pc
   pub pushed : more ≡ reports ++ report ∷ []

@@ -1,5 +1,6 @@
 -- What running the sessions of a configuration writes and reports, and when it is refused. All of it is own.
-use Rattle.std.specs.Prelude.{⊤, ◌≡◌, ◌≢◌, ◌⊎◌, ℕ, sum_by, ◌==◌, ◌&&◌, not, nat_le, List, [], ◌∷◌, length, map, slice_get, Option, Some, None, option_and_then, string_bytes, if◌then◌else◌}
+use Rattle.std.specs.Prelude.{⊤, ◌≡◌, ◌≢◌, ◌⊎◌, ℕ, sum_by, ◌==◌, ◌&&◌, not, nat_le, List, [], ◌∷◌, length}
+use Rattle.std.specs.Prelude.{map, slice_get, Option, Some, None, option_and_then, string_bytes, if◌then◌else◌}
 use Rattle.cpm_batch.specs.Inputs.{AreInputs, Forks, IsInputFault, Opens, SessionInput, StartInput}
 use Rattle.cpm_batch.specs.Outputs.{SessionOutput, files_of_all}
 use Rattle.cpm_batch.specs.Reads.{AreRead, StopsAtInput}
@@ -45,7 +46,8 @@ abbrev pub opening_at : Option SessionInput → MachineState
 opening_at None = opened_machine I8080 0 []
 opening_at (Some i) = opening_of i.start
 
--- the machine with which a session of these begins: at its opening, which has its processor, its quota and its drives, or where it is forked at that of the session that it is forked from
+-- the machine with which a session of these begins: at its opening, which has its processor, its quota and its drives,
+-- or where it is forked at that of the session that it is forked from
 abbrev pub start_by : List SessionInput → StartInput → MachineState
 start_by inputs (Opens cpu quota drives) = opened_machine cpu quota drives
 start_by inputs (Forks parent at) = opening_at (slice_get inputs parent)
@@ -53,7 +55,8 @@ start_by inputs (Forks parent at) = opening_at (slice_get inputs parent)
 abbrev pub start_of : List SessionInput → SessionInput → MachineState
 start_of inputs i = start_by inputs i.start
 
--- the machine run alone from there, by its keys, for its steps. Of a forked session these are the keys of the other one up to the fork and then its own, and its steps are all of them
+-- the machine run alone from there, by its keys, for its steps.
+-- Of a forked session these are the keys of the other one up to the fork and then its own, and its steps are all of them
 unfoldable pub run_of : Disk → List SessionInput → SessionInput → MachineState
 run_of system inputs i = alone_by system i.keys i.session.steps (start_of inputs i)
 
@@ -147,7 +150,8 @@ abbrev pub AllAccepted : (all : List SessionInput) → Host → List SessionInpu
 AllAccepted all h [] = HasForkRoom all h
 AllAccepted all h (i ∷ is) = IsAccepted h i.start (λ next. AllAccepted all next is)
 
--- Where the store tells its files: with what the files held, the sessions were run alone. The files that they name were written in order, and nothing else; and each session is reported.
+-- Where the store tells its files: with what the files held, the sessions were run alone.
+-- The files that they name were written in order, and nothing else; and each session is reported.
 pub record HasRun (config : Config) (reports : List SessionReport) (old new : Option Files) : Type 0 where
   pub system : Disk
   pub inputs : List SessionInput
@@ -158,7 +162,8 @@ pub record HasRun (config : Config) (reports : List SessionReport) (old new : Op
   pub written : WhereTold old new (WritesAll (outputs_of system inputs))
   pub reported : map report_view reports ≡ reports_of system inputs
 
--- Over any store: with what its files gave, the sessions were run alone. The calls were the reads of what the configuration needs, then the writes of the files that the sessions name, in order, and no others.
+-- Over any store: with what its files gave, the sessions were run alone. The calls were the reads of what the configuration needs,
+-- then the writes of the files that the sessions name, in order, and no others.
 pub record HasAccessed {S : Type 0} (does : S → Access → S → Type 0) (config : Config) (reports : List SessionReport) (old new : S) : Type 0 where
   pub system : Disk
   pub inputs : List SessionInput
@@ -241,11 +246,13 @@ IsWriteRefusal outputs old new (refusal.WriteFault name) = (place : ℕ) × Wher
 IsWriteRefusal outputs old new refusal.OutOfMemory = (place : ℕ) × WhereTold old new (StopsAt outputs place)
 IsWriteRefusal outputs old new _ = ⊥
 
--- how a run is refused: for a number at the top or a fork before anything is read, then for the first fault of what is needed, then for the first session whose opening is refused, or for want of room for the forks. But for want of memory and for a file that can't be written nothing was written
+-- how a run is refused: for a number at the top or a fork before anything is read, then for the first fault of what is needed, then for the first session whose
+-- opening is refused, or for want of room for the forks. But for want of memory and for a file that can't be written nothing was written
 abbrev pub IsRunRefusal : Config → Option Files → Option Files → RunError → Type 0
 IsRunRefusal config old new (refusal.ConfigRefused (Range place)) = (config_fault config ≡ Some place) × (new ≡ old)
 IsRunRefusal config old new (refusal.FileRefused e) = (config_fault config ≡ None) × IsInputFault old config e × (new ≡ old)
-IsRunRefusal config old new (refusal.SessionRefused name fault) = (config_fault config ≡ None) × (fault ≢ NoFrames) × IsOpenRefusal config fault old × (new ≡ old)
+IsRunRefusal config old new (refusal.SessionRefused name fault) =
+    (config_fault config ≡ None) × (fault ≢ NoFrames) × IsOpenRefusal config fault old × (new ≡ old)
 IsRunRefusal config old new (refusal.FramesExceeded name quotas frames) =
     (config_fault config ≡ None) × (quotas ≡ pages_of_config config) × (frames ≡ config.frames) × IsOpenRefusal config NoFrames old × (new ≡ old)
 IsRunRefusal config old new (refusal.WriteFault name) = StopsWriting config old new
@@ -259,7 +266,8 @@ pub record FailsAtWrite {S : Type 0} (does : S → Access → S → Type 0) (con
   pub place : ℕ
   pub calls : RanBy does (Then (AreRead config system inputs) (StopsAfter (outputs_of system inputs) place)) old new
 
--- what calls a run that is refused has made of any store: where it was not at its writes, none that writes; and where a file is refused, the reads up to it and no others
+-- what calls a run that is refused has made of any store: where it was not at its writes, none that writes;
+-- and where a file is refused, the reads up to it and no others
 abbrev pub IsStoppedRun : {S : Type 0} → (S → Access → S → Type 0) → Config → S → S → RunError → Type 0
 IsStoppedRun {S} does config old new (refusal.FileRefused e) = RanBy does (StopsAtInput config e) old new
 IsStoppedRun {S} does config old new (refusal.WriteFault name) = FailsAtWrite does config old new

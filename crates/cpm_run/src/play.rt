@@ -12,8 +12,10 @@ ghost use Rattle.cpm_play.specs.Players.{AllDiffer, IsPlayRefusal as IsForking, 
 ghost use Rattle.cpm_play.specs.declared.player.Player.TheVariants.{Playing};
 ghost use Rattle.cpm_play.specs.declared.player.Player.{Player as PlayerValue};
 ghost use Rattle.cpm_play.specs.declared.scripted_slot.ScriptedSlot.{ScriptedSlot};
-ghost use Rattle.cpm_run.specs.Playing.{HavePlayers, AreFinished, ArePressable, HasReported, IsClosed, IsForksRefusal, IsOpeningRefusal, IsSessionsRefusal, IsPrepared, IsSlotRefusal, IsStartRefusal, OpensSlot, files_by, report_by};
-ghost use Rattle.cpm_run.specs.Run.{AllAccepted, AreOpenable, HasForkRoom, IsFirstRefused, IsShortFor, files_left, fork_pages_in, forks_in, report_view, reports_of};
+ghost use Rattle.cpm_run.specs.Playing.{HavePlayers, AreFinished, ArePressable, HasReported, IsClosed, IsForksRefusal, IsOpeningRefusal};
+ghost use Rattle.cpm_run.specs.Playing.{IsSessionsRefusal, IsPrepared, IsSlotRefusal, IsStartRefusal, OpensSlot, files_by, report_by};
+ghost use Rattle.cpm_run.specs.Run.{AllAccepted, AreOpenable, HasForkRoom, IsFirstRefused, IsShortFor};
+ghost use Rattle.cpm_run.specs.Run.{files_left, fork_pages_in, forks_in, report_view, reports_of};
 
 use crate::at_pc::bytes_of_slot;
 use crate::error::RunError;
@@ -22,10 +24,10 @@ use crate::report::SessionReport;
 use cpm_batch::{Input, Inputs, SessionFiles, Start};
 use cpm_command_line::{ShownWord, shown};
 use cpm_config::{Config, SessionConfig};
-use cpm_script::Key;
-use cpm_slots::{ForkError, Host};
 use cpm_machine::{Closed, OpenError, Opening};
 use cpm_play::{Fork, PlayError, Player, ScriptedSlot, Watcher, play};
+use cpm_script::Key;
+use cpm_slots::{ForkError, Host};
 use std::alloc::{AllocError, Global};
 use std::vec::IntoIter;
 
@@ -120,7 +122,8 @@ fn name_at(config: &Config, place: usize) -> ShownWord {
 
 /// Why the sessions of a configuration are not played to their end, if one is not forked so.
 fn fork_refusal(config: &Config, error: PlayError) -> RunError
-    ensures { (h : HostValue) (players : List PlayerValue) → IsForking h players error → IsForksRefusal config.now h (forks_of players) (fork_pages h.slots players) result }
+    ensures { (h : HostValue) (players : List PlayerValue) → IsForking h players error
+        → IsForksRefusal config.now h (forks_of players) (fork_pages h.slots players) result }
 {
     match error {
         PlayError::ForkRefused { place, fault } => match fault {
@@ -148,7 +151,8 @@ fn prepare_all(
     ensures prepared { IfOk result (λ players. HavePlayers host.new.host.slots (map given inputs.entry.items) players.items) }
     ensures accepted { OnOk result ((all : List SessionInput) → HasForkRoom all host.new.host → AllAccepted all host.old.host (map given inputs.entry.items)) }
     ensures openable { OnOk result (AreOpenable host.old.host (map given inputs.entry.items)) }
-    ensures short { OnOk result ((all : List SessionInput) (fault : OpenErrorValue) → IsShortFor host.new.host (forks_in all) (fork_pages_in all) fault → IsFirstRefused all host.old.host (map given inputs.entry.items) fault) }
+    ensures short { OnOk result ((all : List SessionInput) (fault : OpenErrorValue) → IsShortFor host.new.host (forks_in all) (fork_pages_in all) fault
+        → IsFirstRefused all host.old.host (map given inputs.entry.items) fault) }
     ensures differ { IfOk result (λ players. AllDiffer players.items) }
     ensures system { host.new.host.system ≡ host.old.host.system }
     ensures refusal { IfErr result (λ e. (all : List SessionInput) → IsSlotRefusal all host.old.host (map given inputs.entry.items) e) }
@@ -166,8 +170,8 @@ fn next_closed(
     host: &mut Host,
     players: &mut IntoIter<Player>,
 ) -> Option<(ScriptedSlot, Closed, [u8; 4])>
-    ensures { (p : ScriptedSlot) (ps : List PlayerValue) (s : MachineState) → into_iter_items players.old ≡ Playing p ∷ ps → slot_at p.id.0 host.old.host.slots ≡ Some s
-        → IsClosed p ps s host.old.host host.new.host result (into_iter_items players.new) }
+    ensures { (p : ScriptedSlot) (ps : List PlayerValue) (s : MachineState) → into_iter_items players.old ≡ Playing p ∷ ps
+        → slot_at p.id.0 host.old.host.slots ≡ Some s → IsClosed p ps s host.old.host host.new.host result (into_iter_items players.new) }
 {
     let Player::Playing(slot) = players.next()? else {
         return None;
@@ -218,7 +222,8 @@ impl<'a> RunResults<'a> {
         session: &'a SessionConfig,
         ended: (ScriptedSlot, Closed, [u8; 4]),
     ) -> Result<(), AllocError>
-        ensures { OnOk result (HasReported session.entry.now ended.0 ended.1 ended.2 self.old.reports.items self.new.reports.items self.old.files.items self.new.files.items) }
+        ensures { OnOk result (HasReported session.entry.now ended.0 ended.1 ended.2
+            self.old.reports.items self.new.reports.items self.old.files.items self.new.files.items) }
     {
         let (slot, closed, at_pc) = ended;
         let (report, left) = finish(alloc, session, slot, closed, at_pc)?;
@@ -261,12 +266,15 @@ fn prepare_host(
     requires least { 16 ≤ config.now.frames }
     requires most { config.now.frames ≤ 16384 }
     ensures prepared { IfOk result (λ p. HavePlayers p.0.host.slots (map given inputs.entry.sessions.items) p.1.items) }
-    ensures accepted { IfOk result (λ p. (all : List SessionInput) → HasForkRoom all p.0.host → AllAccepted all (new_host inputs.entry.system config.entry.now.frames) (map given inputs.entry.sessions.items)) }
+    ensures accepted { IfOk result (λ p. (all : List SessionInput) → HasForkRoom all p.0.host
+        → AllAccepted all (new_host inputs.entry.system config.entry.now.frames) (map given inputs.entry.sessions.items)) }
     ensures openable { OnOk result (AreOpenable (new_host inputs.entry.system config.entry.now.frames) (map given inputs.entry.sessions.items)) }
-    ensures short { IfOk result (λ p. (all : List SessionInput) (fault : OpenErrorValue) → IsShortFor p.0.host (forks_in all) (fork_pages_in all) fault → IsFirstRefused all (new_host inputs.entry.system config.entry.now.frames) (map given inputs.entry.sessions.items) fault) }
+    ensures short { IfOk result (λ p. (all : List SessionInput) (fault : OpenErrorValue) → IsShortFor p.0.host (forks_in all) (fork_pages_in all) fault
+        → IsFirstRefused all (new_host inputs.entry.system config.entry.now.frames) (map given inputs.entry.sessions.items) fault) }
     ensures differ { IfOk result (λ p. AllDiffer p.1.items) }
     ensures system { IfOk result (λ p. p.0.host.system ≡ inputs.entry.system) }
-    ensures refusal { IfErr result (IsSessionsRefusal config.entry.now (new_host inputs.entry.system config.entry.now.frames) (map given inputs.entry.sessions.items)) }
+    ensures refusal { IfErr result (IsSessionsRefusal config.entry.now (new_host inputs.entry.system config.entry.now.frames)
+        (map given inputs.entry.sessions.items)) }
 {
     let Inputs { system, sessions } = inputs;
     let mut host = match Host::new(alloc, system, config.frames) {
@@ -283,7 +291,8 @@ fn prepare_host(
 pub(crate) fn open_all(alloc: Global, config: &Config, inputs: Inputs<'_>) -> Result<(), RunError>
     requires least { 16 ≤ config.now.frames }
     requires most { config.now.frames ≤ 16384 }
-    ensures refusal { IfErr result (IsSessionsRefusal config.entry.now (new_host inputs.entry.system config.entry.now.frames) (map given inputs.entry.sessions.items)) }
+    ensures refusal { IfErr result (IsSessionsRefusal config.entry.now (new_host inputs.entry.system config.entry.now.frames)
+        (map given inputs.entry.sessions.items)) }
     ensures openable { OnOk result (AreOpenable (new_host inputs.entry.system config.entry.now.frames) (map given inputs.entry.sessions.items)) }
 {
     prepare_host(alloc, config, inputs)?;
@@ -304,8 +313,10 @@ pub(crate) fn play_all<'a, T: Watcher>(
     requires sessions { map (λ i. i.session) (map given inputs.sessions.items) ≡ config.now.sessions.items }
     ensures reports { IfOk result (λ p. map report_view p.reports.items ≡ reports_of inputs.entry.system (map given inputs.entry.sessions.items)) }
     ensures files { IfOk result (λ p. map left_by p.files.items ≡ files_left inputs.entry.system (map given inputs.entry.sessions.items)) }
-    ensures accepted { OnOk result (AllAccepted (map given inputs.entry.sessions.items) (new_host inputs.entry.system config.entry.now.frames) (map given inputs.entry.sessions.items)) }
-    ensures refusal { IfErr result (IsSessionsRefusal config.entry.now (new_host inputs.entry.system config.entry.now.frames) (map given inputs.entry.sessions.items)) }
+    ensures accepted { OnOk result (AllAccepted (map given inputs.entry.sessions.items)
+        (new_host inputs.entry.system config.entry.now.frames) (map given inputs.entry.sessions.items)) }
+    ensures refusal { IfErr result (IsSessionsRefusal config.entry.now (new_host inputs.entry.system config.entry.now.frames)
+        (map given inputs.entry.sessions.items)) }
 {
     let (mut host, mut players) = prepare_host(alloc, config, inputs)?;
     match play(

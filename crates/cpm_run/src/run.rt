@@ -6,17 +6,18 @@ ghost use Rattle.cpm_store.specs.Files.{CountsFailure, WhereTold};
 ghost use Rattle.cpm_store.specs.Log.{AreNoWrites, AreWrites, RanBy, StopsAfter};
 ghost use Rattle.cpm_store.specs.Writes.{StopsAt, WritesAll, named_output};
 ghost use Rattle.cpm_run.specs.Playing.{ArePressable, IsSessionsRefusal};
-ghost use Rattle.cpm_run.specs.Run.{AllAccepted, HasAccessed, HasRun, IsDeviceFault, IsRunJudged, IsRunRefusal, IsStoppedRun, IsWriteRefusal, config_fault, outputs_of, report_view, reports_of, top_fault};
+ghost use Rattle.cpm_run.specs.Run.{AllAccepted, HasAccessed, HasRun, IsDeviceFault, IsRunJudged, IsRunRefusal, IsStoppedRun};
+ghost use Rattle.cpm_run.specs.Run.{IsWriteRefusal, config_fault, outputs_of, report_view, reports_of, top_fault};
 
 use crate::error::RunError;
 use crate::play::{RunResults, open_all, play_all};
 use crate::report::Report;
 use cpm_batch::{Inputs, outputs_of, read_inputs};
 use cpm_command_line::shown;
-use cpm_config::{Config, ConfigError, Field, ConfigKey};
+use cpm_config::{Config, ConfigError, ConfigKey, Field};
+use cpm_play::Watcher;
 use cpm_slots::{LEAST_FRAMES, MOST_FRAMES};
 use cpm_store::{Output, Store, StoreError, write_all};
-use cpm_play::Watcher;
 use std::alloc::Global;
 
 /// A number of the configuration with which nothing can be run.
@@ -76,8 +77,10 @@ fn play_inputs<'a, T: Watcher>(
     requires sessions { map (λ i. i.session) (map given inputs.sessions.items) ≡ config.now.sessions.items }
     ensures reports { IfOk result (λ p. map report_view p.0.items ≡ reports_of inputs.entry.system (map given inputs.entry.sessions.items)) }
     ensures outputs { IfOk result (λ p. map named_output p.1.items ≡ outputs_of inputs.entry.system (map given inputs.entry.sessions.items)) }
-    ensures accepted { OnOk result (AllAccepted (map given inputs.entry.sessions.items) (new_host inputs.entry.system config.entry.now.frames) (map given inputs.entry.sessions.items)) }
-    ensures refusal { IfErr result (IsSessionsRefusal config.entry.now (new_host inputs.entry.system config.entry.now.frames) (map given inputs.entry.sessions.items)) }
+    ensures accepted { OnOk result (AllAccepted (map given inputs.entry.sessions.items)
+        (new_host inputs.entry.system config.entry.now.frames) (map given inputs.entry.sessions.items)) }
+    ensures refusal { IfErr result (IsSessionsRefusal config.entry.now (new_host inputs.entry.system config.entry.now.frames)
+        (map given inputs.entry.sessions.items)) }
 {
     let RunResults { reports, files } = play_all(alloc, config, inputs, watcher)?;
     let outputs = outputs_of(alloc, files)?;

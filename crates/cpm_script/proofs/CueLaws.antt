@@ -9,10 +9,10 @@ use Rattle.std.proofs.lemmas.Bool.{false≢true, false_from_ne_true}
 use Rattle.std.proofs.lemmas.Bool.Decides.{nat_tests}
 use Rattle.std.proofs.lemmas.List.{map-append}
 use Rattle.std.proofs.lemmas.Slice.Eq.{bytes_eq-Decides}
-use Rattle.cpm_script.specs.Cues.{Awaited, Counted, Pressed, CueText, counted_key, cues, cues_from, is_expect, is_plain, is_wait_word, cued_key_count, last_cue_count, plain_keys, key_cue, quoted, cue_text}
+use Rattle.cpm_script.specs.Cues.{Awaited, Counted, Pressed, CueText, cues, cues_from, is_expect, is_wait_word, cued_key_count, last_cue_count, key_cue, quoted, cue_text}
 use Rattle.cpm_script.specs.Cues as cue
 use Rattle.cpm_script.specs.KeyText.{caret, control_key, count_of, keys_of, onto, plain_key}
-use Rattle.cpm_script.specs.Laws.{AreInOrder, CountsRise, CuesInOrder, KeysAreAscii, MeansTheSame, PlainCues, PlainScripts, PressesFollow}
+use Rattle.cpm_script.specs.Laws.{AreInOrder, CountsRise, CuesInOrder, KeysAreAscii, MeansTheSame, PlainScripts, PressesFollow}
 use Rattle.cpm_script.specs.Script.{is_after, is_skipped, is_script_space, keys_at, most_keys, at_line, or_fault, script_from, with_counted, keys_added, with_line, with_text}
 use Rattle.cpm_script.specs.declared.fault.LineFault.{LineFault}
 use Rattle.cpm_script.specs.declared.fault.LineFault.TheVariants.{CountFalls, NoCount, NoText, NotAKey, TooManyKeys}
@@ -285,21 +285,3 @@ order-lines number cs (line ∷ rest) good =
 
 pub cues-ordered : CuesInOrder
 cues-ordered text = order-lines 1 [] (lines text) (record { few = omega arith; counts = tt; ascii = tt; presses = tt })
-
--- ---- cues of which none waits
-
-one-plain : (c : CueText) (rest : List CueText) (keys : List Key) → is_some (counted_key c) ≡ true → map Counted keys ≡ rest
-    → map Counted (cons_option (counted_key c) keys) ≡ c ∷ rest
-one-plain (Counted key) rest keys is same = ap (λ cs. Counted key ∷ cs) same
-one-plain (Awaited text) rest keys is same = absurd (false≢true is)
-one-plain (Pressed byte) rest keys is same = absurd (false≢true is)
-
-both : (a b : Bool) → (a && b) ≡ true → (a ≡ true) × (b ≡ true)
-both true b is = (refl, is)
-both false b is = absurd (false≢true is)
-
-pub plain-keys : PlainCues
-plain-keys [] is = refl
-plain-keys (c ∷ cs) is =
-    let parts = both (is_some (counted_key (cue_text c))) (is_plain cs) is in
-    one-plain (cue_text c) (map cue_text cs) (plain_keys cs) parts.0 (plain-keys cs parts.1)

@@ -208,8 +208,3 @@ read-behind number n before (k ∷ keys) late typed room =
 
 pub recorded-read : RecordedKeys
 recorded-read keys typed room = read-behind 1 0 [] keys (λ count low. refl) typed (omega (arith, room))
-
--- one key more at the end
-pub recorded-append : (keys : List Key) (k : Key) → recorded (keys ++ k ∷ []) ≡ recorded keys ++ key_line k
-recorded-append [] k = append-nil (key_line k)
-recorded-append (x ∷ keys) k = ap (λ t. key_line x ++ t) (recorded-append keys k) ∙ sym (append_assoc (key_line x) (recorded keys) (key_line k))

@@ -1,6 +1,7 @@
 -- What a script says where some of its lines wait, line by line. All of it is own: this project's form of
 -- key scripts.
-use Rattle.std.specs.Prelude.{◌≡◌, ◌≤◌, ℕ, suc, ◌+◌, Bool, not, is_some, codes, Vec, ◌&&◌, ◌||◌, ◌==◌, nat_le, if◌then◌else◌, List, [], ◌∷◌, ◌++◌, length, map, take, drop, Option, Some, None, option_and_then, Result, Ok, Err}
+use Rattle.std.specs.Prelude.{◌≡◌, ◌≤◌, ℕ, suc, ◌+◌, Bool, not, is_some, codes, Vec, ◌&&◌, ◌||◌, ◌==◌, nat_le, if◌then◌else◌}
+use Rattle.std.specs.Prelude.{List, [], ◌∷◌, ◌++◌, length, map, take, drop, Option, Some, None, option_and_then, Result, Ok, Err}
 use Rattle.std.specs.List.{filter_map, list_all, list_any, before_first, after_first}
 use Rattle.std.specs.Str.{bytes_eq}
 use Rattle.std.specs.Str.Lines.{lines}
@@ -37,20 +38,6 @@ cue_text (cue.Press byte) = Pressed byte
 
 abbrev pub all_said : Vec Cue Global → List CueText
 all_said cues = map cue_text cues.items
-
--- the key of one that has a count
-abbrev pub counted_key : CueText → Option Key
-counted_key (Counted key) = Some key
-counted_key (Awaited text) = None
-counted_key (Pressed byte) = None
-
--- each of them is a key with a count
-abbrev pub is_plain : List Cue → Bool
-is_plain = list_all (λ c. is_some (counted_key (cue_text c)))
-
--- the keys of those that have a count
-abbrev pub plain_keys : List Cue → List Key
-plain_keys = filter_map (λ c. counted_key (cue_text c))
 
 -- how many keys they are
 abbrev pub cued_key_count : List CueText → ℕ

@@ -1,7 +1,7 @@
 -- Laws over the keys of forked sessions, of recorded ones, and of scripts with lines that wait. (own)
 use Rattle.std.specs.Prelude.{⊤, ◌≡◌, ◌≢◌, ℕ, ◌+◌, ◌<◌, ◌≤◌, Bool, true, false, List, [], ◌∷◌, ◌++◌, length, map, Result, Ok, Err, IfOk}
 use Rattle.std.specs.List.{All}
-use Rattle.cpm_script.specs.Cues.{Awaited, Counted, Pressed, CueText, cues, is_plain, cued_key_count, plain_keys, cue_text}
+use Rattle.cpm_script.specs.Cues.{Awaited, Counted, Pressed, CueText, cues, cued_key_count, cue_text}
 use Rattle.cpm_script.specs.Fork.{forked_cues, forked_script, keys_before}
 use Rattle.cpm_script.specs.Recording.{AreTyped, recorded}
 use Rattle.cpm_script.specs.Script.{most_keys, script}
@@ -94,7 +94,3 @@ pub record AreOwn (at before : ℕ) (cs : List CueText) : Type 0 where
 -- the own script of a forked session goes on from the fork
 abbrev pub ForkedCuesInOrder : Type 0
 ForkedCuesInOrder = (at before : ℕ) (text : List ℕ) → before ≤ most_keys → IfOk (forked_cues at before text) (AreOwn at before)
-
--- cues of which none waits are their keys
-abbrev pub PlainCues : Type 0
-PlainCues = (cs : List Cue) → is_plain cs ≡ true → map Counted (plain_keys cs) ≡ map cue_text cs

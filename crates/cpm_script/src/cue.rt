@@ -2,14 +2,16 @@
 ghost use Rattle.std.specs.Prelude.{◌≡◌, ◌≤◌, ◌<◌, ◌+◌, ◌++◌, ◌∷◌, [], length, map, IfOk, IfSome, IsErrOf, OnOk, Some, None, is_some, option_map, true};
 ghost use Rattle.std.specs.Str.Lines.{lines};
 ghost use Rattle.cpm_script.specs.KeyText.{count_of, keys_of};
-ghost use Rattle.cpm_script.specs.Cues.{AddsCues, Awaited, IsReading, ReadsCues, all_said, counted_key, cues, cut_at, has_cue, is_cue, is_expect, is_opening, is_plain, is_wait_word, plain_keys, key_cue, quoted, cue_text, with_awaited, with_counted, with_expected, with_line, with_text, cues_with_word};
+ghost use Rattle.cpm_script.specs.Cues.{AddsCues, Awaited, IsReading, ReadsCues, all_said, cues, cut_at};
+ghost use Rattle.cpm_script.specs.Cues.{has_cue, is_cue, is_expect, is_opening, is_wait_word, key_cue, quoted, cue_text};
+ghost use Rattle.cpm_script.specs.Cues.{with_awaited, with_counted, with_expected, with_line, with_text, cues_with_word};
 ghost use Rattle.cpm_script.specs.Script.{most_keys};
 
 use crate::count::count_of;
 use crate::fault::{LineFault, ScriptError};
 use crate::keys::{are_keys, count_keys, first_key};
 use crate::lines::first_line;
-use crate::script::{Key, MOST_KEYS, KeyStop, is_blank, is_comment, parted};
+use crate::script::{Key, KeyStop, MOST_KEYS, is_blank, is_comment, parted};
 use memchr::memmem;
 use std::alloc::{AllocError, Global};
 
@@ -23,32 +25,6 @@ pub enum Cue {
     Wait(Vec<u8>),
     /// A key at once, behind the one before it.
     Press(u8),
-}
-
-/// The key of a cue that has a count.
-fn counted_key(cue: &Cue) -> Option<Key>
-    ensures { result ≡ counted_key (cue_text cue.now) }
-{
-    match cue {
-        Cue::Key(key) => Some(*key),
-        _ => None,
-    }
-}
-
-/// Whether each cue is a key with a count, so that none waits.
-pub fn is_plain(cues: &[Cue]) -> bool
-    ensures { result ≡ is_plain cues.now }
-{
-    cues.iter().all(|cue| counted_key(cue).is_some())
-}
-
-/// The keys with a count among these cues: of cues of which none waits, all of them.
-pub fn plain_keys(alloc: Global, cues: &[Cue]) -> Result<Vec<Key>, AllocError>
-    ensures { IfOk result (λ keys. keys.items ≡ plain_keys cues.now) }
-{
-    cues.iter()
-        .filter_map(|cue| counted_key(cue))
-        .collect(alloc)
 }
 
 /// What was read of a script so far.
@@ -166,7 +142,12 @@ fn push_wait(reading: &mut ScriptReading, alloc: Global, shown: &[u8]) -> Result
 }
 
 /// Adds the keys of a text, once the session waits and has shown what another text stands for.
-fn add_awaited(reading: &mut ScriptReading, alloc: Global, shown: &[u8], text: &[u8]) -> Result<(), KeyStop>
+fn add_awaited(
+    reading: &mut ScriptReading,
+    alloc: Global,
+    shown: &[u8],
+    text: &[u8],
+) -> Result<(), KeyStop>
     requires { IsReading reading.old }
     ensures added { AddsCues (with_awaited (all_said reading.old.cues) shown.now text.now) result (all_said reading.new.cues) }
     ensures reading { OnOk result (IsReading reading.new) }
@@ -229,7 +210,12 @@ pub(crate) fn is_expect(word: &[u8]) -> bool
 }
 
 /// Adds what a line says that begins with this word.
-fn add_word(reading: &mut ScriptReading, alloc: Global, word: &[u8], text: &[u8]) -> Result<(), KeyStop>
+fn add_word(
+    reading: &mut ScriptReading,
+    alloc: Global,
+    word: &[u8],
+    text: &[u8],
+) -> Result<(), KeyStop>
     requires { IsReading reading.old }
     ensures added { AddsCues (cues_with_word (all_said reading.old.cues) word.now text.now) result (all_said reading.new.cues) }
     ensures reading { OnOk result (IsReading reading.new) }

@@ -1,6 +1,6 @@
 //! Laws of the keys of forked sessions, of recorded ones, and of scripts with lines that wait, as contracts.
 
-ghost use Rattle.cpm_script.specs.Laws.{CuesInOrder, ForkedCuesInOrder, ForkedKeysInOrder, KeysBeforeAreFirst, PlainCues, PlainScripts, RecordedKeys};
+ghost use Rattle.cpm_script.specs.Laws.{CuesInOrder, ForkedCuesInOrder, ForkedKeysInOrder, KeysBeforeAreFirst, PlainScripts, RecordedKeys};
 
 /// The keys of a forked session are those that its parent had before the fork, and then its own, which come
 /// at the fork or later and in order; they are at most 4,096.
@@ -35,9 +35,4 @@ pub fn cues_in_order()
 /// parent had before they are at most 4,096.
 pub fn forked_cues_in_order()
     ensures { ForkedCuesInOrder }
-{}
-
-/// Cues of which none waits are the keys that `plain_keys` gives.
-pub fn plain_cues()
-    ensures { PlainCues }
 {}

@@ -13,7 +13,7 @@ mod script;
 mod writing;
 
 pub use count::count_of;
-pub use cue::{Cue, is_plain, plain_keys, read_cues};
+pub use cue::{Cue, read_cues};
 pub use fault::{LineFault, ScriptError};
 pub use fork::{keys_before, read_forked_keys};
 pub use forked_cue::read_forked_cues;

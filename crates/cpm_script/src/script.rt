@@ -3,7 +3,8 @@ ghost use Rattle.std.specs.Prelude.{◌≡◌, ◌==◌, ◌≤◌, ◌++◌, �
 ghost use Rattle.std.specs.Str.Lines.{lines};
 ghost use Rattle.cpm_script.specs.KeyText.{count_of};
 ghost use Rattle.std.specs.List.{after_first, before_first, list_all};
-ghost use Rattle.cpm_script.specs.Script.{Adds, Reads, fault_past_last_key, has_count, is_after, is_counted, is_script_space, script, with_counted, with_line, with_text, most_keys};
+ghost use Rattle.cpm_script.specs.Script.{Adds, Reads, fault_past_last_key, has_count, is_after, is_counted};
+ghost use Rattle.cpm_script.specs.Script.{is_script_space, script, with_counted, with_line, with_text, most_keys};
 
 use crate::count::count_of;
 use crate::fault::{LineFault, ScriptError};

@@ -37,6 +37,7 @@ abbrev pub replies_of : Disk → List Ask → Option MachineState → List Reply
 replies_of system [] o = []
 replies_of system (x ∷ xs) o = (serve_slot system x o).reply ∷ replies_of system xs (serve_slot system x o).slot
 
--- The slot, if it is still open, is the machine run alone from its start by the account of its replies: in registers, memory, drives, console and list bytes, with those that were taken put back in front, and all else. (own)
+-- The slot, if it is still open, is the machine run alone from its start by the account of its replies: in registers, memory, drives, console and list bytes,
+-- with those that were taken put back in front, and all else. (own)
 abbrev pub IsRunAlone : Disk → MachineState → Account → Option MachineState → Type 0
 IsRunAlone system start a now = IfSome now (λ s. state_behind a.screen a.printer s ≡ alone system a.presses a.executed start)

@@ -1,5 +1,6 @@
 -- A host: its system drive, its frames, how many openings were made, and its open slots. There are no turns, tables or shared parts in it. (own)
-use Rattle.std.specs.Prelude.{⊤, ◌≡◌, Bool, ℕ, ◌+◌, ◌<◌, ◌≤◌, List, [], ◌∷◌, ◌++◌, length, map, filter, sum_by, not, ◌==◌, ◌||◌, nat_lt, nat_le, Option, Some, None, Result, Ok, Err, if◌then◌else◌, take}
+use Rattle.std.specs.Prelude.{⊤, ◌≡◌, Bool, ℕ, ◌+◌, ◌<◌, ◌≤◌, List, [], ◌∷◌, ◌++◌, length, map, filter, sum_by, not}
+use Rattle.std.specs.Prelude.{◌==◌, ◌||◌, nat_lt, nat_le, Option, Some, None, Result, Ok, Err, if◌then◌else◌, take}
 use Rattle.cpm_geom.specs.Disk.{Disk}
 use Rattle.cpm_machine.specs.MachineState.{MachineState, opened_machine}
 use Rattle.cpm_machine.specs.Opening.{opening_fault, fault_else}
@@ -108,7 +109,8 @@ reply_at h id ask = (serve_slot h.system ask (slot_at id h.slots)).reply
 abbrev pub after_ask : Host → ℕ → Ask → Host
 after_ask h id ask = record h { slots = with_slot id (serve_slot h.system ask (slot_at id h.slots)).slot h.slots }
 
--- What happens to a host: an opening or a fork of a slot, for which there was memory, or something asked of a slot. One that wants memory changes nothing, and so is none. (own)
+-- What happens to a host: an opening or a fork of a slot, for which there was memory, or something asked of a slot.
+-- One that wants memory changes nothing, and so is none. (own)
 pub data Happening : Type 0 where
   Opens : (opening : Opening) → Happening
   Forks : (id : ℕ) → Happening

@@ -1,5 +1,6 @@
 -- A host with its store, and where the memories of its slots lie. (own)
-use Rattle.std.specs.Prelude.{◌≡◌, ℕ, ◌+◌, ◌/◌, ◌%◌, ◌<◌, ◌≤◌, true, false, ◌==◌, if◌then◌else◌, List, [], ◌∷◌, sum_by, Option, Some, None, IfSome, Result, Ok, Err, slice_index}
+use Rattle.std.specs.Prelude.{◌≡◌, ℕ, ◌+◌, ◌/◌, ◌%◌, ◌<◌, ◌≤◌, true, false, ◌==◌, if◌then◌else◌, List}
+use Rattle.std.specs.Prelude.{[], ◌∷◌, sum_by, Option, Some, None, IfSome, Result, Ok, Err, slice_index}
 use Rattle.cpm_memory.specs.Contents.{byte_at, is_written, room_of}
 use Rattle.cpm_memory.specs.Frames.{Frames, IsTableTaken, boot_of, frame_of_page, frame_of, memory_of, owners_of, used_of, KeepsPlaces}
 use Rattle.cpm_memory.specs.Opening.{opening_byte}
@@ -38,7 +39,8 @@ pub record IsInTable (h : HostWithStore) (id : ℕ) (s : MachineState) (table : 
   pub taken : IsTableTaken h.store table
   pub memory : memory_of h.store table ≡ s.memory
   -- a byte is one of the frame at its page
-  pub bytes : (address : ℕ) → address < 65536 → byte_at s.memory address ≡ slice_index (frame_of h.store (frame_of_page h.store table (address / 256))) (address % 256)
+  pub bytes : (address : ℕ) → address < 65536 → byte_at s.memory address
+      ≡ slice_index (frame_of h.store (frame_of_page h.store table (address / 256))) (address % 256)
   -- that is a private frame exactly for the pages that were written, else the page's boot frame
   pub private : (page : ℕ) → page < 256 → is_written s.memory page ≡ true → frame_of_page h.store table page < h.store.private
   pub boot : (page : ℕ) → page < 256 → is_written s.memory page ≡ false → frame_of_page h.store table page ≡ h.store.private + boot_of page
@@ -70,7 +72,8 @@ pub record IsHostWithStore (h : HostWithStore) : Type 0 where
   -- the private frames that no table names are at least what the slots have reserved and not used: enough for all pages that they may still write
   pub free : used_of h.store + unused_of h.host.slots ≤ h.store.private
 
--- A fork of a slot shares the pages of that slot: each page of its table is made of the frame that the other's is made of. No frame is changed, and no page of another table. (own)
+-- A fork of a slot shares the pages of that slot: each page of its table is made of the frame that the other's is made of.
+-- No frame is changed, and no page of another table. (own)
 pub record SharesPages (old new : HostWithStore) (id child : ℕ) : Type 0 where
   pub table : ℕ
   pub shared : ℕ

@@ -9,7 +9,8 @@ use Rattle.cpm_slots.specs.declared.event.Reply.TheVariants as reply
 use Rattle.cpm_slots.specs.Serving.{Ask, Calls}
 use Rattle.cpm_slots.specs.Account.{account_by, slot_after, replies_of, IsRunAlone}
 use Rattle.cpm_slots.specs.declared.event.ForkError.{ForkError}
-use Rattle.cpm_slots.specs.Host.{Host, Happening, Opens, Forks, Asks, new_host, slot_at, with_opened, opened_slot, fork_fault, reply_at, after_ask, after_one, host_after, replies_told, told_of, own, IsHost}
+use Rattle.cpm_slots.specs.Host.{Host, Happening, Opens, Forks, Asks, new_host, slot_at, with_opened, opened_slot}
+use Rattle.cpm_slots.specs.Host.{fork_fault, reply_at, after_ask, after_one, host_after, replies_told, told_of, own, IsHost}
 use Rattle.cpm_slots.specs.Lives.{Life, NamedLife, life_of, lives}
 
 -- what is asked of one slot leaves every other
@@ -22,7 +23,9 @@ Isolation = (h : Host) (events : List Happening) (id : ℕ) → id < h.openings 
     (slot_at id (host_after events h).slots ≡ slot_after h.system (own id events) (slot_at id h.slots))
     × (told_of id (replies_told events h) ≡ replies_of h.system (own id events) (slot_at id h.slots))
 
--- The headline. In a host that was made, to which anything happened, a slot is opened, and then anything happens, more openings among it. The slot's replies are those that its machine gives by itself, and while it is open it is the machine run alone for its opening, its accepted keys with the counts at which they came, its executed steps and the system drive.
+-- The headline. In a host that was made, to which anything happened, a slot is opened, and then anything happens, more openings among it.
+-- The slot's replies are those that its machine gives by itself, and while it is open it is the machine run alone for its opening,
+-- its accepted keys with the counts at which they came, its executed steps and the system drive.
 pub record StandsAlone (system : Disk) (opening : Opening) (asks : List Ask) (replies : List Reply) (now : Option MachineState) : Type 0 where
   pub replied : replies ≡ replies_of system asks (Some (opened_slot opening))
   pub state : IsRunAlone system (opened_slot opening) (account_by no_account asks replies) now
@@ -40,7 +43,8 @@ pub record HasLived (system : Disk) (all : List NamedLife) (id : ℕ) (now : Opt
   pub named : life_of id all ≡ Some life
   pub stands : StandsAlone system life.opening life.asks life.replies now
 
--- And each slot that was ever opened or forked stands so: one that was forked by the events of the slot that it was forked from, up to the fork, followed by its own.
+-- And each slot that was ever opened or forked stands so: one that was forked by the events of the slot that it was forked from,
+-- up to the fork, followed by its own.
 abbrev pub EachAlone : Type 0
 EachAlone = (system : Disk) (frames : ℕ) (events : List Happening) (id : ℕ) →
     let h = new_host system frames in
@@ -51,7 +55,8 @@ pub record GoesOn (h : Host) (events : List Happening) (id : ℕ) (from : Machin
   pub state : slot_at id (host_after events h).slots ≡ slot_after h.system (own id events) (Some from)
   pub replied : told_of id (replies_told events h) ≡ replies_of h.system (own id events) (Some from)
 
--- A fork that is not refused adds a slot whose whole state is that of the other one, and changes no slot. Whatever happens afterwards, each of the two goes on from there by its own events: neither's replies or state depend on the other's.
+-- A fork that is not refused adds a slot whose whole state is that of the other one, and changes no slot.
+-- Whatever happens afterwards, each of the two goes on from there by its own events: neither's replies or state depend on the other's.
 pub record Parts (h : Host) (id : ℕ) (s : MachineState) (events : List Happening) : Type 0 where
   pub number : (after_one h (Forks id)).openings ≡ h.openings + 1
   pub child : slot_at h.openings (after_one h (Forks id)).slots ≡ Some s
@@ -67,7 +72,8 @@ Parting = (h : Host) (id : ℕ) (s : MachineState) (events : List Happening) →
 abbrev pub NoParting : Type 0
 NoParting = (h : Host) (id : ℕ) (fault : ForkError) → fork_fault h (slot_at id h.slots) ≡ Some fault → after_one h (Forks id) ≡ h
 
--- two hosts that agree on the system drive, on a slot of each and on its own events agree on its replies and its state: whatever other slots do, and whatever their numbers, quotas and frames are
+-- two hosts that agree on the system drive, on a slot of each and on its own events agree on its replies and its state: whatever other slots do,
+-- and whatever their numbers, quotas and frames are
 abbrev pub TwoWorlds : Type 0
 TwoWorlds = (h g : Host) (i j : ℕ) (es ds : List Happening) → i < h.openings → j < g.openings →
     h.system ≡ g.system → slot_at i h.slots ≡ slot_at j g.slots → own i es ≡ own j ds →

@@ -7,7 +7,8 @@ use Rattle.cpm_machine.specs.declared.reply.Why.{Why}
 use Rattle.cpm_machine.specs.MachineState.{MachineState}
 use Rattle.cpm_machine.specs.Serve.{executed, why}
 use Rattle.cpm_machine.specs.Until.{executed_until, why_until}
-use Rattle.cpm_machine.specs.Calls.{Call, Key, Grant, GrantUntil, Take, TakeList, LookAt, Peek, Answer, Accepted, KeysFull, Grants, Bytes, Looked, Peeked, serve}
+use Rattle.cpm_machine.specs.Calls.{Call, Key, Grant, GrantUntil, Take, TakeList, LookAt, Peek}
+use Rattle.cpm_machine.specs.Calls.{Answer, Accepted, KeysFull, Grants, Bytes, Looked, Peeked, serve}
 use Rattle.cpm_slots.specs.declared.event.Request.{Request}
 use Rattle.cpm_slots.specs.declared.event.Request.TheVariants as asks
 use Rattle.cpm_slots.specs.declared.event.Reply.{Reply}

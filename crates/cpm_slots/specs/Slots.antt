@@ -28,7 +28,12 @@ tables_of slots = map (λ slot. record { id = slot.id; table = slot.table }) slo
 
 -- the host that these parts make, with its store
 abbrev pub host_with_store : Disk → ℕ → ℕ → Frames → List Slot → HostWithStore
-host_with_store system frames openings store slots = record { host = record { system = system; frames = frames; openings = openings; slots = slots_of (memories store) slots }; store = store; tables = tables_of slots }
+host_with_store system frames openings store slots =
+    record {
+      host = record { system = system; frames = frames; openings = openings; slots = slots_of (memories store) slots };
+      store = store;
+      tables = tables_of slots;
+    }
 
 -- none of the slots has that table
 abbrev pub NoneAt : ℕ → List Slot → Type 0
@@ -38,7 +43,8 @@ NoneAt table (x ∷ xs) = (x.table ≢ table) × NoneAt table xs
 -- each slot is sound, and has a table of its own
 abbrev pub AllSound : List (Option Contents) → List Slot → Type 0
 AllSound memories [] = ⊤
-AllSound memories (x ∷ xs) = (is_some (slice_index_or memories x.table None) ≡ true) × IsRunnerSound (state_of x.runner (contents_at memories x.table)) × NoneAt x.table xs × AllSound memories xs
+AllSound memories (x ∷ xs) = (is_some (slice_index_or memories x.table None) ≡ true) × IsRunnerSound (state_of x.runner (contents_at memories x.table))
+    × NoneAt x.table xs × AllSound memories xs
 
 -- the slot's cache is right for the memory and the stamps of its table
 abbrev pub IsCached : List (Option Contents) → List (List ℕ) → Slot → Type 0

@@ -40,7 +40,7 @@ impl Host {
             return Err(ForkError::OutOfMemory);
         }
         let Ok(table) = self.store.share(self.slots[index].table) else {
-            return Err(ForkError::NoFrames);
+            unreachable!();
         };
         let id = self.openings;
         self.slots.push_reserved(Slot { id, runner, table });

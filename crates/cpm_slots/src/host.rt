@@ -26,9 +26,9 @@ use cpm_bdos::Session;
 use cpm_console::{Console, Device};
 use cpm_decode::DecodeCache;
 use cpm_geom::Image;
-use cpm_memory::{FlatMemory, FrameStore, TableId};
 use cpm_machine::steps::Runner;
 use cpm_machine::{Closed, End, Granted, Look, OpenError, Opening};
+use cpm_memory::{FlatMemory, FrameStore, TableId};
 use std::alloc::{AllocError, Global};
 use std::marker::Model;
 
@@ -64,7 +64,9 @@ impl Model for Host {
 
     ghost view = { λ h. host_with_store h.system h.frames h.openings h.store h.slots.items };
 
-    ghost invariant = { λ h. IsHost (host_with_store h.system h.frames h.openings h.store h.slots.items).host × HaveTables (memories h.store) h.slots.items × (h.store.private ≡ h.frames) × IsSound h.store × AllCached (memories h.store) h.store.stamps h.slots.items };
+    ghost invariant = { λ h. IsHost (host_with_store h.system h.frames h.openings h.store h.slots.items).host
+        × HaveTables (memories h.store) h.slots.items × (h.store.private ≡ h.frames) × IsSound h.store
+        × AllCached (memories h.store) h.store.stamps h.slots.items };
 }
 
 /// What a host takes memory for: its frames, its places and the copy that it works on.
@@ -82,7 +84,8 @@ fn allocate(alloc: Global, frames: u16) -> Result<(FrameStore, Vec<Slot>, FlatMe
 }
 
 impl Host {
-    ghost use Rattle.cpm_slots.specs.Host.{new_host, lacks_frames, lacks_slot, refusal_of, with_opened, slot_at, reply_at, after_ask, IsHost, key_reply, grant_reply, take_reply, look_reply, peek_reply, close_reply};
+    ghost use Rattle.cpm_slots.specs.Host.{new_host, lacks_frames, lacks_slot, refusal_of, with_opened, slot_at, reply_at, after_ask};
+    ghost use Rattle.cpm_slots.specs.Host.{IsHost, key_reply, grant_reply, take_reply, look_reply, peek_reply, close_reply};
     ghost use Rattle.cpm_slots.specs.HostWithStore.{table_of, table_reply, IsInTable, IsHostWithStore};
 
     /// A host with this system drive and so many frames, and no slot open. Want of memory hands the drive back.

@@ -86,7 +86,8 @@ impl Host {
         ensures own_state { (id : ℕ) →
             slot_at id self.new.host.slots ≡ slot_after self.old.host.system (own id (map happening_of events.now)) (slot_at id self.old.host.slots) }
         ensures own_account { (id : ℕ) (start : MachineState) → slot_at id self.old.host.slots ≡ Some start →
-            IsRunAlone self.old.host.system start (account_by no_account (own id (map happening_of events.now)) (replies_to id events.now replies.new)) (slot_at id self.new.host.slots) }
+            IsRunAlone self.old.host.system start
+            (account_by no_account (own id (map happening_of events.now)) (replies_to id events.now replies.new)) (slot_at id self.new.host.slots) }
     {
         self.serve_all(events, replies);
     }

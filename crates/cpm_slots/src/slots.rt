@@ -1,6 +1,7 @@
 //! Sessions whose memories lie in one store of frames, by their places.
 
-ghost use Rattle.std.specs.Prelude.{◌≡◌, ℕ, true, false, nat_lt, IfOk, IfErr, OnErr, ◌<◌, ◌≤◌, ◌*◌, ◌+◌, List, Option, length, take, drop, sum_by, slice_get, remove, IfSome};
+ghost use Rattle.std.specs.Prelude.{◌≡◌, ℕ, true, false, nat_lt, IfOk, IfErr, OnErr, ◌<◌, ◌≤◌, ◌*◌, ◌+◌};
+ghost use Rattle.std.specs.Prelude.{List, Option, length, take, drop, sum_by, slice_get, remove, IfSome};
 ghost use Rattle.std.specs.List.{All};
 ghost use Rattle.cpm_geom.specs.Disk.{Disk};
 ghost use Rattle.cpm_bdos.specs.Bounds.{IsFit};
@@ -22,9 +23,9 @@ use crate::event::{Refusal, Reply, SlotId};
 use cpm_bdos::Mode;
 use cpm_console::{Console, Device};
 use cpm_geom::Image;
-use cpm_memory::{FlatMemory, FrameStore, Memory, TableId};
 use cpm_machine::steps::{self, Runner};
 use cpm_machine::{Closed, Granted, Look, until};
+use cpm_memory::{FlatMemory, FrameStore, Memory, TableId};
 
 /// The fewest steps for which the memory is copied. Below them its copy costs more than the steps gain by it.
 const LEAST_COPIED: u64 = 1_500;
@@ -74,7 +75,8 @@ pub fn numbers_fit(slots: &[Slot])
 /// Presses a key, which is refused where 4,096 are pending.
 fn give(console: &mut Console, key: u8) -> Result<(), Refusal>
     ensures accepted { IfOk result (λ _. (nat_lt (length console.old.keys) most_pending ≡ true) × (console.new ≡ pressed console.old key)) }
-    ensures refused { IfErr result (λ refusal. (refusal ≡ Refusal.KeysFull) × (nat_lt (length console.old.keys) most_pending ≡ false) × (console.new ≡ console.old)) }
+    ensures refused { IfErr result (λ refusal. (refusal ≡ Refusal.KeysFull)
+        × (nat_lt (length console.old.keys) most_pending ≡ false) × (console.new ≡ console.old)) }
 {
     if console.give(key) {
         Ok(())
@@ -85,7 +87,8 @@ fn give(console: &mut Console, key: u8) -> Result<(), Refusal>
 
 /// Presses a key in a session.
 fn press(runner: &mut Runner, key: u8) -> Result<(), Refusal>
-    ensures serves { (system : Disk) (memory : Contents) → Serves system (Key key) (key_reply result) (state_of runner.old memory) (state_of runner.new memory) }
+    ensures serves { (system : Disk) (memory : Contents) → Serves system (Key key) (key_reply result)
+        (state_of runner.old memory) (state_of runner.new memory) }
     ensures sound { (memory : Contents) → IsRunnerSound (state_of runner.old memory) → IsRunnerSound (state_of runner.new memory) }
     ensures quota { runner.new.quota ≡ runner.old.quota }
     ensures cache { runner.new.cache ≡ runner.old.cache }
@@ -96,7 +99,8 @@ fn press(runner: &mut Runner, key: u8) -> Result<(), Refusal>
 
 /// Moves out the first bytes of a session's device.
 fn take_from(runner: &mut Runner, device: Device, out: &mut [u8]) -> usize
-    ensures serves { (system : Disk) (memory : Contents) → Serves system (take_call device (length out.old)) (Reply.Bytes (record { items = take result out.new })) (state_of runner.old memory) (state_of runner.new memory) }
+    ensures serves { (system : Disk) (memory : Contents) → Serves system (take_call device (length out.old))
+        (Reply.Bytes (record { items = take result out.new })) (state_of runner.old memory) (state_of runner.new memory) }
     ensures rest { drop result out.new ≡ drop result out.old }
     ensures count { result ≤ length out.old }
     ensures length { length out.new ≡ length out.old }
@@ -110,9 +114,11 @@ fn take_from(runner: &mut Runner, device: Device, out: &mut [u8]) -> usize
 /// Presses a key in the session at a place.
 pub fn key_at(slots: &mut Vec<Slot>, index: usize, key: u8) -> Result<(), Refusal>
     requires { index < length slots.old.items }
-    ensures served { (system : Disk) (memories : List (Option Contents)) → IsServed system (Key key) index (key_reply result) (slots_of memories slots.old.items) (slots_of memories slots.new.items) }
+    ensures served { (system : Disk) (memories : List (Option Contents)) → IsServed system (Key key) index (key_reply result)
+        (slots_of memories slots.old.items) (slots_of memories slots.new.items) }
     ensures have_tables { (memories : List (Option Contents)) → HaveTables memories slots.old.items → HaveTables memories slots.new.items }
-    ensures cached { (memories : List (Option Contents)) (stamps : List (List ℕ)) → AllCached memories stamps slots.old.items → AllCached memories stamps slots.new.items }
+    ensures cached { (memories : List (Option Contents)) (stamps : List (List ℕ)) → AllCached memories stamps slots.old.items
+        → AllCached memories stamps slots.new.items }
     ensures kept { OnErr result (slots.new.items ≡ slots.old.items) }
 {
     let slot = &mut slots[index];
@@ -122,12 +128,14 @@ pub fn key_at(slots: &mut Vec<Slot>, index: usize, key: u8) -> Result<(), Refusa
 /// Moves out the first bytes of a device of the session at a place, as many as fit, and says how many.
 pub fn take_at(slots: &mut Vec<Slot>, index: usize, device: Device, out: &mut [u8]) -> usize
     requires { index < length slots.old.items }
-    ensures served { (system : Disk) (memories : List (Option Contents)) → IsServed system (take_call device (length out.old)) index (Reply.Bytes (record { items = take result out.new })) (slots_of memories slots.old.items) (slots_of memories slots.new.items) }
+    ensures served { (system : Disk) (memories : List (Option Contents)) → IsServed system (take_call device (length out.old)) index
+        (Reply.Bytes (record { items = take result out.new })) (slots_of memories slots.old.items) (slots_of memories slots.new.items) }
     ensures rest { drop result out.new ≡ drop result out.old }
     ensures count { result ≤ length out.old }
     ensures length { length out.new ≡ length out.old }
     ensures have_tables { (memories : List (Option Contents)) → HaveTables memories slots.old.items → HaveTables memories slots.new.items }
-    ensures cached { (memories : List (Option Contents)) (stamps : List (List ℕ)) → AllCached memories stamps slots.old.items → AllCached memories stamps slots.new.items }
+    ensures cached { (memories : List (Option Contents)) (stamps : List (List ℕ)) → AllCached memories stamps slots.old.items
+        → AllCached memories stamps slots.new.items }
 {
     let slot = &mut slots[index];
     take_from(&mut slot.runner, device, out)
@@ -173,7 +181,8 @@ fn grant_table(
     requires right { IsRightFor (contents_at (memories store.old) table) (stamps_at store.old table) runner.old.cache }
     ensures executed { result.executed ≡ executed_to system.now stop steps (state_of runner.old (contents_at (memories store.old) table)) }
     ensures why { result.why ≡ why_to stop steps result.executed (state_of runner.new (contents_at (memories store.new) table)) }
-    ensures state { state_of runner.new (contents_at (memories store.new) table) ≡ after system.now result.executed (state_of runner.old (contents_at (memories store.old) table)) }
+    ensures state { state_of runner.new (contents_at (memories store.new) table)
+        ≡ after system.now result.executed (state_of runner.old (contents_at (memories store.old) table)) }
     ensures others { ChangesAt table (memories store.old) (memories store.new) }
     ensures stamps { KeepsStamps store.old store.new table }
     ensures sound { IsRunnerSound (state_of runner.new (contents_at (memories store.new) table)) }
@@ -204,7 +213,8 @@ pub fn grant_at(
     requires index { index < length slots.old.items }
     requires have_tables { HaveTables (memories store.old) slots.old.items }
     requires cached { AllCached (memories store.old) store.old.stamps slots.old.items }
-    ensures served { IsServed system.now (grant_call stop steps) index (Reply.Granted result) (slots_of (memories store.old) slots.old.items) (slots_of (memories store.new) slots.new.items) }
+    ensures served { IsServed system.now (grant_call stop steps) index (Reply.Granted result)
+        (slots_of (memories store.old) slots.old.items) (slots_of (memories store.new) slots.new.items) }
     ensures have_tables { HaveTables (memories store.new) slots.new.items }
     ensures cached { AllCached (memories store.new) store.new.stamps slots.new.items }
     ensures frames { store.new.private ≡ store.old.private }
@@ -252,7 +262,8 @@ pub fn close_at(slots: &mut Vec<Slot>, store: &mut FrameStore, index: usize) -> 
     requires index { index < length slots.old.items }
     requires have_tables { HaveTables (memories store.old) slots.old.items }
     requires cached { AllCached (memories store.old) store.old.stamps slots.old.items }
-    ensures closed { IfSome (slice_get (slots_of (memories store.old) slots.old.items) index) (λ x. (result.look ≡ look_of x.state) × (result.drives ≡ images_of x.state.session.disks)) }
+    ensures closed { IfSome (slice_get (slots_of (memories store.old) slots.old.items) index)
+        (λ x. (result.look ≡ look_of x.state) × (result.drives ≡ images_of x.state.session.disks)) }
     ensures slots { slots_of (memories store.new) slots.new.items ≡ remove (slots_of (memories store.old) slots.old.items) index }
     ensures have_tables { HaveTables (memories store.new) slots.new.items }
     ensures cached { AllCached (memories store.new) store.new.stamps slots.new.items }

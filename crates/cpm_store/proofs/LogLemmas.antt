@@ -16,10 +16,6 @@ pub ran_then : {S : Type 0} (does : S → Access → S → Type 0) (Before After
 ran_then does Before After s m t h g =
     (h.0 ++ g.0, record { first = h.0; rest = g.0; order = refl; begins = h.1; goes_on = g.1 }, ran_more does h.0 g.0 s m t h.2 g.2)
 
--- no call
-pub ran_none : {S : Type 0} (does : S → Access → S → Type 0) (s : S) → RanBy does (λ log. log ≡ []) s s
-ran_none does s = ([], refl, refl)
-
 -- one write more
 pub ran_write : {S : Type 0} (does : S → Access → S → Type 0) (ps : List NamedBytes) (p : NamedBytes) (s m t : S) → RanBy does (AreWrites ps) s m → does m (Wrote p.0 p.1) t
     → RanBy does (AreWrites (ps ++ p ∷ [])) s t

@@ -1,5 +1,6 @@
 -- What the directory, a file control block and the reserved blocks say of files.
-use Rattle.std.specs.Prelude.{◌≡◌, ◌≢◌, ◌↔◌, ℕ, ◌+◌, ◌*◌, ◌/◌, ◌%◌, ◌<◌, ◌≤◌, Bool, true, false, ◌&&◌, ◌||◌, nat_lt, ◌==◌, if◌then◌else◌, List, [], ◌∷◌, Option, Some, None, length, slice_index, slice_index_or}
+use Rattle.std.specs.Prelude.{◌≡◌, ◌≢◌, ◌↔◌, ℕ, ◌+◌, ◌*◌, ◌/◌, ◌%◌, ◌<◌, ◌≤◌, Bool, true, false, ◌&&◌, ◌||◌, nat_lt, ◌==◌}
+use Rattle.std.specs.Prelude.{if◌then◌else◌, List, [], ◌∷◌, Option, Some, None, length, slice_index, slice_index_or}
 use Rattle.std.specs.List.{position_or_len}
 use Rattle.cpm_geom.specs.declared.dpb.Dpb.{Dpb}
 use Rattle.cpm_volume.specs.declared.extent.Extent.{Extent}
@@ -137,10 +138,12 @@ pub record IsFileBlock (d : Dpb) (reserved : List Bool) (b : ℕ) : Type 0 where
 
 -- the directory agrees with itself and with the reserved blocks
 pub record IsWellFormed (d : Dpb) (es : List Entry) (reserved : List Bool) : Type 0 where
-  pub once : (i j s t : ℕ) → InUse es i → InUse es j → block_number (entry_at es i).extent s ≢ 0 → block_number (entry_at es i).extent s ≡ block_number (entry_at es j).extent t → (i ≡ j) × (s ≡ t)
+  pub once : (i j s t : ℕ) → InUse es i → InUse es j
+      → block_number (entry_at es i).extent s ≢ 0 → block_number (entry_at es i).extent s ≡ block_number (entry_at es j).extent t → (i ≡ j) × (s ≡ t)
   pub stored : (i s : ℕ) → InUse es i → block_number (entry_at es i).extent s ≢ 0 → IsFileBlock d reserved (block_number (entry_at es i).extent s)
   pub directory : (b : ℕ) → b * (d.block_mask + 1) < directory_records d → is_reserved reserved b ≡ true
-  pub apart : (i j : ℕ) → InUse es i → is_of d (entry_at es i).user (entry_at es i).extent.name (group_of d (extent_number (entry_at es i).extent)) (entry_at es j) ≡ true → i ≡ j
+  pub apart : (i j : ℕ) → InUse es i
+      → is_of d (entry_at es i).user (entry_at es i).extent.name (group_of d (extent_number (entry_at es i).extent)) (entry_at es j) ≡ true → i ≡ j
 
 -- the file control block fits the directory: what it knows of its group is what the directory says, or more
 pub record IsFcbKept (d : Dpb) (es : List Entry) (reserved : List Bool) (user : ℕ) (x : Extent) : Type 0 where
@@ -157,7 +160,8 @@ pub record IsFcbKept (d : Dpb) (es : List Entry) (reserved : List Bool) (user : 
 unfoldable pub first_free : List Entry → ℕ
 first_free es = position_or_len (λ e. e.user == deleted) es
 
--- what holds of every format: the directory has a block and fills its records, AL0 and AL1 reserve its blocks and no others, and an extent is a whole number of blocks
+-- what holds of every format: the directory has a block and fills its records, AL0 and AL1 reserve its blocks and no others,
+-- and an extent is a whole number of blocks
 pub record IsFormat (d : Dpb) : Type 0 where
   pub has_directory : 0 < directory_records d
   pub whole_records : (d.last_entry + 1) % 4 ≡ 0

@@ -5,8 +5,12 @@ use Rattle.cpm_geom.specs.declared.format.Format.{Format}
 use Rattle.cpm_geom.specs.Geometry.{dpb_of}
 use Rattle.cpm_volume.specs.declared.extent.Extent.{Extent}
 use Rattle.cpm_volume.specs.declared.extent.Entry.{Entry}
-use Rattle.cpm_volume.specs.Files.{extent_number, group_of, is_of, entry_at, InUse, same_name, deleted, is_reserved, first_free, file_block, open_file_block, directory_records, file_record, open_file_record, IsWellFormed, IsFcbKept, IsFormat, IsVolume, IsSound, IsSoundDrive, Volume, has_wildcard}
-use Rattle.cpm_volume.specs.Operations.{read_only, done, no_record, no_block, no_extent, no_entry_free, fault, Outcome, with_entry, closed, close_fault, close_file_on_volume, open_file_on_volume, make_file_on_volume, read_next_on_volume, write_next_on_volume, read_random_on_volume, write_random_on_volume, write_random_cleared_on_volume}
+use Rattle.cpm_volume.specs.Files.{extent_number, group_of, is_of, entry_at, InUse, same_name, deleted, is_reserved}
+use Rattle.cpm_volume.specs.Files.{first_free, file_block, open_file_block, directory_records, file_record, open_file_record}
+use Rattle.cpm_volume.specs.Files.{IsWellFormed, IsFcbKept, IsFormat, IsVolume, IsSound, IsSoundDrive, Volume, has_wildcard}
+use Rattle.cpm_volume.specs.Operations.{read_only, done, no_record, no_block, no_extent, no_entry_free, fault, Outcome, with_entry, closed}
+use Rattle.cpm_volume.specs.Operations.{close_fault, close_file_on_volume, open_file_on_volume, make_file_on_volume, read_next_on_volume}
+use Rattle.cpm_volume.specs.Operations.{write_next_on_volume, read_random_on_volume, write_random_on_volume, write_random_cleared_on_volume}
 
 -- ---- what a call leaves
 
@@ -21,16 +25,19 @@ pub record FileStays (d : Dpb) (user : ℕ) (v : Volume) (x : Extent) (v' : Volu
 
 -- each record that the file had is as it was
 pub record LosesNone (d : Dpb) (user : ℕ) (v : Volume) (x : Extent) (v' : Volume) (x' : Extent) : Type 0 where
-  pub stay : (m : ℕ) → open_file_record d v.entries v.records user x m ≢ None → open_file_record d v'.entries v'.records user x' m ≡ open_file_record d v.entries v.records user x m
+  pub stay : (m : ℕ) → open_file_record d v.entries v.records user x m ≢ None
+      → open_file_record d v'.entries v'.records user x' m ≡ open_file_record d v.entries v.records user x m
 
 -- record n now has these bytes; each other that the file had is as it was
 pub record HasWritten (d : Dpb) (user : ℕ) (v : Volume) (x : Extent) (n : ℕ) (bytes : List ℕ) (v' : Volume) (x' : Extent) : Type 0 where
   pub there : open_file_record d v'.entries v'.records user x' n ≡ Some bytes
-  pub others : (m : ℕ) → m ≢ n → open_file_record d v.entries v.records user x m ≢ None → open_file_record d v'.entries v'.records user x' m ≡ open_file_record d v.entries v.records user x m
+  pub others : (m : ℕ) → m ≢ n → open_file_record d v.entries v.records user x m ≢ None
+      → open_file_record d v'.entries v'.records user x' m ≡ open_file_record d v.entries v.records user x m
 
 -- but record n each record of the file in a block that was not reserved before is zeros
 pub record HasCleared (d : Dpb) (user : ℕ) (v : Volume) (n : ℕ) (v' : Volume) (x' : Extent) : Type 0 where
-  pub zeros : (m : ℕ) → m ≢ n → is_reserved v.reserved (open_file_block d v'.entries user x' m) ≡ false → open_file_record d v'.entries v'.records user x' m ≡ Some (replicate 128 0)
+  pub zeros : (m : ℕ) → m ≢ n → is_reserved v.reserved (open_file_block d v'.entries user x' m) ≡ false
+      → open_file_record d v'.entries v'.records user x' m ≡ Some (replicate 128 0)
 
 -- the number of the record that a file control block stands at
 unfoldable pub position : Extent → ℕ → ℕ
@@ -137,7 +144,8 @@ ClearsBlock d user v n o = (o.answer ≡ done) → HasCleared d user v n o.volum
 
 -- ---- close, open, make
 
--- after a close the directory has the file as the file control block knew it, no other file changed, and the drive still agrees with itself and with the file control block
+-- after a close the directory has the file as the file control block knew it, no other file changed,
+-- and the drive still agrees with itself and with the file control block
 pub record ClosesFile (d : Dpb) (protected : Bool) (v : Volume) (user : ℕ) (x : Extent) : Type 0 where
   pub index : ℕ
   pub after : List Entry
@@ -146,7 +154,8 @@ pub record ClosesFile (d : Dpb) (protected : Bool) (v : Volume) (user : ℕ) (x 
   pub protects : protected ≡ true → after ≡ v.entries
   pub file : (n : ℕ) → file_block d after user x.name n ≡ open_file_block d v.entries user x n
   pub open_file_record : (n : ℕ) → open_file_block d after user x n ≡ open_file_block d v.entries user x n
-  pub others : (other : ℕ) (name : List ℕ) → (other ≡ user → same_name name x.name ≡ true → ⊥) → (n : ℕ) → file_block d after other name n ≡ file_block d v.entries other name n
+  pub others : (other : ℕ) (name : List ℕ) → (other ≡ user → same_name name x.name ≡ true → ⊥)
+      → (n : ℕ) → file_block d after other name n ≡ file_block d v.entries other name n
   pub well_formed : IsWellFormed d after v.reserved
   pub kept : IsFcbKept d after v.reserved user x
   pub sound : IsVolume d v → length x.blocks ≡ 16 → IsSound d (with_entry v index after) user x
@@ -224,7 +233,8 @@ abbrev pub ClearingWriteLaw : Type 0
 ClearingWriteLaw =
     (d : Dpb) (user : ℕ) (v : Volume) (x : Extent) (current n : ℕ) (bytes : List ℕ) → user ≢ deleted → IsFormat d → IsSound d v user x → current ≤ 128
     → n < 65536
-    → WritesRandom d user v x current n bytes (write_random_cleared_on_volume d v user x current n bytes) × ClearsBlock d user v n (write_random_cleared_on_volume d v user x current n bytes)
+    → WritesRandom d user v x current n bytes (write_random_cleared_on_volume d v user x current n bytes)
+    × ClearsBlock d user v n (write_random_cleared_on_volume d v user x current n bytes)
 
 abbrev pub OpenLaw : Type 0
 OpenLaw =

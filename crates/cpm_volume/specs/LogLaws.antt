@@ -4,7 +4,8 @@ use Rattle.cpm_geom.specs.declared.dpb.Dpb.{Dpb}
 use Rattle.cpm_volume.specs.declared.extent.Extent.{Extent}
 use Rattle.cpm_volume.specs.declared.extent.Entry.{Entry}
 use Rattle.cpm_volume.specs.Files.{Volume, DiskWrite, entry_put, record_put, first_free}
-use Rattle.cpm_volume.specs.Operations.{with_entry, closed, close_file_on_volume, make_file_on_volume, read_next_on_volume, read_random_on_volume, write_next_on_volume, write_random_on_volume, write_random_cleared_on_volume}
+use Rattle.cpm_volume.specs.Operations.{with_entry, closed, close_file_on_volume, make_file_on_volume, read_next_on_volume}
+use Rattle.cpm_volume.specs.Operations.{read_random_on_volume, write_next_on_volume, write_random_on_volume, write_random_cleared_on_volume}
 use Rattle.cpm_volume.specs.Names.{named, erase_files_on_volume, rename_files_on_volume, set_attributes_on_volume}
 
 -- own: one thing that is written, in the entries and the records of a volume
@@ -31,8 +32,10 @@ pub record CallsLog (d : Dpb) (v : Volume) (user : ℕ) (x : Extent) : Type 0 wh
   pub sequential_write : (current : ℕ) (bytes : List ℕ) → IsLogged v (write_next_on_volume d v user x current bytes).volume
   pub random_write : (current n : ℕ) (bytes : List ℕ) → IsLogged v (write_random_on_volume d v user x current n bytes).volume
   pub clearing_write : (current n : ℕ) (bytes : List ℕ) → IsLogged v (write_random_cleared_on_volume d v user x current n bytes).volume
-  pub close : (protected : Bool) (index : ℕ) (after : List Entry) (x' : Extent) → close_file_on_volume d protected v.entries user x ≡ closed index after x' → IsLogged v (with_entry v index after)
-  pub make : (after : List Entry) (x' : Extent) → make_file_on_volume v.entries user x ≡ Some (after, x') → IsLogged v (with_entry v (first_free v.entries) after)
+  pub close : (protected : Bool) (index : ℕ) (after : List Entry) (x' : Extent)
+      → close_file_on_volume d protected v.entries user x ≡ closed index after x' → IsLogged v (with_entry v index after)
+  pub make : (after : List Entry) (x' : Extent)
+      → make_file_on_volume v.entries user x ≡ Some (after, x') → IsLogged v (with_entry v (first_free v.entries) after)
 
 -- own: so does each call on all entries of a name
 pub record NamedCallsLog (d : Dpb) (v : Volume) (user : ℕ) (pattern : List ℕ) : Type 0 where
@@ -42,4 +45,5 @@ pub record NamedCallsLog (d : Dpb) (v : Volume) (user : ℕ) (pattern : List ℕ
 
 abbrev pub LogLaw : Type 0
 LogLaw =
-    ((d : Dpb) (v : Volume) (user : ℕ) (x : Extent) → CallsLog d v user x) × ((d : Dpb) (v : Volume) (user : ℕ) (pattern : List ℕ) → NamedCallsLog d v user pattern)
+    ((d : Dpb) (v : Volume) (user : ℕ) (x : Extent) → CallsLog d v user x)
+    × ((d : Dpb) (v : Volume) (user : ℕ) (pattern : List ℕ) → NamedCallsLog d v user pattern)

@@ -17,4 +17,7 @@ pub record ErasesFiles (d : Dpb) (user : ℕ) (v : Volume) (pattern : List ℕ) 
 abbrev pub EraseLaw : Type 0
 EraseLaw =
     (d : Dpb) (user : ℕ) (v : Volume) (pattern : List ℕ) → user ≢ deleted → IsFormat d → IsSoundDrive d v
-    → ((erase_files_on_volume d v user pattern ≡ none_named) × ((i : ℕ) → is_named user pattern (entry_at v.entries i) ≡ false)) ⊎ (((erase_files_on_volume d v user pattern ≡ file_read_only) × ((i : ℕ) × (is_named user pattern (entry_at v.entries i) ≡ true) × (is_read_only (entry_at v.entries i).extent.name ≡ true))) ⊎ ((first : ℕ) × (v' : Volume) × (erase_files_on_volume d v user pattern ≡ named first v') × ErasesFiles d user v pattern v'))
+    → ((erase_files_on_volume d v user pattern ≡ none_named) × ((i : ℕ) → is_named user pattern (entry_at v.entries i) ≡ false))
+    ⊎ (((erase_files_on_volume d v user pattern ≡ file_read_only)
+    × ((i : ℕ) × (is_named user pattern (entry_at v.entries i) ≡ true) × (is_read_only (entry_at v.entries i).extent.name ≡ true)))
+    ⊎ ((first : ℕ) × (v' : Volume) × (erase_files_on_volume d v user pattern ≡ named first v') × ErasesFiles d user v pattern v'))

@@ -60,7 +60,8 @@ RowErase =
 -- T.DAT is renamed in both its entries
 abbrev pub RowRename : Type 0
 RowRename =
-    (names_in (rename_files_on_volume two_taken 0 t_dat.name u_dat) ≡ u_dat ∷ u_dat ∷ [] ∷ [] ∷ []) × (rename_files_on_volume two_taken 0 u_dat t_dat.name ≡ none_named)
+    (names_in (rename_files_on_volume two_taken 0 t_dat.name u_dat) ≡ u_dat ∷ u_dat ∷ [] ∷ [] ∷ [])
+    × (rename_files_on_volume two_taken 0 u_dat t_dat.name ≡ none_named)
 
 -- what erase and rename answer on the drive then
 unfoldable pub after_attributes : NameOutcome → NameOutcome × NameOutcome

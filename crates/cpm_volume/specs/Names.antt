@@ -1,6 +1,7 @@
 -- What the calls on all entries of a name do: erase, rename, set attributes, compute the size.
 -- CP/M 2.2 Operating System Manual, section 5.2, Operating System Call Conventions; own: what the manual leaves open.
-use Rattle.std.specs.Prelude.{ℕ, ◌+◌, ◌*◌, ◌/◌, ◌%◌, Bool, ◌&&◌, ◌||◌, not, nat_lt, ◌==◌, if◌then◌else◌, List, [], ◌∷◌, ◌++◌, Option, max, length, map, slice_index}
+use Rattle.std.specs.Prelude.{ℕ, ◌+◌, ◌*◌, ◌/◌, ◌%◌, Bool, ◌&&◌, ◌||◌, not, nat_lt, ◌==◌, if◌then◌else◌}
+use Rattle.std.specs.Prelude.{List, [], ◌∷◌, ◌++◌, Option, max, length, map, slice_index}
 use Rattle.std.specs.List.{position_or_len, list_any, filter, reduce, range_with_len}
 use Rattle.cpm_geom.specs.declared.dpb.Dpb.{Dpb}
 use Rattle.cpm_volume.specs.declared.extent.Entry.{Entry}
@@ -57,7 +58,11 @@ unfoldable pub erase_files_on_volume : Dpb → Volume → ℕ → List ℕ → N
 erase_files_on_volume d v user pattern =
     if not (nat_lt (first_named v.entries user pattern) (length v.entries)) then none_named
     else (if list_any (protects user pattern) v.entries then file_read_only
-    else named (first_named v.entries user pattern) (record v { entries = change_named user pattern deletion v.entries; reserved = reserved_after d user pattern v.entries v.reserved; written = v.written ++ named_writes user pattern 0 v.entries (change_named user pattern deletion v.entries) }))
+    else named (first_named v.entries user pattern) (record v {
+      entries = change_named user pattern deletion v.entries;
+      reserved = reserved_after d user pattern v.entries v.reserved;
+      written = v.written ++ named_writes user pattern 0 v.entries (change_named user pattern deletion v.entries);
+    }))
 
 unfoldable pub renaming : List ℕ → Entry → Entry
 renaming name e = record e { extent = record e.extent { name = name } }
@@ -67,7 +72,10 @@ unfoldable pub rename_files_on_volume : Volume → ℕ → List ℕ → List ℕ
 rename_files_on_volume v user pattern name =
     if not (nat_lt (first_named v.entries user pattern) (length v.entries)) then none_named
     else (if list_any (protects user pattern) v.entries then file_read_only
-    else named (first_named v.entries user pattern) (record v { entries = change_named user pattern (renaming name) v.entries; written = v.written ++ named_writes user pattern 0 v.entries (change_named user pattern (renaming name) v.entries) }))
+    else named (first_named v.entries user pattern) (record v {
+      entries = change_named user pattern (renaming name) v.entries;
+      written = v.written ++ named_writes user pattern 0 v.entries (change_named user pattern (renaming name) v.entries);
+    }))
 
 -- the low seven bits of a name with the high bits of another
 unfoldable pub with_attributes : List ℕ → List ℕ → List ℕ
@@ -83,7 +91,10 @@ marking pattern e =
 unfoldable pub set_attributes_on_volume : Volume → ℕ → List ℕ → NameOutcome
 set_attributes_on_volume v user pattern =
     if not (nat_lt (first_named v.entries user pattern) (length v.entries)) then none_named
-    else named (first_named v.entries user pattern) (record v { entries = change_named user pattern (marking pattern) v.entries; written = v.written ++ named_writes user pattern 0 v.entries (change_named user pattern (marking pattern) v.entries) })
+    else named (first_named v.entries user pattern) (record v {
+      entries = change_named user pattern (marking pattern) v.entries;
+      written = v.written ++ named_writes user pattern 0 v.entries (change_named user pattern (marking pattern) v.entries);
+    })
 
 -- the records of a file up to the end of an entry, by the entry's count
 unfoldable pub records_to : Entry → ℕ

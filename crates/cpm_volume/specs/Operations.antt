@@ -1,6 +1,7 @@
 -- What the calls on files do to a drive and to a file control block, in every case.
 -- CP/M 2.2 Operating System Manual, section 5.2, Operating System Call Conventions; own: what the manual leaves open.
-use Rattle.std.specs.Prelude.{ℕ, zero, suc, ◌+◌, ◌*◌, ◌/◌, ◌%◌, Bool, true, false, ◌&&◌, ◌||◌, not, nat_lt, ◌==◌, if◌then◌else◌, List, [], ◌∷◌, ◌++◌, map, Option, Some, None, max, replicate, length, slice_set}
+use Rattle.std.specs.Prelude.{ℕ, zero, suc, ◌+◌, ◌*◌, ◌/◌, ◌%◌, Bool, true, false, ◌&&◌, ◌||◌, not, nat_lt, ◌==◌}
+use Rattle.std.specs.Prelude.{if◌then◌else◌, List, [], ◌∷◌, ◌++◌, map, Option, Some, None, max, replicate, length, slice_set}
 use Rattle.std.specs.List.{range_with_len}
 use Rattle.cpm_geom.specs.declared.dpb.Dpb.{Dpb}
 use Rattle.cpm_volume.specs.declared.extent.Extent.{Extent}
@@ -8,8 +9,11 @@ use Rattle.cpm_volume.specs.declared.extent.Entry.{Entry}
 pub use Rattle.cpm_volume.specs.declared.answer.Fault.{Fault}
 pub use Rattle.cpm_volume.specs.declared.answer.Fault.TheVariants.{BadSector as bad_sector, ReadOnly as read_only}
 pub use Rattle.cpm_volume.specs.declared.answer.Answer.{Answer}
-pub use Rattle.cpm_volume.specs.declared.answer.Answer.TheVariants.{Done as done, NoRecord as no_record, NoBlock as no_block, CannotClose as cannot_close, NoExtent as no_extent, NoEntryFree as no_entry_free, Fault as fault}
-use Rattle.cpm_volume.specs.Files.{extent_number, group_of, entry_place_of, block_number, entry_at, first_match, record_count_of, first_free, least_free, Volume, DiskWrite, entry_put, record_put}
+pub use Rattle.cpm_volume.specs.declared.answer.Answer.TheVariants.{Done as done, NoRecord as no_record, NoBlock as no_block}
+pub use Rattle.cpm_volume.specs.declared.answer.Answer.TheVariants.{CannotClose as cannot_close, NoExtent as no_extent}
+pub use Rattle.cpm_volume.specs.declared.answer.Answer.TheVariants.{NoEntryFree as no_entry_free, Fault as fault}
+use Rattle.cpm_volume.specs.Files.{extent_number, group_of, entry_place_of, block_number, entry_at, first_match}
+use Rattle.cpm_volume.specs.Files.{record_count_of, first_free, least_free, Volume, DiskWrite, entry_put, record_put}
 
 -- the code that a call gives back, if it gives one
 unfoldable pub code_of : Answer → Option ℕ
@@ -241,7 +245,8 @@ unfoldable pub block_to_write : Dpb → List Bool → ℕ → Found
 block_to_write d reserved b =
     if nat_lt d.last_block b then no_such_block
     else (if not (b == 0) then old_block b
-    else (if nat_lt (least_free reserved) (length reserved) && nat_lt (least_free reserved) (d.last_block + 1) then new_block (least_free reserved) else none_free))
+    else (if nat_lt (least_free reserved) (length reserved) && nat_lt (least_free reserved) (d.last_block + 1)
+    then new_block (least_free reserved) else none_free))
 
 -- the extent with a block at a place of its map
 unfoldable pub with_block : Extent → ℕ → ℕ → Extent
@@ -271,9 +276,17 @@ unfoldable pub put_found : Dpb → Bool → Volume → Extent → ℕ → ℕ �
 put_found d clears v x current next bytes no_such_block = ends (fault bad_sector) v x current
 put_found d clears v x current next bytes none_free = ends no_block v x current
 put_found d clears v x current next bytes (old_block b) =
-    ends done (record v { records = slice_set v.records (record_in_block d b current) bytes; written = v.written ++ record_put (record_in_block d b current) bytes ∷ [] }) (counting x current) next
+    ends done (record v {
+      records = slice_set v.records (record_in_block d b current) bytes;
+      written = v.written ++ record_put (record_in_block d b current) bytes ∷ [];
+    }) (counting x current) next
 put_found d clears v x current next bytes (new_block b) =
-    ends done (record v { reserved = slice_set v.reserved b true; records = slice_set (taken_records d clears b v.records) (record_in_block d b current) bytes; written = (v.written ++ taken_writes d clears b) ++ record_put (record_in_block d b current) bytes ∷ [] }) (counting (with_block x (entry_place_of d x current) b) current) next
+    ends done (record v {
+      reserved = slice_set v.reserved b true;
+      records = slice_set (taken_records d clears b v.records) (record_in_block d b current) bytes;
+      written = (v.written ++ taken_writes d clears b) ++ record_put (record_in_block d b current) bytes ∷ [];
+    })
+    (counting (with_block x (entry_place_of d x current) b) current) next
 
 -- write the current record; the next is then current
 unfoldable pub put_record : Dpb → Bool → Volume → Extent → ℕ → ℕ → List ℕ → Outcome

@@ -8,7 +8,10 @@ use Rattle.cpm_geom.specs.Geometry.{dpb_of}
 use Rattle.cpm_volume.specs.declared.extent.Extent.{Extent}
 use Rattle.cpm_volume.specs.declared.extent.Entry.{Entry}
 use Rattle.cpm_volume.specs.Files.{Volume, no_entry}
-use Rattle.cpm_volume.specs.Operations.{Answer, done, no_record, no_block, no_extent, no_entry_free, fault, bad_sector, read_only, Outcome, ends, Close, refused, close_fault, closed, close_file_on_volume, open_file_on_volume, make_file_on_volume, read_next_on_volume, write_next_on_volume, read_random_on_volume, write_random_on_volume, write_random_cleared_on_volume}
+use Rattle.cpm_volume.specs.Operations.{Answer, done, no_record, no_block, no_extent, no_entry_free, fault, bad_sector}
+use Rattle.cpm_volume.specs.Operations.{read_only, Outcome, ends, Close, refused, close_fault, closed, close_file_on_volume}
+use Rattle.cpm_volume.specs.Operations.{open_file_on_volume, make_file_on_volume, read_next_on_volume, write_next_on_volume}
+use Rattle.cpm_volume.specs.Operations.{read_random_on_volume, write_random_on_volume, write_random_cleared_on_volume}
 
 -- the standard 8-inch disk
 unfoldable pub standard : Dpb
@@ -26,7 +29,14 @@ blank_volume entries free records =
 -- a file control block for T.DAT
 unfoldable pub t_dat : Extent
 t_dat =
-    record { name = 0x54 ∷ 0x20 ∷ 0x20 ∷ 0x20 ∷ 0x20 ∷ 0x20 ∷ 0x20 ∷ 0x20 ∷ 0x44 ∷ 0x41 ∷ 0x54 ∷ []; ex = 0; s1 = 0; s2 = 0; record_count = 0; blocks = replicate 16 0 }
+    record {
+      name = 0x54 ∷ 0x20 ∷ 0x20 ∷ 0x20 ∷ 0x20 ∷ 0x20 ∷ 0x20 ∷ 0x20 ∷ 0x44 ∷ 0x41 ∷ 0x54 ∷ [];
+      ex = 0;
+      s1 = 0;
+      s2 = 0;
+      record_count = 0;
+      blocks = replicate 16 0;
+    }
 
 -- the file is made; the outcome is one from which writes go on
 unfoldable pub from_make : Volume → Option (List Entry × Extent) → Outcome
@@ -68,7 +78,8 @@ file_of_129 = writes standard 129 (made_on (blank_volume 64 241 []))
 -- they fill one entry, blocks 02h to 11h, and begin another, block 12h
 abbrev pub Row129 : Type 0
 Row129 =
-    directory_bytes standard 3 file_of_129 ≡ (0 ∷ 0 ∷ 0x80 ∷ 0x02 ∷ 0x03 ∷ 0x04 ∷ 0x05 ∷ 0x06 ∷ 0x07 ∷ 0x08 ∷ 0x09 ∷ 0x0A ∷ 0x0B ∷ 0x0C ∷ 0x0D ∷ 0x0E ∷ 0x0F ∷ 0x10 ∷ 0x11 ∷ [])
+    directory_bytes standard 3 file_of_129
+    ≡ (0 ∷ 0 ∷ 0x80 ∷ 0x02 ∷ 0x03 ∷ 0x04 ∷ 0x05 ∷ 0x06 ∷ 0x07 ∷ 0x08 ∷ 0x09 ∷ 0x0A ∷ 0x0B ∷ 0x0C ∷ 0x0D ∷ 0x0E ∷ 0x0F ∷ 0x10 ∷ 0x11 ∷ [])
     ∷ (0 ∷ 1 ∷ 0x01 ∷ 0x12 ∷ replicate 15 0) ∷ entry_seen no_entry ∷ []
 
 -- 300 records on the large disk: two extents to an entry
@@ -90,7 +101,8 @@ entry_opened (Some it) = it.ex ∷ it.s2 ∷ it.record_count ∷ it.blocks
 -- opened with EX 0 its first extent has 128 records, with EX 3 there is none
 abbrev pub RowShared : Type 0
 RowShared =
-    (entry_opened (open_file_on_volume large shared_file 0 t_dat) ≡ 0 ∷ 0 ∷ 0x80 ∷ 2 ∷ 3 ∷ 4 ∷ 5 ∷ 6 ∷ 7 ∷ 8 ∷ 9 ∷ replicate 8 0) × (entry_opened (open_file_on_volume large shared_file 0 (record t_dat { ex = 3 })) ≡ [])
+    (entry_opened (open_file_on_volume large shared_file 0 t_dat) ≡ 0 ∷ 0 ∷ 0x80 ∷ 2 ∷ 3 ∷ 4 ∷ 5 ∷ 6 ∷ 7 ∷ 8 ∷ 9 ∷ replicate 8 0)
+    × (entry_opened (open_file_on_volume large shared_file 0 (record t_dat { ex = 3 })) ≡ [])
 
 -- 1,928 records fit one file, and no more
 abbrev pub Row1928 : Type 0
@@ -131,7 +143,13 @@ second_extent count b = record t_dat { ex = 1; record_count = count; blocks = b 
 
 unfoldable pub two_extents : List Entry
 two_extents =
-    record { user = 0; extent = record t_dat { record_count = 0x80; blocks = 0x02 ∷ 0x03 ∷ 0x04 ∷ 0x05 ∷ 0x06 ∷ 0x07 ∷ 0x08 ∷ 0x09 ∷ 0x0A ∷ 0x0B ∷ 0x0C ∷ 0x0D ∷ 0x0E ∷ 0x0F ∷ 0x10 ∷ 0x11 ∷ [] } }
+    record {
+      user = 0;
+      extent = record t_dat {
+        record_count = 0x80;
+        blocks = 0x02 ∷ 0x03 ∷ 0x04 ∷ 0x05 ∷ 0x06 ∷ 0x07 ∷ 0x08 ∷ 0x09 ∷ 0x0A ∷ 0x0B ∷ 0x0C ∷ 0x0D ∷ 0x0E ∷ 0x0F ∷ 0x10 ∷ 0x11 ∷ [];
+      };
+    }
     ∷ record { user = 0; extent = second_extent 1 0x12 } ∷ no_entry ∷ no_entry ∷ []
 
 -- a close gives back a block number that the file control block lost, and refuses another one and one above the last
@@ -154,7 +172,8 @@ crowded = writes standard 129 (made_on (blank_volume 1 241 []))
 abbrev pub RowCrowded : Type 0
 RowCrowded =
     (crowded.answer ≡ no_record) × (crowded.current ≡ 128) × (crowded.extent.ex ≡ 0)
-    × (map entry_seen crowded.volume.entries ≡ (0 ∷ 0 ∷ 0x80 ∷ 0x02 ∷ 0x03 ∷ 0x04 ∷ 0x05 ∷ 0x06 ∷ 0x07 ∷ 0x08 ∷ 0x09 ∷ 0x0A ∷ 0x0B ∷ 0x0C ∷ 0x0D ∷ 0x0E ∷ 0x0F ∷ 0x10 ∷ 0x11 ∷ [])
+    × (map entry_seen crowded.volume.entries
+    ≡ (0 ∷ 0 ∷ 0x80 ∷ 0x02 ∷ 0x03 ∷ 0x04 ∷ 0x05 ∷ 0x06 ∷ 0x07 ∷ 0x08 ∷ 0x09 ∷ 0x0A ∷ 0x0B ∷ 0x0C ∷ 0x0D ∷ 0x0E ∷ 0x0F ∷ 0x10 ∷ 0x11 ∷ [])
     ∷ [])
 
 -- record 3 written into a new block of records of E5h
@@ -172,12 +191,14 @@ abbrev pub RowFill : Type 0
 RowFill =
     ((record_written new_file).volume.records ≡ replicate 19 (0xE5 ∷ []) ++ ((0x41 ∷ []) ∷ replicate 5 (0xE5 ∷ []))) × ((record_written new_file).current ≡ 3)
     × ((record_written new_file).extent.record_count ≡ 4)
-    × ((written_cleared new_file).volume.records ≡ replicate 16 (0xE5 ∷ []) ++ (replicate 3 (replicate 128 0) ++ ((0x41 ∷ []) ∷ (replicate 4 (replicate 128 0) ++ ((0xE5 ∷ []) ∷ [])))))
+    × ((written_cleared new_file).volume.records
+    ≡ replicate 16 (0xE5 ∷ []) ++ (replicate 3 (replicate 128 0) ++ ((0x41 ∷ []) ∷ (replicate 4 (replicate 128 0) ++ ((0xE5 ∷ []) ∷ [])))))
 
 -- after that a write with zero fill into the same block leaves its other records
 abbrev pub RowFilledBefore : Type 0
 RowFilledBefore =
-    (write_random_cleared_on_volume standard (record_written new_file).volume 0 (record_written new_file).extent 0 5 (0x42 ∷ [])).volume.records ≡ replicate 19 (0xE5 ∷ []) ++ ((0x41 ∷ []) ∷ (0xE5 ∷ []) ∷ (0x42 ∷ []) ∷ replicate 3 (0xE5 ∷ []))
+    (write_random_cleared_on_volume standard (record_written new_file).volume 0 (record_written new_file).extent 0 5 (0x42 ∷ [])).volume.records
+    ≡ replicate 19 (0xE5 ∷ []) ++ ((0x41 ∷ []) ∷ (0xE5 ∷ []) ∷ (0x42 ∷ []) ∷ replicate 3 (0xE5 ∷ []))
 
 -- a file of two records in block 2
 unfoldable pub two_records : Volume

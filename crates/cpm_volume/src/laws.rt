@@ -1,6 +1,7 @@
 //! Laws on the definitions that the calls of this crate cite.
 
-ghost use Rattle.cpm_volume.specs.Laws.{CloseLaw, SequentialWriteLaw, SequentialReadLaw, RandomWriteLaw, ClearingWriteLaw, RandomReadLaw, OpenLaw, MakeLaw, FormatsLaw};
+ghost use Rattle.cpm_volume.specs.Laws.{CloseLaw, SequentialWriteLaw, SequentialReadLaw, RandomWriteLaw};
+ghost use Rattle.cpm_volume.specs.Laws.{ClearingWriteLaw, RandomReadLaw, OpenLaw, MakeLaw, FormatsLaw};
 ghost use Rattle.cpm_volume.specs.Encoding.{EncodingLaw};
 ghost use Rattle.cpm_volume.specs.NameLaws.{EraseLaw};
 ghost use Rattle.cpm_volume.specs.LogLaws.{LogLaw};

@@ -1,6 +1,7 @@
 //! Worked rows of the calls on files, computed from their definitions.
 
-ghost use Rattle.cpm_volume.specs.Rows.{Row129, Row300, RowShared, Row1928, Row16320, Row64, Row256, RowMerge, RowProtected, RowCrowded, RowFill, RowFilledBefore, RowReads, RowBadSector};
+ghost use Rattle.cpm_volume.specs.Rows.{Row129, Row300, RowShared, Row1928, Row16320, Row64, Row256, RowMerge};
+ghost use Rattle.cpm_volume.specs.Rows.{RowProtected, RowCrowded, RowFill, RowFilledBefore, RowReads, RowBadSector};
 ghost use Rattle.cpm_volume.specs.NameRows.{RowErase, RowRename, RowAttributes};
 
 /// 129 records fill one entry of the standard disk and begin another.

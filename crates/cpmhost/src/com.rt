@@ -6,7 +6,7 @@ use crate::disk::read_image;
 use crate::files::{check_file, read_file, write_file};
 use crate::output::Outputs;
 use crate::place::check_com;
-use crate::progress::{Form, Teller, Audience};
+use crate::progress::{Audience, Form, Teller};
 use crate::refused::Refused;
 use crate::rehearse::waits_in;
 use crate::screen::Screen;
@@ -14,8 +14,8 @@ use crate::typing::{Terminals, record_in, tell_full, tell_quit};
 use crate::waiting_word;
 use cpm_geom::Image;
 use cpm_host::{
-    ComTask, CuedKeys, Ending, HostError, ProgramResult, Script, ProgramStart, Tail, LiveResult, cues_of, run_com, run_live,
-    run_waiting, tail_of,
+    ComTask, CuedKeys, Ending, HostError, LiveResult, ProgramResult, ProgramStart, Script, Tail,
+    cues_of, run_com, run_live, run_waiting, tail_of,
 };
 use std::io;
 use std::io::{BufReader, Write};
@@ -36,14 +36,18 @@ pub fn com(
     check_outs(rt, outputs, &task.outs)?;
     // (before a file is emptied in which keys are recorded)
     start.check()?;
+    let mut screen = Screen::new(io::writer(rt), terminals.shows_controls(task.is_raw));
     let (ran, waits) = if task.is_live {
-        play_keyboard(rt, task, start, terminals)?
+        play_keyboard(rt, task, start, &mut screen)?
     } else {
-        play_script(rt, task, start, terminals)?
+        play_script(rt, task, start, &mut screen, terminals)?
     };
     let ending = ran.ending;
     write_drives(rt, outputs, &task.outs, ran.drives)?;
-    tell(rt, ending, waits && task.stops_idle);
+    if terminals.are_one() && !screen.is_at_line_start() {
+        let _ = eprintln!(rt);
+    }
+    tell(rt, ending, waits && task.stops_idle, task.is_quiet);
     Ok(())
 }
 
@@ -90,10 +94,11 @@ fn drives_of(rt: &(impl Files + AllocGlobal), names: &[&str]) -> Result<Vec<Imag
 }
 
 /// Runs a program by the keys of the script in a file, if there is one, and says whether it then waits for a key, where that is known.
-fn play_script(
-    rt: &(impl Files + Print + Eprint + AllocGlobal),
+fn play_script<W: Write>(
+    rt: &(impl Files + Eprint + AllocGlobal),
     task: &ComTask<'_>,
     start: ProgramStart,
+    out: &mut W,
     terminals: Terminals,
 ) -> Result<(ProgramResult, bool), Refused> {
     let text = match task.keys {
@@ -105,19 +110,20 @@ fn play_script(
         text: text.as_slice(),
     };
     if task.stops_idle || task.record.is_some() || waits_in(script.text) {
-        play_waiting(rt, task, start, script, terminals)
+        play_waiting(rt, task, start, script, out, terminals)
     } else {
-        play(rt, task, start, script, terminals)
+        Ok((play(rt, task, start, script, out, terminals)?, false))
     }
 }
 
 /// Runs a program by a script that may wait for it, records its keys if that is asked, and says whether it then waits for a key. With `--stop-idle` it stops
 /// where it waits and no key comes.
-fn play_waiting(
-    rt: &(impl Files + Print + Eprint + AllocGlobal),
+fn play_waiting<W: Write>(
+    rt: &(impl Files + Eprint + AllocGlobal),
     task: &ComTask<'_>,
     start: ProgramStart,
     script: Script<'_>,
+    out: &mut W,
     terminals: Terminals,
 ) -> Result<(ProgramResult, bool), Refused> {
     let cues = cues_of(rt.alloc(), script)?;
@@ -126,12 +132,7 @@ fn play_waiting(
         waits_from: 0,
         stops_idle: task.stops_idle,
     };
-    let typed = if terminals.is_screen {
-        let mut screen = Screen::new(io::writer(rt));
-        play_cued(rt, task, start, cued, &mut screen, terminals)?
-    } else {
-        play_cued(rt, task, start, cued, &mut io::writer(rt), terminals)?
-    };
+    let typed = play_cued(rt, task, start, cued, out, terminals)?;
     Ok((typed.ran, typed.waits))
 }
 
@@ -168,25 +169,8 @@ fn teller_of<'a, R: Eprint>(rt: &'a R, task: &ComTask<'_>, terminals: Terminals)
     Teller::new(rt, Audience::Program, form)
 }
 
-/// Runs a program by the keys of a script, and says nothing of whether it then waits. A screen gets its control bytes as text.
-fn play(
-    rt: &(impl Print + Eprint + AllocGlobal),
-    task: &ComTask<'_>,
-    start: ProgramStart,
-    script: Script<'_>,
-    terminals: Terminals,
-) -> Result<(ProgramResult, bool), Refused> {
-    let ran = if terminals.is_screen {
-        let mut screen = Screen::new(io::writer(rt));
-        play_to(rt, task, start, script, &mut screen, terminals)?
-    } else {
-        play_to(rt, task, start, script, &mut io::writer(rt), terminals)?
-    };
-    Ok((ran, false))
-}
-
 /// Runs a program by the keys of a script, and writes what it shows.
-fn play_to<W: Write>(
+fn play<W: Write>(
     rt: &(impl Eprint + AllocGlobal),
     task: &ComTask<'_>,
     start: ProgramStart,
@@ -202,22 +186,16 @@ fn play_to<W: Write>(
 }
 
 /// Runs a program by the keys of standard input, records them if that is asked, and says whether it then waits for a key.
-fn play_keyboard(
-    rt: &(impl Files + Input + Print + Eprint + AllocGlobal),
+fn play_keyboard<W: Write>(
+    rt: &(impl Files + Input + Eprint + AllocGlobal),
     task: &ComTask<'_>,
     start: ProgramStart,
-    terminals: Terminals,
+    out: &mut W,
 ) -> Result<(ProgramResult, bool), Refused> {
     let mut record = record_in(rt, task.record)?;
     let most_keys = record.most_keys();
     tell_quit(rt);
-    let typed = if terminals.is_screen {
-        let mut screen = Screen::new(io::writer(rt));
-        play_live(rt, task, start, most_keys, &mut screen, &mut record)?
-    } else {
-        let mut out = io::writer(rt);
-        play_live(rt, task, start, most_keys, &mut out, &mut record)?
-    };
+    let typed = play_live(rt, task, start, most_keys, out, &mut record)?;
     tell_full(rt, typed.keys.len(), most_keys);
     Ok((typed.ran, typed.waits))
 }
@@ -253,11 +231,13 @@ fn write_drives(
     Ok(())
 }
 
-/// Prints how a program ended. It ran and its text is out, even where nobody reads that.
-fn tell(rt: &impl Eprint, ending: Ending, waits: bool) {
+/// Prints how a program ended, the last line only where it isn't quiet. It ran and its text is out, even where nobody reads that.
+fn tell(rt: &impl Eprint, ending: Ending, waits: bool, is_quiet: bool) {
     if let Some(illegal) = ending.illegal() {
         let _ = eprintln!(rt; "{illegal}");
     }
-    let word = waiting_word(waits);
-    let _ = eprintln!(rt; "{ending}{word}");
+    if !is_quiet {
+        let word = waiting_word(waits);
+        let _ = eprintln!(rt; "{ending}{word}");
+    }
 }

@@ -45,7 +45,10 @@ fn set_aside(
 }
 
 /// Whether the script of a session waits; refused for its first line with a fault, if it does.
-fn judge_waiting(rt: &(impl Files + AllocGlobal), session: &SessionConfig) -> Result<bool, Refused> {
+fn judge_waiting(
+    rt: &(impl Files + AllocGlobal),
+    session: &SessionConfig,
+) -> Result<bool, Refused> {
     let Some(keys) = &session.keys else {
         return Ok(false);
     };

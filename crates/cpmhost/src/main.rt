@@ -20,8 +20,8 @@ mod typing;
 use com::com;
 use cpm_flags::Cpu;
 use cpm_host::{
-    Config, HostError, RunTask, SessionReport, Task, command, help, run_asm, run_asm_listed,
-    run_check, run_debug, run_host, run_list,
+    Config, HostError, RunTask, SessionReport, Task, VERSION, asks_version, command, help, run_asm,
+    run_asm_listed, run_check, run_debug, run_host, run_list,
 };
 use disk::do_disk;
 use files::{
@@ -30,22 +30,16 @@ use files::{
 use judge::judge;
 use output::Outputs;
 use place::{check_apart, check_asm};
-use progress::{Form, Teller, Audience};
+use progress::{Audience, Form, Teller};
 use refused::{Behind, Refused};
 use rehearse::{Rehearsals, rehearse_all};
 use screen::Screen;
-use std::alloc::{AllocError, Global};
 use std::env::Env;
 use std::io::{BufReader, BufWriter, ErrorKind, IsTerminal, Write};
 use std::process::{self, ExitCode};
 use std::rt::Files;
 use std::{env, io};
 use typing::{Terminals, type_in};
-
-/// What stands behind the help.
-const HELP_ON_RAW: &str = "
-At a terminal, com, debug and run --keyboard show control bytes of the program as ^[ and the like; with --raw behind com or run they go out as they are.
-";
 
 /// The words of the command line, of which the first is the program's own name.
 fn arguments(rt: &(impl Env + AllocGlobal)) -> Result<Vec<String>, HostError>
@@ -97,7 +91,7 @@ fn run_config(
             name,
             task.record,
             task.stops_idle,
-            terminals.is_screen,
+            terminals.shows_controls(task.is_raw),
         )?;
     }
     let form = Form::of(task.has_progress, terminals.is_error_terminal);
@@ -221,18 +215,15 @@ fn debug(
     file: &str,
     cpu: Cpu,
     list: Option<&str>,
-    is_screen: bool,
+    terminals: Terminals,
 ) -> Result<(), HostError> {
     let program = read_file(rt, file)?;
     let listing = match list {
         Some(list) => read_file(rt, list)?,
         None => Vec::new(rt.alloc()),
     };
-    if is_screen {
-        debug_to(rt, cpu, program, &listing, &mut Screen::new(io::writer(rt)))
-    } else {
-        debug_to(rt, cpu, program, &listing, &mut io::writer(rt))
-    }
+    let mut screen = Screen::new(io::writer(rt), terminals.shows_controls(false));
+    debug_to(rt, cpu, program, &listing, &mut screen)
 }
 
 /// Runs a program as the lines of standard input say, and writes what is answered.
@@ -249,35 +240,51 @@ fn debug_to<W: Write>(
     }
 }
 
-/// Whether a word is `--raw` behind `com` or `run`, given the words before it, and none of the words of a tail behind `--`.
-fn is_raw(before: &[&str], word: &str) -> bool {
-    word == "--raw"
-        && before
-            .get(1)
-            .is_some_and(|command| *command == "com" || *command == "run")
-        && !before.iter().any(|other| *other == "--")
-}
-
 /// Does what words ask for, which begin with the program's own name.
 fn do_words(
     rt: &(impl Files + Input + Print + Eprint + AllocGlobal),
     outputs: Outputs,
     words: &[&str],
     terminals: Terminals,
-) -> Result<(), Refused> {
-    if let Some(text) = help(words) {
-        return Ok(print_help(rt, text)?);
+) -> Result<ExitCode, Refused> {
+    if asks_version(words) {
+        return Ok(print(rt, VERSION)?);
     }
-    match command(rt.alloc(), words) {
-        Ok(task) => do_task(rt, outputs, &task, terminals),
-        Err(error) => Err(Refused::from(HostError::from(error))),
+    if let Some(text) = help(words) {
+        return Ok(print(rt, text)?);
+    }
+    if let [_, "typed-at", line @ ..] = words {
+        return Ok(tell_typed_at(rt, line)?);
+    }
+    let task = command(rt.alloc(), words).map_err(HostError::from)?;
+    do_task(rt, outputs, &task, terminals)?;
+    Ok(ExitCode::SUCCESS)
+}
+
+/// Prints a text of the program's own.
+fn print(rt: &impl Print, text: &str) -> Result<ExitCode, HostError> {
+    rt.print(text).map_err(HostError::OutputUnwritable)?;
+    Ok(ExitCode::SUCCESS)
+}
+
+/// Whether the keys of standard input are typed at a task as they come.
+fn is_typed_at(task: &Task<'_>) -> bool {
+    match task {
+        Task::Com(task) => task.is_live,
+        Task::Run(task) => task.keyboard.is_some(),
+        _ => false,
     }
 }
 
-/// Prints the help.
-fn print_help(rt: &impl Print, text: &str) -> Result<(), HostError> {
-    rt.print(text).map_err(HostError::OutputUnwritable)?;
-    rt.print(HELP_ON_RAW).map_err(HostError::OutputUnwritable)
+/// Says by its status whether a line, which begins behind the program's own name, is typed at: 0 where it is. The launcher asks for that.
+fn tell_typed_at(rt: &impl AllocGlobal, line: &[&str]) -> Result<ExitCode, HostError> {
+    let mut words = Vec::new(rt.alloc());
+    words.push("cpmhost")?;
+    words.extend_from_slice(line)?;
+    match command(rt.alloc(), words.as_slice()) {
+        Ok(task) if is_typed_at(&task) => Ok(ExitCode::SUCCESS),
+        _ => Ok(ExitCode::from(1)),
+    }
 }
 
 /// Does a task.
@@ -295,7 +302,7 @@ fn do_task(
         Task::List { file, cpu } => Ok(list(rt, file, *cpu)?),
         Task::Check { image } => Ok(check(rt, image)?),
         Task::Run(task) => run_sessions(rt, outputs, task, terminals),
-        Task::Debug { file, cpu, list } => Ok(debug(rt, file, *cpu, *list, terminals.is_screen)?),
+        Task::Debug { file, cpu, list } => Ok(debug(rt, file, *cpu, *list, terminals)?),
         Task::Disk(task) => do_disk(rt, outputs, task),
     }
 }
@@ -305,37 +312,22 @@ fn run(
     rt: &(impl Env + Files + Input + Print + Eprint + AllocGlobal),
     outputs: Outputs,
     terminals: Terminals,
-) -> Result<(), Refused> {
+) -> Result<ExitCode, Refused> {
     let words = arguments(rt)?;
-    let mut terminals = terminals;
-    let texts = texts_of(rt.alloc(), &words, &mut terminals)?;
-    do_words(rt, outputs, texts.as_slice(), terminals)
-}
-
-/// The texts of words, but for `--raw`, with which standard output is no screen.
-fn texts_of<'a>(
-    alloc: Global,
-    words: &'a [String],
-    terminals: &mut Terminals,
-) -> Result<Vec<&'a str>, AllocError> {
-    let mut texts = Vec::new(alloc);
-    for word in words {
-        if is_raw(texts.as_slice(), word.as_str()) {
-            terminals.is_screen = false;
-        } else {
-            texts.push(word.as_str())?;
-        }
+    let mut texts = Vec::new(rt.alloc());
+    for word in &words {
+        texts.push(word.as_str())?;
     }
-    Ok(texts)
+    do_words(rt, outputs, texts.as_slice(), terminals)
 }
 
 fn main(rt: HostRuntime) -> ExitCode {
     let terminals = Terminals {
-        is_screen: rt.stdout().is_terminal(),
+        is_output_terminal: rt.stdout().is_terminal(),
         is_error_terminal: rt.stderr().is_terminal(),
     };
     match run(&rt, Outputs::new(process::id(rt.process())), terminals) {
-        Ok(()) => ExitCode::SUCCESS,
+        Ok(code) => code,
         Err(refused) => {
             let _ = eprintln!(rt; "cpmhost: {refused}");
             ExitCode::from(refused.error.status())

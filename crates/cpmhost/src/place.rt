@@ -43,7 +43,10 @@ fn place_in_folder(
 }
 
 /// The place of the file of a name. None of what is no file of its own, as a pipe or a device, and of what can't be looked at.
-fn place_of(rt: &(impl Files + AllocGlobal), name: &str) -> Result<Option<FileIdentity>, AllocError> {
+fn place_of(
+    rt: &(impl Files + AllocGlobal),
+    name: &str,
+) -> Result<Option<FileIdentity>, AllocError> {
     let target = match target_of(rt, name) {
         Ok(target) => target,
         Err(error) if error.kind() == ErrorKind::OutOfMemory => return Err(AllocError),
@@ -262,8 +265,8 @@ fn twin(name: &str, behind: Behind) -> Refused {
     }
 }
 
-/// Refuses a run of the configuration in a file, with this record of typed keys, that would write one file twice, or write over what it reads, under whatever names. An
-/// image may be written where one was read.
+/// Refuses a run of the configuration in a file, with this record of typed keys, that would write one file twice, or write over what it reads,
+/// under whatever names. An image may be written where one was read.
 pub fn check_apart(
     rt: &(impl Files + AllocGlobal),
     file: &str,

@@ -6,12 +6,12 @@ ghost use Rattle.cpm_host.specs.Cued.{AreFit};
 
 use crate::disk::read_image;
 use crate::files::{copied, read_file};
-use crate::progress::{Form, Teller, Audience};
+use crate::progress::{Audience, Form, Teller};
 use crate::refused::Refused;
 use cpm_geom::Image;
 use cpm_host::{
-    Config, Cue, CuedKeys, ForkedCues, HostError, Key, Opening, Origin, Script, SessionConfig, SessionStart,
-    LiveResult, cues_of, forked_cues_of, key_line, rehearse_session,
+    Config, Cue, CuedKeys, ForkedCues, HostError, Key, LiveResult, Opening, Origin, Script,
+    SessionConfig, SessionStart, cues_of, forked_cues_of, key_line, rehearse_session,
 };
 use std::alloc::{AllocError, Global};
 use std::rt::Files;

@@ -1,12 +1,16 @@
-//! What a terminal gets of a program's text.
+//! What standard output gets of a program's text.
 
 use std::io;
 use std::io::Write;
 
-/// A writer to a terminal. A control byte that could command it is shown as `cat -v` shows it: `^[` for ESC, `M-^[` for 9Bh.
+/// A writer of a program's text. Where it shows control bytes, one that could command a terminal is shown as `cat -v` shows it:
+/// `^[` for ESC, `M-^[` for 9Bh.
 #[derive(Drop)]
 pub struct Screen<W: Write + Drop> {
     writer: W,
+    shows_controls: bool,
+    /// Whether nothing was written, or the last byte ended a line.
+    is_at_line_start: bool,
 }
 
 /// Whether a terminal gets a byte as it is: text, bell, backspace, tab and line ends.
@@ -18,8 +22,25 @@ fn is_plain(byte: u8) -> bool {
 }
 
 impl<W: Write + Drop> Screen<W> {
-    pub fn new(writer: W) -> Screen<W> {
-        Screen { writer }
+    pub fn new(writer: W, shows_controls: bool) -> Screen<W> {
+        Screen {
+            writer,
+            shows_controls,
+            is_at_line_start: true,
+        }
+    }
+
+    /// Whether what comes next begins a line.
+    pub fn is_at_line_start(&self) -> bool {
+        self.is_at_line_start
+    }
+
+    /// Writes the first bytes, as many as are plain.
+    fn write_plain(&mut self, buf: &[u8]) -> io::Result<usize> {
+        let plain = buf.iter().take_while(|&&byte| is_plain(byte)).count();
+        let plain = plain.min(buf.len());
+        self.writer.write_all(&buf[..plain])?;
+        Ok(plain)
     }
 
     /// Shows a byte that is not plain.
@@ -32,23 +53,30 @@ impl<W: Write + Drop> Screen<W> {
             self.writer.write_all(&shown)
         }
     }
+
+    /// Writes at least one byte of some, and says how many.
+    fn write_some(&mut self, buf: &[u8]) -> io::Result<usize> {
+        if !self.shows_controls {
+            return self.writer.write(buf);
+        }
+        match buf.first() {
+            Some(&byte) if !is_plain(byte) => {
+                self.show(byte)?;
+                Ok(1)
+            }
+            _ => self.write_plain(buf),
+        }
+    }
 }
 
 impl<W: Write + Drop> Write for Screen<W> {
     fn write(&mut self, buf: &[u8]) -> io::Result<usize> {
-        let plain = buf.iter().take_while(|&&byte| is_plain(byte)).count();
-        let plain = plain.min(buf.len());
-        if plain > 0 {
-            self.writer.write_all(&buf[..plain])?;
-            return Ok(plain);
+        let written = self.write_some(buf)?;
+        let written = written.min(buf.len());
+        if let Some(&last) = buf[..written].last() {
+            self.is_at_line_start = last == b'\n';
         }
-        match buf.first() {
-            Some(&byte) => {
-                self.show(byte)?;
-                Ok(1)
-            }
-            None => Ok(0),
-        }
+        Ok(written)
     }
 
     fn flush(&mut self) -> io::Result<()> {

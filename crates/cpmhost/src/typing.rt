@@ -8,17 +8,30 @@ use crate::refused::Refused;
 use crate::rehearse::{Rehearsals, last_fork, opening_of, place_of};
 use crate::screen::Screen;
 use cpm_geom::Image;
-use cpm_host::{Config, HostError, MOST_SCRIPT, SessionStart, LiveResult, shown, type_session};
+use cpm_host::{Config, HostError, LiveResult, MOST_SCRIPT, SessionStart, shown, type_session};
 use std::io::{BufReader, Write};
 use std::rt::Files;
 use std::{fs, io};
 
-/// What of the program's own streams is a terminal.
+/// Which of the program's own streams are terminals.
 #[derive(Clone, Copy, Debug, Drop)]
 pub struct Terminals {
-    /// Standard output, which then gets control bytes as text.
-    pub is_screen: bool,
+    /// Standard output.
+    pub is_output_terminal: bool,
+    /// Standard error.
     pub is_error_terminal: bool,
+}
+
+impl Terminals {
+    /// Whether standard output gets control bytes as text.
+    pub fn shows_controls(&self, is_raw: bool) -> bool {
+        self.is_output_terminal && !is_raw
+    }
+
+    /// Whether standard output and standard error are on a screen, and so on the same as far as a person sees.
+    pub fn are_one(&self) -> bool {
+        self.is_output_terminal && self.is_error_terminal
+    }
 }
 
 /// Where typed keys are recorded: in a file, or nowhere.
@@ -93,12 +106,12 @@ pub fn type_in(
     name: &str,
     record: Option<&str>,
     stops_idle: bool,
-    is_screen: bool,
+    shows_controls: bool,
 ) -> Result<(), Refused> {
     let Some(place) = place_of(config, name) else {
         return Err(Refused::from(HostError::NoSession(shown(name))));
     };
-    let typed = type_at(rt, config, place, record, is_screen)?;
+    let typed = type_at(rt, config, place, record, shows_controls)?;
     tell_full(rt, typed.keys.len(), MOST_SCRIPT);
     let steps = typed.steps.max(last_fork(config, name));
     let is_idle = stops_idle && typed.waits;
@@ -115,7 +128,7 @@ fn type_at(
     config: &Config,
     place: usize,
     record: Option<&str>,
-    is_screen: bool,
+    shows_controls: bool,
 ) -> Result<LiveResult, Refused>
     requires { place < length config.now.sessions.items }
 {
@@ -130,7 +143,7 @@ fn type_at(
         opening,
         steps: u64::MAX,
     };
-    typed_by(rt, &system, start, record, is_screen)
+    typed_by(rt, &system, start, record, shows_controls)
 }
 
 /// Plays a session by itself, by the keys of standard input.
@@ -139,17 +152,12 @@ fn typed_by(
     system: &Image,
     start: SessionStart<'_>,
     record: Option<&str>,
-    is_screen: bool,
+    shows_controls: bool,
 ) -> Result<LiveResult, Refused> {
     let mut record = record_in(rt, record)?;
     tell_quit(rt);
-    let typed = if is_screen {
-        let mut screen = Screen::new(io::writer(rt));
-        typed_to(rt, system, start, &mut screen, &mut record)?
-    } else {
-        typed_to(rt, system, start, &mut io::writer(rt), &mut record)?
-    };
-    Ok(typed)
+    let mut screen = Screen::new(io::writer(rt), shows_controls);
+    Ok(typed_to(rt, system, start, &mut screen, &mut record)?)
 }
 
 /// Plays a session by itself, by the keys of standard input, and writes what it shows and its keys.

@@ -7,7 +7,7 @@ use crate::texts::{CONFIG, KEYS, SOURCE};
 use cpm_flags::Cpu;
 use cpm_geom::{Format, Image};
 use cpm_host::{
-    Config, DebugError, HostError, MemoryStore, RunError, Script, ProgramStart, Tail, Unwatched,
+    Config, DebugError, HostError, MemoryStore, ProgramStart, RunError, Script, Tail, Unwatched,
     judge_host, run_asm, run_com, run_debug, run_host, run_list, run_live, tail_of,
 };
 use std::alloc::{AllocError, Global};

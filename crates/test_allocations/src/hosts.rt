@@ -3,8 +3,8 @@
 use crate::CallOutcome;
 use crate::machines::{is_handed_back, is_marked, marked, opening};
 use cpm_flags::Cpu;
-use cpm_slots::{ForkError, Host, SlotId};
 use cpm_machine::{Look, OpenError};
+use cpm_slots::{ForkError, Host, SlotId};
 use std::alloc::{AllocError, Global};
 
 pub fn new(alloc: Global) -> Result<CallOutcome, AllocError> {
@@ -119,7 +119,11 @@ fn fork_beside(alloc: Global, host: &mut Host) -> Result<CallOutcome, AllocError
     }
     let is_right = are_as_before(alloc, host, [first, second], &before)?
         && is_as_before(alloc, host, SlotId(2), &before[0])?;
-    Ok(if is_right { outcome } else { CallOutcome::Wrong })
+    Ok(if is_right {
+        outcome
+    } else {
+        CallOutcome::Wrong
+    })
 }
 
 /// The same in a new host.

@@ -4,8 +4,8 @@ use crate::CallOutcome;
 use cpm_console::Console;
 use cpm_flags::Cpu;
 use cpm_geom::{Format, Image};
-use cpm_memory::{FlatMemory, FrameStore};
 use cpm_machine::{Machine, OpenError, Opening, Tail};
+use cpm_memory::{FlatMemory, FrameStore};
 use std::alloc::{AllocError, Global};
 
 /// The byte of the mark in the directory of a drive.

@@ -111,7 +111,12 @@ impl Scene for Calls {
 
 impl Caller {
     /// Does a line that changes a session.
-    fn act(&mut self, alloc: Global, verb: &str, arguments: &[Word<'_>]) -> Result<RowAnswer, RowFault> {
+    fn act(
+        &mut self,
+        alloc: Global,
+        verb: &str,
+        arguments: &[Word<'_>],
+    ) -> Result<RowAnswer, RowFault> {
         match verb {
             "bdos" => self.bdos(alloc, arguments),
             "bios" => self.bios(alloc, arguments),
@@ -154,7 +159,12 @@ impl Caller {
     }
 
     /// Does a line that leaves a session as it is.
-    fn look(&self, alloc: Global, verb: &str, arguments: &[Word<'_>]) -> Result<RowAnswer, RowFault> {
+    fn look(
+        &self,
+        alloc: Global,
+        verb: &str,
+        arguments: &[Word<'_>],
+    ) -> Result<RowAnswer, RowFault> {
         match verb {
             "returned" => self.returned(alloc),
             "booted" => RowAnswer::truth(alloc, self.is_booted()),

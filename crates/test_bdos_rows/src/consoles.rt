@@ -132,7 +132,12 @@ impl Consoles {
     }
 
     /// Does a line that has bytes.
-    fn act_on_bytes(&mut self, alloc: Global, verb: &str, bytes: &[u8]) -> Result<RowAnswer, RowFault> {
+    fn act_on_bytes(
+        &mut self,
+        alloc: Global,
+        verb: &str,
+        bytes: &[u8],
+    ) -> Result<RowAnswer, RowFault> {
         match verb {
             "key" => press(alloc, &mut self.console, bytes),
             "put" => self.put(bytes),

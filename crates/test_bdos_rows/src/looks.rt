@@ -29,7 +29,11 @@ fn register_of<'a>(regs: &'a mut Regs, name: &str) -> Option<&'a mut u8> {
 
 impl Caller {
     /// `register NAME`: what a register of 8 bits, PC or SP has. `register NAME HH`, or HHHH for PC: it gets this.
-    pub fn register(&mut self, alloc: Global, arguments: &[Word<'_>]) -> Result<RowAnswer, RowFault> {
+    pub fn register(
+        &mut self,
+        alloc: Global,
+        arguments: &[Word<'_>],
+    ) -> Result<RowAnswer, RowFault> {
         let regs = &mut self.session.regs;
         match arguments {
             [name] if name.text == "PC" => RowAnswer::address(alloc, regs.pc),

@@ -40,7 +40,9 @@ pub fn mode_of(words: &[Word<'_>]) -> Result<Mode, RowFault> {
         [kind, next] if kind.text == "Text" => Ok(Mode::Text {
             next: address(*next)?,
         }),
-        [kind, held] if kind.text == "Hold" && held.text == "Call" => Ok(Mode::Hold(HeldOutput::Call)),
+        [kind, held] if kind.text == "Hold" && held.text == "Call" => Ok(Mode::Hold(
+            HeldOutput::Call,
+        )),
         [kind, part] if kind.text == "Command" => Ok(Mode::Command(part_of(part.text)?)),
         _ => Err(RowFault::Words),
     }

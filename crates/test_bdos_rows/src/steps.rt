@@ -4,8 +4,8 @@ use crate::session::{BACK, Caller};
 use crate::text::{add_quoted, small, taken};
 use cpm_bdos::{Mode, Went};
 use cpm_ccp::{ccp_step, load_step};
-use cpm_volume::Fault as DiskFault;
 use cpm_memory::has_room;
+use cpm_volume::Fault as DiskFault;
 use std::alloc::Global;
 use test_language::{RowAnswer, RowFault, Word, address, bytes_of};
 
@@ -35,7 +35,10 @@ impl Caller {
         if !self.session.console.has_room() || !has_room(&self.memory) {
             return Err(RowFault::Unready);
         }
-        Ok(self.session.bios_step(&mut self.memory, &self.system, function))
+        Ok(
+            self.session
+                .bios_step(&mut self.memory, &self.system, function),
+        )
     }
 
     /// One step of the command processor, or of a call that it has in progress.
@@ -177,14 +180,19 @@ impl Caller {
     }
 
     /// `type BYTES`: presses keys, and answers the number of steps until a program runs or a key is waited for.
-    pub fn type_keys(&mut self, alloc: Global, arguments: &[Word<'_>]) -> Result<RowAnswer, RowFault> {
+    pub fn type_keys(
+        &mut self,
+        alloc: Global,
+        arguments: &[Word<'_>],
+    ) -> Result<RowAnswer, RowFault> {
         for key in bytes_of(alloc, arguments)?.as_slice() {
             if !self.session.console.give(*key) {
                 return RowAnswer::refused_text(alloc, "KeysFull");
             }
         }
         for steps in 0..MOST_STEPS {
-            let is_in_program = self.session.mode == Mode::Program && self.session.regs.pc != PROMPT;
+            let is_in_program = self.session.mode == Mode::Program
+                && self.session.regs.pc != PROMPT;
             if is_in_program || self.command_step()? == Went::Waits {
                 return RowAnswer::words(alloc, steps);
             }

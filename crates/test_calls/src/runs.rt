@@ -5,8 +5,8 @@ use cpm_asm::AsmErrorKind;
 use cpm_flags::Cpu;
 use cpm_geom::{Format, Image};
 use cpm_host::{
-    Config, DebugError, UsageFault, HostError, MOST_FILE, MemoryStore, Origin, Store, Unwatched,
-    UsageError, read_whole, run_debug, run_host, shown,
+    Config, DebugError, HostError, MOST_FILE, MemoryStore, Origin, Store, Unwatched, UsageError,
+    UsageFault, read_whole, run_debug, run_host, shown,
 };
 use cpm_machine::OpenError;
 use std::io;
@@ -157,7 +157,9 @@ const LETTER: &[u8] = &[0x0E, 0x02, 0x1E, 0x41, 0xCD, 0x05, 0x00, 0xC9];
 
 #[test]
 fn answers_what_was_read_before_a_fault(rt: HostRuntime) {
-    let mut input = BufReader::new(rt.alloc(), FailingOrders { is_read: false }).expect(&rt, "memory");
+    let mut input = BufReader::new(rt.alloc(), FailingOrders { is_read: false }).expect(
+        &rt, "memory",
+    );
     let mut out: Vec<u8> = Vec::new(rt.alloc());
     let program = Vec::from_slice(rt.alloc(), LETTER).expect(&rt, "memory");
     match run_debug(rt.alloc(), Cpu::I8080, program, &[], &mut input, &mut out) {

@@ -111,7 +111,12 @@ impl Directories {
     }
 
     /// Does a line of one word behind its first.
-    fn act_one(&mut self, alloc: Global, verb: &str, word: Word<'_>) -> Result<RowAnswer, RowFault> {
+    fn act_one(
+        &mut self,
+        alloc: Global,
+        verb: &str,
+        word: Word<'_>,
+    ) -> Result<RowAnswer, RowFault> {
         match verb {
             "is-reserved" => RowAnswer::truth(alloc, self.reserved.contains(number(word)?)),
             "reserved-to" => self.reserved_to(alloc, number(word)?),
@@ -137,7 +142,12 @@ impl Directories {
     }
 
     /// Does a line about the directory of an image.
-    fn act_image(&mut self, alloc: Global, verb: &str, word: Word<'_>) -> Result<RowAnswer, RowFault> {
+    fn act_image(
+        &mut self,
+        alloc: Global,
+        verb: &str,
+        word: Word<'_>,
+    ) -> Result<RowAnswer, RowFault> {
         let image = self.images.copy(alloc, word.text)?;
         match verb {
             "check" => match well_formed(&image) {

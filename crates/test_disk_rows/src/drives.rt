@@ -4,8 +4,8 @@ use crate::fcb::FcbBytes;
 use crate::runs::WordCounts;
 use crate::words::{done, filled, name, number, small};
 use cpm_drives::{Disks, FileFunction};
-use cpm_volume::Fault as DriveError;
 use cpm_geom::{Format, Image};
+use cpm_volume::Fault as DriveError;
 use std::alloc::{AllocError, Global};
 use std::mem;
 use test_images::Images;
@@ -325,7 +325,11 @@ impl DriveCaller {
     }
 
     /// `write-sector DRIVE TRACK SECTOR BYTES`: a sector that begins so; whether it is there.
-    fn write_sector(&mut self, alloc: Global, arguments: &[Word<'_>]) -> Result<RowAnswer, RowFault> {
+    fn write_sector(
+        &mut self,
+        alloc: Global,
+        arguments: &[Word<'_>],
+    ) -> Result<RowAnswer, RowFault> {
         let [drive, track, sector, bytes @ ..] = arguments else {
             return Err(RowFault::Words);
         };

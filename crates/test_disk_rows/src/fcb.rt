@@ -20,7 +20,11 @@ impl FcbBytes {
     }
 
     /// `fcb BYTES`: it begins so, and else has zeros. Without bytes: what it is.
-    pub(crate) fn whole(&mut self, alloc: Global, arguments: &[Word<'_>]) -> Result<RowAnswer, RowFault> {
+    pub(crate) fn whole(
+        &mut self,
+        alloc: Global,
+        arguments: &[Word<'_>],
+    ) -> Result<RowAnswer, RowFault> {
         if arguments.is_empty() {
             return RowAnswer::bytes(alloc, &self.bytes);
         }
@@ -29,7 +33,11 @@ impl FcbBytes {
     }
 
     /// `field NAME BYTES`: the field and what is behind it become so. Without bytes: what the field is.
-    pub(crate) fn field(&mut self, alloc: Global, arguments: &[Word<'_>]) -> Result<RowAnswer, RowFault> {
+    pub(crate) fn field(
+        &mut self,
+        alloc: Global,
+        arguments: &[Word<'_>],
+    ) -> Result<RowAnswer, RowFault> {
         let [field, bytes @ ..] = arguments else {
             return Err(RowFault::Words);
         };

@@ -2,9 +2,11 @@
 
 use crate::words::{name as name_of, small, write_name};
 use cpm_drive::Drive;
-use cpm_volume::{Answer as RecordAnswer, Extent, Fcb};
 use cpm_geom::Image;
-use cpm_image_files::{FileName, DiskFile, ShelfError, from_text, get, list, put, remove, rename, to_text};
+use cpm_image_files::{
+    DiskFile, FileName, ShelfError, from_text, get, list, put, remove, rename, to_text,
+};
+use cpm_volume::{Answer as RecordAnswer, Extent, Fcb};
 use std::alloc::{AllocError, Global};
 use test_images::Images;
 use test_language::{RowAnswer, RowFault, RowLine, Scene, Word, bytes_of};

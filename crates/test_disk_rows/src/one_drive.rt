@@ -7,8 +7,8 @@ use cpm_drive::{
     Drive, Marks, close_file_lent, compute_size, open_file_lent, read_next_protected,
     read_random_protected, search,
 };
-use cpm_volume::{Answer as RecordAnswer, Fault as DriveError, Fcb};
 use cpm_geom::{Format, Image};
+use cpm_volume::{Answer as RecordAnswer, Fault as DriveError, Fcb};
 use std::alloc::{AllocError, Global};
 use std::fmt::Display;
 use test_images::Images;
@@ -187,7 +187,12 @@ impl OneDrive {
     }
 
     /// `user N`, `is-reserved BLOCK`, or `is-read-only ENTRY`.
-    fn act_number(&mut self, alloc: Global, verb: &str, number: u16) -> Result<RowAnswer, RowFault> {
+    fn act_number(
+        &mut self,
+        alloc: Global,
+        verb: &str,
+        number: u16,
+    ) -> Result<RowAnswer, RowFault> {
         match verb {
             "user" => {
                 self.user = u8::try_from(number).map_err(|_| RowFault::Number)?;
@@ -231,7 +236,11 @@ impl OneDrive {
     }
 
     /// `read_random_protected`.
-    fn read_random_protected(&mut self, place: u16, fcb: &mut Fcb) -> Result<RecordAnswer, RowFault> {
+    fn read_random_protected(
+        &mut self,
+        place: u16,
+        fcb: &mut Fcb,
+    ) -> Result<RecordAnswer, RowFault> {
         if !self.drive.marks.is_protected {
             return Err(RowFault::Unready);
         }
@@ -288,7 +297,12 @@ impl OneDrive {
     }
 
     /// `rename NAME OTHER`.
-    fn rename(&mut self, alloc: Global, old: &[u8; 11], new: Word<'_>) -> Result<RowAnswer, RowFault> {
+    fn rename(
+        &mut self,
+        alloc: Global,
+        old: &[u8; 11],
+        new: Word<'_>,
+    ) -> Result<RowAnswer, RowFault> {
         if self.drive.marks.is_protected {
             return Err(RowFault::Unready);
         }

@@ -14,7 +14,10 @@ pub(crate) fn small(word: Word<'_>) -> Result<u8, RowFault> {
 }
 
 /// Bytes that begin so, and else are zeros.
-pub(crate) fn filled<const N: usize>(alloc: Global, words: &[Word<'_>]) -> Result<[u8; N], RowFault> {
+pub(crate) fn filled<const N: usize>(
+    alloc: Global,
+    words: &[Word<'_>],
+) -> Result<[u8; N], RowFault> {
     let start = bytes_of(alloc, words)?;
     let mut bytes = [0; N];
     for (place, byte) in bytes.iter_mut().enumerate() {

@@ -7,7 +7,7 @@ use cpm_disk_commands::{
     new_image, put_file, remove_file, rename_file, text_of_name,
 };
 use cpm_geom::{Format, Image};
-use cpm_image_files::{FileName, DiskFile, FileRefusal, Shelf};
+use cpm_image_files::{DiskFile, FileName, FileRefusal, Shelf};
 use std::alloc::{AllocError, Global};
 use test_images::Images;
 use test_language::{RowAnswer, RowFault, RowLine, Scene, Word};
@@ -194,7 +194,11 @@ impl DiskCommands {
     }
 
     /// The file of the user that a text names, with the attributes.
-    fn file(&self, alloc: Global, name: Word<'_>) -> Result<Result<FileName, FilingError>, RowFault> {
+    fn file(
+        &self,
+        alloc: Global,
+        name: Word<'_>,
+    ) -> Result<Result<FileName, FilingError>, RowFault> {
         if self.user >= 16 {
             return Err(RowFault::Unready);
         }
@@ -334,7 +338,11 @@ impl DiskCommands {
     }
 
     /// `write-list FREE`: the lines of this list of a small disk, where so many blocks are free.
-    fn write_listed(&mut self, alloc: Global, arguments: &[Word<'_>]) -> Result<RowAnswer, RowFault> {
+    fn write_listed(
+        &mut self,
+        alloc: Global,
+        arguments: &[Word<'_>],
+    ) -> Result<RowAnswer, RowFault> {
         let [free] = arguments else {
             return Err(RowFault::Words);
         };

@@ -2,7 +2,9 @@
 
 use crate::filled;
 use cpm_asm::{AsmError, Placement, assemble, assemble_placed};
-use cpm_asm_expression::{LONGEST_NAME, Names, CheckedValue, keyword_of, letters_of, name_of, value_of};
+use cpm_asm_expression::{
+    CheckedValue, LONGEST_NAME, Names, keyword_of, letters_of, name_of, value_of,
+};
 use cpm_flags::Cpu;
 use cpm_listing::{instruction_length, list_line};
 use std::alloc::{AllocError, Global};
@@ -61,7 +63,11 @@ impl Sources {
     }
 
     /// `listing BYTES`: what is assembled are the statements of the lines that list these bytes.
-    fn take_listing(&mut self, alloc: Global, arguments: &[Word<'_>]) -> Result<RowAnswer, RowFault> {
+    fn take_listing(
+        &mut self,
+        alloc: Global,
+        arguments: &[Word<'_>],
+    ) -> Result<RowAnswer, RowFault> {
         let bytes = bytes_of(alloc, arguments)?;
         let mut source = Vec::new(alloc);
         let mut rest = bytes.as_slice();

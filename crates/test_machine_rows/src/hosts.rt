@@ -4,8 +4,8 @@ use crate::look::{field, granted};
 use crate::machines::cpu_of;
 use crate::shown::{TakenBytes, room};
 use cpm_geom::{Format, Image};
-use cpm_slots::{Event, Host, Reply, Request, SlotId};
 use cpm_machine::{Look, Opening};
+use cpm_slots::{Event, Host, Reply, Request, SlotId};
 use std::alloc::{AllocError, Global};
 use test_images::Images;
 use test_language::{
@@ -201,7 +201,12 @@ fn act_slot(
 }
 
 /// `key SLOT BYTES`.
-fn press(alloc: Global, host: &mut Host, id: SlotId, keys: &[Word<'_>]) -> Result<RowAnswer, RowFault> {
+fn press(
+    alloc: Global,
+    host: &mut Host,
+    id: SlotId,
+    keys: &[Word<'_>],
+) -> Result<RowAnswer, RowFault> {
     for key in &bytes_of(alloc, keys)? {
         if let Err(refusal) = host.key(id, *key) {
             return RowAnswer::refused(alloc, refusal);
@@ -269,7 +274,12 @@ fn take_list(
 }
 
 /// `alike SLOT SLOT`: whether two slots are in the same state, and have the same console bytes, which are taken.
-fn alike(alloc: Global, host: &mut Host, one: SlotId, other: SlotId) -> Result<RowAnswer, RowFault> {
+fn alike(
+    alloc: Global,
+    host: &mut Host,
+    one: SlotId,
+    other: SlotId,
+) -> Result<RowAnswer, RowFault> {
     let (Ok(look), Ok(other_look)) = (host.look(one), host.look(other)) else {
         return Err(RowFault::Absent);
     };

@@ -141,7 +141,12 @@ impl Scene for Machines {
 
 impl Machines {
     /// `8080 BYTES`, or `z80 BYTES`.
-    fn begin(&mut self, alloc: Global, cpu: Cpu, bytes: &[Word<'_>]) -> Result<RowAnswer, RowFault> {
+    fn begin(
+        &mut self,
+        alloc: Global,
+        cpu: Cpu,
+        bytes: &[Word<'_>],
+    ) -> Result<RowAnswer, RowFault> {
         self.program(alloc, bytes)?;
         let mut drives = Vec::new(alloc);
         drives.push(Image::blank(alloc, Format::Ibm3740)?)?;

@@ -1,12 +1,12 @@
 //! Machines that are played: by keys that are typed, by a script that may wait, and by what was recorded.
 
-use crate::machines::{Machines, MachineParts};
+use crate::machines::{MachineParts, Machines};
 use cpm_geom::Image;
-use cpm_script::laws::cues_in_order;
-use cpm_script::{read_cues, read_keys};
 use cpm_machine::Machine;
 use cpm_play::laws::scripts_in_order;
 use cpm_play::{CuedKeys, Live, Unwatched, play_cues, play_live, play_machine};
+use cpm_script::laws::cues_in_order;
+use cpm_script::{read_cues, read_keys};
 use std::alloc::Global;
 use test_language::{RowAnswer, RowFault, RowLine, Word, count, number};
 

@@ -31,7 +31,12 @@ impl TakenBytes {
     }
 
     /// Keeps the first bytes of these, which were taken, and answers them.
-    pub fn keep(&mut self, alloc: Global, bytes: Vec<u8>, count: usize) -> Result<RowAnswer, RowFault> {
+    pub fn keep(
+        &mut self,
+        alloc: Global,
+        bytes: Vec<u8>,
+        count: usize,
+    ) -> Result<RowAnswer, RowFault> {
         let mut bytes = bytes;
         bytes.truncate(count);
         self.bytes = bytes;
@@ -39,7 +44,12 @@ impl TakenBytes {
     }
 
     /// `ending N`: the last bytes. `has BYTE`: whether this is one of them.
-    pub fn act(&self, alloc: Global, verb: &str, arguments: &[Word<'_>]) -> Result<RowAnswer, RowFault> {
+    pub fn act(
+        &self,
+        alloc: Global,
+        verb: &str,
+        arguments: &[Word<'_>],
+    ) -> Result<RowAnswer, RowFault> {
         let [argument] = arguments else {
             return Err(RowFault::Words);
         };

@@ -7,7 +7,9 @@ use cpm_execz80::stepz80;
 use cpm_flags::{Alternate, Cpu, Flags, Regs, pack, unpack};
 use cpm_memory::{FlatMemory, Memory, has_room, set_byte};
 use std::alloc::{AllocError, Global};
-use test_language::{RowAnswer, RowFault, RowLine, Scene, Word, address, byte, bytes_of, count, number};
+use test_language::{
+    RowAnswer, RowFault, RowLine, Scene, Word, address, byte, bytes_of, count, number,
+};
 
 /// No flag set.
 const CLEAR: Flags = Flags {

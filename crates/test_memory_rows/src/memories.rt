@@ -2,7 +2,7 @@
 
 ghost use Rattle.std.specs.Prelude.{IfOk, ◌≤◌};
 
-use cpm_memory::{FlatMemory, FrameStore, Memory, MemError, TableId};
+use cpm_memory::{FlatMemory, FrameStore, MemError, Memory, TableId};
 use std::alloc::{AllocError, Global};
 use test_language::{RowAnswer, RowFault, RowLine, Scene, Word, address, byte, count, number};
 
@@ -74,7 +74,10 @@ impl Memories {
 
     /// The table of a number.
     fn table(&self, word: Word<'_>) -> Result<TableId, RowFault> {
-        self.tables.get(count(word)?).copied().ok_or(RowFault::Absent)
+        self.tables
+            .get(count(word)?)
+            .copied()
+            .ok_or(RowFault::Absent)
     }
 
     /// Keeps a table that was taken, and answers its number.
@@ -235,7 +238,12 @@ impl Memories {
     }
 
     /// A line that asks the store.
-    fn ask(&self, alloc: Global, verb: &str, arguments: &[Word<'_>]) -> Result<RowAnswer, RowFault> {
+    fn ask(
+        &self,
+        alloc: Global,
+        verb: &str,
+        arguments: &[Word<'_>],
+    ) -> Result<RowAnswer, RowFault> {
         let Some(store) = &self.store else {
             return Err(RowFault::Unknown);
         };

@@ -50,7 +50,11 @@ fn text_of(alloc: Global, word: Word<'_>) -> Result<String, RowFault> {
 
 impl Programs {
     /// `listing BYTES`: the listing of the program. Without bytes: what it is.
-    pub(crate) fn listing(&mut self, alloc: Global, line: &RowLine<'_>) -> Result<RowAnswer, RowFault> {
+    pub(crate) fn listing(
+        &mut self,
+        alloc: Global,
+        line: &RowLine<'_>,
+    ) -> Result<RowAnswer, RowFault> {
         let arguments = line.arguments();
         let given = line.given(alloc, arguments)?;
         if arguments.is_empty() && given.is_empty() {
@@ -61,7 +65,11 @@ impl Programs {
     }
 
     /// `steps N`: at most so many steps are made. Without a number: how many the last program took.
-    pub(crate) fn steps(&mut self, alloc: Global, arguments: &[Word<'_>]) -> Result<RowAnswer, RowFault> {
+    pub(crate) fn steps(
+        &mut self,
+        alloc: Global,
+        arguments: &[Word<'_>],
+    ) -> Result<RowAnswer, RowFault> {
         match arguments {
             [] => RowAnswer::words(alloc, self.played()?.steps),
             [word] => {
@@ -73,7 +81,11 @@ impl Programs {
     }
 
     /// `tail "WORD" ..`: the words behind the program's name. Its text.
-    pub(crate) fn tail(&mut self, alloc: Global, arguments: &[Word<'_>]) -> Result<RowAnswer, RowFault> {
+    pub(crate) fn tail(
+        &mut self,
+        alloc: Global,
+        arguments: &[Word<'_>],
+    ) -> Result<RowAnswer, RowFault> {
         let mut texts = Vec::new(alloc);
         for word in arguments {
             texts.push(text_of(alloc, *word)?)?;

@@ -71,7 +71,11 @@ impl Programs {
     }
 
     /// `left NAME DRIVE`: the image of this name is what the program left in the drive, A to D. Whether there was one.
-    pub(crate) fn left(&mut self, alloc: Global, arguments: &[Word<'_>]) -> Result<RowAnswer, RowFault> {
+    pub(crate) fn left(
+        &mut self,
+        alloc: Global,
+        arguments: &[Word<'_>],
+    ) -> Result<RowAnswer, RowFault> {
         let [name, drive] = arguments else {
             return Err(RowFault::Words);
         };

@@ -3,7 +3,8 @@
 use crate::programs::Programs;
 use cpm_geom::Image;
 use cpm_host::{
-    CuedKeys, HostError, Script, ProgramStart, LiveResult, Unwatched, cues_of, run_com, run_live, run_waiting,
+    CuedKeys, HostError, LiveResult, ProgramStart, Script, Unwatched, cues_of, run_com, run_live,
+    run_waiting,
 };
 use std::alloc::Global;
 use test_language::{RowAnswer, RowFault, RowLine, Word};
@@ -21,7 +22,11 @@ pub(crate) fn script_of<'a>(name: &'a str, text: &'a [u8]) -> Script<'a> {
 
 impl Programs {
     /// Does a line that plays a program or a session, or reads the script of a fork.
-    pub(crate) fn play(&mut self, alloc: Global, line: &RowLine<'_>) -> Result<RowAnswer, RowFault> {
+    pub(crate) fn play(
+        &mut self,
+        alloc: Global,
+        line: &RowLine<'_>,
+    ) -> Result<RowAnswer, RowFault> {
         match line.verb() {
             "com" => self.com(alloc, line.arguments()),
             "type" => self.type_keys(alloc, line),

@@ -4,7 +4,7 @@ use crate::given::{count_of, cpu_of};
 use crate::recorder::Recorder;
 use cpm_flags::Cpu;
 use cpm_geom::Image;
-use cpm_host::{HostError, Tail, LiveResult};
+use cpm_host::{HostError, LiveResult, Tail};
 use std::alloc::{AllocError, Global};
 use test_images::Images;
 use test_language::{RowAnswer, RowFault, RowLine, Scene};
@@ -137,7 +137,11 @@ impl Programs {
     }
 
     /// Keeps the status of a refusal, and answers its text.
-    pub(crate) fn refuse(&mut self, alloc: Global, error: HostError) -> Result<RowAnswer, RowFault> {
+    pub(crate) fn refuse(
+        &mut self,
+        alloc: Global,
+        error: HostError,
+    ) -> Result<RowAnswer, RowFault> {
         self.status = error.status();
         RowAnswer::refused_text(alloc, &error)
     }

@@ -5,7 +5,7 @@ use crate::played::{KEYS, script_of};
 use crate::programs::Programs;
 use cpm_geom::{Format, Image};
 use cpm_host::{
-    CuedKeys, HostError, Opening, SessionStart, LiveResult, Unwatched, cues_of, forked_cues_of,
+    CuedKeys, HostError, LiveResult, Opening, SessionStart, Unwatched, cues_of, forked_cues_of,
     rehearse_session, type_session,
 };
 use std::alloc::Global;
@@ -29,7 +29,11 @@ impl Programs {
     }
 
     /// `session BYTES`: these keys are typed at a session of 16 pages with the drives. How it stands.
-    pub(crate) fn session(&mut self, alloc: Global, line: &RowLine<'_>) -> Result<RowAnswer, RowFault> {
+    pub(crate) fn session(
+        &mut self,
+        alloc: Global,
+        line: &RowLine<'_>,
+    ) -> Result<RowAnswer, RowFault> {
         let keys = line.given(alloc, line.arguments())?;
         let start = self.session_start(alloc)?;
         let system = Image::blank(alloc, Format::Ibm3740)?;

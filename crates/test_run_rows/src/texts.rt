@@ -8,7 +8,11 @@ use test_language::{RowAnswer, RowFault, RowLine};
 
 impl Programs {
     /// Does a line that runs such a command.
-    pub(crate) fn write(&mut self, alloc: Global, line: &RowLine<'_>) -> Result<RowAnswer, RowFault> {
+    pub(crate) fn write(
+        &mut self,
+        alloc: Global,
+        line: &RowLine<'_>,
+    ) -> Result<RowAnswer, RowFault> {
         self.out.bytes.clear();
         match line.verb() {
             "asm" => self.asm(alloc),
@@ -49,7 +53,11 @@ impl Programs {
     }
 
     /// What the command wrote, if it wasn't refused.
-    fn wrote(&mut self, alloc: Global, outcome: Result<(), HostError>) -> Result<RowAnswer, RowFault> {
+    fn wrote(
+        &mut self,
+        alloc: Global,
+        outcome: Result<(), HostError>,
+    ) -> Result<RowAnswer, RowFault> {
         match outcome {
             Ok(()) => {
                 self.status = 0;

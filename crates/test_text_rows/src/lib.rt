@@ -26,7 +26,12 @@ fn add_texts(alloc: Global, out: &mut String, name: &str, values: &[&str]) -> Re
 }
 
 /// Adds a value in quotes behind what it is, where there is one.
-fn add_text(alloc: Global, out: &mut String, name: &str, value: Option<&str>) -> Result<(), RowFault> {
+fn add_text(
+    alloc: Global,
+    out: &mut String,
+    name: &str,
+    value: Option<&str>,
+) -> Result<(), RowFault> {
     match value {
         Some(value) => add_texts(alloc, out, name, &[value]),
         None => Ok(()),

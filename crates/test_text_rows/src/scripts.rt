@@ -1,8 +1,8 @@
 //! Key scripts: the keys that they have, those that wait, those of forked sessions, and keys that are recorded.
 
 use cpm_script::{
-    Cue, Key, ScriptError, is_plain, key_line, keys_before, plain_keys, read_cues,
-    read_forked_cues, read_forked_keys, read_keys,
+    Cue, Key, ScriptError, key_line, keys_before, read_cues, read_forked_cues, read_forked_keys,
+    read_keys,
 };
 use std::alloc::{AllocError, Global};
 use test_language::{RowAnswer, RowFault, RowLine, Scene, Word, byte, count, number};
@@ -54,8 +54,6 @@ impl Scene for Scripts {
             "keys-before" => self.keys_before(alloc, line.arguments()),
             "forked-keys" => self.forked_keys(alloc, line.arguments()),
             "cues" => self.cues(alloc),
-            "is-plain" => self.is_plain(alloc),
-            "plain-keys" => self.plain_keys(alloc),
             "forked-cues" => self.forked_cues(alloc, line.arguments()),
             "told" => RowAnswer::words(alloc, self.told.as_str()),
             _ => Err(RowFault::Unknown),
@@ -100,7 +98,11 @@ impl Scripts {
     }
 
     /// `keys-before COUNT`: those of them that come before this count.
-    fn keys_before(&mut self, alloc: Global, arguments: &[Word<'_>]) -> Result<RowAnswer, RowFault> {
+    fn keys_before(
+        &mut self,
+        alloc: Global,
+        arguments: &[Word<'_>],
+    ) -> Result<RowAnswer, RowFault> {
         let [at] = arguments else {
             return Err(RowFault::Words);
         };
@@ -113,7 +115,11 @@ impl Scripts {
 
     /// `forked-keys COUNT`: the keys of a session with this script that is forked at this count, where those of the parent's
     /// script come before.
-    fn forked_keys(&mut self, alloc: Global, arguments: &[Word<'_>]) -> Result<RowAnswer, RowFault> {
+    fn forked_keys(
+        &mut self,
+        alloc: Global,
+        arguments: &[Word<'_>],
+    ) -> Result<RowAnswer, RowFault> {
         let [at] = arguments else {
             return Err(RowFault::Words);
         };
@@ -138,25 +144,13 @@ impl Scripts {
         }
     }
 
-    /// `is-plain`: whether none of it waits.
-    fn is_plain(&mut self, alloc: Global) -> Result<RowAnswer, RowFault> {
-        match read_cues(alloc, self.script.as_slice()) {
-            Ok(cues) => RowAnswer::truth(alloc, is_plain(cues.as_slice())),
-            Err(error) => self.refused(alloc, error),
-        }
-    }
-
-    /// `plain-keys`: the keys of its lines that have a count.
-    fn plain_keys(&mut self, alloc: Global) -> Result<RowAnswer, RowFault> {
-        match read_cues(alloc, self.script.as_slice()) {
-            Ok(cues) => shown_keys(alloc, plain_keys(alloc, cues.as_slice())?.as_slice()),
-            Err(error) => self.refused(alloc, error),
-        }
-    }
-
     /// `forked-cues COUNT KEYS`: what the script says of a session that is forked at this count, where its parent had so many
     /// keys before.
-    fn forked_cues(&mut self, alloc: Global, arguments: &[Word<'_>]) -> Result<RowAnswer, RowFault> {
+    fn forked_cues(
+        &mut self,
+        alloc: Global,
+        arguments: &[Word<'_>],
+    ) -> Result<RowAnswer, RowFault> {
         let [at, before] = arguments else {
             return Err(RowFault::Words);
         };

@@ -50,7 +50,12 @@ fn add_origin(alloc: Global, out: &mut String, origin: &Origin) -> Result<(), Ro
 }
 
 /// Adds names in quotes behind what they are.
-fn add_names(alloc: Global, out: &mut String, what: &str, names: &[String]) -> Result<(), RowFault> {
+fn add_names(
+    alloc: Global,
+    out: &mut String,
+    what: &str,
+    names: &[String],
+) -> Result<(), RowFault> {
     let mut values = Vec::new(alloc);
     for name in names {
         values.push(name.as_str())?;

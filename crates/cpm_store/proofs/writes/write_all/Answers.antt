@@ -2,7 +2,7 @@ use Rattle.std.proofs.Common.{List, ℕ, map, take, drop, suc, subst, sym, arith
 use Rattle.cpm_store.specs.Files.{WhereTold, Writes}
 use Rattle.cpm_store.specs.Log.{Access, AreWrites, RanBy, Wrote}
 use Rattle.cpm_store.specs.Writes.{NamedBytes, WritesAll, named_output}
-use Rattle.cpm_store.proofs.LogLemmas.{ran_missed, ran_none, ran_write}
+use Rattle.cpm_store.proofs.LogLemmas.{ran_missed, ran_write}
 use Rattle.cpm_store.proofs.WriteLemmas.{named-length, named-more, named-split, told_more, told_stopped}
 use Rattle.cpm_store.proofs.writes.write_all.Goals as goal
 

@@ -26,8 +26,8 @@ share-requires-clause-taken c =
     let source = source-of i.system i.frames i.openings c.args.self.now i.store i.slots.items c.args.id.0 c.in-Some.index p c.self.view_is c.self.invariant.1 all read in
     source-taken i.system i.frames i.openings c.args.self.now.host i.store i.slots.items c.args.id.0 c.in-Some.index p source
 
-pub returns-in_default-share-clause-refused : goal.returns-in_default-share-clause-refused
-returns-in_default-share-clause-refused c =
+pub unreachable-requires : goal.unreachable-requires
+unreachable-requires c =
     let i = c.self.inside in
     let all : (m : List (Option Contents)) → IsAtIndex c.args.id.0 (slots_of m i.slots.items) c.in-Some.index = rw c.deref.ensures.value at c.in-Some.ensures in
     let within = within-slots i.store i.slots.items c.args.id.0 c.in-Some.index all in
@@ -37,8 +37,8 @@ returns-in_default-share-clause-refused c =
     let first : c.index.result.now ≡ p = same-slot i.slots.items c.in-Some.index c.index.result.now p within c.index.ensures read in
     let slot : lacks_slot c.args.self.now.host ≡ false = sym c.lacks_slot.ensures ∙ c.if-lacks_slot.false in
     let frame : lacks_frames c.args.self.now.host p.runner.quota ≡ false = ap (λ (x : Slot). lacks_frames c.args.self.now.host x.runner.quota) (sym first) ∙ sym c.lacks_frames.ensures ∙ c.if-lacks_frames.false in
-    absurd (source-room i.system i.frames i.openings c.args.self.now.host i.store i.slots.items c.args.id.0 c.in-Some.index p source slot frame
-    (subst (λ n. n < reserved_in (memories i.store) + reserved_by (table_at i.store p.table)) c.self.invariant.2 (c.in_default-share.ensures.refused.0 refl)))
+    source-room i.system i.frames i.openings c.args.self.now.host i.store i.slots.items c.args.id.0 c.in-Some.index p source slot frame
+    (subst (λ n. n < reserved_in (memories i.store) + reserved_by (table_at i.store p.table)) c.self.invariant.2 (c.in_default-share.ensures.refused.0 refl))
 
 pub invariant_of-self-2 : goal.invariant_of-self-2
 invariant_of-self-2 c =
