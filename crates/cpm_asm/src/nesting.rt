@@ -25,7 +25,7 @@ pub struct Depth {
     pub skipped: u128,
 }
 
-#[tactic(auto, unfolding(crate::specs::Places::turn_of))]
+#[tactic(auto, unfolding(crate::specs::Places::nesting_change_of))]
 fn nesting_change_of(text: &[u8]) -> NestingChange
     ensures { seen_turn result ≡ nesting_change_of text.now }
 {

@@ -126,7 +126,7 @@ fn placed_over(address: usize, statement: &Statement) -> bool
 }
 
 /// What the first pass finds in a statement.
-#[tactic(auto, unfolding(crate::specs::Places::first_fault))]
+#[tactic(auto, unfolding(crate::specs::Places::lowest_fault))]
 pub(crate) fn lowest_fault(
     alloc: Global,
     names: &Names,

@@ -10,7 +10,7 @@ use std::alloc::{AllocError, Global};
 use std::collections::BTreeMap;
 
 /// The value of an expression in a statement at an address; 0 for a text that is none.
-#[tactic(auto, unfolding(crate::specs::Data::value))]
+#[tactic(auto, unfolding(crate::specs::Data::expression_value))]
 pub(crate) fn expression_value(
     alloc: Global,
     names: &Names,

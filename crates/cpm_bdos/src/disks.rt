@@ -47,7 +47,7 @@ impl Session {
     }
 
     /// A function on the file control block at DE and the record at the buffer.
-    #[tactic(auto, unfolding(crate::specs::Disks::file_function))]
+    #[tactic(auto, unfolding(crate::specs::Disks::call_file_function))]
     pub(crate) fn file_function<M: Memory>(
         &mut self,
         memory: &mut M,

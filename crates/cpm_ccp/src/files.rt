@@ -75,7 +75,7 @@ pub(crate) fn erase_all(session: &mut Session, system: &Image)
 }
 
 /// Whether the user has the name, in any entry.
-#[tactic(auto, unfolding(crate::specs::FileCommands::is_taken))]
+#[tactic(auto, unfolding(crate::specs::FileCommands::is_name_taken))]
 fn is_name_taken(disks: &Disks, system: &Image, file: &Fcb) -> bool
     ensures { result ≡ is_name_taken system.now disks.now file.now }
 {
@@ -139,7 +139,7 @@ pub(crate) fn begin_save(session: &mut Session, system: &Image, pages: u8, file:
 }
 
 /// Makes the file of SAVE.
-#[tactic(auto, unfolding(crate::specs::FileCommands::made))]
+#[tactic(auto, unfolding(crate::specs::FileCommands::file_made))]
 fn make(session: &mut Session, system: &Image, pages: u8)
     requires screen { length session.old.console.screen ≤ step_output }
     requires printer { length session.old.console.printer ≤ step_output }
@@ -170,7 +170,7 @@ pub(crate) fn save(session: &mut Session, system: &Image, next: u16, left: u16, 
 }
 
 /// Closes the saved file.
-#[tactic(auto, unfolding(crate::specs::FileCommands::closed))]
+#[tactic(auto, unfolding(crate::specs::FileCommands::file_closed))]
 pub(crate) fn close(session: &mut Session, system: &Image)
     requires { length session.old.console.screen ≤ step_output }
     ensures { session.new ≡ file_closed system.now session.old }

@@ -8,7 +8,7 @@ ghost use Rattle.cpm_ccp.specs.Names.{is_wildcard, is_unnamed, is_every, is_prog
 use cpm_directory::{Extent, Fcb};
 
 /// Whether neither a name nor a type is given.
-#[tactic(auto, unfolding(crate::specs::Names::is_blank))]
+#[tactic(auto, unfolding(crate::specs::Names::is_unnamed))]
 pub(crate) fn is_unnamed(file: &Fcb) -> bool
     ensures { result ≡ is_unnamed file.now }
 {
@@ -37,7 +37,7 @@ pub(crate) fn is_every(file: &Fcb) -> bool
 }
 
 /// Whether a first word can be a command by its name.
-#[tactic(auto, unfolding(crate::specs::Names::is_command_name))]
+#[tactic(auto, unfolding(crate::specs::Names::is_program_name))]
 pub(crate) fn is_program_name(file: &Fcb) -> bool
     ensures { result ≡ is_program_name file.now }
 {

@@ -10,7 +10,7 @@ use crate::words::{after_spaces, first_word, split_first_word};
 use cpm_directory::{Fcb, parse_fcb};
 
 /// DIR: no name stands for all files.
-#[tactic(auto, unfolding(crate::specs::Command::directory_of))]
+#[tactic(auto, unfolding(crate::specs::Command::directory_command))]
 pub(crate) fn directory_command(tail: &[u8]) -> Command
     ensures { result ≡ directory_command tail.now }
 {
@@ -97,7 +97,7 @@ pub(crate) fn save_of(tail: &[u8]) -> Command
 }
 
 /// TYPE.
-#[tactic(auto, unfolding(crate::specs::Command::type_of))]
+#[tactic(auto, unfolding(crate::specs::Command::type_command))]
 pub(crate) fn type_command(tail: &[u8]) -> Command
     ensures { result ≡ type_command tail.now }
 {

@@ -119,7 +119,7 @@ fn press_keys<W: Write>(text: &[u8], machine: &mut Machine, out: &mut W) -> io::
 /// Does what an order asks for, and writes the answer.
 ///
 /// An error is the writer's: it comes only where there is an answer.
-#[tactic(auto, using(crate::proofs::SourceLemmas::with_source_some), unfolding(crate::specs::Dialog::answer))]
+#[tactic(auto, using(crate::proofs::SourceLemmas::with_source_some), unfolding(crate::specs::Dialog::debug_answer))]
 pub(crate) fn obey<W: Write>(
     system: &Image,
     cpu: Cpu,

@@ -26,7 +26,7 @@ pub fn block_at(dpb: &Dpb, fcb: &Fcb) -> Result<u16, DirectoryError>
 }
 
 /// The place of a record of an extent among its block numbers.
-#[tactic(auto, unfolding(cpm_volume::specs::Files::place_of))]
+#[tactic(auto, unfolding(cpm_volume::specs::Files::entry_place_of))]
 fn entry_place_of(dpb: &Dpb, extent: &Extent, current: u8) -> usize
     ensures { result ≡ entry_place_of dpb.now extent.now current }
 {

@@ -61,7 +61,7 @@ fn is_wanted(user: Option<u8>, file: &DiskFile) -> bool
 }
 
 /// Adds the line of a file.
-#[tactic(auto, unfolding(crate::specs::Listing::line_of))]
+#[tactic(auto, unfolding(crate::specs::Listing::file_line))]
 fn add_line(text: &mut Vec<u8>, file: &DiskFile) -> Result<(), AllocError>
     ensures { OnOk result (text.new.items ≡ text.old.items ++ file_line file.now) }
 {
@@ -184,7 +184,7 @@ pub(crate) fn is_blank_byte(c: u8) -> bool
 }
 
 /// A character as it is shown: its low seven bits, and `?` for what can't be seen.
-#[tactic(auto, unfolding(crate::specs::Listing::seen))]
+#[tactic(auto, unfolding(crate::specs::Listing::visible))]
 fn visible(c: u8) -> u8
     ensures { result ≡ visible c }
 {

@@ -7,7 +7,7 @@ ghost use Rattle.cpm_disk_commands.specs.Names.{is_pattern_character, is_special
 
 /// The name of one file: 1 to 8 characters and, behind a dot, up to 3. Letters become capitals, and blanks fill both parts up.
 /// None where the text is no such name.
-#[tactic(auto, unfolding(crate::specs::Names::name_of))]
+#[tactic(auto, unfolding(crate::specs::Names::one_name))]
 pub fn name_of(text: &str) -> Option<[u8; 11]>
     ensures { result ≡ one_name text.now }
 {
@@ -20,7 +20,7 @@ pub fn name_of(text: &str) -> Option<[u8; 11]>
 }
 
 /// A pattern of names: the same, where `?` stands for any character and a last `*` for all that follow in its part.
-#[tactic(auto, unfolding(crate::specs::Names::pattern_of))]
+#[tactic(auto, unfolding(crate::specs::Names::pattern_text))]
 pub fn pattern_of(text: &str) -> Option<[u8; 11]>
     ensures { result ≡ pattern_text text.now }
 {
@@ -192,7 +192,7 @@ fn character_at(part: &[u8], place: usize) -> u8
 }
 
 /// A small letter as its capital.
-#[tactic(auto, unfolding(crate::specs::Names::capital))]
+#[tactic(auto, unfolding(crate::specs::Names::capital_letter))]
 fn capital_letter(c: u8) -> u8
     ensures { result ≡ capital_letter c }
 {

@@ -54,7 +54,7 @@ pub fn file_name(
 }
 
 /// A name with these attributes.
-#[tactic(auto, unfolding(crate::specs::Names::marked))]
+#[tactic(auto, unfolding(crate::specs::Names::with_marks))]
 fn with_marks(name: [u8; 11], is_read_only: bool, is_system: bool) -> [u8; 11]
     ensures { result ≡ with_marks is_read_only is_system name }
 {

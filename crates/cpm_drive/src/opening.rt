@@ -77,7 +77,7 @@ fn record_count_of(number: u16, own: u16, count: u8) -> u8
 }
 
 /// The extent of a number, by the entry of its group.
-#[tactic(auto, unfolding(cpm_volume::specs::Operations::opened))]
+#[tactic(auto, unfolding(cpm_volume::specs::Operations::opened_extent))]
 fn opened_extent(stored: &Extent, number: u16) -> Extent
     requires { number < 512 }
     ensures { result ≡ opened_extent stored.now number }
@@ -139,7 +139,7 @@ pub(crate) fn open_to_read(
 }
 
 /// A new extent of a number.
-#[tactic(auto, unfolding(cpm_volume::specs::Operations::made))]
+#[tactic(auto, unfolding(cpm_volume::specs::Operations::made_extent))]
 fn made_extent(extent: &Extent, number: u16) -> Extent
     requires { number < 512 }
     ensures { result ≡ made_extent extent.now number }

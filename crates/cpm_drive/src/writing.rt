@@ -17,7 +17,7 @@ use cpm_geom::Format;
 use cpm_volume::{Answer, Extent, Fault, Fcb};
 
 /// The place of a record of an extent in its map.
-#[tactic(auto, unfolding(cpm_volume::specs::Files::place_of))]
+#[tactic(auto, unfolding(cpm_volume::specs::Files::entry_place_of))]
 fn entry_place_of(format: Format, extent: &Extent, current: u8) -> usize
     requires { current < 128 }
     ensures place { result ≡ entry_place_of (dpb_of format) extent.now current }
@@ -190,7 +190,7 @@ impl Drive {
     }
 
     /// WRITE RANDOM: record `number` of the file, for which the extent may be closed and another one opened or made.
-    #[tactic(auto, unfolding(cpm_volume::specs::Operations::write_random))]
+    #[tactic(auto, unfolding(cpm_volume::specs::Operations::write_random_on_volume))]
     pub fn write_random(
         &mut self,
         user: u8,
@@ -207,7 +207,7 @@ impl Drive {
     }
 
     /// WRITE RANDOM WITH ZERO FILL: as `write_random`, but a block that is taken is cleared first.
-    #[tactic(auto, unfolding(cpm_volume::specs::Operations::write_random_cleared))]
+    #[tactic(auto, unfolding(cpm_volume::specs::Operations::write_random_cleared_on_volume))]
     pub fn write_random_cleared(
         &mut self,
         user: u8,

@@ -19,8 +19,8 @@ pub use com::{ProgramResult, ProgramStart, Script, run_com};
 pub use cpm_batch::ReadError;
 pub use cpm_check::{CheckError, run_check};
 pub use cpm_command_line::{
-    ComTask, DiskTask, HELP_TEXT, RunTask, ShownWord, Task, UsageError, UsageFault, command, help,
-    shown,
+    ComTask, DiskTask, RunTask, ShownWord, Task, UsageError, UsageFault, VERSION, asks_version,
+    command, help, shown,
 };
 pub use cpm_config::{Config, ConfigError, Origin, SessionConfig};
 pub use cpm_debug::{DebugError, run_debug};

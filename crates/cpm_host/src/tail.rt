@@ -30,7 +30,7 @@ pub fn tail_of(alloc: Global, words: &[&str]) -> Result<Tail, HostError>
 }
 
 /// Whether a word may stand behind this tail.
-#[tactic(auto, unfolding(crate::specs::Tails::fits))]
+#[tactic(auto, unfolding(crate::specs::Tails::fits_tail))]
 fn fits_tail(text: &[u8], word: &str) -> bool
     requires { length text.now ≤ 126 }
     ensures { result ≡ fits_tail text.now word.now }

@@ -32,7 +32,7 @@ pub(crate) fn records_for(bytes: &[u8]) -> usize
 }
 
 /// Why a file of so many records is not put on a disk: the first reason that there is.
-#[tactic(auto, unfolding(crate::specs::Shelf::refusal_of))]
+#[tactic(auto, unfolding(crate::specs::Shelf::file_refusal_of))]
 pub(crate) fn file_refusal_of(
     image: &LentImage<'_>,
     file: &FileName,

@@ -207,7 +207,7 @@ two_records =
       entries = record { user = 0; extent = record t_dat { record_count = 2; blocks = 2 ∷ replicate 15 0 } } ∷ replicate 63 no_entry;
       reserved = true ∷ true ∷ true ∷ replicate 240 false;
       records = replicate 16 (0xE5 ∷ []) ++ ((0x41 ∷ []) ∷ (0x42 ∷ []) ∷ []);
-      record_written = [];
+      written = [];
     }
 
 unfoldable pub opened_on : Volume → Option Extent → Outcome

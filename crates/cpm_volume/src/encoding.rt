@@ -28,7 +28,7 @@ pub(crate) fn extent_from_bytes(dpb: &Dpb, bytes: &[u8]) -> Extent
 }
 
 /// The block number at a place of the map.
-#[tactic(auto, unfolding(crate::specs::Encoding::number_in))]
+#[tactic(auto, unfolding(crate::specs::Encoding::block_number_in))]
 fn block_number_in(dpb: &Dpb, bytes: &[u8], place: usize) -> u16
     requires place { place < 16 }
     requires bytes { 32 ≤ length bytes.now }
