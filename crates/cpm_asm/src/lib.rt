@@ -18,6 +18,7 @@ mod statement;
 mod values;
 mod word;
 
+pub use cpm_listing::{dump_line, list_line, regs_line};
 pub use encode::{Encoding, encoded};
 pub use error::{AsmError, AsmErrorKind};
 pub use lines::{first_line, source_text};

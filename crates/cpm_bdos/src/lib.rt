@@ -17,6 +17,7 @@ mod session;
 mod transfer;
 mod wait;
 
+pub use cpm_drives::Disks;
 pub use function::{BiosCall, Function};
 pub use session::{CommandPart, HeldOutput, Mode, SectorPlace, Session, Went};
 pub use transfer::get_record;

@@ -259,8 +259,8 @@ module _ (user : ℕ) (fcb : Fcb) (buffer : List ℕ) where
   unfolding ahead read_next_on
   agrees_on marked here image protected whole =
       let f = here.image.format in
-      let o = operations.read_next (dpb_of f) here.marks.is_protected (volume_of here.image marked.marks.reserved) user fcb.extent fcb.current_record in
-      let p = operations.read_next (dpb_of f) here.marks.is_protected (volume_of here.image here.marks.reserved) user fcb.extent fcb.current_record in
+      let o = operations.read_next_on_volume (dpb_of f) here.marks.is_protected (volume_of here.image marked.marks.reserved) user fcb.extent fcb.current_record in
+      let p = operations.read_next_on_volume (dpb_of f) here.marks.is_protected (volume_of here.image here.marks.reserved) user fcb.extent fcb.current_record in
       let same = same_read (dpb_of f) here.marks.is_protected here.image marked.marks.reserved here.marks.reserved user fcb.extent fcb.current_record in
       rw (image, protected) (agrees_by here whole fcb buffer here.image refl o p same.0 same.1 (told_read f fcb.current_record here.marks.is_protected (volume_of here.image here.marks.reserved) user fcb.extent) (after_image here p whole (wrote_read (dpb_of f) here.image here.marks.reserved here.marks.is_protected user fcb.extent fcb.current_record)))
 

@@ -100,18 +100,18 @@ stay_call call disks now system fcb buffer n o h is stays =
     let same : (call (drive_at now system n)).drive ≡ drive_at now system n = rw is at stays in
     rw (is, done, same, with_same disks now system n h.2) refl
 
-pub open_call : (disks now : Disks) (system image : Disk) (fcb new : Fcb) (buffer : List ℕ) (n : ℕ) (r : Option ℕ) → IsNamed disks now system fcb n → image ≡ (drive_at now system n).image → ◌≡◌ {A = Option ℕ × Fcb} (r, new) (after_open fcb (open_index (dpb_of image.format) (entries_of image) now.user fcb.extent) (operations.open_file (dpb_of image.format) (entries_of image) now.user fcb.extent)) → file_call (code_or_none r) now new buffer ≡ open_file disks system fcb buffer
+pub open_call : (disks now : Disks) (system image : Disk) (fcb new : Fcb) (buffer : List ℕ) (n : ℕ) (r : Option ℕ) → IsNamed disks now system fcb n → image ≡ (drive_at now system n).image → ◌≡◌ {A = Option ℕ × Fcb} (r, new) (after_open fcb (open_index (dpb_of image.format) (entries_of image) now.user fcb.extent) (operations.open_file_on_volume (dpb_of image.format) (entries_of image) now.user fcb.extent)) → file_call (code_or_none r) now new buffer ≡ open_file disks system fcb buffer
 unfolding open_file open_file_on
 open_call disks now system image fcb new buffer n r h is done =
     let user = used_user disks now system n h.2 in
     let o : OnDrive = on_drive (code_or_none r) (drive_at now system n) new buffer in
-    stay_call (open_file_on disks.user fcb buffer) disks now system fcb buffer n o h (ap (λ (p : Option ℕ × Fcb). by_open (drive_at now system n) buffer p) done ∙ (ap (λ (im : Disk). by_open (drive_at now system n) buffer (after_open fcb (open_index (dpb_of im.format) (entries_of im) now.user fcb.extent) (operations.open_file (dpb_of im.format) (entries_of im) now.user fcb.extent))) is ∙ ap (λ u. open_file_on u fcb buffer (drive_at now system n)) user)) refl
+    stay_call (open_file_on disks.user fcb buffer) disks now system fcb buffer n o h (ap (λ (p : Option ℕ × Fcb). by_open (drive_at now system n) buffer p) done ∙ (ap (λ (im : Disk). by_open (drive_at now system n) buffer (after_open fcb (open_index (dpb_of im.format) (entries_of im) now.user fcb.extent) (operations.open_file_on_volume (dpb_of im.format) (entries_of im) now.user fcb.extent))) is ∙ ap (λ u. open_file_on u fcb buffer (drive_at now system n)) user)) refl
 
-pub size_call : (disks now : Disks) (system image : Disk) (fcb : Fcb) (buffer : List ℕ) (n : ℕ) (r : Option ℕ) → IsNamed disks now system fcb n → image ≡ (drive_at now system n).image → r ≡ names.compute_size (entries_of image) now.user fcb.extent.name → file_call (Ok (if is_some r then 0 else 255)) now (with_random fcb (unwrap_or r 0)) buffer ≡ compute_size disks system fcb buffer
+pub size_call : (disks now : Disks) (system image : Disk) (fcb : Fcb) (buffer : List ℕ) (n : ℕ) (r : Option ℕ) → IsNamed disks now system fcb n → image ≡ (drive_at now system n).image → r ≡ names.compute_size_on_volume (entries_of image) now.user fcb.extent.name → file_call (Ok (if is_some r then 0 else 255)) now (with_random fcb (unwrap_or r 0)) buffer ≡ compute_size disks system fcb buffer
 unfolding compute_size compute_size_on
 size_call disks now system image fcb buffer n r h is done =
     let user = used_user disks now system n h.2 in
-    let size : r ≡ names.compute_size (entries_of (drive_at now system n).image) disks.user fcb.extent.name = done ∙ (ap (λ (im : Disk). names.compute_size (entries_of im) now.user fcb.extent.name) is ∙ ap (λ u. names.compute_size (entries_of (drive_at now system n).image) u fcb.extent.name) user) in
+    let size : r ≡ names.compute_size_on_volume (entries_of (drive_at now system n).image) disks.user fcb.extent.name = done ∙ (ap (λ (im : Disk). names.compute_size_on_volume (entries_of im) now.user fcb.extent.name) is ∙ ap (λ u. names.compute_size_on_volume (entries_of (drive_at now system n).image) u fcb.extent.name) user) in
     let o : OnDrive = on_drive (Ok (if is_some r then 0 else 255)) (drive_at now system n) (with_random fcb (unwrap_or r 0)) buffer in
     stay_call (compute_size_on disks.user fcb buffer) disks now system fcb buffer n o h (rw size refl) refl
 

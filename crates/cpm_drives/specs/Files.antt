@@ -31,7 +31,7 @@ by_open drive buffer o = on_drive (code_or_none o.0) drive o.1 buffer
 unfoldable pub open_file_on : ℕ → Fcb → List ℕ → Drive → OnDrive
 open_file_on user fcb buffer drive =
     by_open drive buffer (after_open fcb (open_index (dpb_of drive.image.format) (entries_of drive.image) user fcb.extent)
-    (operations.open_file (dpb_of drive.image.format) (entries_of drive.image) user fcb.extent))
+    (operations.open_file_on_volume (dpb_of drive.image.format) (entries_of drive.image) user fcb.extent))
 
 abbrev pub by_close : List ℕ → ClosedFile → OnDrive
 by_close buffer c = on_drive (code_or_fault c.code) c.drive c.fcb buffer
@@ -40,7 +40,7 @@ by_close buffer c = on_drive (code_or_fault c.code) c.drive c.fcb buffer
 unfoldable pub close_file_on : ℕ → Fcb → List ℕ → Drive → OnDrive
 close_file_on user fcb buffer drive =
     by_close buffer (after_close drive fcb
-    (operations.close_file (dpb_of drive.image.format) drive.marks.is_protected (entries_of drive.image) user fcb.extent))
+    (operations.close_file_on_volume (dpb_of drive.image.format) drive.marks.is_protected (entries_of drive.image) user fcb.extent))
 
 abbrev pub by_make : List ℕ → MadeFile → OnDrive
 by_make buffer m = on_drive (code_or_none m.code) m.drive m.fcb buffer
@@ -49,7 +49,7 @@ by_make buffer m = on_drive (code_or_none m.code) m.drive m.fcb buffer
 unfoldable pub make_file_on : ℕ → Fcb → List ℕ → Drive → OnDrive
 make_file_on user fcb buffer drive =
     unless_protected drive fcb buffer
-    (by_make buffer (after_make drive fcb (first_free (entries_of drive.image)) (operations.make_file (entries_of drive.image) user fcb.extent)))
+    (by_make buffer (after_make drive fcb (first_free (entries_of drive.image)) (operations.make_file_on_volume (entries_of drive.image) user fcb.extent)))
 
 -- a call on all entries of a name
 abbrev pub by_named : Drive → Fcb → List ℕ → NameOutcome → OnDrive
@@ -61,18 +61,18 @@ by_named drive fcb buffer (named first volume) = on_drive (Ok (first % 4)) (driv
 unfoldable pub erase_files_on : ℕ → Fcb → List ℕ → Drive → OnDrive
 erase_files_on user fcb buffer drive =
     unless_protected drive fcb buffer
-    (by_named drive fcb buffer (names.erase_files (dpb_of drive.image.format) (volume_of drive.image drive.marks.reserved) user fcb.extent.name))
+    (by_named drive fcb buffer (names.erase_files_on_volume (dpb_of drive.image.format) (volume_of drive.image drive.marks.reserved) user fcb.extent.name))
 
 -- RENAME FILE
 unfoldable pub rename_files_on : List ℕ → ℕ → Fcb → List ℕ → Drive → OnDrive
 rename_files_on new_name user fcb buffer drive =
     unless_protected drive fcb buffer
-    (by_named drive fcb buffer (names.rename_files (volume_of drive.image drive.marks.reserved) user fcb.extent.name new_name))
+    (by_named drive fcb buffer (names.rename_files_on_volume (volume_of drive.image drive.marks.reserved) user fcb.extent.name new_name))
 
 -- SET FILE ATTRIBUTES
 unfoldable pub set_attributes_on : ℕ → Fcb → List ℕ → Drive → OnDrive
 set_attributes_on user fcb buffer drive =
-    unless_protected drive fcb buffer (by_named drive fcb buffer (names.set_attributes (volume_of drive.image drive.marks.reserved) user fcb.extent.name))
+    unless_protected drive fcb buffer (by_named drive fcb buffer (names.set_attributes_on_volume (volume_of drive.image drive.marks.reserved) user fcb.extent.name))
 
 -- a call on a record
 abbrev pub by_record : Called → OnDrive
@@ -81,14 +81,14 @@ by_record c = on_drive (code_of_answer c.answer) c.drive c.fcb c.buffer
 -- READ SEQUENTIAL
 unfoldable pub read_next_on : ℕ → Fcb → List ℕ → Drive → OnDrive
 read_next_on user fcb buffer drive =
-    by_record (after_call drive fcb buffer (operations.read_next (dpb_of drive.image.format) drive.marks.is_protected
+    by_record (after_call drive fcb buffer (operations.read_next_on_volume (dpb_of drive.image.format) drive.marks.is_protected
     (volume_of drive.image drive.marks.reserved) user fcb.extent fcb.current_record))
 
 -- WRITE SEQUENTIAL
 unfoldable pub write_next_on : ℕ → Fcb → List ℕ → Drive → OnDrive
 write_next_on user fcb buffer drive =
     unless_protected drive fcb buffer (unless_read_only drive fcb buffer (by_record (after_call drive fcb buffer
-    (operations.write_next (dpb_of drive.image.format) (volume_of drive.image drive.marks.reserved) user fcb.extent fcb.current_record buffer))))
+    (operations.write_next_on_volume (dpb_of drive.image.format) (volume_of drive.image drive.marks.reserved) user fcb.extent fcb.current_record buffer))))
 
 -- the random record's number, of r0 and r1
 unfoldable pub random_number : Fcb → ℕ
@@ -101,21 +101,21 @@ unless_past drive fcb buffer call = if slice_index fcb.random_record 2 == 0 then
 -- READ RANDOM
 unfoldable pub read_random_on : ℕ → Fcb → List ℕ → Drive → OnDrive
 read_random_on user fcb buffer drive =
-    unless_past drive fcb buffer (by_record (after_call drive fcb buffer (operations.read_random (dpb_of drive.image.format) drive.marks.is_protected
+    unless_past drive fcb buffer (by_record (after_call drive fcb buffer (operations.read_random_on_volume (dpb_of drive.image.format) drive.marks.is_protected
     (volume_of drive.image drive.marks.reserved) user fcb.extent fcb.current_record (random_number fcb))))
 
 -- WRITE RANDOM
 unfoldable pub write_random_on : ℕ → Fcb → List ℕ → Drive → OnDrive
 write_random_on user fcb buffer drive =
     unless_protected drive fcb buffer (unless_read_only drive fcb buffer
-    (unless_past drive fcb buffer (by_record (after_call drive fcb buffer (operations.write_random (dpb_of drive.image.format)
+    (unless_past drive fcb buffer (by_record (after_call drive fcb buffer (operations.write_random_on_volume (dpb_of drive.image.format)
     (volume_of drive.image drive.marks.reserved) user fcb.extent fcb.current_record (random_number fcb) buffer)))))
 
 -- WRITE RANDOM WITH ZERO FILL
 unfoldable pub write_random_cleared_on : ℕ → Fcb → List ℕ → Drive → OnDrive
 write_random_cleared_on user fcb buffer drive =
     unless_protected drive fcb buffer (unless_read_only drive fcb buffer
-    (unless_past drive fcb buffer (by_record (after_call drive fcb buffer (operations.write_random_cleared (dpb_of drive.image.format)
+    (unless_past drive fcb buffer (by_record (after_call drive fcb buffer (operations.write_random_cleared_on_volume (dpb_of drive.image.format)
     (volume_of drive.image drive.marks.reserved) user fcb.extent fcb.current_record (random_number fcb) buffer)))))
 
 -- the random record of a number, low byte first
@@ -126,7 +126,7 @@ with_random fcb n =
 -- COMPUTE FILE SIZE; own: 0 and the code FFh where there is no such file
 unfoldable pub compute_size_on : ℕ → Fcb → List ℕ → Drive → OnDrive
 compute_size_on user fcb buffer drive =
-    let size = names.compute_size (entries_of drive.image) user fcb.extent.name in
+    let size = names.compute_size_on_volume (entries_of drive.image) user fcb.extent.name in
     on_drive (Ok (if is_some size then 0 else 0xFF)) drive (with_random fcb (unwrap_or size 0)) buffer
 
 -- SET RANDOM RECORD: the record that the file control block stands at

@@ -9,4 +9,5 @@ pub mod indexed;
 pub mod laws;
 pub mod registers;
 
+pub use cpm_decode::Ran;
 pub use exec::{execz80, stepz80};

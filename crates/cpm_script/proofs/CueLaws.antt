@@ -51,7 +51,7 @@ nat_le-zero count = grind (arith, nat_tests)
 after-same : (keys : List Key) (count : ℕ) → is_after keys count ≡ nat_le (last_cue_count 0 (map Counted keys)) count
 after-same keys count = ap (option_map_or (λ (k : Key). nat_le k.count count) (slice_get keys (length keys - 1))) (sym (nat_le-zero count)) ∙ last-tested 0 count keys
 
-same-keys : (keys : List Key) (count : ℕ) (bytes : List ℕ) → SameLine (keys_added keys count bytes) (cue.with_keys (map Counted keys) (Some count) bytes)
+same-keys : (keys : List Key) (count : ℕ) (bytes : List ℕ) → SameLine (keys_added keys count bytes) (cue.cues_with_keys (map Counted keys) (Some count) bytes)
 same-keys keys count [] = λ other. refl
 same-keys keys count (b ∷ bytes) = by_test (nat_le (length keys + length (b ∷ bytes)) most_keys)
     (nat_le (cued_key_count (map Counted keys) + length (b ∷ bytes)) most_keys) (ap (λ n. nat_le (n + length (b ∷ bytes)) most_keys) (counted-keys keys))
@@ -65,7 +65,7 @@ same-keys keys count (b ∷ bytes) = by_test (nat_le (length keys + length (b �
     by_test false true e = absurd (false≢true (sym e))
 
 same-text : (keys : List Key) (count : ℕ) (text : Option (List ℕ))
-    → SameLine (or_fault NotAKey text (keys_added keys count)) (or_fault NotAKey text (cue.with_keys (map Counted keys) (Some count)))
+    → SameLine (or_fault NotAKey text (keys_added keys count)) (or_fault NotAKey text (cue.cues_with_keys (map Counted keys) (Some count)))
 same-text keys count None = λ other. refl
 same-text keys count (Some bytes) = same-keys keys count bytes
 
@@ -89,11 +89,11 @@ other-word word name n is none = false_from_ne_true _ (λ same.
     let both : Some n ≡ None = sym is ∙ ap count_of equal ∙ none in
     absurd (cc))
 
-same-word : (keys : List Key) (word text : List ℕ) → SameLine (with_counted keys word text) (cue.with_word (map Counted keys) word text)
+same-word : (keys : List Key) (word text : List ℕ) → SameLine (with_counted keys word text) (cue.cues_with_word (map Counted keys) word text)
 same-word keys word text = by_count (count_of word) refl
   where
     by_count : (o : Option ℕ) → count_of word ≡ o
-        → SameLine (or_fault NoCount o (λ count. if is_after keys count then with_text keys count text else Err CountFalls)) (cue.with_word (map Counted keys) word text)
+        → SameLine (or_fault NoCount o (λ count. if is_after keys count then with_text keys count text else Err CountFalls)) (cue.cues_with_word (map Counted keys) word text)
     by_count None is = λ other. absurd (other refl)
     by_count (Some n) is =
         let counted = subst (λ o. SameLine (or_fault NoCount (Some n) (λ count. if is_after keys count then with_text keys count text else Err CountFalls))
@@ -105,7 +105,7 @@ same-line : (keys : List Key) (line : List ℕ) → SameLine (with_line keys lin
 same-line keys line = by_test (is_skipped line)
   where
     by_test : (t : Bool) → SameLine (if t then Ok keys else with_counted keys (before_first is_script_space line) (after_first is_script_space line))
-        (if t then Ok (map Counted keys) else cue.with_word (map Counted keys) (before_first is_script_space line) (after_first is_script_space line))
+        (if t then Ok (map Counted keys) else cue.cues_with_word (map Counted keys) (before_first is_script_space line) (after_first is_script_space line))
     by_test true = refl
     by_test false = same-word keys (before_first is_script_space line) (after_first is_script_space line)
 
@@ -213,7 +213,7 @@ ascii-said None (b ∷ bytes) all = (all.0, ascii-said None bytes all.1)
 ascii-said (Some count) (b ∷ bytes) all = (all.0, ascii-said (Some count) bytes all.1)
 
 -- what is true of cues with keys of a text behind them, whatever keys they are
-pub by-keys : (P : List CueText → Type 0) (cs all : List CueText) (at : Option ℕ) (keys : Option (List ℕ)) → or_fault NotAKey keys (cue.with_keys cs at) ≡ Ok all
+pub by-keys : (P : List CueText → Type 0) (cs all : List CueText) (at : Option ℕ) (keys : Option (List ℕ)) → or_fault NotAKey keys (cue.cues_with_keys cs at) ≡ Ok all
     → ((bytes : List ℕ) → keys ≡ Some bytes → cued_key_count cs + length bytes ≤ most_keys → P (cs ++ map (key_cue at) bytes)) → P all
 by-keys P cs all at None is each = absurd (cc)
 by-keys P cs all at (Some []) is each = absurd (cc)
@@ -258,7 +258,7 @@ order-number cs all (Some count) text good is = by_test (nat_le (last_cue_count 
     by_test true late e = order-counted cs all count text good (grind (arith, nat_tests, late)) e
     by_test false late e = absurd (cc)
 
-order-word : (cs all : List CueText) (word text : List ℕ) → AreInOrder cs → cue.with_word cs word text ≡ Ok all → AreInOrder all
+order-word : (cs all : List CueText) (word text : List ℕ) → AreInOrder cs → cue.cues_with_word cs word text ≡ Ok all → AreInOrder all
 order-word cs all word text good is = by_tests (is_wait_word word) (is_expect word) is
   where
     by_tests : (t u : Bool) → (if t then cue.with_awaited cs [] text else (if u then cue.with_expected cs text else cue.with_counted cs word text)) ≡ Ok all → AreInOrder all
@@ -269,7 +269,7 @@ order-word cs all word text good is = by_tests (is_wait_word word) (is_expect wo
 order-line : (cs all : List CueText) (line : List ℕ) → AreInOrder cs → cue.with_line cs line ≡ Ok all → AreInOrder all
 order-line cs all line good is = by_test (is_skipped line) is
   where
-    by_test : (t : Bool) → (if t then Ok cs else cue.with_word cs (before_first is_script_space line) (after_first is_script_space line)) ≡ Ok all → AreInOrder all
+    by_test : (t : Bool) → (if t then Ok cs else cue.cues_with_word cs (before_first is_script_space line) (after_first is_script_space line)) ≡ Ok all → AreInOrder all
     by_test true e = let same : cs ≡ all = cc in subst AreInOrder same good
     by_test false e = order-word cs all (before_first is_script_space line) (after_first is_script_space line) good e
 

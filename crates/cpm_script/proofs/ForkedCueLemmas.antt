@@ -71,7 +71,7 @@ good-number at total room left cs all (Some count) text good is rooms = by_test 
     by_test true late e = good-counted at total room left count cs all text good (grind (arith, nat_tests, late)) e rooms
     by_test false late e = absurd (cc)
 
-good-word : (at total room left : ℕ) (cs all : List CueText) (word text : List ℕ) → IsGood at total room cs → cue.with_word cs word text ≡ Ok all
+good-word : (at total room left : ℕ) (cs all : List CueText) (word text : List ℕ) → IsGood at total room cs → cue.cues_with_word cs word text ≡ Ok all
     → room_left at room (word_cues at word text) ≡ Ok left → IsGood at total left all
 good-word at total room left cs all word text good is rooms = by_tests (is_wait_word word) (is_expect word) is rooms
   where
@@ -87,7 +87,7 @@ good-line : (at total room left : ℕ) (cs all : List CueText) (line : List ℕ)
     → room_left at room (line_cues at line) ≡ Ok left → IsGood at total left all
 good-line at total room left cs all line good is rooms = by_test (is_skipped line) is rooms
   where
-    by_test : (t : Bool) → (if t then Ok cs else cue.with_word cs (before_first is_script_space line) (after_first is_script_space line)) ≡ Ok all
+    by_test : (t : Bool) → (if t then Ok cs else cue.cues_with_word cs (before_first is_script_space line) (after_first is_script_space line)) ≡ Ok all
         → room_left at room (if t then None else word_cues at (before_first is_script_space line) (after_first is_script_space line)) ≡ Ok left → IsGood at total left all
     by_test true e f = let same : cs ≡ all = cc in let same_room : room ≡ left = cc in rw (sym same, sym same_room) good
     by_test false e f = good-word at total room left cs all (before_first is_script_space line) (after_first is_script_space line) good e f

@@ -31,8 +31,8 @@ memories-left loan loan' s s' t t' taken within e =
     (ap (λ (x : Surroundings). record { loan = Some loan'; table = t'; frames = x.frames; others = x.others }) e ∙ ap (λ n. record { loan = Some loan'; table = t'; frames = s.private; others = set (memories s) n None }) (sym same))
     ∙ ap (λ n. set (memories s) n (Some (memory_of s' t'))) same
 
-pub lent-view : (v w : View) (store : Frames) (table : ℕ) → view.store_of v ≡ store → view.table_of v ≡ table → get_or (memories store) table None ≡ Some (view.contents_of v) → view.surroundings_of w ≡ view.surroundings_of v →
-    Lent store (view.store_of v) (view.store_of w) table (view.table_of v) (view.table_of w)
+pub lent-view : (v w : View) (store : Frames) (table : ℕ) → view.store_of v ≡ store → view.view_table v ≡ table → get_or (memories store) table None ≡ Some (view.contents_of v) → view.surroundings_of w ≡ view.surroundings_of v →
+    Lent store (view.store_of v) (view.store_of w) table (view.view_table v) (view.view_table w)
 lent-view v w store table e f g around = record {
   whole = e;
   number = f;

@@ -65,7 +65,7 @@ impl Model for Host {
     ghost view = { λ h. host_with_store h.system h.frames h.openings h.store h.slots.items };
 
     ghost invariant = { λ h. IsHost (host_with_store h.system h.frames h.openings h.store h.slots.items).host
-        × HaveTables (memories h.store) h.slots.items × (h.store.private ≡ h.frames) × IsSound h.store
+        × HaveTables (memories h.store) h.slots.items × (h.store.private ≡ h.frames) × IsStoreSound h.store
         × AllCached (memories h.store) h.store.stamps h.slots.items };
 }
 

@@ -8,5 +8,6 @@ pub mod laws;
 mod run;
 mod slots;
 
+pub use cpm_machine::{Closed, End, Granted, KeysFull, Look, Machine, OpenError, Opening, Why};
 pub use event::{Event, ForkError, Refusal, Reply, Request, SlotId};
 pub use host::{Host, LEAST_FRAMES, MOST_FRAMES, MOST_SLOTS};

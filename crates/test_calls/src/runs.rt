@@ -56,19 +56,23 @@ fn reads_no_more_than_a_file_may_have(rt: HostRuntime) {
     same(&rt, error.kind(), ErrorKind::Other);
 }
 
+/// Compares the statuses and the texts of errors with what is wanted.
+fn same_errors(rt: &HostRuntime, errors: &[(HostError, u8, &str)]) {
+    for (error, status, wanted) in errors {
+        same_at(rt, *wanted, error.status(), *status);
+        let text = error.to_string(rt.alloc()).expect(rt, "memory");
+        same(rt, text.as_str(), *wanted);
+    }
+}
+
 #[test]
-fn names_code_and_status(rt: HostRuntime) {
+fn names_code_and_status_of_words_and_files(rt: HostRuntime) {
     let reason = io::Error::other("the disk is gone");
     let errors = [
         (
             HostError::from(UsageError::Usage(UsageFault::UnknownCommand(shown("x")))),
             1,
             "HO1 unknown command 'x'; try 'cpmhost --help'",
-        ),
-        (
-            HostError::from(UsageError::OutOfMemory),
-            8,
-            "HO8 out of memory",
         ),
         (
             HostError::NotText,
@@ -94,6 +98,26 @@ fn names_code_and_status(rt: HostRuntime) {
             "HO4 can't read standard input: the disk is gone",
         ),
         (
+            HostError::FileUnwritable {
+                name: shown("a.com"),
+                reason,
+            },
+            5,
+            "HO5 can't write 'a.com': the disk is gone",
+        ),
+    ];
+    same_errors(&rt, errors.as_slice());
+}
+
+#[test]
+fn names_code_and_status_of_programs_and_memory(rt: HostRuntime) {
+    let errors = [
+        (
+            HostError::from(UsageError::OutOfMemory),
+            8,
+            "HO8 out of memory",
+        ),
+        (
             HostError::from(OpenError::BadQuota),
             9,
             "HO9 the quota is not 16 to 256 pages, or with a program not 256",
@@ -109,14 +133,6 @@ fn names_code_and_status(rt: HostRuntime) {
             "HO9 the program has 60000 bytes, and a machine takes at most 58112",
         ),
         (
-            HostError::FileUnwritable {
-                name: shown("a.com"),
-                reason,
-            },
-            5,
-            "HO5 can't write 'a.com': the disk is gone",
-        ),
-        (
             HostError::SourceRefused {
                 line: 7,
                 kind: AsmErrorKind::OutOfRange,
@@ -126,11 +142,7 @@ fn names_code_and_status(rt: HostRuntime) {
             "HO7 line 7, 'RST 8': AS4: a value is out of range (bytes 0 to 255 or FF80H to FFFFH, RST 0 to 7), an address is past FFFFH, or something is divided by 0",
         ),
     ];
-    for (error, status, wanted) in errors {
-        same_at(&rt, wanted, error.status(), status);
-        let text = error.to_string(rt.alloc()).expect(&rt, "memory");
-        same(&rt, text.as_str(), wanted);
-    }
+    same_errors(&rt, errors.as_slice());
 }
 
 /// Gives two orders and the beginning of a third, and then fails.

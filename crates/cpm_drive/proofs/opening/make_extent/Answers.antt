@@ -18,4 +18,4 @@ returns-in-Some-clause-value c =
     let same = after_length (entries_of c.args.image.now) c.args.change in
     let within = c.in-Some.ensures.1 in
     let free = make_free (entries_after (entries_of c.args.image.now) c.args.change) c.args.user c.args.extent.now c.args.number c.in-Some.index c.in-Some.ensures.0 (omega arith) in
-    rw c.made-extent.ensures (sym free)
+    rw c.made_extent-extent.ensures (sym free)

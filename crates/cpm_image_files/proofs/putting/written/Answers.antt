@@ -30,7 +30,7 @@ loop-number-preserved c =
     let room = room_of (dpb_of c.args.image.format) (entries_of c.args.image) c.args.file.now.user c.args.file.now.name (records_for (length c.args.bytes.now)) c.requires.room in
     let count = c.records_for-number-end.ensures.value in
     let more : c.loop-number.number < records_for (length c.args.bytes.now) = rw count at c.loop-number-test.true in
-    (wrote c.args.image c.args.file.now.user c.args.file.now.name c.args.bytes.now c.loop-number.number c.loop-number.drive c.loop-number.fcb c.record_of-record.result (rw user at c.user-user.ensures.within) c.loop-number.invariant room more c.record_of-record.ensures.value c.record_of-record.ensures.bytes c.write_next.result c.write_next.new.self c.write_next.new.fcb (rw user at c.write_next.ensures)).1
+    (wrote c.args.image c.args.file.now.user c.args.file.now.name c.args.bytes.now c.loop-number.number c.loop-number.drive c.loop-number.fcb c.record_of_bytes-record.result (rw user at c.user-user.ensures.within) c.loop-number.invariant room more c.record_of_bytes-record.ensures.value c.record_of_bytes-record.ensures.bytes c.write_next.result c.write_next.new.self c.write_next.new.fcb (rw user at c.write_next.ensures)).1
 
 pub unreachable-requires : goal.unreachable-requires
 unreachable-requires c =
@@ -38,7 +38,7 @@ unreachable-requires c =
     let room = room_of (dpb_of c.args.image.format) (entries_of c.args.image) c.args.file.now.user c.args.file.now.name (records_for (length c.args.bytes.now)) c.requires.room in
     let count = c.records_for-number-end.ensures.value in
     let more : c.loop-number.number < records_for (length c.args.bytes.now) = rw count at c.loop-number-test.true in
-    c.in_default.not-Done (wrote c.args.image c.args.file.now.user c.args.file.now.name c.args.bytes.now c.loop-number.number c.loop-number.drive c.loop-number.fcb c.record_of-record.result (rw user at c.user-user.ensures.within) c.loop-number.invariant room more c.record_of-record.ensures.value c.record_of-record.ensures.bytes c.write_next.result c.write_next.new.self c.write_next.new.fcb (rw user at c.write_next.ensures)).0
+    c.in_default.not-Done (wrote c.args.image c.args.file.now.user c.args.file.now.name c.args.bytes.now c.loop-number.number c.loop-number.drive c.loop-number.fcb c.record_of_bytes-record.result (rw user at c.user-user.ensures.within) c.loop-number.invariant room more c.record_of_bytes-record.ensures.value c.record_of_bytes-record.ensures.bytes c.write_next.result c.write_next.new.self c.write_next.new.fcb (rw user at c.write_next.ensures)).0
 
 pub unwrap-requires : goal.unwrap-requires
 unwrap-requires c =

@@ -16,14 +16,14 @@ use Rattle.cpm_slots.proofs.slots.grant_table.Goals as goal
 use Rattle.cpm_slots.proofs.slots.grant_table.Goals.{After-grant_to, After-put_back}
 
 -- what is lent to the grant, and what is left
-lent : (c : After-grant_to) → Lent c.args.store.now (view.store_of c.view-view.result) (view.store_of c.grant_to.new.memory) c.args.table (view.table_of c.view-view.result) (view.table_of c.grant_to.new.memory)
+lent : (c : After-grant_to) → Lent c.args.store.now (view.store_of c.view-view.result) (view.store_of c.grant_to.new.memory) c.args.table (view.view_table c.view-view.result) (view.view_table c.grant_to.new.memory)
 lent c = lent-view c.view-view.result c.grant_to.new.memory c.args.store.now c.args.table c.view-view.ensures.store c.view-view.ensures.table c.view-view.ensures.memory c.grant_to.ensures.leads.stores.surroundings
 
-lent_leaves : (c : After-grant_to) → Leaves c.args.store.now (view.store_of c.grant_to.new.memory) c.args.table (memory_of (view.store_of c.view-view.result) (view.table_of c.view-view.result)) (memory_of (view.store_of c.grant_to.new.memory) (view.table_of c.grant_to.new.memory))
-lent_leaves c = leaves c.args.store.now (view.store_of c.view-view.result) (view.store_of c.grant_to.new.memory) c.args.table (view.table_of c.view-view.result) (view.table_of c.grant_to.new.memory) (lent c)
+lent_leaves : (c : After-grant_to) → Leaves c.args.store.now (view.store_of c.grant_to.new.memory) c.args.table (memory_of (view.store_of c.view-view.result) (view.view_table c.view-view.result)) (memory_of (view.store_of c.grant_to.new.memory) (view.view_table c.grant_to.new.memory))
+lent_leaves c = leaves c.args.store.now (view.store_of c.view-view.result) (view.store_of c.grant_to.new.memory) c.args.table (view.view_table c.view-view.result) (view.view_table c.grant_to.new.memory) (lent c)
 
 pub grant_to-requires-clause-right : goal.grant_to-requires-clause-right
-grant_to-requires-clause-right c = right-lent c.args.store.now (view.store_of c.view-view.result) c.args.table (view.table_of c.view-view.result) c.args.runner.now.cache c.view-view.ensures.store c.view-view.ensures.table c.view-view.ensures.memory c.requires.right
+grant_to-requires-clause-right c = right-lent c.args.store.now (view.store_of c.view-view.result) c.args.table (view.view_table c.view-view.result) c.args.runner.now.cache c.view-view.ensures.store c.view-view.ensures.table c.view-view.ensures.memory c.requires.right
 
 pub returns-then-is_some-clause-state : goal.returns-then-is_some-clause-state
 returns-then-is_some-clause-state c =
@@ -48,12 +48,12 @@ returns-then-is_some-clause-sound c =
 pub returns-then-is_some-clause-right : goal.returns-then-is_some-clause-right
 returns-then-is_some-clause-right c =
     subst (λ (s : Frames). IsRightFor (contents_at (memories s) c.args.table) (stamps_at s c.args.table) c.grant_to.new.runner.cache) (grind (arith, common_steps))
-    (right-left c.args.store.now (view.store_of c.view-view.result) (view.store_of c.grant_to.new.memory) c.args.table (view.table_of c.view-view.result) (view.table_of c.grant_to.new.memory) c.grant_to.new.runner.cache (lent (goal.at.returns-then-is_some-clause-right c).After-grant_to) c.grant_to.ensures.right)
+    (right-left c.args.store.now (view.store_of c.view-view.result) (view.store_of c.grant_to.new.memory) c.args.table (view.view_table c.view-view.result) (view.view_table c.grant_to.new.memory) c.grant_to.new.runner.cache (lent (goal.at.returns-then-is_some-clause-right c).After-grant_to) c.grant_to.ensures.right)
 
 pub returns-then-is_some-clause-stamps : goal.returns-then-is_some-clause-stamps
 returns-then-is_some-clause-stamps c =
     subst (λ (stamps : List (List ℕ)). (t : ℕ) → t ≢ c.args.table → get_or stamps t [] ≡ stamps_at c.args.store.now t) (grind (arith, common_steps))
-    (keeps-stamps c.args.store.now (view.store_of c.view-view.result) (view.store_of c.grant_to.new.memory) c.args.table (view.table_of c.view-view.result) c.view-view.ensures.store c.view-view.ensures.table c.grant_to.ensures.leads.other_stamps)
+    (keeps-stamps c.args.store.now (view.store_of c.view-view.result) (view.store_of c.grant_to.new.memory) c.args.table (view.view_table c.view-view.result) c.view-view.ensures.store c.view-view.ensures.table c.grant_to.ensures.leads.other_stamps)
 
 -- what is lent to the grant as a copy, and what is put back
 copied_leaves : (c : After-put_back) → Leaves c.args.store.now c.put_back.new.self c.args.table (flat_contents c.reflect.new.self) (flat_contents c.grant-granted.new.memory)

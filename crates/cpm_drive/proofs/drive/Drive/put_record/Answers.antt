@@ -35,7 +35,7 @@ returns c =
     let reserved = ap (λ r. record c.args.self.now { marks = record c.args.self.now.marks { reserved = r } }) t.3 in
     let format = ap (λ (drive : Drive). drive.image.format) c.clear_taken.ensures ∙ writes_format _ c.args.self.now.image in
     let written = c.write_record-2.ensures.drive ∙ ap (λ f. drive_written c.clear_taken.new.self (record_put (record_in_block (dpb_of f) c.in-Ok-take_lowest.block c.args.fcb.now.current_record) c.args.bytes.now ∷ [])) format in
-    let fcb = rw (c.with_block-fcb.ensures, c.place_of-place.ensures.place, c.format-format.ensures.format) at c.write_record-2.ensures.fcb in
+    let fcb = rw (c.with_block-fcb.ensures, c.entry_place_of-place.ensures.place, c.format-format.ensures.format) at c.write_record-2.ensures.fcb in
     put_taken (dpb_of c.args.self.now.image.format) c.args.self.now c.args.fcb.now c.args.bytes.now c.args.clears _ c.requires.writable c.in-Ok.block c.in-Ok-take_lowest.block _ c.clear_taken.new.self c.write_record-2.new.self c.write_record-2.new.fcb e.0 e.1 (omega arith) t.0 t.1 t.2 reserved c.clear_taken.ensures written fcb
 
 pub write_record-requires-2-clause-block : goal.write_record-requires-2-clause-block
