@@ -1,23 +1,24 @@
 -- Reads one after another.
-use Rattle.std.proofs.Common.{◌≡◌, ◌∙◌, ℕ, List, [], ◌∷◌, ◌++◌, String, append_assoc, append-nil, refl, ◌+◌, length, get_or, take, map, ◌<◌, ap, sym, subst}
+use Rattle.std.proofs.Common.{◌≡◌, ◌∙◌, ℕ, List, [], ◌∷◌, ◌++◌, String, append_assoc, append-nil, refl, ◌+◌, length, get_or, take, map, ◌<◌, ap, arith, sym, subst}
 use Rattle.std.proofs.lemmas.List.{map-append, take_more}
 use Rattle.std.specs.Prelude.{string_bytes}
 use Rattle.std.specs.declared.alloc.Global.{Global}
 use Rattle.cpm_geom.specs.Disk.{Disk}
-use Rattle.cpm_store.specs.Files.{StoreName}
+use Rattle.cpm_store.specs.Files.{CountsFailure, Files, StoreName}
 use Rattle.cpm_store.specs.Log.{Access, Gave, RanBy, Then}
-use Rattle.cpm_store.proofs.LogLemmas.{ran_more, ran_one}
+use Rattle.cpm_store.proofs.LogLemmas.{ran_more, ran_one, unwritten_more}
 use Rattle.cpm_script.specs.Fork.{forked_script}
 use Rattle.cpm_script.specs.Script.{script}
 use Rattle.cpm_script.specs.declared.script.Key.{Key}
-use Rattle.std.specs.Prelude.{Err, IfOk, Ok, Option, Result, Some, None, Vec}
+use Rattle.std.specs.Prelude.{Err, IfErr, IfOk, Ok, OnOk, Option, Result, Some, None, Vec}
 use Rattle.cpm_config.specs.declared.config.Origin.{Origin}
 use Rattle.cpm_config.specs.declared.config.Origin.TheVariants as origin
 use Rattle.cpm_config.specs.declared.config.SessionConfig.{SessionConfig}
 use Rattle.cpm_flags.specs.declared.regs.Cpu.{Cpu}
 use Rattle.cpm_batch.specs.declared.error.ReadError.{ReadError}
-use Rattle.cpm_batch.specs.Inputs.{IsImage, SessionInput, given}
-use Rattle.cpm_batch.specs.Reads.{AreForkedKeysRead, AreImagesRead, AreInputsRead, AreKeysRead, IsForkedRead, IsForkedScriptRead, IsImageRead, IsInputRead, IsInputReadOf, IsOpenedRead, IsScriptRead}
+use Rattle.cpm_batch.specs.declared.error.ReadError.TheVariants.{OutOfMemory}
+use Rattle.cpm_batch.specs.Inputs.{IsFileFault, IsImage, SessionInput, given}
+use Rattle.cpm_batch.specs.Reads.{AreForkedKeysRead, AreImagesRead, AreInputsRead, AreKeysRead, IsForkedRead, IsForkedScriptRead, IsImageRead, IsInputRead, IsInputReadOf, IsOpenedRead, IsScriptRead, OnlyRead}
 use Rattle.cpm_batch.specs.declared.input.Input.{Input}
 
 -- one read
@@ -119,3 +120,33 @@ pub sessions_read : {S : Type 0} (does : S → Access → S → Type 0) (is all 
 sessions_read does is all x s m t pushed h g =
     subst (λ (ys : List SessionInput). RanBy does (AreInputsRead [] ys) s t) (sym (ap (map given) pushed ∙ map-append given is (x ∷ [])))
     (h.0 ++ g.0, inputs_push [] (map given is) (given x) h.0 g.0 h.1 g.1, ran_more does h.0 g.0 s m t h.2 g.2)
+
+-- ---- a store that was only read
+
+module _ {S : Type 0} {does : S → Access → S → Type 0} {files : S → Option Files} {failed : S → ℕ} where
+  -- reading that went well, and more behind it
+  pub only_read_then : {X Y : Type 0} {x : X} {r : Result Y ReadError} {s m t : S} → OnlyRead does files failed (Ok x) s m → OnlyRead does files failed r m t → OnlyRead does files failed r s t
+  only_read_then {r = r} {s = s} {m = m} {t = t} h g = record {
+    device = subst (λ (n : ℕ). IfErr r (λ e. IsFileFault e → CountsFailure n (failed t))) h.uncounted g.device;
+    same = g.same ∙ h.same;
+    unwritten = unwritten_more does s m t h.unwritten g.unwritten;
+    uncounted = subst (λ (n : ℕ). OnOk r (failed t ≡ n)) h.uncounted g.uncounted;
+    memory = subst (λ (n : ℕ). IfErr r (λ e. e ≡ OutOfMemory → failed t ≡ n)) h.uncounted g.memory;
+    counted = omega (arith, h.counted, g.counted);
+  }
+
+  -- the same of a call above that answers the error of one below
+  pub only_read_failed : {X Y : Type 0} {e : ReadError} {s t : S} → OnlyRead {X = X} does files failed (Err e) s t → OnlyRead {X = Y} does files failed (Err e) s t
+  only_read_failed h = record { device = h.device; same = h.same; unwritten = h.unwritten; uncounted = tt; memory = h.memory; counted = h.counted }
+
+  -- and of one that makes something else of what was read, or answers an error of its own, which is no file's
+  pub only_read_as : {X Y : Type 0} {x : X} (r : Result Y ReadError) {s t : S} → IfErr r (λ e. IsFileFault e → ⊥) → OnlyRead does files failed (Ok x) s t → OnlyRead does files failed r s t
+  only_read_as (Ok y) _ h = record { device = tt; same = h.same; unwritten = h.unwritten; uncounted = h.uncounted; memory = tt; counted = h.counted }
+  only_read_as (Err e) other h = record {
+    device = λ f. absurd (other f);
+    same = h.same;
+    unwritten = h.unwritten;
+    uncounted = tt;
+    memory = λ _. h.uncounted;
+    counted = h.counted;
+  }

@@ -1,5 +1,6 @@
 -- What the sessions of a configuration need, and what is read for them. All of it is own.
-use Rattle.std.specs.Prelude.{⊤, ◌≡◌, ◌⊎◌, ℕ, List, [], ◌∷◌, ◌++◌, length, map, chars, slice_get, Option, Some, None, option_and_then, Ok, Err, String, string_bytes}
+use Rattle.std.specs.Prelude.{⊤, ◌≡◌, ◌⊎◌, ℕ, List, [], ◌∷◌, ◌++◌, length, map, chars, slice_get}
+use Rattle.std.specs.Prelude.{Option, Some, None, option_and_then, Ok, Err, String, string_bytes}
 use Rattle.std.specs.List.{concat}
 use Rattle.std.specs.declared.alloc.Global.{Global}
 use Rattle.cpm_command_line.specs.Shown.{shown_of}

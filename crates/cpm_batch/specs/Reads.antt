@@ -1,5 +1,6 @@
 -- What is read for the sessions of a configuration, as the calls of a store in their order. All of it is own.
-use Rattle.std.specs.Prelude.{◌≡◌, ◌⊎◌, ℕ, List, [], ◌∷◌, ◌++◌, length, map, chars, Option, Some, None, Ok, Err, String, string_bytes}
+use Rattle.std.specs.Prelude.{◌≡◌, ◌≤◌, ◌⊎◌, ℕ, List, [], ◌∷◌, ◌++◌, length, map, chars}
+use Rattle.std.specs.Prelude.{Option, Some, None, Result, Ok, Err, IfErr, OnOk, String, string_bytes}
 use Rattle.std.specs.declared.alloc.Global.{Global}
 use Rattle.cpm_command_line.specs.Shown.{shown_of}
 use Rattle.cpm_config.specs.declared.config.Config.{Config}
@@ -13,9 +14,9 @@ use Rattle.cpm_script.specs.Fork.{forked_script, keys_before}
 use Rattle.cpm_script.specs.Script.{script}
 use Rattle.cpm_script.specs.declared.fault.LineFault.{LineFault}
 use Rattle.cpm_script.specs.declared.script.Key.{Key}
-use Rattle.cpm_store.specs.Files.{StoreName}
-use Rattle.cpm_store.specs.Log.{Access, AreNoWrites, Gave, Missed, Then}
-use Rattle.cpm_batch.specs.Inputs.{Forks, ForkedScriptIn, ImageIn, IsImage, IsParent, Need, Opens, ScriptIn, SessionInput, needed_name, needs_of}
+use Rattle.cpm_store.specs.Files.{CountsFailure, Files, StoreName}
+use Rattle.cpm_store.specs.Log.{Access, AreNoWrites, Gave, Missed, RanBy, Then}
+use Rattle.cpm_batch.specs.Inputs.{Forks, ForkedScriptIn, ImageIn, IsFileFault, IsImage, IsParent, Need, Opens, ScriptIn, SessionInput, needed_name, needs_of}
 use Rattle.cpm_batch.specs.declared.error.ReadError.{ReadError}
 use Rattle.cpm_batch.specs.declared.error.ReadError.TheVariants.{File, Image, Script, OutOfMemory}
 
@@ -31,7 +32,8 @@ pub record IsScriptRead (name : StoreName) (keys : List Key) (log : List Access)
   pub read : script text ≡ Ok keys
   pub calls : log ≡ Gave name text ∷ []
 
--- one read, in which the file gave a key script with which a session that is forked at this count of steps, behind the keys that its parent had before, has these keys
+-- one read, in which the file gave a key script with which a session that is forked at this count of steps, behind the keys that its parent had before,
+-- has these keys
 pub record IsForkedScriptRead (name : StoreName) (at : ℕ) (before keys : List Key) (log : List Access) : Type 0 where
   pub text : List ℕ
   pub read : forked_script at before text ≡ Ok keys
@@ -149,3 +151,21 @@ StopsAmongSessions before sessions e log = ((e ≡ OutOfMemory) × AreNoWrites l
 
 abbrev pub StopsReading : Config → ReadError → List Access → Type 0
 StopsReading config e log = ((e ≡ OutOfMemory) × AreNoWrites log) ⊎ StopsAtInput config e log
+
+-- ---- what reading leaves of the store
+
+-- a store that was only read: its files hold what they held, nothing was written, and a failure is counted where a file couldn't be read
+pub record OnlyRead {S X : Type 0} (does : S → Access → S → Type 0) (files : S → Option Files) (failed : S → ℕ)
+    (result : Result X ReadError) (old new : S) : Type 0 where
+  -- where a file couldn't be read, a failure was counted
+  pub device : IfErr result (λ e. IsFileFault e → CountsFailure (failed old) (failed new))
+  -- the files hold what they held, where the store tells it
+  pub same : files new ≡ files old
+  -- none of the calls was a write
+  pub unwritten : RanBy does AreNoWrites old new
+  -- where all was read, no failure was counted
+  pub uncounted : OnOk result (failed new ≡ failed old)
+  -- nor was one where memory was refused
+  pub memory : IfErr result (λ e. e ≡ OutOfMemory → failed new ≡ failed old)
+  -- and none that was counted before is forgotten
+  pub counted : failed old ≤ failed new

@@ -1,11 +1,11 @@
 //! Reading what a session needs that is forked from an earlier one.
-ghost use Rattle.std.specs.Prelude.{◌≡◌, ◌<◌, ◌≤◌, ◌∷◌, [], IfErr, IfOk, IfSome, OnErr, OnOk, is_some, length, map, true};
+ghost use Rattle.std.specs.Prelude.{◌≡◌, ◌<◌, ◌≤◌, ◌∷◌, [], IfErr, IfOk, IfSome, is_some, length, map, true};
 ghost use Rattle.cpm_config.specs.Rules.{parent_in, session_view};
 ghost use Rattle.cpm_script.specs.Fork.{keys_before};
-ghost use Rattle.cpm_store.specs.Files.{CountsFailure};
-ghost use Rattle.cpm_store.specs.Log.{AreNoWrites, RanBy};
-ghost use Rattle.cpm_batch.specs.Inputs.{AllInputs, ForkedScriptIn, HasForkedKeys, IsFileFault, IsForkedInput, IsForkedScriptIn, IsNeedRefusal, forked_script_needs, given, keys_of_session, session_place};
-ghost use Rattle.cpm_batch.specs.Reads.{AreForkedKeysRead, IsForkedRead, IsForkedScriptRead, StopsAmongNeeds};
+ghost use Rattle.cpm_store.specs.Log.{RanBy};
+ghost use Rattle.cpm_batch.specs.Inputs.{AllInputs, ForkedScriptIn, HasForkedKeys, IsForkedInput, IsForkedScriptIn, IsNeedRefusal};
+ghost use Rattle.cpm_batch.specs.Inputs.{forked_script_needs, given, keys_of_session, session_place};
+ghost use Rattle.cpm_batch.specs.Reads.{AreForkedKeysRead, IsForkedRead, IsForkedScriptRead, OnlyRead, StopsAmongNeeds};
 ghost use Rattle.cpm_script.specs.Script.{most_keys};
 
 use crate::error::ReadError;
@@ -39,12 +39,7 @@ fn read_forked_script<S: Store>(
     ensures log { IfOk result (λ v. RanBy S.does (IsForkedScriptRead name.now at before.items v.items) store.old store.new) }
     ensures refusal { IfErr result (IsNeedRefusal (S.files store.old) (ForkedScriptIn name.now at before.items ∷ [])) }
     ensures refused_log { IfErr result (λ e. RanBy S.does (StopsAmongNeeds (ForkedScriptIn name.now at before.items ∷ []) e) store.old store.new) }
-    ensures device { IfErr result (λ e. IsFileFault e → CountsFailure (S.failed store.old) (S.failed store.new)) }
-    ensures same { S.files store.new ≡ S.files store.old }
-    ensures unwritten { RanBy S.does AreNoWrites store.old store.new }
-    ensures uncounted { OnOk result (S.failed store.new ≡ S.failed store.old) }
-    ensures memory { IfErr result (λ e. e ≡ ReadError.OutOfMemory → S.failed store.new ≡ S.failed store.old) }
-    ensures counted { S.failed store.old ≤ S.failed store.new }
+    ensures store { OnlyRead S.does S.files S.failed result store.old store.new }
 {
     let text = read_bytes(alloc, store, name)?;
     match read_forked_keys(alloc, text.as_slice(), at, before) {
@@ -71,12 +66,7 @@ fn read_forked_keys_of<S: Store>(
     ensures log { IfOk result (λ v. RanBy S.does (AreForkedKeysRead name.now at before.items v.items) store.old store.new) }
     ensures refusal { IfErr result (IsNeedRefusal (S.files store.old) (forked_script_needs at before.items name.now)) }
     ensures refused_log { IfErr result (λ e. RanBy S.does (StopsAmongNeeds (forked_script_needs at before.items name.now) e) store.old store.new) }
-    ensures device { IfErr result (λ e. IsFileFault e → CountsFailure (S.failed store.old) (S.failed store.new)) }
-    ensures same { S.files store.new ≡ S.files store.old }
-    ensures unwritten { RanBy S.does AreNoWrites store.old store.new }
-    ensures uncounted { OnOk result (S.failed store.new ≡ S.failed store.old) }
-    ensures memory { IfErr result (λ e. e ≡ ReadError.OutOfMemory → S.failed store.new ≡ S.failed store.old) }
-    ensures counted { S.failed store.old ≤ S.failed store.new }
+    ensures store { OnlyRead S.does S.files S.failed result store.old store.new }
 {
     match name {
         Some(name) => read_forked_script(alloc, store, name.as_str(), at, before),
@@ -98,14 +88,12 @@ pub(crate) fn read_forked<'a, S: Store>(
     ensures input { IfOk result (λ i. IsForkedInput (S.files store.old) (map given before.now) name.now at (given i)) }
     ensures log { IfOk result (λ i. RanBy S.does (IsForkedRead (map given before.now) name.now at (given i)) store.old store.new) }
     ensures session { IfOk result (λ i. i.session.now ≡ session.entry.now) }
-    ensures refusal { IfErr result (IsNeedRefusal (S.files store.old) (forked_script_needs at (keys_before at (keys_of_session (map given before.now) name.now)) session.entry.now.keys)) }
-    ensures refused_log { IfErr result (λ e. RanBy S.does (StopsAmongNeeds (forked_script_needs at (keys_before at (keys_of_session (map given before.now) name.now)) session.entry.now.keys) e) store.old store.new) }
-    ensures device { IfErr result (λ e. IsFileFault e → CountsFailure (S.failed store.old) (S.failed store.new)) }
-    ensures same { S.files store.new ≡ S.files store.old }
-    ensures unwritten { RanBy S.does AreNoWrites store.old store.new }
-    ensures uncounted { OnOk result (S.failed store.new ≡ S.failed store.old) }
-    ensures memory { IfErr result (λ e. e ≡ ReadError.OutOfMemory → S.failed store.new ≡ S.failed store.old) }
-    ensures counted { S.failed store.old ≤ S.failed store.new }
+    ensures refusal { let first = keys_before at (keys_of_session (map given before.now) name.now) in
+        IfErr result (IsNeedRefusal (S.files store.old) (forked_script_needs at first session.entry.now.keys)) }
+    ensures refused_log { let first = keys_before at (keys_of_session (map given before.now) name.now) in
+        let needs = forked_script_needs at first session.entry.now.keys in
+        IfErr result (λ e. RanBy S.does (StopsAmongNeeds needs e) store.old store.new) }
+    ensures store { OnlyRead S.does S.files S.failed result store.old store.new }
 {
     let Some(parent) = session_place(before, name) else {
         unreachable!()

@@ -1,10 +1,12 @@
 //! Reading what the sessions of a configuration need, in their order.
-ghost use Rattle.std.specs.Prelude.{◌≡◌, ◌≤◌, ◌∷◌, ◌++◌, ◌⊎◌, [], IfErr, IfOk, None, OnErr, OnOk, map};
+ghost use Rattle.std.specs.Prelude.{◌≡◌, ◌∷◌, ◌++◌, ◌⊎◌, [], IfErr, IfOk, None, OnErr, map};
 ghost use Rattle.cpm_config.specs.Rules.{config_view, fork_field_fault, forks_fault, session_view};
-ghost use Rattle.cpm_store.specs.Files.{CountsFailure, Finds};
-ghost use Rattle.cpm_store.specs.Log.{AreNoWrites, Gave, Missed, RanBy};
-ghost use Rattle.cpm_batch.specs.Inputs.{AllImages, AllInputs, AreInputs, HasInput, HasKeys, ImageIn, IsFileFault, IsImageIn, IsMissed, IsNeedRefusal, IsOpenedInput, IsReadRefusal, IsScriptIn, IsSessionRefusal, ScriptIn, given, image_needs, needs_of, script_needs};
-ghost use Rattle.cpm_batch.specs.Reads.{AreImagesRead, AreInputsRead, AreKeysRead, AreRead, IsImageRead, IsInputRead, IsOpenedRead, IsScriptRead, StopsAmongNeeds, StopsAmongSessions, StopsReading};
+ghost use Rattle.cpm_store.specs.Files.{Finds};
+ghost use Rattle.cpm_store.specs.Log.{Gave, Missed, RanBy};
+ghost use Rattle.cpm_batch.specs.Inputs.{AllImages, AllInputs, AreInputs, HasInput, HasKeys, ImageIn, IsImageIn, IsMissed, IsNeedRefusal};
+ghost use Rattle.cpm_batch.specs.Inputs.{IsOpenedInput, IsReadRefusal, IsScriptIn, IsSessionRefusal, ScriptIn, given, image_needs, needs_of, script_needs};
+ghost use Rattle.cpm_batch.specs.Reads.{AreImagesRead, AreInputsRead, AreKeysRead, AreRead, IsImageRead, IsInputRead, IsOpenedRead};
+ghost use Rattle.cpm_batch.specs.Reads.{IsScriptRead, OnlyRead, StopsAmongNeeds, StopsAmongSessions, StopsReading};
 
 use crate::error::ReadError;
 use crate::forked::read_forked;
@@ -62,12 +64,7 @@ pub(crate) fn read_bytes<S: Store>(
     ensures gave { IfOk result (λ v. S.does store.old (Gave name.now v.items) store.new) }
     ensures missed { OnErr result (S.does store.old (Missed name.now) store.new) }
     ensures refusal { IfErr result (λ e. (e ≡ ReadError.OutOfMemory) ⊎ IsMissed name.now e) }
-    ensures device { IfErr result (λ e. IsFileFault e → CountsFailure (S.failed store.old) (S.failed store.new)) }
-    ensures same { S.files store.new ≡ S.files store.old }
-    ensures unwritten { RanBy S.does AreNoWrites store.old store.new }
-    ensures uncounted { OnOk result (S.failed store.new ≡ S.failed store.old) }
-    ensures memory { IfErr result (λ e. e ≡ ReadError.OutOfMemory → S.failed store.new ≡ S.failed store.old) }
-    ensures counted { S.failed store.old ≤ S.failed store.new }
+    ensures store { OnlyRead S.does S.files S.failed result store.old store.new }
 {
     match store.read(alloc, name) {
         Ok(bytes) => Ok(bytes),
@@ -82,12 +79,7 @@ fn read_image<S: Store>(alloc: Global, store: &mut S, name: &str) -> Result<Imag
     ensures log { IfOk result (λ d. RanBy S.does (IsImageRead name.now d) store.old store.new) }
     ensures refusal { IfErr result (IsNeedRefusal (S.files store.old) (ImageIn name.now ∷ [])) }
     ensures refused_log { IfErr result (λ e. RanBy S.does (StopsAmongNeeds (ImageIn name.now ∷ []) e) store.old store.new) }
-    ensures device { IfErr result (λ e. IsFileFault e → CountsFailure (S.failed store.old) (S.failed store.new)) }
-    ensures same { S.files store.new ≡ S.files store.old }
-    ensures unwritten { RanBy S.does AreNoWrites store.old store.new }
-    ensures uncounted { OnOk result (S.failed store.new ≡ S.failed store.old) }
-    ensures memory { IfErr result (λ e. e ≡ ReadError.OutOfMemory → S.failed store.new ≡ S.failed store.old) }
-    ensures counted { S.failed store.old ≤ S.failed store.new }
+    ensures store { OnlyRead S.does S.files S.failed result store.old store.new }
 {
     let bytes = read_bytes(alloc, store, name)?;
     match Image::from_bytes(bytes) {
@@ -109,12 +101,7 @@ fn read_images<S: Store>(
     ensures log { IfOk result (λ v. RanBy S.does (AreImagesRead names.now v.items) store.old store.new) }
     ensures refusal { IfErr result (IsNeedRefusal (S.files store.old) (image_needs names.now)) }
     ensures refused_log { IfErr result (λ e. RanBy S.does (StopsAmongNeeds (image_needs names.now) e) store.old store.new) }
-    ensures device { IfErr result (λ e. IsFileFault e → CountsFailure (S.failed store.old) (S.failed store.new)) }
-    ensures same { S.files store.new ≡ S.files store.old }
-    ensures unwritten { RanBy S.does AreNoWrites store.old store.new }
-    ensures uncounted { OnOk result (S.failed store.new ≡ S.failed store.old) }
-    ensures memory { IfErr result (λ e. e ≡ ReadError.OutOfMemory → S.failed store.new ≡ S.failed store.old) }
-    ensures counted { S.failed store.old ≤ S.failed store.new }
+    ensures store { OnlyRead S.does S.files S.failed result store.old store.new }
 {
     let mut images = Vec::new(alloc);
     for name in names {
@@ -129,12 +116,7 @@ fn read_script<S: Store>(alloc: Global, store: &mut S, name: &str) -> Result<Vec
     ensures log { IfOk result (λ v. RanBy S.does (IsScriptRead name.now v.items) store.old store.new) }
     ensures refusal { IfErr result (IsNeedRefusal (S.files store.old) (ScriptIn name.now ∷ [])) }
     ensures refused_log { IfErr result (λ e. RanBy S.does (StopsAmongNeeds (ScriptIn name.now ∷ []) e) store.old store.new) }
-    ensures device { IfErr result (λ e. IsFileFault e → CountsFailure (S.failed store.old) (S.failed store.new)) }
-    ensures same { S.files store.new ≡ S.files store.old }
-    ensures unwritten { RanBy S.does AreNoWrites store.old store.new }
-    ensures uncounted { OnOk result (S.failed store.new ≡ S.failed store.old) }
-    ensures memory { IfErr result (λ e. e ≡ ReadError.OutOfMemory → S.failed store.new ≡ S.failed store.old) }
-    ensures counted { S.failed store.old ≤ S.failed store.new }
+    ensures store { OnlyRead S.does S.files S.failed result store.old store.new }
 {
     let text = read_bytes(alloc, store, name)?;
     match read_keys(alloc, text.as_slice()) {
@@ -158,12 +140,7 @@ fn read_keys_of<S: Store>(
     ensures log { IfOk result (λ v. RanBy S.does (AreKeysRead name.now v.items) store.old store.new) }
     ensures refusal { IfErr result (IsNeedRefusal (S.files store.old) (script_needs name.now)) }
     ensures refused_log { IfErr result (λ e. RanBy S.does (StopsAmongNeeds (script_needs name.now) e) store.old store.new) }
-    ensures device { IfErr result (λ e. IsFileFault e → CountsFailure (S.failed store.old) (S.failed store.new)) }
-    ensures same { S.files store.new ≡ S.files store.old }
-    ensures unwritten { RanBy S.does AreNoWrites store.old store.new }
-    ensures uncounted { OnOk result (S.failed store.new ≡ S.failed store.old) }
-    ensures memory { IfErr result (λ e. e ≡ ReadError.OutOfMemory → S.failed store.new ≡ S.failed store.old) }
-    ensures counted { S.failed store.old ≤ S.failed store.new }
+    ensures store { OnlyRead S.does S.files S.failed result store.old store.new }
 {
     match name {
         Some(name) => read_script(alloc, store, name.as_str()),
@@ -184,13 +161,9 @@ fn read_opened<'a, S: Store>(
     ensures log { IfOk result (λ i. RanBy S.does (IsOpenedRead cpu quota names.now (given i)) store.old store.new) }
     ensures session { IfOk result (λ i. i.session.now ≡ session.entry.now) }
     ensures refusal { IfErr result (IsNeedRefusal (S.files store.old) (image_needs names.now ++ script_needs session.entry.now.keys)) }
-    ensures refused_log { IfErr result (λ e. RanBy S.does (StopsAmongNeeds (image_needs names.now ++ script_needs session.entry.now.keys) e) store.old store.new) }
-    ensures device { IfErr result (λ e. IsFileFault e → CountsFailure (S.failed store.old) (S.failed store.new)) }
-    ensures same { S.files store.new ≡ S.files store.old }
-    ensures unwritten { RanBy S.does AreNoWrites store.old store.new }
-    ensures uncounted { OnOk result (S.failed store.new ≡ S.failed store.old) }
-    ensures memory { IfErr result (λ e. e ≡ ReadError.OutOfMemory → S.failed store.new ≡ S.failed store.old) }
-    ensures counted { S.failed store.old ≤ S.failed store.new }
+    ensures refused_log { let needs = image_needs names.now ++ script_needs session.entry.now.keys in
+        IfErr result (λ e. RanBy S.does (StopsAmongNeeds needs e) store.old store.new) }
+    ensures store { OnlyRead S.does S.files S.failed result store.old store.new }
 {
     let drives = read_images(alloc, store, names)?;
     let keys = read_keys_of(alloc, store, &session.keys)?;
@@ -216,12 +189,7 @@ fn read_session<'a, S: Store>(
     ensures session { IfOk result (λ i. i.session.now ≡ session.entry.now) }
     ensures refusal { IfErr result (IsNeedRefusal (S.files store.old) (needs_of (map given before.now) session.entry.now)) }
     ensures refused_log { IfErr result (λ e. RanBy S.does (StopsAmongNeeds (needs_of (map given before.now) session.entry.now) e) store.old store.new) }
-    ensures device { IfErr result (λ e. IsFileFault e → CountsFailure (S.failed store.old) (S.failed store.new)) }
-    ensures same { S.files store.new ≡ S.files store.old }
-    ensures unwritten { RanBy S.does AreNoWrites store.old store.new }
-    ensures uncounted { OnOk result (S.failed store.new ≡ S.failed store.old) }
-    ensures memory { IfErr result (λ e. e ≡ ReadError.OutOfMemory → S.failed store.new ≡ S.failed store.old) }
-    ensures counted { S.failed store.old ≤ S.failed store.new }
+    ensures store { OnlyRead S.does S.files S.failed result store.old store.new }
 {
     match &session.origin {
         Origin::Opened { cpu, quota, drives } => {
@@ -245,12 +213,7 @@ fn read_sessions<'a, S: Store>(
     ensures sessions { IfOk result (λ v. map (λ i. i.session) (map given v.items) ≡ sessions.entry.now) }
     ensures refusal { IfErr result (IsSessionRefusal (S.files store.old) [] sessions.entry.now) }
     ensures refused_log { IfErr result (λ e. RanBy S.does (StopsAmongSessions [] sessions.entry.now e) store.old store.new) }
-    ensures device { IfErr result (λ e. IsFileFault e → CountsFailure (S.failed store.old) (S.failed store.new)) }
-    ensures same { S.files store.new ≡ S.files store.old }
-    ensures unwritten { RanBy S.does AreNoWrites store.old store.new }
-    ensures uncounted { OnOk result (S.failed store.new ≡ S.failed store.old) }
-    ensures memory { IfErr result (λ e. e ≡ ReadError.OutOfMemory → S.failed store.new ≡ S.failed store.old) }
-    ensures counted { S.failed store.old ≤ S.failed store.new }
+    ensures store { OnlyRead S.does S.files S.failed result store.old store.new }
 {
     let mut inputs = Vec::new(alloc);
     for session in sessions {
@@ -278,12 +241,7 @@ pub fn read_inputs<'a, S: Store>(
     ensures refusal { IfErr result (IsReadRefusal (S.files store.old) config.entry.now) }
     // It was refused at the first fault: no read but those before it and its own, of whichever store.
     ensures refused_log { IfErr result (λ e. RanBy S.does (StopsReading config.entry.now e) store.old store.new) }
-    ensures device { IfErr result (λ e. IsFileFault e → CountsFailure (S.failed store.old) (S.failed store.new)) }
-    ensures same { S.files store.new ≡ S.files store.old }
-    ensures unwritten { RanBy S.does AreNoWrites store.old store.new }
-    ensures uncounted { OnOk result (S.failed store.new ≡ S.failed store.old) }
-    ensures memory { IfErr result (λ e. e ≡ ReadError.OutOfMemory → S.failed store.new ≡ S.failed store.old) }
-    ensures counted { S.failed store.old ≤ S.failed store.new }
+    ensures store { OnlyRead S.does S.files S.failed result store.old store.new }
 {
     let system = read_image(alloc, store, config.system.as_str())?;
     let sessions = read_sessions(alloc, store, config.sessions.as_slice())?;

@@ -1,11 +1,11 @@
 use Rattle.std.proofs.Common.{◌∙◌, [], map, refl}
 use Rattle.std.specs.Prelude.{string_bytes}
 use Rattle.std.proofs.lemmas.Result.{err_from_is_err_and}
-use Rattle.cpm_store.proofs.LogLemmas.{ran_then, unwritten_more}
+use Rattle.cpm_store.proofs.LogLemmas.{ran_then}
 use Rattle.cpm_batch.specs.Inputs.{given}
 use Rattle.cpm_batch.specs.Reads.{AreInputsRead, IsImageRead}
 use Rattle.cpm_batch.proofs.InputLemmas.{image_as, image_refusal_as, sessions_refused, system_refused}
-use Rattle.cpm_batch.proofs.ReadLemmas.{image_read_as}
+use Rattle.cpm_batch.proofs.ReadLemmas.{image_read_as, only_read_as, only_read_failed, only_read_then}
 use Rattle.cpm_batch.proofs.StopLemmas.{image_stopped_as, sessions_stopped, system_stopped}
 use Rattle.cpm_batch.proofs.input.read_inputs.Goals as goal
 
@@ -21,14 +21,6 @@ returns-clause-log g c =
     (image_read_as does name c.as_str.result.now system start between c.as_str.ensures.value c.in_ok-system.ensures.log) c.in_ok-sessions.ensures.log in
     (both.0, record { sessions = c.in_ok-sessions.ensures.sessions ∙ c.as_slice.ensures.value; calls = both.1 }, both.2)
 
-pub returns-in_err-sessions-clause-unwritten : goal.returns-in_err-sessions-clause-unwritten
-returns-in_err-sessions-clause-unwritten g c =
-    unwritten_more g.S.Store.does c.args.store.now c.read_image.new.store c.read_sessions.new.store c.in_ok-system.ensures.unwritten c.in_err-sessions.ensures.unwritten
-
-pub returns-clause-unwritten : goal.returns-clause-unwritten
-returns-clause-unwritten g c =
-    unwritten_more g.S.Store.does c.args.store.now c.read_image.new.store c.read_sessions.new.store c.in_ok-system.ensures.unwritten c.in_ok-sessions.ensures.unwritten
-
 pub returns-in_err-system-clause-refusal : goal.returns-in_err-system-clause-refusal
 returns-in_err-system-clause-refusal g c =
     let p = err_from_is_err_and c.from_residual.result c.from_residual.ensures.1 in
@@ -43,7 +35,7 @@ returns-in_err-sessions-clause-refusal g c =
     let config = c.args.config.now in
     let system = c.in_ok-system.system in
     rw (p.1, p.2) (sessions_refused files (g.S.Store.files c.read_image.new.store) config c.as_slice.result.now system _
-    (image_as files files (string_bytes config.system) c.as_str.result.now system refl c.as_str.ensures.value c.in_ok-system.ensures.image) c.in_ok-system.ensures.same c.as_slice.ensures.value
+    (image_as files files (string_bytes config.system) c.as_str.result.now system refl c.as_str.ensures.value c.in_ok-system.ensures.image) c.in_ok-system.ensures.store.same c.as_slice.ensures.value
     c.in_err-sessions.ensures.refusal)
 
 pub returns-in_err-system-clause-refused_log : goal.returns-in_err-system-clause-refused_log
@@ -64,3 +56,11 @@ returns-in_err-sessions-clause-refused_log g c =
     let between = c.read_image.new.store in
     rw (p.1, p.2) (sessions_stopped does config c.as_slice.result.now system _ start between c.read_sessions.new.store c.as_slice.ensures.value
     (image_read_as does (string_bytes config.system) c.as_str.result.now system start between c.as_str.ensures.value c.in_ok-system.ensures.log) c.in_err-sessions.ensures.refused_log)
+
+pub returns-in_err-sessions-clause-store : goal.returns-in_err-sessions-clause-store
+returns-in_err-sessions-clause-store g c =
+    let p = err_from_is_err_and c.from_residual-in_err-sessions.result c.from_residual-in_err-sessions.ensures.1 in
+    rw (p.1, p.2) (only_read_failed (only_read_then c.in_ok-system.ensures.store c.in_err-sessions.ensures.store))
+
+pub returns-clause-store : goal.returns-clause-store
+returns-clause-store g c = only_read_as _ tt (only_read_then c.in_ok-system.ensures.store c.in_ok-sessions.ensures.store)

@@ -1,8 +1,8 @@
-use Rattle.std.proofs.Common.{◌≡◌, ◌≤◌, ◌+◌, [], None, drop, map, take}
+use Rattle.std.proofs.Common.{◌≡◌, ◌+◌, [], None, Ok, drop, map, take}
 use Rattle.cpm_config.specs.Rules.{forks_fault, session_view}
-use Rattle.cpm_store.specs.Log.{AreNoWrites, RanBy}
+use Rattle.cpm_store.specs.Log.{RanBy}
 use Rattle.cpm_batch.specs.Inputs.{AllInputs, given}
-use Rattle.cpm_batch.specs.Reads.{AreInputsRead}
+use Rattle.cpm_batch.specs.Reads.{AreInputsRead, OnlyRead}
 use Rattle.cpm_batch.proofs.input.read_sessions.Given as goal
 
 abbrev pub invariant-loop-session : goal.invariant-loop-session
@@ -11,8 +11,5 @@ invariant-loop-session g l = record {
   forks : forks_fault (l.session-index + 1) (map session_view (take l.session-index l.sessions)) (map session_view (drop l.session-index l.sessions)) ≡ None;
   sessions : map (λ i. i.session) (map given l.inputs.items) ≡ take l.session-index l.sessions;
   log : RanBy g.S.Store.does (AreInputsRead [] (map given l.inputs.items)) l.fn.store l.store;
-  unwritten : RanBy g.S.Store.does AreNoWrites l.fn.store l.store;
-  same : g.S.Store.files l.store ≡ g.S.Store.files l.fn.store;
-  uncounted : g.S.Store.failed l.store ≡ g.S.Store.failed l.fn.store;
-  counted : g.S.Store.failed l.fn.store ≤ g.S.Store.failed l.store;
+  store : OnlyRead g.S.Store.does g.S.Store.files g.S.Store.failed (Ok l.inputs) l.fn.store l.store;
 }

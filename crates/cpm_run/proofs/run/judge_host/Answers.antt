@@ -13,13 +13,13 @@ pub returns-in_err-needed-clause-refusal : goal.returns-in_err-needed-clause-ref
 returns-in_err-needed-clause-refusal g c =
     let p = err_from_is_err_and c.from_residual.result c.from_residual.ensures.1 in
     rw (p.1, p.2) (reading_refused c.args.config.now (g.S.Store.files c.args.store.now) (g.S.Store.files c.read_inputs.new.store) c.in_err-needed.field-0.0 (sym c.in_default.ensures) c.in_err-needed.ensures.refusal
-    c.in_err-needed.ensures.same)
+    c.in_err-needed.ensures.store.same)
 
 pub returns-clause-refusal : goal.returns-clause-refusal
 returns-clause-refusal g c =
     IfErr-weaker c.open_all.result _ _
     (λ e refused. play_refused c.args.config.now c.in_ok-needed.needed.system (map given c.in_ok-needed.needed.sessions.items) (g.S.Store.files c.args.store.now)
-    (g.S.Store.files c.read_inputs.new.store) e (sym c.in_default.ensures) c.in_ok-needed.ensures.read c.read_inputs.ensures.same refused) c.open_all.ensures.refusal
+    (g.S.Store.files c.read_inputs.new.store) e (sym c.in_default.ensures) c.in_ok-needed.ensures.read c.read_inputs.ensures.store.same refused) c.open_all.ensures.refusal
 
 pub returns-clause-judged : goal.returns-clause-judged
 returns-clause-judged g c =

@@ -19,13 +19,13 @@ pub returns-in_err-reports-clause-refusal : goal.returns-in_err-reports-clause-r
 returns-in_err-reports-clause-refusal g c =
     let p = err_from_is_err_and c.from_residual-in_err-reports.result c.from_residual-in_err-reports.ensures.1 in
     rw (p.1, p.2) (play_refused c.args.config.now c.in_ok-inputs.inputs.system (map given c.in_ok-inputs.inputs.sessions.items) (g.S.Store.files c.args.store.now)
-    (g.S.Store.files c.read_inputs.new.store) c.in_err-reports.field-0.0 (sym c.in_default.ensures) c.in_ok-inputs.ensures.read c.read_inputs.ensures.same c.in_err-reports.ensures.refusal)
+    (g.S.Store.files c.read_inputs.new.store) c.in_err-reports.field-0.0 (sym c.in_default.ensures) c.in_ok-inputs.ensures.read c.read_inputs.ensures.store.same c.in_err-reports.ensures.refusal)
 
 pub returns-in_err-reports-clause-stopped_log : goal.returns-in_err-reports-clause-stopped_log
 returns-in_err-reports-clause-stopped_log g c =
     let p = err_from_is_err_and c.from_residual-in_err-reports.result c.from_residual-in_err-reports.ensures.1 in
     rw (p.1, p.2) (play_stopped g.S.Store.does c.args.config.now c.args.store.now c.read_inputs.new.store c.in_ok-inputs.inputs.system (map given c.in_ok-inputs.inputs.sessions.items)
-    c.in_err-reports.field-0.0 c.read_inputs.ensures.unwritten c.in_err-reports.ensures.refusal)
+    c.in_err-reports.field-0.0 c.read_inputs.ensures.store.unwritten c.in_err-reports.ensures.refusal)
 
 pub returns-in_err-write_files-clause-stopped_log : goal.returns-in_err-write_files-clause-stopped_log
 returns-in_err-write_files-clause-stopped_log g c =
@@ -61,7 +61,7 @@ pub returns-in_err-inputs-clause-refusal : goal.returns-in_err-inputs-clause-ref
 returns-in_err-inputs-clause-refusal g c =
     let p = err_from_is_err_and c.from_residual.result c.from_residual.ensures.1 in
     rw (p.1, p.2) (reading_refused c.args.config.now (g.S.Store.files c.args.store.now) (g.S.Store.files c.read_inputs.new.store) c.in_err-inputs.field-0.0 (sym c.in_default.ensures) c.in_err-inputs.ensures.refusal
-    c.in_err-inputs.ensures.same)
+    c.in_err-inputs.ensures.store.same)
 
 pub returns-in_err-inputs-clause-stopped_log : goal.returns-in_err-inputs-clause-stopped_log
 returns-in_err-inputs-clause-stopped_log g c =
