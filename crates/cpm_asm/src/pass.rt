@@ -153,7 +153,7 @@ fn lay_statement(
     ensures within { IfOk result (λ p. p.0.next ≤ 65536) }
     ensures bytes { IfOk result (λ p. assembly.new.image.items
         ≡ laid assembly.old.image.items place.address (emitted (in_table names.now) place.address p.0.next (seen_work statement.now.work)).bytes) }
-    ensures placement { IfOk result (λ p. assembly.new.places.items ≡ assembly.old.places.items
+    ensures placed { IfOk result (λ p. assembly.new.places.items ≡ assembly.old.places.items
         ++ placement_of (placement line place.address (emitted (in_table names.now) place.address p.0.next (seen_work statement.now.work)).bytes)
         (seen_statement statement.now)) }
     ensures doubt { IfOk result (λ p. p.1 ≡ (emitted (in_table names.now) place.address p.0.next (seen_work statement.now.work)).doubt) }

@@ -161,13 +161,13 @@ module _ (system : Disk) (s : Session) (m : Contents) (stop : is_stopped s ≡ t
     unfolding shown_on
     record_held h = held_so (is_stopped s) (shows_record (next_ahead s.disks system s.file)) _ _ stop h
 
-    record_read : shows_record (next_ahead s.disks system s.file) ≡ false → shown_on system s ≡ next_shown system s
+    record_is_read : shows_record (next_ahead s.disks system s.file) ≡ false → shown_on system s ≡ next_shown system s
     unfolding shown_on
-    record_read h = goes_so (is_stopped s) (shows_record (next_ahead s.disks system s.file)) _ _ h
+    record_is_read h = goes_so (is_stopped s) (shows_record (next_ahead s.disks system s.file)) _ _ h
 
     record_goes : shows_record (next_ahead s.disks system s.file) ≡ false → shown_on system s ≡ session_with_keys s.console.keys (shown_on system (without_keys s))
     record_goes h =
-        record_read h ∙ (keys_next_shown s.console.keys system (without_keys s) ∙ ap (session_with_keys s.console.keys) (sym (free_shown system s)))
+        record_is_read h ∙ (keys_next_shown s.console.keys system (without_keys s) ∙ ap (session_with_keys s.console.keys) (sym (free_shown system s)))
 
   -- ---- parts
 
