@@ -6,5 +6,6 @@ pub mod WholeCom
 pub mod WholeDisk
 pub mod HelpLemmas
 pub mod RefusalLemmas
+pub mod RestLemmas
 pub mod ShownLemmas
 pub mod UserLemmas

@@ -13,7 +13,7 @@ user_of given (New image is_large) has = tt
 user_of given (Listing image None) has = tt
 user_of given (Listing image (Some user)) has = omega (arith, has.2.1)
 user_of given (Put image files user is_text is_read_only is_system) has = omega (arith, has.3.1)
-user_of given (Get image names user is_text to) has = omega (arith, has.3.1)
+user_of given (Get image names user is_text to is_forced is_dry) has = omega (arith, has.3.1)
 user_of given (Remove image names user) has = omega (arith, has.3.1)
 user_of given (Rename image change user) has = omega (arith, has.3.1)
 

@@ -58,7 +58,7 @@ repeated_words name = record { action = inr (inr refl); values = inl refl }
 
 com_plain : IsPlain com_built.rules
 com_plain = plain_by_ids com_built.rules refl
-    (operand_word _ _, (tail_words, (flag_word _, (steps_word, (value_word _, (repeated_words _, (repeated_words _, (flag_word _, (value_word _, (flag_word _, (flag_word _, tt)))))))))))
+    (operand_word _ _, (tail_words, (flag_word _, (steps_word, (value_word _, (repeated_words _, (repeated_words _, (flag_word _, (value_word _, (flag_word _, (flag_word _, (flag_word _, (flag_word _, tt)))))))))))))
 
 com_no_shorts : HasNoShorts com_built.rules
 com_no_shorts x = refl
@@ -102,6 +102,12 @@ com_whole words e =
       idle = flag_in (codes "stop-idle") rows
           (default_text com_built com_plain com_no_shorts words e (flag_rule (codes "stop-idle"))
           (inr (inr (inr (inr (inr (inr (inr (inr (inr (inr (inl refl))))))))))) tt);
+      raw = flag_in (codes "raw") rows
+          (default_text com_built com_plain com_no_shorts words e (flag_rule (codes "raw"))
+          (inr (inr (inr (inr (inr (inr (inr (inr (inr (inr (inr (inl refl)))))))))))) tt);
+      quiet = flag_in (codes "quiet") rows
+          (default_text com_built com_plain com_no_shorts words e (flag_rule (codes "quiet"))
+          (inr (inr (inr (inr (inr (inr (inr (inr (inr (inr (inr (inr (inl refl))))))))))))) tt);
     }
 
 -- ---- the other subcommands
@@ -159,7 +165,7 @@ check_whole words e =
 
 run_plain : IsPlain run_built.rules
 run_plain = plain_by_ids run_built.rules refl
-    (operand_word _ _, (value_word _, (value_word _, (flag_word _, (flag_word _, (value_word _, tt))))))
+    (operand_word _ _, (value_word _, (value_word _, (flag_word _, (flag_word _, (value_word _, (flag_word _, (repeated_words _, (flag_word _, tt)))))))))
 
 run_no_shorts : HasNoShorts run_built.rules
 run_no_shorts x = refl
@@ -177,6 +183,11 @@ run_whole words e =
           (default_text run_built run_plain run_no_shorts words e (flag_rule (codes "progress")) (inr (inr (inr (inl refl)))) tt);
       idle = flag_in (codes "stop-idle") rows
           (default_text run_built run_plain run_no_shorts words e (flag_rule (codes "stop-idle")) (inr (inr (inr (inr (inl refl))))) tt);
+      raw = flag_in (codes "raw") rows
+          (default_text run_built run_plain run_no_shorts words e (flag_rule (codes "raw")) (inr (inr (inr (inr (inr (inr (inl refl))))))) tt);
+      here = flag_in (codes "outputs-here") rows
+          (default_text run_built run_plain run_no_shorts words e (flag_rule (codes "outputs-here"))
+          (inr (inr (inr (inr (inr (inr (inr (inr (inl refl))))))))) tt);
     }
 
 debug_plain : IsPlain debug_built.rules

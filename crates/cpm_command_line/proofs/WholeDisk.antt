@@ -103,7 +103,7 @@ put_plain : IsPlain put_built.rules
 put_plain = plain_by_ids put_built.rules refl (one_word, (files_words, (user_word, (flag_word _, (flag_word _, (flag_word _, tt))))))
 
 get_plain : IsPlain get_built.rules
-get_plain = plain_by_ids get_built.rules refl (one_word, (names_words, (user_word, (flag_word _, (to_word, tt)))))
+get_plain = plain_by_ids get_built.rules refl (one_word, (names_words, (user_word, (flag_word _, (to_word, (flag_word _, (flag_word _, tt)))))))
 
 remove_plain : IsPlain remove_built.rules
 remove_plain = plain_by_ids remove_built.rules refl (one_word, (names_words, (user_word, tt)))
@@ -173,6 +173,10 @@ get_whole words e =
       names = given_first get_built get_plain get_no_shorts words e names_rule (inr (inl refl)) given.1;
       user = user_in rows (default_text get_built get_plain get_no_shorts words e user_rule (inr (inr (inl refl))) tt);
       text = flag_in (codes "text") rows (default_text get_built get_plain get_no_shorts words e (flag_rule (codes "text")) (inr (inr (inr (inl refl)))) tt);
+      force = flag_in (codes "force") rows
+          (default_text get_built get_plain get_no_shorts words e (flag_rule (codes "force")) (inr (inr (inr (inr (inr (inl refl)))))) tt);
+      dry = flag_in (codes "dry-run") rows
+          (default_text get_built get_plain get_no_shorts words e (flag_rule (codes "dry-run")) (inr (inr (inr (inr (inr (inr (inl refl))))))) tt);
     }
 
 remove_whole : (words : List Text) → level_fault remove_built [] nothing_held words false [] ≡ [] → IsWholeRemove (rows_after remove_built.rules [] words)

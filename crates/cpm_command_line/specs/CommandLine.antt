@@ -47,12 +47,12 @@ abbrev pub program_app : App
 program_app = with_rule (with_rule (with_rule (with_rule (with_rule (new_app (codes "com"))
     (operand (codes "file"))) (words_left_out (codes "tail"))) (flag (codes "z80"))) steps_option) (value_option (codes "keys"))
 
--- own: `com`, with `[--disk IMAGE].. [--out-disk IMAGE].. [--keyboard] [--record SCRIPT] [--progress] [--stop-idle]`
--- behind these
+-- own: `com`, with `[--disk IMAGE].. [--out-disk IMAGE].. [--keyboard] [--record SCRIPT] [--progress] [--stop-idle] [--raw]
+-- [--quiet]` behind these
 abbrev pub com_app : App
-com_app = with_rule (with_rule (with_rule (with_rule (with_rule (with_rule program_app
+com_app = with_rule (with_rule (with_rule (with_rule (with_rule (with_rule (with_rule (with_rule program_app
     (repeated_option (codes "disk"))) (repeated_option (codes "out-disk"))) (flag (codes "keyboard"))) (value_option (codes "record")))
-    (flag (codes "progress"))) (flag (codes "stop-idle"))
+    (flag (codes "progress"))) (flag (codes "stop-idle"))) (flag (codes "raw"))) (flag (codes "quiet"))
 
 -- own: `asm SOURCE OUT [--list FILE]`
 abbrev pub asm_app : App
@@ -67,11 +67,13 @@ list_app = with_rule (with_rule (new_app (codes "list")) (operand (codes "file")
 abbrev pub check_app : App
 check_app = with_rule (new_app (codes "check")) (operand (codes "image"))
 
--- own: `run CONFIG [--keyboard NAME] [--record SCRIPT] [--progress] [--stop-idle] [--record-all FOLDER]`
+-- own: `run CONFIG [--keyboard NAME] [--record SCRIPT] [--progress] [--stop-idle] [--record-all FOLDER] [--raw]
+-- [--within FOLDER].. [--outputs-here]`
 abbrev pub run_app : App
-run_app = with_rule (with_rule (with_rule (with_rule (with_rule (with_rule (new_app (codes "run"))
+run_app = with_rule (with_rule (with_rule (with_rule (with_rule (with_rule (with_rule (with_rule (with_rule (new_app (codes "run"))
     (operand (codes "config"))) (value_option (codes "keyboard"))) (value_option (codes "record"))) (flag (codes "progress")))
-    (flag (codes "stop-idle"))) (value_option (codes "record-all"))
+    (flag (codes "stop-idle"))) (value_option (codes "record-all"))) (flag (codes "raw"))) (repeated_option (codes "within")))
+    (flag (codes "outputs-here"))
 
 -- own: `debug FILE [--z80] [--list FILE]`
 abbrev pub debug_app : App
@@ -140,6 +142,8 @@ HasEntriesOf given (Com task) =
     × (first_of (codes "record") given.1 ≡ option_map (λ t. t.now) task.«record»)
     × (one_of (codes "progress") given.1 ≡ Some (bool_text task.has_progress))
     × (one_of (codes "stop-idle") given.1 ≡ Some (bool_text task.stops_idle))
+    × (one_of (codes "raw") given.1 ≡ Some (bool_text task.is_raw))
+    × (one_of (codes "quiet") given.1 ≡ Some (bool_text task.is_quiet))
 HasEntriesOf given (Asm source out list) =
     (given.0 ≡ codes "asm") × (first_of (codes "source") given.1 ≡ Some source.now)
     × (first_of (codes "out") given.1 ≡ Some out.now)
@@ -156,6 +160,9 @@ HasEntriesOf given (Run task) =
     × (one_of (codes "progress") given.1 ≡ Some (bool_text task.has_progress))
     × (one_of (codes "stop-idle") given.1 ≡ Some (bool_text task.stops_idle))
     × (first_of (codes "record-all") given.1 ≡ option_map (λ t. t.now) task.scripts)
+    × (one_of (codes "raw") given.1 ≡ Some (bool_text task.is_raw))
+    × ReadsWordsIfAny (all_of (codes "within") given.1) task.folders.items
+    × (one_of (codes "outputs-here") given.1 ≡ Some (bool_text task.has_outputs_here))
 HasEntriesOf given (Debug file cpu list) =
     (given.0 ≡ codes "debug") × (first_of (codes "file") given.1 ≡ Some file.now)
     × (one_of (codes "z80") given.1 ≡ Some (flag_text cpu))
@@ -193,6 +200,8 @@ pub record IsWholeCom (rows : List Row) : Type 0 where
   pub keyboard : IsFlag (one_of (codes "keyboard") rows)
   pub progress : IsFlag (one_of (codes "progress") rows)
   pub idle : IsFlag (one_of (codes "stop-idle") rows)
+  pub raw : IsFlag (one_of (codes "raw") rows)
+  pub quiet : IsFlag (one_of (codes "quiet") rows)
 
 -- the entries of `asm` are whole
 pub record IsWholeAsm (rows : List Row) : Type 0 where
@@ -213,6 +222,8 @@ pub record IsWholeRun (rows : List Row) : Type 0 where
   pub config : IsSome (first_of (codes "config") rows)
   pub progress : IsFlag (one_of (codes "progress") rows)
   pub idle : IsFlag (one_of (codes "stop-idle") rows)
+  pub raw : IsFlag (one_of (codes "raw") rows)
+  pub here : IsFlag (one_of (codes "outputs-here") rows)
 
 -- the entries of `debug` are whole
 pub record IsWholeDebug (rows : List Row) : Type 0 where

@@ -41,10 +41,10 @@ abbrev pub put_app : App
 put_app = with_rule (with_rule (with_rule (with_rule (with_rule (image_app (codes "put"))
     (operands (codes "file"))) user_option) (flag (codes "text"))) (flag (codes "read-only"))) (flag (codes "system"))
 
--- own: `get IMAGE NAME.TYP.. [--user N] [--text] [--to PATH]`
+-- own: `get IMAGE NAME.TYP.. [--user N] [--text] [--to PATH] [--force] [--dry-run]`
 abbrev pub get_app : App
-get_app = with_rule (with_rule (with_rule (with_rule (image_app (codes "get"))
-    (operands (codes "name"))) user_option) (flag (codes "text"))) (value_option (codes "to"))
+get_app = with_rule (with_rule (with_rule (with_rule (with_rule (with_rule (image_app (codes "get"))
+    (operands (codes "name"))) user_option) (flag (codes "text"))) (value_option (codes "to"))) (flag (codes "force"))) (flag (codes "dry-run"))
 
 -- own: `remove IMAGE NAME.TYP.. [--user N]`
 abbrev pub remove_app : App
@@ -89,12 +89,14 @@ HasDiskEntriesOf given (Put image files user is_text is_read_only is_system) =
     × (one_of (codes "text") given.1 ≡ Some (bool_text is_text))
     × (one_of (codes "read-only") given.1 ≡ Some (bool_text is_read_only))
     × (one_of (codes "system") given.1 ≡ Some (bool_text is_system))
-HasDiskEntriesOf given (Get image names user is_text to) =
+HasDiskEntriesOf given (Get image names user is_text to is_forced is_dry) =
     (given.0 ≡ codes "get") × (first_of (codes "image") given.1 ≡ Some image.now)
     × ReadsWords (all_of (codes "name") given.1) names.items
     × ReadsUser (one_of (codes "user") given.1) user
     × (one_of (codes "text") given.1 ≡ Some (bool_text is_text))
     × (first_of (codes "to") given.1 ≡ option_map (λ t. t.now) to)
+    × (one_of (codes "force") given.1 ≡ Some (bool_text is_forced))
+    × (one_of (codes "dry-run") given.1 ≡ Some (bool_text is_dry))
 HasDiskEntriesOf given (Remove image names user) =
     (given.0 ≡ codes "remove") × (first_of (codes "image") given.1 ≡ Some image.now)
     × ReadsWords (all_of (codes "name") given.1) names.items
@@ -109,7 +111,7 @@ abbrev pub HasUser : DiskTask → Type 0
 HasUser (New image is_large) = ⊤
 HasUser (Listing image user) = IfSome user (λ u. u < 16)
 HasUser (Put image files user is_text is_read_only is_system) = user < 16
-HasUser (Get image names user is_text to) = user < 16
+HasUser (Get image names user is_text to is_forced is_dry) = user < 16
 HasUser (Remove image names user) = user < 16
 HasUser (Rename image change user) = user < 16
 
@@ -151,6 +153,8 @@ pub record IsWholeGet (rows : List Row) : Type 0 where
   pub names : IsSome (first_of (codes "name") rows)
   pub user : IsUser (one_of (codes "user") rows)
   pub text : IsFlag (one_of (codes "text") rows)
+  pub force : IsFlag (one_of (codes "force") rows)
+  pub dry : IsFlag (one_of (codes "dry-run") rows)
 
 -- own: the entries of `remove` are whole
 pub record IsWholeRemove (rows : List Row) : Type 0 where

@@ -74,15 +74,16 @@ pub(crate) fn top_command<'a>(alloc: Global, name: &'a str) -> Command<'a>
         .disable_help_subcommand(true)
 }
 
-/// The command with one more argument.
+/// The command with one more argument, where it could be made. It takes it as it was made: so its caller
+/// has no branch, and no command to drop there.
 pub(crate) fn with_argument<'a>(
-    command: Command<'a>,
+    command: Result<Command<'a>, AllocError>,
     argument: Arg<'a>,
 ) -> Result<Command<'a>, AllocError>
-    ensures { IfOk result (λ c. (a : App) (r : Rule) → IsCommandOf a command.entry
-        → IsArgumentOf r argument.entry → IsCommandOf (with_rule a r) c) }
+    ensures { (a : App) (r : Rule) → IfOk command.entry (IsCommandOf a) → IsArgumentOf r argument.entry
+        → IfOk result (IsCommandOf (with_rule a r)) }
 {
-    command.arg(argument)
+    command?.arg(argument)
 }
 
 /// The command with one more subcommand, where both could be made. It takes them as they were made:
@@ -102,36 +103,37 @@ pub(crate) fn with_command<'a>(
 fn program_command<'a>(alloc: Global) -> Result<Command<'a>, AllocError>
     ensures { IfOk result (IsCommandOf program_app) }
 {
-    let with_file = with_argument(named(alloc, "com"), required_word(alloc, "file", "FILE"))?;
-    let with_tail = with_argument(with_file, optional_words(alloc, "tail", "TAIL"))?;
-    let with_flag = with_argument(with_tail, flag_argument(alloc, "z80"))?;
-    let with_steps = with_argument(with_flag, steps_argument(alloc))?;
+    let with_name = Ok(named(alloc, "com"));
+    let with_file = with_argument(with_name, required_word(alloc, "file", "FILE"));
+    let with_tail = with_argument(with_file, optional_words(alloc, "tail", "TAIL"));
+    let with_flag = with_argument(with_tail, flag_argument(alloc, "z80"));
+    let with_steps = with_argument(with_flag, steps_argument(alloc));
     with_argument(with_steps, value_argument(alloc, "keys", "SCRIPT"))
 }
 
 /// `com FILE [TAIL..] [--z80] [--steps N] [--keys SCRIPT] [--disk IMAGE].. [--out-disk IMAGE]..
-/// [--keyboard] [--record SCRIPT] [--progress] [--stop-idle]`
+/// [--keyboard] [--record SCRIPT] [--progress] [--stop-idle] [--raw] [--quiet]`
 fn com_command<'a>(alloc: Global) -> Result<Command<'a>, AllocError>
     ensures { IfOk result (IsCommandOf com_app) }
 {
-    let with_program = program_command(alloc)?;
-    let with_disks = with_argument(with_program, repeated_argument(alloc, "disk", "IMAGE"))?;
-    let with_outs = with_argument(with_disks, repeated_argument(alloc, "out-disk", "IMAGE"))?;
-    let with_keyboard = with_argument(with_outs, flag_argument(alloc, "keyboard"))?;
-    let with_record = with_argument(with_keyboard, value_argument(alloc, "record", "SCRIPT"))?;
-    let with_progress = with_argument(with_record, flag_argument(alloc, "progress"))?;
-    with_argument(with_progress, flag_argument(alloc, "stop-idle"))
+    let with_program = program_command(alloc);
+    let with_disks = with_argument(with_program, repeated_argument(alloc, "disk", "IMAGE"));
+    let with_outs = with_argument(with_disks, repeated_argument(alloc, "out-disk", "IMAGE"));
+    let with_keyboard = with_argument(with_outs, flag_argument(alloc, "keyboard"));
+    let with_record = with_argument(with_keyboard, value_argument(alloc, "record", "SCRIPT"));
+    let with_progress = with_argument(with_record, flag_argument(alloc, "progress"));
+    let with_idle = with_argument(with_progress, flag_argument(alloc, "stop-idle"));
+    let with_raw = with_argument(with_idle, flag_argument(alloc, "raw"));
+    with_argument(with_raw, flag_argument(alloc, "quiet"))
 }
 
 /// `asm SOURCE OUT [--list FILE]`
 fn asm_command<'a>(alloc: Global) -> Result<Command<'a>, AllocError>
     ensures { IfOk result (IsCommandOf asm_app) }
 {
-    let with_source = with_argument(
-        named(alloc, "asm"),
-        required_word(alloc, "source", "SOURCE"),
-    )?;
-    let with_out = with_argument(with_source, required_word(alloc, "out", "OUT"))?;
+    let with_name = Ok(named(alloc, "asm"));
+    let with_source = with_argument(with_name, required_word(alloc, "source", "SOURCE"));
+    let with_out = with_argument(with_source, required_word(alloc, "out", "OUT"));
     with_argument(with_out, value_argument(alloc, "list", "FILE"))
 }
 
@@ -139,7 +141,8 @@ fn asm_command<'a>(alloc: Global) -> Result<Command<'a>, AllocError>
 fn list_command<'a>(alloc: Global) -> Result<Command<'a>, AllocError>
     ensures { IfOk result (IsCommandOf list_app) }
 {
-    let with_file = with_argument(named(alloc, "list"), required_word(alloc, "file", "FILE"))?;
+    let with_name = Ok(named(alloc, "list"));
+    let with_file = with_argument(with_name, required_word(alloc, "file", "FILE"));
     with_argument(with_file, flag_argument(alloc, "z80"))
 }
 
@@ -147,33 +150,34 @@ fn list_command<'a>(alloc: Global) -> Result<Command<'a>, AllocError>
 fn check_command<'a>(alloc: Global) -> Result<Command<'a>, AllocError>
     ensures { IfOk result (IsCommandOf check_app) }
 {
-    with_argument(
-        named(alloc, "check"),
-        required_word(alloc, "image", "IMAGE"),
-    )
+    let with_name = Ok(named(alloc, "check"));
+    with_argument(with_name, required_word(alloc, "image", "IMAGE"))
 }
 
-/// `run CONFIG [--keyboard NAME] [--record SCRIPT] [--progress] [--stop-idle] [--record-all FOLDER]`
+/// `run CONFIG [--keyboard NAME] [--record SCRIPT] [--progress] [--stop-idle] [--record-all FOLDER]
+/// [--raw] [--within FOLDER].. [--outputs-here]`
 fn run_command<'a>(alloc: Global) -> Result<Command<'a>, AllocError>
     ensures { IfOk result (IsCommandOf run_app) }
 {
-    let with_config = with_argument(
-        named(alloc, "run"),
-        required_word(alloc, "config", "CONFIG"),
-    )?;
-    let with_keyboard = with_argument(with_config, value_argument(alloc, "keyboard", "NAME"))?;
-    let with_record = with_argument(with_keyboard, value_argument(alloc, "record", "SCRIPT"))?;
-    let with_progress = with_argument(with_record, flag_argument(alloc, "progress"))?;
-    let with_idle = with_argument(with_progress, flag_argument(alloc, "stop-idle"))?;
-    with_argument(with_idle, value_argument(alloc, "record-all", "FOLDER"))
+    let with_name = Ok(named(alloc, "run"));
+    let with_config = with_argument(with_name, required_word(alloc, "config", "CONFIG"));
+    let with_keyboard = with_argument(with_config, value_argument(alloc, "keyboard", "NAME"));
+    let with_record = with_argument(with_keyboard, value_argument(alloc, "record", "SCRIPT"));
+    let with_progress = with_argument(with_record, flag_argument(alloc, "progress"));
+    let with_idle = with_argument(with_progress, flag_argument(alloc, "stop-idle"));
+    let with_scripts = with_argument(with_idle, value_argument(alloc, "record-all", "FOLDER"));
+    let with_raw = with_argument(with_scripts, flag_argument(alloc, "raw"));
+    let with_folders = with_argument(with_raw, repeated_argument(alloc, "within", "FOLDER"));
+    with_argument(with_folders, flag_argument(alloc, "outputs-here"))
 }
 
 /// `debug FILE [--z80] [--list FILE]`
 fn debug_command<'a>(alloc: Global) -> Result<Command<'a>, AllocError>
     ensures { IfOk result (IsCommandOf debug_app) }
 {
-    let with_file = with_argument(named(alloc, "debug"), required_word(alloc, "file", "FILE"))?;
-    let with_flag = with_argument(with_file, flag_argument(alloc, "z80"))?;
+    let with_name = Ok(named(alloc, "debug"));
+    let with_file = with_argument(with_name, required_word(alloc, "file", "FILE"));
+    let with_flag = with_argument(with_file, flag_argument(alloc, "z80"));
     with_argument(with_flag, value_argument(alloc, "list", "FILE"))
 }
 

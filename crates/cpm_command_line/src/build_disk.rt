@@ -38,14 +38,17 @@ fn user_argument<'a>(alloc: Global) -> Arg<'a>
 fn image_command<'a>(alloc: Global, name: &'a str) -> Result<Command<'a>, AllocError>
     ensures { IfOk result (IsCommandOf (image_app name.now)) }
 {
-    with_argument(named(alloc, name), required_word(alloc, "image", "IMAGE"))
+    with_argument(
+        Ok(named(alloc, name)),
+        required_word(alloc, "image", "IMAGE"),
+    )
 }
 
 /// `new IMAGE [--large]`
 fn new_command<'a>(alloc: Global) -> Result<Command<'a>, AllocError>
     ensures { IfOk result (IsCommandOf new_disk_app) }
 {
-    let with_image = image_command(alloc, "new")?;
+    let with_image = image_command(alloc, "new");
     with_argument(with_image, flag_argument(alloc, "large"))
 }
 
@@ -53,7 +56,7 @@ fn new_command<'a>(alloc: Global) -> Result<Command<'a>, AllocError>
 fn list_command<'a>(alloc: Global) -> Result<Command<'a>, AllocError>
     ensures { IfOk result (IsCommandOf list_disk_app) }
 {
-    let with_image = image_command(alloc, "list")?;
+    let with_image = image_command(alloc, "list");
     with_argument(with_image, user_if_any_argument(alloc))
 }
 
@@ -61,31 +64,33 @@ fn list_command<'a>(alloc: Global) -> Result<Command<'a>, AllocError>
 fn put_command<'a>(alloc: Global) -> Result<Command<'a>, AllocError>
     ensures { IfOk result (IsCommandOf put_app) }
 {
-    let with_image = image_command(alloc, "put")?;
-    let with_files = with_argument(with_image, required_words(alloc, "file", "FILE"))?;
-    let with_user = with_argument(with_files, user_argument(alloc))?;
-    let with_text = with_argument(with_user, flag_argument(alloc, "text"))?;
-    let with_read_only = with_argument(with_text, flag_argument(alloc, "read-only"))?;
+    let with_image = image_command(alloc, "put");
+    let with_files = with_argument(with_image, required_words(alloc, "file", "FILE"));
+    let with_user = with_argument(with_files, user_argument(alloc));
+    let with_text = with_argument(with_user, flag_argument(alloc, "text"));
+    let with_read_only = with_argument(with_text, flag_argument(alloc, "read-only"));
     with_argument(with_read_only, flag_argument(alloc, "system"))
 }
 
-/// `get IMAGE NAME.TYP.. [--user N] [--text] [--to PATH]`
+/// `get IMAGE NAME.TYP.. [--user N] [--text] [--to PATH] [--force] [--dry-run]`
 fn get_command<'a>(alloc: Global) -> Result<Command<'a>, AllocError>
     ensures { IfOk result (IsCommandOf get_app) }
 {
-    let with_image = image_command(alloc, "get")?;
-    let with_names = with_argument(with_image, required_words(alloc, "name", "NAME.TYP"))?;
-    let with_user = with_argument(with_names, user_argument(alloc))?;
-    let with_text = with_argument(with_user, flag_argument(alloc, "text"))?;
-    with_argument(with_text, value_argument(alloc, "to", "PATH"))
+    let with_image = image_command(alloc, "get");
+    let with_names = with_argument(with_image, required_words(alloc, "name", "NAME.TYP"));
+    let with_user = with_argument(with_names, user_argument(alloc));
+    let with_text = with_argument(with_user, flag_argument(alloc, "text"));
+    let with_place = with_argument(with_text, value_argument(alloc, "to", "PATH"));
+    let with_force = with_argument(with_place, flag_argument(alloc, "force"));
+    with_argument(with_force, flag_argument(alloc, "dry-run"))
 }
 
 /// `remove IMAGE NAME.TYP.. [--user N]`
 fn remove_command<'a>(alloc: Global) -> Result<Command<'a>, AllocError>
     ensures { IfOk result (IsCommandOf remove_app) }
 {
-    let with_image = image_command(alloc, "remove")?;
-    let with_names = with_argument(with_image, required_words(alloc, "name", "NAME.TYP"))?;
+    let with_image = image_command(alloc, "remove");
+    let with_names = with_argument(with_image, required_words(alloc, "name", "NAME.TYP"));
     with_argument(with_names, user_argument(alloc))
 }
 
@@ -93,8 +98,8 @@ fn remove_command<'a>(alloc: Global) -> Result<Command<'a>, AllocError>
 fn rename_command<'a>(alloc: Global) -> Result<Command<'a>, AllocError>
     ensures { IfOk result (IsCommandOf rename_app) }
 {
-    let with_image = image_command(alloc, "rename")?;
-    let with_change = with_argument(with_image, required_word(alloc, "change", "NEW=OLD"))?;
+    let with_image = image_command(alloc, "rename");
+    let with_change = with_argument(with_image, required_word(alloc, "change", "NEW=OLD"));
     with_argument(with_change, user_argument(alloc))
 }
 

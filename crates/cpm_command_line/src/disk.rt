@@ -63,6 +63,8 @@ fn get_task<'a>(alloc: Global, matches: &ArgMatches<'a>) -> Result<DiskTask<'a>,
         user: user_of(matches),
         is_text: flag_of(matches, "text"),
         to: text_if_any(matches, "to"),
+        is_forced: flag_of(matches, "force"),
+        is_dry: flag_of(matches, "dry-run"),
     })
 }
 

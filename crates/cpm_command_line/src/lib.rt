@@ -1,4 +1,4 @@
-//! The command line of `cpmhost`: its words, the task that they name, and the help.
+//! The command line of `cpmhost`: its words, the task that they name, the help and the version.
 #![tactic(auto)]
 
 mod build;
@@ -7,11 +7,13 @@ mod disk;
 mod entries;
 mod fault;
 mod options;
+mod pages;
 mod read;
 mod task;
 mod usage;
 
 pub use fault::{ShownWord, UsageError, UsageFault, shown, shown_line};
+pub use pages::page_text;
 pub use read::command;
 pub use task::{ComTask, DiskTask, RunTask, Task};
-pub use usage::{HELP_TEXT, help};
+pub use usage::{Page, VERSION, asks_version, help, page_asked};

@@ -36,6 +36,8 @@ fn com_task<'a>(alloc: Global, matches: &ArgMatches<'a>) -> Result<Task<'a>, All
         record: text_if_any(matches, "record"),
         has_progress: flag_of(matches, "progress"),
         stops_idle: flag_of(matches, "stop-idle"),
+        is_raw: flag_of(matches, "raw"),
+        is_quiet: flag_of(matches, "quiet"),
     }))
 }
 
@@ -74,18 +76,22 @@ fn check_task<'a>(matches: &ArgMatches<'a>) -> Task<'a>
 }
 
 /// The task of `run`.
-fn run_task<'a>(matches: &ArgMatches<'a>) -> Task<'a>
+fn run_task<'a>(alloc: Global, matches: &ArgMatches<'a>) -> Result<Task<'a>, AllocError>
     requires { IsWholeRun (rows_of (found_of matches.now)) }
-    ensures { HasEntriesOf (codes "run", rows_of (found_of matches.now)) result }
+    ensures { IfOk result (HasEntriesOf (codes "run", rows_of (found_of matches.now))) }
 {
-    Task::Run(RunTask {
+    let folders = texts_if_any(alloc, matches, "within")?;
+    Ok(Task::Run(RunTask {
         config: text_of(matches, "config"),
         keyboard: text_if_any(matches, "keyboard"),
         record: text_if_any(matches, "record"),
         has_progress: flag_of(matches, "progress"),
         stops_idle: flag_of(matches, "stop-idle"),
         scripts: text_if_any(matches, "record-all"),
-    })
+        is_raw: flag_of(matches, "raw"),
+        folders,
+        has_outputs_here: flag_of(matches, "outputs-here"),
+    }))
 }
 
 /// The task of `debug`.
@@ -115,7 +121,7 @@ fn task_named<'a>(
         "asm" => Ok(asm_task(matches)),
         "list" => Ok(list_task(matches)),
         "check" => Ok(check_task(matches)),
-        "run" => Ok(run_task(matches)),
+        "run" => run_task(alloc, matches),
         _ => Ok(debug_task(matches)),
     }
 }

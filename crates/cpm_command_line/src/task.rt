@@ -37,12 +37,14 @@ pub enum Task<'a> {
 }
 
 /// `com FILE [TAIL..] [--z80] [--steps N] [--keys SCRIPT] [--disk IMAGE].. [--out-disk IMAGE]..
-/// [--keyboard] [--record SCRIPT] [--progress] [--stop-idle]`: run the program in FILE on that processor
-/// for at most `steps` steps, with the words of `tail` behind its name, and with the keys of SCRIPT or,
+/// [--keyboard] [--record SCRIPT] [--progress] [--stop-idle] [--raw] [--quiet]`: run the program in FILE on
+/// that processor for at most `steps` steps, with the words of `tail` behind its name, and with the keys of SCRIPT or,
 /// where it is live, of standard input. `drives` are the images of the drives from A on, and `outs` the
 /// files that these are written to; `record` is the script that its keys are written to, where it is live
 /// or has a script. With `has_progress` it is told how much of the steps is done. With `stops_idle` it
-/// ends where the program waits for a key and no key of the script will come.
+/// ends where the program waits for a key and no key of the script will come. With `is_raw` the control
+/// bytes of the program go to a terminal as they are. With `is_quiet` the last line, which says how the
+/// program ended, is left out.
 #[derive(Debug, PartialEq, Eq, Drop)]
 pub struct ComTask<'a> {
     pub file: &'a str,
@@ -56,13 +58,18 @@ pub struct ComTask<'a> {
     pub record: Option<&'a str>,
     pub has_progress: bool,
     pub stops_idle: bool,
+    pub is_raw: bool,
+    pub is_quiet: bool,
 }
 
-/// `run CONFIG [--keyboard NAME] [--record SCRIPT] [--progress] [--stop-idle] [--record-all FOLDER]`: run
-/// the sessions of the configuration in CONFIG. `keyboard` is the session that gets the keys of standard
+/// `run CONFIG [--keyboard NAME] [--record SCRIPT] [--progress] [--stop-idle] [--record-all FOLDER] [--raw]
+/// [--within FOLDER].. [--outputs-here]`: run the sessions of the configuration in CONFIG. `keyboard` is the session that gets the keys of standard
 /// input, and `record` the script that these are written to. With `has_progress` it is told how much of
 /// the steps is done. With `stops_idle` a session ends where it waits for a key and no key of its script
 /// will come. `scripts` is the folder that the keys of each session are written to, as a script NAME.keys.
+/// With `is_raw` the control bytes of a program go to a terminal as they are. `folders` are the folders
+/// that the files of the configuration may lie in, all where there is none. With `has_outputs_here` the
+/// names of outputs are plain names of files in the current folder.
 #[derive(Debug, PartialEq, Eq, Drop)]
 pub struct RunTask<'a> {
     pub config: &'a str,
@@ -71,6 +78,9 @@ pub struct RunTask<'a> {
     pub has_progress: bool,
     pub stops_idle: bool,
     pub scripts: Option<&'a str>,
+    pub is_raw: bool,
+    pub folders: Vec<&'a str>,
+    pub has_outputs_here: bool,
 }
 
 /// A command of `disk` with its words. The files are those of `user`, from 0 to 15.
@@ -97,14 +107,17 @@ pub enum DiskTask<'a> {
         is_read_only: bool,
         is_system: bool,
     },
-    /// `disk get IMAGE NAME.TYP.. [--user N] [--text] [--to PATH]`: copy the files with these names,
-    /// of which there is one at least, out of the image.
+    /// `disk get IMAGE NAME.TYP.. [--user N] [--text] [--to PATH] [--force] [--dry-run]`: copy the files
+    /// with these names, of which there is one at least, out of the image. Files that are there are
+    /// replaced where it is forced. A dry run only tells the files.
     Get {
         image: &'a str,
         names: Vec<&'a str>,
         user: u8,
         is_text: bool,
         to: Option<&'a str>,
+        is_forced: bool,
+        is_dry: bool,
     },
     /// `disk remove IMAGE NAME.TYP.. [--user N]`: erase the files with these names, of which there is
     /// one at least.

@@ -52,6 +52,7 @@ pub fn do_disk(
             user,
             is_text,
             to,
+            ..
         } => get(rt, outputs, image, names, *user, *is_text, *to),
         DiskTask::Remove { image, names, user } => remove(rt, outputs, image, names, *user),
         DiskTask::Rename {

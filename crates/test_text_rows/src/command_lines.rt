@@ -1,7 +1,7 @@
 //! Command lines: the tasks that they name, or their refusals.
 
 use crate::tasks::shown_task;
-use cpm_command_line::{HELP_TEXT, command, help};
+use cpm_command_line::{VERSION, asks_version, command, help, page_asked, page_text};
 use std::alloc::{AllocError, Global};
 use test_language::{RowAnswer, RowFault, RowLine, Scene, Word, bytes_of};
 
@@ -27,6 +27,7 @@ impl Scene for CommandLines {
             "cpmhost" => named(alloc, line.words.as_slice()),
             "line" => named(alloc, line.arguments()),
             "help" => asked(alloc, line.arguments()),
+            "version" => version_of(alloc, line.arguments()),
             _ => Err(RowFault::Unknown),
         }
     }
@@ -42,14 +43,25 @@ fn named(alloc: Global, words: &[Word<'_>]) -> Result<RowAnswer, RowFault> {
     }
 }
 
-/// `help WORDS`: whether the words ask for the help.
+/// `help WORDS`: the page of the help that the words ask for.
 fn asked(alloc: Global, words: &[Word<'_>]) -> Result<RowAnswer, RowFault> {
     let texts = texts_of(alloc, words)?;
     let words = borrowed(alloc, texts.as_slice())?;
-    match help(words.as_slice()) {
-        Some(text) if text == HELP_TEXT => RowAnswer::truth(alloc, true),
-        Some(_) => RowAnswer::words(alloc, "another text"),
-        None => RowAnswer::truth(alloc, false),
+    match (page_asked(words.as_slice()), help(words.as_slice())) {
+        (Some(page), Some(text)) if text == page_text(page) => RowAnswer::name(alloc, page),
+        (None, None) => RowAnswer::truth(alloc, false),
+        _ => RowAnswer::words(alloc, "another text"),
+    }
+}
+
+/// `version WORDS`: the version, where the words ask for it.
+fn version_of(alloc: Global, words: &[Word<'_>]) -> Result<RowAnswer, RowFault> {
+    let texts = texts_of(alloc, words)?;
+    let words = borrowed(alloc, texts.as_slice())?;
+    if asks_version(words.as_slice()) {
+        RowAnswer::bytes(alloc, VERSION.as_bytes())
+    } else {
+        RowAnswer::truth(alloc, false)
     }
 }
 

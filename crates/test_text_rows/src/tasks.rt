@@ -73,7 +73,9 @@ fn add_com(alloc: Global, out: &mut String, task: &ComTask<'_>) -> Result<(), Ro
     add_flag(out, " is_live", task.is_live)?;
     add_text(alloc, out, " record", task.record)?;
     add_flag(out, " has_progress", task.has_progress)?;
-    add_flag(out, " stops_idle", task.stops_idle)
+    add_flag(out, " stops_idle", task.stops_idle)?;
+    add_flag(out, " is_raw", task.is_raw)?;
+    add_flag(out, " is_quiet", task.is_quiet)
 }
 
 /// Adds a configuration that is run.
@@ -83,7 +85,10 @@ fn add_run(alloc: Global, out: &mut String, task: &RunTask<'_>) -> Result<(), Ro
     add_text(alloc, out, " record", task.record)?;
     add_flag(out, " has_progress", task.has_progress)?;
     add_flag(out, " stops_idle", task.stops_idle)?;
-    add_text(alloc, out, " scripts", task.scripts)
+    add_text(alloc, out, " scripts", task.scripts)?;
+    add_flag(out, " is_raw", task.is_raw)?;
+    add_texts(alloc, out, " folders", task.folders.as_slice())?;
+    add_flag(out, " has_outputs_here", task.has_outputs_here)
 }
 
 /// Adds a command of `disk`.
@@ -148,6 +153,8 @@ fn add_get(alloc: Global, out: &mut String, task: &DiskTask<'_>) -> Result<(), R
         user,
         is_text,
         to,
+        is_forced,
+        is_dry,
     } = task
     else {
         return Ok(());
@@ -156,5 +163,7 @@ fn add_get(alloc: Global, out: &mut String, task: &DiskTask<'_>) -> Result<(), R
     add_texts(alloc, out, " names", names.as_slice())?;
     add_user(alloc, out, *user)?;
     add_flag(out, " is_text", *is_text)?;
-    add_text(alloc, out, " to", *to)
+    add_text(alloc, out, " to", *to)?;
+    add_flag(out, " is_forced", *is_forced)?;
+    add_flag(out, " is_dry", *is_dry)
 }

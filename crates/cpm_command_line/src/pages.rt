@@ -1,0 +1,369 @@
+//! The texts of the help's pages.
+ghost use Rattle.std.specs.Prelude.{◌≡◌};
+ghost use Rattle.cpm_command_line.specs.HelpWords.{text_of_page};
+
+use crate::usage::Page;
+
+/// What `cpmhost --help` prints.
+pub const OVERVIEW_PAGE: &str = "\
+cpmhost runs CP/M 2.2 programs for the 8080 and the Z80 processor.
+
+Usage: cpmhost COMMAND [WORDS..] [OPTIONS..]
+
+Commands:
+  run         run the sessions of a configuration by turns
+  com         run a CP/M program, such as a .COM file
+  asm         assemble 8080 source to a program
+  list        list a program as instructions
+  check       tell whether the directory in the image of a drive is in order
+  debug       run a program as the lines of standard input say
+  disk        make the image of a disk, or work with the files in one
+
+'cpmhost help COMMAND', or 'cpmhost COMMAND --help', prints the page of a
+command: what it does, its options and examples. 'cpmhost help disk put' prints
+the page of a command of disk.
+
+'cpmhost help debug' also tells the lines that debug reads, and
+'cpmhost help status' the exit statuses.
+
+'cpmhost --help' prints this page, and 'cpmhost --version' the version.
+
+A file whose name is 'help' or begins with '-' is given as './NAME'.
+";
+
+/// The page of `com`.
+pub const COM_PAGE: &str = "\
+Usage: cpmhost com FILE [TAIL..] [--z80] [--steps N] [--keys SCRIPT]
+       [--disk IMAGE].. [--out-disk IMAGE].. [--keyboard] [--record SCRIPT]
+       [--progress] [--stop-idle] [--raw] [--quiet]
+
+Run the CP/M program in FILE, such as a .COM file, with the words TAIL..
+behind its name on the command line of CP/M, and print what it writes to its
+console. Behind '--' these words may begin with '-'.
+
+Options:
+  --z80       run it on the Z80; it is the 8080 unless this is given
+  --steps N   stop after N steps. N is a number from 0 to 18446744073709551615,
+              and 1000000 where it is left out; but with --keyboard there is no
+              limit then. A step is an instruction, or a part of a system call
+  --keys SCRIPT
+              press the keys of SCRIPT, each line of which is empty, a comment
+              that begins with '#', or a count of steps, a space and the keys
+              that come after so many steps. A character from ' ' to '~' is
+              itself, '^M' is Return, '^C' is Control and C, '^?' is Rubout,
+              and '^~' is a caret
+  --disk IMAGE
+              the image of the disk in drive A; given again, of those in B, C
+              and D; a blank disk is in A where none is given
+  --out-disk IMAGE
+              write the disk in drive A, as the program left it, to this file;
+              given again, those in B, C and D
+  --keyboard  take the keys from standard input as they are typed; '^]', which
+              is Control and ], ends it
+  --record SCRIPT
+              write the keys that come by --keyboard or --keys to the file
+              SCRIPT, which --keys takes
+  --progress  tell on standard error how much of the steps is done
+  --stop-idle
+              end where the program waits for a key and no key of the script
+              will come
+  --raw       control bytes of the program go to a terminal as they are;
+              without it they are shown as ^[ and the like
+  --quiet     leave out the last line, which says how the program ended
+  -h, --help  print this page
+
+Examples:
+  cpmhost com life.com --steps 50000000 > life.txt
+  cpmhost com pip.com --disk work.img --out-disk work.img b.txt=a.txt
+  cpmhost com turbo.com --z80 --disk turbo.img --keyboard --record turbo.keys
+
+Standard output has what the program wrote to its console. The last line on
+standard error says how it ended, after how many steps, and where its program
+counter then stood, as in 'end Exited count 7 pc E406':
+  Exited    the program returned to the system
+  Halted    it executed HLT
+  Illegal   it came to an opcode that the processor does not have
+  Running   it was still running after --steps, or waiting for a key
+";
+
+/// The page of `asm`.
+pub const ASM_PAGE: &str = "\
+Usage: cpmhost asm SOURCE OUT [--list FILE]
+
+Assemble the 8080 source in SOURCE, and write the program, which begins at
+0100h, to the file OUT.
+
+Options:
+  --list FILE
+              write a listing of the source to FILE
+  -h, --help  print this page
+
+Examples:
+  cpmhost asm hello.asm hello.com
+  cpmhost asm hello.asm hello.com --list hello.lst
+";
+
+/// The page of `list`.
+pub const LIST_PAGE: &str = "\
+Usage: cpmhost list FILE [--z80]
+
+List the program in FILE as instructions.
+
+Options:
+  --z80       list it as instructions of the Z80; they are those of the 8080
+              unless this is given
+  -h, --help  print this page
+
+Examples:
+  cpmhost list hello.com
+";
+
+/// The page of `check`.
+pub const CHECK_PAGE: &str = "\
+Usage: cpmhost check IMAGE
+
+Print 'ok' if no two files in the image IMAGE of a drive share a block and each
+block can be a file's.
+
+Options:
+  -h, --help  print this page
+
+Examples:
+  cpmhost check work.img
+";
+
+/// The page of `run`.
+pub const RUN_PAGE: &str = "\
+Usage: cpmhost run CONFIG [--keyboard NAME] [--record SCRIPT] [--progress]
+       [--stop-idle] [--record-all FOLDER] [--raw] [--within FOLDER]..
+       [--outputs-here]
+
+Run the sessions of the configuration in CONFIG by turns, write their files,
+and print how each session ended.
+
+Options:
+  --keyboard NAME
+              take the keys of the session NAME from standard input, as for com
+  --record SCRIPT
+              write these keys to the file SCRIPT, as for com
+  --progress  tell on standard error how much of the steps is done
+  --stop-idle
+              end a session where it waits for a key and no key of its script
+              will come
+  --record-all FOLDER
+              write the keys of each session NAME to the script NAME.keys in
+              the folder FOLDER
+  --raw       control bytes of the program go to a terminal as they are;
+              without it they are shown as ^[ and the like
+  --within FOLDER
+              refuse files of the configuration that are not in this folder,
+              after links; given again, in one of these
+  --outputs-here
+              refuse outputs whose names are not plain names of files in the
+              current folder
+  -h, --help  print this page
+
+Examples:
+  cpmhost run lab.toml
+  cpmhost run lab.toml --keyboard ann --record ann.keys
+  cpmhost run lab.toml --within lab --outputs-here
+
+A line on standard output says for each session its name, how it ended, after
+how many steps, and how many bytes its console got. Beside the ends that
+'cpmhost help com' tells a session can end by Quota: it might have written more
+pages of memory than its configuration allows.
+";
+
+/// The page of `debug`.
+pub const DEBUG_PAGE: &str = "\
+Usage: cpmhost debug FILE [--z80] [--list FILE]
+
+Run the program in FILE as the lines of standard input say.
+
+Options:
+  --z80       run it on the Z80; it is the 8080 unless this is given
+  --list FILE
+              read a listing of the program, as asm writes it, from FILE
+  -h, --help  print this page
+
+Examples:
+  cpmhost debug hello.com --list hello.lst
+
+Lines that debug reads, where HHHH is an address of four hexadecimal digits:
+  S N         make N steps
+  G HHHH N    make N steps, but stop before an instruction at HHHH
+  D HHHH      show 16 bytes of the memory
+  L HHHH      show an instruction
+  R           show the registers
+  K KEYS      press keys, written as in a key script
+  O           show what the console got
+  Q           end
+";
+
+/// The page of `disk`.
+pub const DISK_PAGE: &str = "\
+Usage: cpmhost disk COMMAND IMAGE [WORDS..] [OPTIONS..]
+
+Make the image of a disk, or work with the files in one.
+
+Commands:
+  new         write the image of a blank disk
+  list        list the files in an image
+  put         copy files into an image
+  get         copy files out of an image
+  remove      remove files from an image
+  rename      give a file in an image another name
+
+Options:
+  -h, --help  print this page, or behind a command of disk its page
+
+Examples:
+  cpmhost help disk put
+  cpmhost disk get --help
+";
+
+/// The page of `disk new`.
+pub const DISK_NEW_PAGE: &str = "\
+Usage: cpmhost disk new IMAGE [--large]
+
+Write the image of a blank disk to the file IMAGE.
+
+Options:
+  --large     make a large disk, of 2105344 bytes in place of 256256
+  -h, --help  print this page
+
+Examples:
+  cpmhost disk new work.img
+  cpmhost disk new large.img --large
+";
+
+/// The page of `disk list`.
+pub const DISK_LIST_PAGE: &str = "\
+Usage: cpmhost disk list IMAGE [--user N]
+
+List the files in the image IMAGE of a disk.
+
+Options:
+  --user N    the files of user N: N is a number from 0 to 15; where it is left
+              out, those of all users
+  -h, --help  print this page
+
+Examples:
+  cpmhost disk list work.img
+";
+
+/// The page of `disk put`.
+pub const DISK_PUT_PAGE: &str = "\
+Usage: cpmhost disk put IMAGE FILE.. [--user N] [--text] [--read-only]
+       [--system]
+
+Copy files into the image IMAGE of a disk, each under its own name or, as
+FILE=NAME.TYP, under another.
+
+Options:
+  --user N    the files of user N: N is a number from 0 to 15; where it is left
+              out it is 0
+  --text      change the ends of lines to those of CP/M
+  --read-only
+              mark the files as read-only
+  --system    mark the files as files of the system
+  -h, --help  print this page
+
+Examples:
+  cpmhost disk put work.img life.com notes.txt=NOTES.DOC --user 3
+";
+
+/// The page of `disk get`.
+pub const DISK_GET_PAGE: &str = "\
+Usage: cpmhost disk get IMAGE NAME.TYP.. [--user N] [--text] [--to PATH]
+       [--force] [--dry-run]
+
+Copy files out of the image IMAGE of a disk.
+
+Options:
+  --user N    the files of user N: N is a number from 0 to 15; where it is left
+              out it is 0
+  --text      change the ends of lines back from those of CP/M
+  --to PATH   write into the folder PATH, or the one file to the file PATH;
+              files get their names in small letters where PATH is a folder or
+              left out
+  --force     replace files that are there; without it they are refused, and
+              nothing is written
+  --dry-run   print the files that would be written, and write none
+  -h, --help  print this page
+
+Examples:
+  cpmhost disk get work.img NOTES.DOC --text
+  cpmhost disk get work.img LIFE.COM PIP.COM --to programs
+";
+
+/// The page of `disk remove`.
+pub const DISK_REMOVE_PAGE: &str = "\
+Usage: cpmhost disk remove IMAGE NAME.TYP.. [--user N]
+
+Remove files from the image IMAGE of a disk.
+
+Options:
+  --user N    the files of user N: N is a number from 0 to 15; where it is left
+              out it is 0
+  -h, --help  print this page
+
+Examples:
+  cpmhost disk remove work.img NOTES.BAK
+";
+
+/// The page of `disk rename`.
+pub const DISK_RENAME_PAGE: &str = "\
+Usage: cpmhost disk rename IMAGE NEW=OLD [--user N]
+
+Give the file OLD in the image IMAGE of a disk the name NEW.
+
+Options:
+  --user N    the files of user N: N is a number from 0 to 15; where it is left
+              out it is 0
+  -h, --help  print this page
+
+Examples:
+  cpmhost disk rename work.img NOTES.TXT=NOTES.DOC
+";
+
+/// The page of exit statuses.
+pub const STATUS_PAGE: &str = "\
+Exit status:
+  0   the program or the sessions ran, however they ended, or OUT or the list
+      was written, or the image is in order
+  1   the command line is wrong
+  2   the configuration is wrong; nothing is written
+  3   a line of a key script is wrong; nothing is written
+  4   a file can't be read, or has more than 16777216 bytes
+  5   standard output or a file can't be written
+  6   the image of a drive is wrong, or for check its directory; nothing is
+      written
+  7   SOURCE has a fault, which is named with its line; OUT isn't touched
+  8   memory ran out
+  9   the program in FILE has more than 58112 bytes, or the quotas of all
+      sessions exceed the frames of the configuration
+";
+
+/// The text of a page.
+pub fn page_text(page: Page) -> &'static str
+    ensures { result.now ≡ text_of_page page }
+{
+    match page {
+        Page::Overview => OVERVIEW_PAGE,
+        Page::Com => COM_PAGE,
+        Page::Asm => ASM_PAGE,
+        Page::List => LIST_PAGE,
+        Page::Check => CHECK_PAGE,
+        Page::Run => RUN_PAGE,
+        Page::Debug => DEBUG_PAGE,
+        Page::Disk => DISK_PAGE,
+        Page::DiskNew => DISK_NEW_PAGE,
+        Page::DiskList => DISK_LIST_PAGE,
+        Page::DiskPut => DISK_PUT_PAGE,
+        Page::DiskGet => DISK_GET_PAGE,
+        Page::DiskRemove => DISK_REMOVE_PAGE,
+        Page::DiskRename => DISK_RENAME_PAGE,
+        Page::Status => STATUS_PAGE,
+    }
+}
