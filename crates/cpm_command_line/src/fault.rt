@@ -2,7 +2,8 @@
 ghost use Rattle.std.specs.Prelude.{◌≡◌, ◌+◌, ◌<◌, ◌≤◌, ◌++◌, false, IsTrue, if◌then◌else◌, chars, codes, encode_utf8, length};
 ghost use Rattle.clap.specs.Words.{kind_of};
 ghost use Rattle.cpm_command_line.specs.Refusals.{IsOfKind};
-ghost use Rattle.cpm_command_line.specs.Shown.{characters_of, has_room_to_show, shown_character, shown_of, is_format_of_letters, is_format_of_lines, is_format_past_ffff, is_from, is_hidden};
+ghost use Rattle.cpm_command_line.specs.Shown.{characters_of, has_room_to_show, shown_character, shown_of};
+ghost use Rattle.cpm_command_line.specs.Shown.{is_format_of_letters, is_format_of_lines, is_format_past_ffff, is_from, is_hidden};
 
 use arrayvec::ArrayString;
 use clap::Error;

@@ -72,7 +72,8 @@ rename_files_on new_name user fcb buffer drive =
 -- SET FILE ATTRIBUTES
 unfoldable pub set_attributes_on : ℕ → Fcb → List ℕ → Drive → OnDrive
 set_attributes_on user fcb buffer drive =
-    unless_protected drive fcb buffer (by_named drive fcb buffer (names.set_attributes_on_volume (volume_of drive.image drive.marks.reserved) user fcb.extent.name))
+    unless_protected drive fcb buffer
+    (by_named drive fcb buffer (names.set_attributes_on_volume (volume_of drive.image drive.marks.reserved) user fcb.extent.name))
 
 -- a call on a record
 abbrev pub by_record : Called → OnDrive

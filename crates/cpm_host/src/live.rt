@@ -15,8 +15,8 @@ use cpm_geom::{Format, Image};
 use cpm_machine::{Machine, OpenError, Opening};
 use cpm_play::{Live, play_live};
 use cpm_run::RunError;
-use cpm_script::Key;
 use cpm_script::laws::recorded_keys;
+use cpm_script::{Key, MOST_KEYS};
 use std::alloc::Global;
 use std::io::{Read, Write};
 
@@ -29,9 +29,6 @@ pub struct LiveResult {
     /// Whether the machine then waits for a key.
     pub waits: bool,
 }
-
-/// The most keys that a script has.
-pub const MOST_SCRIPT: usize = 4096;
 
 /// Plays a machine by the keys that are typed, at most so many, and for at most `steps` steps.
 fn play_typed<I: Read, W: Write, S: Write>(
@@ -148,14 +145,5 @@ pub fn type_session<I: Read, W: Write, S: Write>(
         Ok(machine) => machine,
         Err((_, fault)) => return Err(opening_refused(name, fault)),
     };
-    play_typed(
-        alloc,
-        system,
-        machine,
-        steps,
-        MOST_SCRIPT,
-        input,
-        out,
-        record,
-    )
+    play_typed(alloc, system, machine, steps, MOST_KEYS, input, out, record)
 }

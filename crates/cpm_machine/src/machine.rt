@@ -51,7 +51,8 @@ impl Model for Machine {
 
     ghost view = { λ m. state_of m.runner (flat_contents m.memory) };
 
-    ghost invariant = { λ m. IsRunnerSound (state_of m.runner (flat_contents m.memory)) × IsRightFor (flat_contents m.memory) (flat_stamps m.memory) m.runner.cache };
+    ghost invariant = { λ m. IsRunnerSound (state_of m.runner (flat_contents m.memory))
+        × IsRightFor (flat_contents m.memory) (flat_stamps m.memory) m.runner.cache };
 }
 
 impl Machine {

@@ -2,6 +2,7 @@
 
 ghost use Rattle.std.specs.Prelude.{◌≡◌, ◌<◌, true};
 
+use crate::machine::QUANTUM;
 use cpm_flags::Regs;
 use cpm_machine::{Look, Why};
 use cpm_memory::layout::{BDOS, FIRST_BIOS};
@@ -20,9 +21,6 @@ const STATUS: u8 = 11;
 
 /// How many polls in a row want a key.
 const POLLS: u32 = 64;
-
-/// How many steps a turn has at most, so that output appears as it comes.
-const QUANTUM: u64 = 100_000;
 
 /// How many the first turn has, and the first after a key: at the prompt, a turn ends for no wait, and the next key comes behind it.
 const FIRST_QUANTUM: u64 = 100;

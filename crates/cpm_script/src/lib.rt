@@ -19,5 +19,5 @@ pub use fork::{keys_before, read_forked_keys};
 pub use forked_cue::read_forked_cues;
 pub use keys::{are_keys, first_key};
 pub use lines::{first_line, without_return};
-pub use script::{Key, read_keys};
+pub use script::{Key, MOST_KEYS, read_keys};
 pub use writing::key_line;

@@ -28,7 +28,7 @@ pub(crate) enum KeyStop {
 }
 
 /// The most keys that a script has.
-pub(crate) const MOST_KEYS: usize = 4096;
+pub const MOST_KEYS: usize = 4096;
 
 /// A line of spaces, or with nothing on it.
 pub(crate) fn is_blank(line: &[u8]) -> bool

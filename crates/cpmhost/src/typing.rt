@@ -8,7 +8,7 @@ use crate::refused::Refused;
 use crate::rehearse::{Rehearsals, last_fork, opening_of, place_of};
 use crate::screen::Screen;
 use cpm_geom::Image;
-use cpm_host::{Config, HostError, LiveResult, MOST_SCRIPT, SessionStart, shown, type_session};
+use cpm_host::{Config, HostError, LiveResult, MOST_KEYS, SessionStart, shown, type_session};
 use std::io::{BufReader, Write};
 use std::rt::Files;
 use std::{fs, io};
@@ -58,7 +58,7 @@ impl<F: Write + Drop> Record<F> {
     /// How many keys it takes: a script has not more.
     pub fn most_keys(&self) -> usize {
         if self.file.is_some() {
-            MOST_SCRIPT
+            MOST_KEYS
         } else {
             usize::MAX
         }
@@ -112,7 +112,7 @@ pub fn type_in(
         return Err(Refused::from(HostError::NoSession(shown(name))));
     };
     let typed = type_at(rt, config, place, record, shows_controls)?;
-    tell_full(rt, typed.keys.len(), MOST_SCRIPT);
+    tell_full(rt, typed.keys.len(), MOST_KEYS);
     let steps = typed.steps.max(last_fork(config, name));
     let is_idle = stops_idle && typed.waits;
     let script = all.add(rt, place, typed, 0, is_idle)?;

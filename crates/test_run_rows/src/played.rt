@@ -3,14 +3,11 @@
 use crate::programs::Programs;
 use cpm_geom::Image;
 use cpm_host::{
-    CuedKeys, HostError, LiveResult, ProgramStart, Script, Unwatched, cues_of, run_com, run_live,
-    run_waiting,
+    CuedKeys, HostError, LiveResult, MOST_KEYS, ProgramStart, Script, Unwatched, cues_of, run_com,
+    run_live, run_waiting,
 };
 use std::alloc::Global;
 use test_language::{RowAnswer, RowFault, RowLine, Word};
-
-/// The most keys that are typed.
-const MOST_KEYS: usize = 4096;
 
 /// The file of the key script.
 pub(crate) const KEYS: &str = "a.keys";

@@ -1,14 +1,11 @@
 //! Key scripts: the keys that they have, those that wait, those of forked sessions, and keys that are recorded.
 
 use cpm_script::{
-    Cue, Key, ScriptError, key_line, keys_before, read_cues, read_forked_cues, read_forked_keys,
-    read_keys,
+    Cue, Key, MOST_KEYS, ScriptError, key_line, keys_before, read_cues, read_forked_cues,
+    read_forked_keys, read_keys,
 };
 use std::alloc::{AllocError, Global};
 use test_language::{RowAnswer, RowFault, RowLine, Scene, Word, byte, count, number};
-
-/// The most keys of a script.
-const MOST_KEYS: usize = 4096;
 
 /// The most keys that are shown one by one.
 const MOST_SHOWN: usize = 128;
