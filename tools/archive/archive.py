@@ -17,6 +17,7 @@ import re
 import subprocess
 import sys
 import tomllib
+import unicodedata
 from typing import NamedTuple
 
 HERE = os.path.dirname(os.path.realpath(__file__))
@@ -27,6 +28,8 @@ JOB_WORDS = sys.executable, "-I", "-S", JOB
 # (names are words of commands, of logs and of manifests, so they have no characters that mean something there)
 NAME = re.compile(r"[A-Za-z0-9][A-Za-z0-9._-]*")
 REPORT = re.compile(r"(\S+) ([A-Z][A-Za-z]+) (\d+) (\d+)")
+# the categories of Unicode of characters that aren't shown: controls, formats (U+202E), surrogates, separators of lines and paragraphs
+HIDDEN = "Cc", "Cf", "Cs", "Zl", "Zp"
 
 
 class Refusal(Exception):
@@ -97,7 +100,7 @@ def names(folder):
         raise Refusal(f"{folder} is no archive: can't read its folder configs: {error.strerror}")
     for name in found:
         if not NAME.fullmatch(name):
-            raise Refusal(f"{folder}/configs/{name}.toml: a name of letters, digits and . _ - is wanted")
+            raise Refusal(f"{folder}/configs/{shown(name)}.toml: a name of letters, digits and . _ - is wanted")
     if not found:
         raise Refusal(f"{folder} has no configurations")
     return found
@@ -127,17 +130,30 @@ def one_by_one(folder, listed):
 # ---- results
 
 
+def shown(words):
+    """A text as a line of a terminal or a page has it: `?` for characters that control, or that turn what stands around them."""
+    return "".join("?" if unicodedata.category(it) in HIDDEN else it for it in words)
+
+
 def plain(name):
     """The name of an output, which lies beside the report."""
-    if "/" in name or name in (".", ".."):
-        raise Refusal(f"the output {name} is no plain name")
+    if not name or "/" in name or name.startswith(".") or name == "report":
+        raise Refusal(f"the output '{shown(name)}' is no plain name")
     return name
 
 
-def changed_images(result, session, drives, known):
+def drive_image(folder, result, name):
+    """The image that a drive had, which lies where a run may read."""
+    found = os.path.realpath(os.path.normpath(os.path.join(result, name)))
+    if not any(found.startswith(f"{os.path.realpath(it)}/") for it in (f"{folder}/images", f"{folder}/keys", result)):
+        raise Refusal(f"the drive '{shown(name)}' is not in the archive's images")
+    return found
+
+
+def changed_images(folder, result, session, drives, known):
     found = {}
-    for name, before in zip(session.get("out", []), drives):
-        before = os.path.normpath(os.path.join(result, before))
+    for name, drive in zip(session.get("out", []), drives):
+        before = drive_image(folder, result, drive)
         if before not in known:
             known[before] = digest(before)
         after = digest(result, plain(name))
@@ -146,8 +162,8 @@ def changed_images(result, session, drives, known):
     return found
 
 
-def refused(name, lines):
-    return [Session(name, "", "", "Refused", None, None, "", {}, lines[-2] if len(lines) > 1 else "")]
+def refused(name, note):
+    return [Session(name, "", "", "Refused", None, None, "", {}, note)]
 
 
 def sessions_of(folder, name, known):
@@ -155,20 +171,33 @@ def sessions_of(folder, name, known):
     result = f"{folder}/results/{name}"
     lines = text(result, "report").splitlines()
     if lines[-1:] != ["status 0"]:
-        return refused(name, lines)
+        return refused(name, lines[-2] if len(lines) > 1 else "")
     sessions = tomllib.loads(text(folder, "configs", f"{name}.toml"))["session"]
     reports = [it for it in map(REPORT.fullmatch, lines) if it]
     if [it[1] for it in reports] != [it["name"] for it in sessions]:
-        raise Refusal(f"{result}/report isn't that of configs/{name}.toml: take the folder away, and run the archive again")
+        raise Refusal("the result isn't that of the configuration")
     by_name, rows = {it["name"]: it for it in sessions}, []
     for session, report in zip(sessions, reports):
         origin = by_name[session["fork"]] if "fork" in session else session
-        images = changed_images(result, session, origin["drives"], known)
+        images = changed_images(folder, result, session, origin["drives"], known)
         console = digest(result, plain(session["console"]))
         said = f"{session['name']} illegal at "
         note = next((it[len(session["name"]) + 1 :] for it in lines if it.startswith(said)), "")
         rows.append(Session(name, session["name"], origin["cpu"], report[2], int(report[3]), int(report[4]), console, images, note))
     return rows
+
+
+def rows_of(folder, name, known):
+    """The rows of a configuration that has its result, and what is wrong with that, which is then the note of its only row."""
+    try:
+        return sessions_of(folder, name, known), None
+    except Refusal as refusal:
+        why = str(refusal)
+    except (OSError, LookupError, TypeError, ValueError):
+        # (it lacks a file; or the configuration is no TOML any more, or has other keys)
+        why = "the result isn't that of the configuration"
+    why += f": take the folder results/{name} away, and run the archive again"
+    return refused(name, why), why
 
 
 def refusals_end(work):

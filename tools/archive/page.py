@@ -1,9 +1,10 @@
 """The page of an archive: one file of HTML that needs no other, with all rows as a table and their steps as a plot."""
 
 import collections
+import html
 import os
-from html import escape
 
+from archive import shown
 from plot import ENDS, histogram, swatch
 
 HERE = os.path.dirname(os.path.realpath(__file__))
@@ -24,6 +25,11 @@ COLUMNS = (
 def part(name):
     with open(f"{HERE}/{name}", encoding="utf-8") as file:
         return file.read()
+
+
+def escape(words):
+    """A text on the page, without characters that would change how others are shown."""
+    return html.escape(shown(words))
 
 
 def short(digest):

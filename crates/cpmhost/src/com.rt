@@ -3,47 +3,53 @@
 ghost use Rattle.cpm_host.specs.Cued.{AreFit};
 
 use crate::disk::read_image;
-use crate::files::{check_file, read_file, write_file};
+use crate::files::{check_file, read_file, write_held};
+use crate::held::{HeldFiles, Machine, hold};
 use crate::output::Outputs;
+use crate::patient::{PatientInput, PatientOutput};
 use crate::place::check_com;
 use crate::progress::{Audience, Form, Teller};
+use crate::record::record_in;
 use crate::refused::Refused;
 use crate::rehearse::waits_in;
 use crate::screen::Screen;
-use crate::typing::{Terminals, record_in, tell_full, tell_quit};
+use crate::typing::{Terminals, tell_full, tell_quit};
 use crate::waiting_word;
 use cpm_geom::Image;
 use cpm_host::{
     ComTask, CuedKeys, Ending, HostError, LiveResult, ProgramResult, ProgramStart, Script, Tail,
     cues_of, run_com, run_live, run_waiting, tail_of,
 };
-use std::io;
 use std::io::{BufReader, Write};
-use std::rt::Files;
+use std::rt::{Clock, Files};
 
 /// How many steps a program has at most where nobody says.
 const STEPS: u64 = 1_000_000;
 
 /// Runs the program in a file, prints what it shows, writes its drives where that is asked, and prints how it ended.
 pub fn com(
-    rt: &(impl Files + Input + Print + Eprint + AllocGlobal),
+    rt: &(impl Machine + Input + Print + Eprint),
     outputs: Outputs,
     task: &ComTask<'_>,
     terminals: Terminals,
 ) -> Result<(), Refused> {
+    let held = hold(rt, &task.drives, &task.outs)?;
     let start = start_of(rt, task)?;
     check_com(rt, task)?;
     check_outs(rt, outputs, &task.outs)?;
-    // (before a file is emptied in which keys are recorded)
+    // (before a key is recorded)
     start.check()?;
-    let mut screen = Screen::new(io::writer(rt), terminals.shows_controls(task.is_raw));
+    let mut screen = Screen::new(
+        PatientOutput::new(rt),
+        terminals.shows_controls(task.is_raw),
+    );
     let (ran, waits) = if task.is_live {
-        play_keyboard(rt, task, start, &mut screen)?
+        play_keyboard(rt, outputs, task, start, &mut screen)?
     } else {
-        play_script(rt, task, start, &mut screen, terminals)?
+        play_script(rt, outputs, task, start, &mut screen, terminals)?
     };
     let ending = ran.ending;
-    write_drives(rt, outputs, &task.outs, ran.drives)?;
+    write_drives(rt, outputs, &held, &task.outs, ran.drives)?;
     if terminals.are_one() && !screen.is_at_line_start() {
         let _ = eprintln!(rt);
     }
@@ -96,6 +102,7 @@ fn drives_of(rt: &(impl Files + AllocGlobal), names: &[&str]) -> Result<Vec<Imag
 /// Runs a program by the keys of the script in a file, if there is one, and says whether it then waits for a key, where that is known.
 fn play_script<W: Write>(
     rt: &(impl Files + Eprint + AllocGlobal),
+    outputs: Outputs,
     task: &ComTask<'_>,
     start: ProgramStart,
     out: &mut W,
@@ -110,7 +117,7 @@ fn play_script<W: Write>(
         text: text.as_slice(),
     };
     if task.stops_idle || task.record.is_some() || waits_in(script.text) {
-        play_waiting(rt, task, start, script, out, terminals)
+        play_waiting(rt, outputs, task, start, script, out, terminals)
     } else {
         Ok((play(rt, task, start, script, out, terminals)?, false))
     }
@@ -120,6 +127,7 @@ fn play_script<W: Write>(
 /// where it waits and no key comes.
 fn play_waiting<W: Write>(
     rt: &(impl Files + Eprint + AllocGlobal),
+    outputs: Outputs,
     task: &ComTask<'_>,
     start: ProgramStart,
     script: Script<'_>,
@@ -132,13 +140,14 @@ fn play_waiting<W: Write>(
         waits_from: 0,
         stops_idle: task.stops_idle,
     };
-    let typed = play_cued(rt, task, start, cued, out, terminals)?;
+    let typed = play_cued(rt, outputs, task, start, cued, out, terminals)?;
     Ok((typed.ran, typed.waits))
 }
 
 /// Runs a program by what its script says, and records its keys if that is asked.
 fn play_cued<W: Write>(
     rt: &(impl Files + Eprint + AllocGlobal),
+    outputs: Outputs,
     task: &ComTask<'_>,
     start: ProgramStart,
     cued: CuedKeys<'_>,
@@ -147,7 +156,7 @@ fn play_cued<W: Write>(
 ) -> Result<LiveResult, Refused>
     requires { AreFit cued.cues.now }
 {
-    let mut record = record_in(rt, task.record)?;
+    let mut record = record_in(rt, outputs, task.record)?;
     let steps = task.steps.unwrap_or(STEPS);
     let mut teller = teller_of(rt, task, terminals);
     let played = run_waiting(
@@ -160,7 +169,7 @@ fn play_cued<W: Write>(
         &mut teller,
     );
     teller.end();
-    Ok(played?)
+    record.end(rt, played)
 }
 
 /// Tells how far a program is, if that is asked.
@@ -187,22 +196,24 @@ fn play<W: Write>(
 
 /// Runs a program by the keys of standard input, records them if that is asked, and says whether it then waits for a key.
 fn play_keyboard<W: Write>(
-    rt: &(impl Files + Input + Eprint + AllocGlobal),
+    rt: &(impl Machine + Input + Eprint),
+    outputs: Outputs,
     task: &ComTask<'_>,
     start: ProgramStart,
     out: &mut W,
 ) -> Result<(ProgramResult, bool), Refused> {
-    let mut record = record_in(rt, task.record)?;
+    let mut record = record_in(rt, outputs, task.record)?;
     let most_keys = record.most_keys();
     tell_quit(rt);
-    let typed = play_live(rt, task, start, most_keys, out, &mut record)?;
+    let played = play_live(rt, task, start, most_keys, out, &mut record);
+    let typed = record.end(rt, played)?;
     tell_full(rt, typed.keys.len(), most_keys);
     Ok((typed.ran, typed.waits))
 }
 
 /// Runs a program by the keys of standard input.
 fn play_live<W: Write, S: Write>(
-    rt: &(impl Input + AllocGlobal),
+    rt: &(impl Input + Clock + AllocGlobal),
     task: &ComTask<'_>,
     start: ProgramStart,
     most_keys: usize,
@@ -210,22 +221,24 @@ fn play_live<W: Write, S: Write>(
     record: &mut S,
 ) -> Result<LiveResult, HostError> {
     let steps = task.steps.unwrap_or(u64::MAX);
-    match BufReader::new(rt.alloc(), rt.reader()) {
+    match BufReader::new(rt.alloc(), PatientInput::new(rt)) {
         Ok(mut input) => run_live(rt.alloc(), start, steps, most_keys, &mut input, out, record),
         Err(_) => Err(HostError::OutOfMemory),
     }
 }
 
-/// Writes the first drives to files, as many as these are.
+/// Writes the first drives to files, as many as these are, where those that were read are still what they were then.
 fn write_drives(
     rt: &(impl Files + AllocGlobal),
     outputs: Outputs,
+    held: &HeldFiles,
     outs: &[&str],
     drives: [Option<Image>; 4],
 ) -> Result<(), Refused> {
+    held.check(rt)?;
     for (out, image) in outs.iter().zip(drives) {
         if let Some(image) = image {
-            write_file(rt, outputs, out, &image.into_bytes())?;
+            write_held(rt, outputs, held, out, &image.into_bytes())?;
         }
     }
     Ok(())

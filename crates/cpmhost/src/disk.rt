@@ -3,26 +3,27 @@
 ghost use Rattle.std.specs.Prelude.{◌≡◌, ◌<◌};
 ghost use Rattle.cpm_command_line.specs.DiskLine.{HasUser};
 
-use crate::files::{check_file, read_file, write_file};
+use crate::files::{read_file, write_file, write_held};
+use crate::get::{Getting, get};
+use crate::held::{Machine, hold};
 use crate::output::Outputs;
-use crate::place::check_taken;
+use crate::patient::PatientOutput;
 use crate::refused::Refused;
 use cpm_disk_commands::{
-    FilingError, base_name, check_new, file_name, get_file, host_name, image_of, list_files,
-    matching_files, new_image, put_file, remove_file, rename_file, split_pair, write_list,
+    FilingError, base_name, check_new, file_name, image_of, list_files, matching_files, new_image,
+    put_file, remove_file, rename_file, split_pair, write_list,
 };
 use cpm_geom::Image;
 use cpm_host::{DiskTask, HostError, shown};
 use cpm_image_files::FileName;
 use std::alloc::AllocError;
 use std::io::ErrorKind;
-use std::path::Path;
 use std::rt::Files;
 use std::{fs, io};
 
 /// Does what a command on disk images asks for.
 pub fn do_disk(
-    rt: &(impl Files + Print + AllocGlobal),
+    rt: &(impl Machine + Print),
     outputs: Outputs,
     task: &DiskTask<'_>,
 ) -> Result<(), Refused>
@@ -31,29 +32,8 @@ pub fn do_disk(
     match task {
         DiskTask::New { image, is_large } => new(rt, outputs, image, *is_large),
         DiskTask::List { image, user } => list(rt, image, *user),
-        DiskTask::Put {
-            image,
-            files,
-            user,
-            is_text,
-            is_read_only,
-            is_system,
-        } => {
-            let how = Putting {
-                is_text: *is_text,
-                is_read_only: *is_read_only,
-                is_system: *is_system,
-            };
-            put(rt, outputs, image, files, *user, how)
-        }
-        DiskTask::Get {
-            image,
-            names,
-            user,
-            is_text,
-            to,
-            ..
-        } => get(rt, outputs, image, names, *user, *is_text, *to),
+        DiskTask::Put { .. } => do_put(rt, outputs, task),
+        DiskTask::Get { .. } => do_get(rt, outputs, task),
         DiskTask::Remove { image, names, user } => remove(rt, outputs, image, names, *user),
         DiskTask::Rename {
             image,
@@ -63,21 +43,58 @@ pub fn do_disk(
     }
 }
 
+/// Puts files into an image, if the command asks for that.
+fn do_put(rt: &(impl Machine + Print), outputs: Outputs, task: &DiskTask<'_>) -> Result<(), Refused>
+    requires { HasUser task.now }
+{
+    let DiskTask::Put {
+        image,
+        files,
+        user,
+        is_text,
+        is_read_only,
+        is_system,
+    } = task
+    else {
+        return Ok(());
+    };
+    let how = Putting {
+        is_text: *is_text,
+        is_read_only: *is_read_only,
+        is_system: *is_system,
+    };
+    put(rt, outputs, image, files, *user, how)
+}
+
+/// Takes files out of an image, if the command asks for that.
+fn do_get(rt: &(impl Machine + Print), outputs: Outputs, task: &DiskTask<'_>) -> Result<(), Refused>
+    requires { HasUser task.now }
+{
+    let DiskTask::Get {
+        image,
+        names,
+        user,
+        is_text,
+        to,
+        is_forced,
+        is_dry,
+    } = task
+    else {
+        return Ok(());
+    };
+    let how = Getting {
+        is_text: *is_text,
+        to: *to,
+        is_forced: *is_forced,
+        is_dry: *is_dry,
+    };
+    get(rt, outputs, image, names, *user, how)
+}
+
 /// The image in a file.
 pub fn read_image(rt: &(impl Files + AllocGlobal), name: &str) -> Result<Image, Refused> {
     let bytes = read_file(rt, name)?;
     Ok(image_of(name, bytes)?)
-}
-
-/// Makes a file hold an image.
-fn write_image(
-    rt: &(impl Files + AllocGlobal),
-    outputs: Outputs,
-    name: &str,
-    image: Image,
-) -> Result<(), Refused> {
-    write_file(rt, outputs, name, &image.into_bytes())?;
-    Ok(())
 }
 
 /// Writes a blank image to a file that isn't there yet.
@@ -94,15 +111,12 @@ fn new(
         }));
     }
     let image = new_image(rt.alloc(), is_large)?;
-    write_image(rt, outputs, name, image)
+    write_file(rt, outputs, name, &image.into_bytes())?;
+    Ok(())
 }
 
 /// Lists the files in an image.
-fn list(
-    rt: &(impl Files + Print + AllocGlobal),
-    name: &str,
-    user: Option<u8>,
-) -> Result<(), Refused> {
+fn list(rt: &(impl Machine + Print), name: &str, user: Option<u8>) -> Result<(), Refused> {
     let image = read_image(rt, name)?;
     let shelf = list_files(rt.alloc(), &image, name)?;
     write_list(
@@ -110,7 +124,7 @@ fn list(
         image.format(),
         &shelf,
         user,
-        &mut io::writer(rt),
+        &mut PatientOutput::new(rt),
     )?;
     Ok(())
 }
@@ -125,7 +139,7 @@ struct Putting {
 
 /// Puts files into an image, each FILE or FILE=NAME.TYP; all of them or none.
 fn put(
-    rt: &(impl Files + AllocGlobal),
+    rt: &impl Machine,
     outputs: Outputs,
     name: &str,
     words: &[&str],
@@ -134,12 +148,14 @@ fn put(
 ) -> Result<(), Refused>
     requires { user < 16 }
 {
+    let held = hold(rt, &[name], &[name])?;
     let mut image = read_image(rt, name)?;
     let mut files: Vec<FileName> = Vec::new(rt.alloc());
     for word in words {
         image = put_word(rt, &image, name, &mut files, word, user, how)?;
     }
-    write_image(rt, outputs, name, image)
+    write_held(rt, outputs, &held, name, &image.into_bytes())?;
+    Ok(())
 }
 
 /// An image with one more file, which is none of those that were put before it.
@@ -176,7 +192,7 @@ fn put_path(
 }
 
 /// The files of a user whose names match one of these patterns, each once.
-fn files_named(
+pub fn files_named(
     rt: &impl AllocGlobal,
     image: &Image,
     name: &str,
@@ -204,101 +220,9 @@ fn add_new(files: &mut Vec<FileName>, others: &[FileName]) -> Result<(), AllocEr
     Ok(())
 }
 
-/// A file that was taken out of an image, and where it is to go.
-#[derive(Drop)]
-pub struct Extraction {
-    pub path: String,
-    pub bytes: Vec<u8>,
-}
-
-/// Takes files out of an image: into a folder, by their names in small letters, or the one file to a file. Nothing is written before all
-/// of them were read.
-fn get(
-    rt: &(impl Files + AllocGlobal),
-    outputs: Outputs,
-    name: &str,
-    patterns: &[&str],
-    user: u8,
-    is_text: bool,
-    to: Option<&str>,
-) -> Result<(), Refused>
-    requires { user < 16 }
-{
-    let image = read_image(rt, name)?;
-    let files = files_named(rt, &image, name, patterns, user)?;
-    let all = take_all(rt, &image, name, &files, is_text, to)?;
-    check_taken(rt, name, &all)?;
-    write_all(rt, outputs, &all)
-}
-
-/// Takes files out of an image, of which there is at most one where they are to go to a file.
-fn take_all(
-    rt: &(impl Files + AllocGlobal),
-    image: &Image,
-    name: &str,
-    files: &[FileName],
-    is_text: bool,
-    to: Option<&str>,
-) -> Result<Vec<Extraction>, Refused> {
-    let is_to_file = to.is_some_and(|path| !Path::new(path).is_dir(rt));
-    if is_to_file && files.len() > 1 {
-        return Err(Refused::from(HostError::NotAFolder(shown(to.unwrap_or("")))));
-    }
-    let mut all = Vec::new(rt.alloc());
-    for file in files {
-        let path = path_of(rt, name, file, to, is_to_file)?;
-        let bytes = get_file(rt.alloc(), image, name, file, is_text)?;
-        all.push(Extraction { path, bytes })?;
-    }
-    Ok(all)
-}
-
-/// Writes files that were taken out of an image, where each of them can be written.
-fn write_all(
-    rt: &(impl Files + AllocGlobal),
-    outputs: Outputs,
-    all: &[Extraction],
-) -> Result<(), Refused> {
-    for taken in all {
-        check_file(rt, outputs, taken.path.as_str())?;
-    }
-    for taken in all {
-        write_file(rt, outputs, taken.path.as_str(), &taken.bytes)?;
-    }
-    Ok(())
-}
-
-/// Where a file goes that is taken out of an image: to the file of this path, or by its own name into the folder.
-fn path_of(
-    rt: &impl AllocGlobal,
-    name: &str,
-    file: &FileName,
-    to: Option<&str>,
-    is_to_file: bool,
-) -> Result<String, Refused> {
-    match to {
-        Some(path) if is_to_file => Ok(String::from_str(rt.alloc(), path)?),
-        folder => {
-            let inside = host_name(name, file)?;
-            Ok(path_in(rt, folder, inside.as_str())?)
-        }
-    }
-}
-
-/// The path of a file in a folder, or in the current one.
-fn path_in(rt: &impl AllocGlobal, folder: Option<&str>, name: &str) -> Result<String, AllocError> {
-    match folder {
-        None => String::from_str(rt.alloc(), name),
-        Some(folder) => {
-            let path = Path::new(folder).join(rt.alloc(), name)?;
-            String::from_str(rt.alloc(), path.as_path().as_str())
-        }
-    }
-}
-
 /// Removes files from an image; all of them or none.
 fn remove(
-    rt: &(impl Files + AllocGlobal),
+    rt: &impl Machine,
     outputs: Outputs,
     name: &str,
     patterns: &[&str],
@@ -306,16 +230,18 @@ fn remove(
 ) -> Result<(), Refused>
     requires { user < 16 }
 {
+    let held = hold(rt, &[name], &[name])?;
     let mut image = read_image(rt, name)?;
     for file in &files_named(rt, &image, name, patterns, user)? {
         image = remove_file(rt.alloc(), &image, name, file)?;
     }
-    write_image(rt, outputs, name, image)
+    write_held(rt, outputs, &held, name, &image.into_bytes())?;
+    Ok(())
 }
 
 /// Gives a file in an image another name, as NEW=OLD says.
 fn rename(
-    rt: &(impl Files + AllocGlobal),
+    rt: &impl Machine,
     outputs: Outputs,
     name: &str,
     change: &str,
@@ -328,7 +254,9 @@ fn rename(
     };
     let new = file_name(new, user, false, false)?;
     let old = file_name(old, user, false, false)?;
+    let held = hold(rt, &[name], &[name])?;
     let image = read_image(rt, name)?;
     let image = rename_file(rt.alloc(), &image, name, &old, &new)?;
-    write_image(rt, outputs, name, image)
+    write_held(rt, outputs, &held, name, &image.into_bytes())?;
+    Ok(())
 }

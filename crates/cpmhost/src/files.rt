@@ -3,18 +3,22 @@ ghost use Rattle.std.specs.Prelude.{⊤, ◌≡◌, ◌≤◌, ◌⊎◌, None, 
 ghost use Rattle.cpm_host.specs.Refusals.{IsFileRefusal, IsOutRefusal};
 ghost use Rattle.cpm_store.specs.Files.{CountsFailure};
 
+use crate::guard::Guard;
+use crate::held::HeldFiles;
 use crate::output::Outputs;
 use crate::place::script_paths;
 use crate::refused::{Behind, Refused};
-use crate::rehearse::Rehearsals;
-use cpm_host::{Config, HostError, RunError, SessionConfig, Store, StoreError, read_whole, shown};
+use crate::rehearsals::Rehearsals;
+use cpm_host::{
+    Config, HostError, RunError, SessionConfig, ShownWord, Store, StoreError, read_whole, shown,
+};
 use std::alloc::{AllocError, Global};
 use std::io::ErrorKind;
 use std::rt::Files;
 use std::{fs, io};
 
 /// All bytes of a file.
-fn whole_file(rt: &impl Files, alloc: Global, name: &str) -> io::Result<Vec<u8>>
+pub fn whole_file(rt: &impl Files, alloc: Global, name: &str) -> io::Result<Vec<u8>>
     ensures small { IfOk result (λ bytes. vec_len bytes ≤ 16777216) }
 {
     let mut file = fs::open(rt, name)?;
@@ -41,6 +45,21 @@ pub fn write_file(
 {
     outputs
         .write(rt, name, bytes)
+        .map_err(|reason| unwritable(name, reason))
+}
+
+/// Makes a file hold these bytes, as `write_file` does. Where it is held, it must still be what it was when it was read.
+pub fn write_held(
+    rt: &(impl Files + AllocGlobal),
+    outputs: Outputs,
+    held: &HeldFiles,
+    name: &str,
+    bytes: &[u8],
+) -> Result<(), HostError>
+    ensures refusal { IfErr result (λ e. IsOutRefusal e ⊎ (e ≡ HostError.OutOfMemory)) }
+{
+    outputs
+        .replace(rt, name, held.mark_of(name), bytes)
         .map_err(|reason| unwritable(name, reason))
 }
 
@@ -111,6 +130,15 @@ pub fn check_scripts(
     config: &Config,
     folder: Option<&str>,
 ) -> Result<(), HostError> {
+    if folder == Some("") {
+        return Err(HostError::FileUnwritable {
+            name: shown(""),
+            reason: io::Error::new(
+                ErrorKind::InvalidInput,
+                "no folder has an empty name; the current one is '.'",
+            ),
+        });
+    }
     let scripts = script_paths(rt.alloc(), config, folder)?;
     check_files(rt, outputs, &scripts)
 }
@@ -169,7 +197,7 @@ pub fn unwritable(name: &str, reason: io::Error) -> HostError
 }
 
 /// Why a file was not read.
-fn unreadable(name: &str, reason: io::Error) -> HostError
+pub fn unreadable(name: &str, reason: io::Error) -> HostError
     ensures { IsFileRefusal result }
 {
     if reason.kind() == ErrorKind::OutOfMemory {
@@ -196,26 +224,43 @@ pub struct MachineFiles<'a, R: Files + AllocGlobal> {
     outputs: Outputs,
     /// The scripts of the sessions that were played by themselves.
     rehearsals: &'a Rehearsals,
+    guard: Guard<'a>,
+    /// Whether one of the files was written, or was to be.
+    has_written: bool,
     failures: u64,
     reason: Option<io::Error>,
+    /// The file that another program has changed.
+    changed: Option<ShownWord>,
 }
 
 impl<'a, R: Files + AllocGlobal> MachineFiles<'a, R> {
     /// The files, of which no call has failed yet, and the scripts of the sessions that were played by themselves.
-    pub fn new(rt: &'a R, outputs: Outputs, rehearsals: &'a Rehearsals) -> MachineFiles<'a, R>
+    pub fn new(
+        rt: &'a R,
+        outputs: Outputs,
+        rehearsals: &'a Rehearsals,
+        guard: Guard<'a>,
+    ) -> MachineFiles<'a, R>
         ensures { result.failures ≡ 0 }
     {
         MachineFiles {
             rt,
             outputs,
             rehearsals,
+            guard,
+            has_written: false,
             failures: 0,
             reason: None,
+            changed: None,
         }
     }
 
     /// The refusal of a run that the last call ended, and why that failed, if it did.
     pub fn refused(&self, error: RunError) -> Refused {
+        let error = match (error, self.changed) {
+            (RunError::WriteFault(_), Some(name)) => RunError::WriteFault(name),
+            (error, _) => error,
+        };
         Refused {
             error: HostError::from(error),
             behind: match self.reason {
@@ -223,6 +268,20 @@ impl<'a, R: Files + AllocGlobal> MachineFiles<'a, R> {
                 None => Behind::Nothing,
             },
         }
+    }
+
+    /// Makes a file hold these bytes. Before the first one is written, all that are held must still be what they were when they were read.
+    fn replace(&mut self, name: &str, bytes: &[u8]) -> io::Result<()>
+        ensures { self.new.failures ≡ self.old.failures }
+    {
+        if !self.has_written {
+            self.has_written = true;
+            if let Some((changed, reason)) = self.guard.held.changed(self.rt) {
+                self.changed = Some(changed);
+                return Err(reason);
+            }
+        }
+        self.guard.write(self.rt, self.outputs, name, bytes)
     }
 
     /// What a call answers that failed so, which is counted but for want of memory.
@@ -252,14 +311,14 @@ impl<R: Files + AllocGlobal> Store for MachineFiles<'_, R> {
         if let Some(script) = self.rehearsals.script_named(name) {
             return copied(alloc, script).map_err(|_| StoreError::OutOfMemory);
         }
-        match whole_file(self.rt, alloc, name) {
+        match self.guard.read(self.rt, alloc, name) {
             Ok(bytes) => Ok(bytes),
             Err(reason) => Err(self.fault(reason)),
         }
     }
 
     fn write(&mut self, name: &str, bytes: &[u8]) -> Result<(), StoreError> {
-        match self.outputs.write(self.rt, name, bytes) {
+        match self.replace(name, bytes) {
             Ok(()) => Ok(()),
             Err(reason) => Err(self.fault(reason)),
         }

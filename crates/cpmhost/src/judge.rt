@@ -1,23 +1,29 @@
 //! What is judged of a configuration before a person types at one of its sessions.
 
 use crate::files::{MachineFiles, read_file};
+use crate::guard::Guard;
 use crate::output::Outputs;
 use crate::refused::Refused;
-use crate::rehearse::{Rehearsals, waits_in};
-use cpm_host::{Config, Origin, Script, SessionConfig, cues_of, forked_cues_of, judge_host};
+use crate::rehearsals::Rehearsals;
+use crate::rehearse::{place_of, waits_in};
+use cpm_host::{
+    Config, HostError, Origin, RunError, Script, SessionConfig, cues_of, forked_cues_of,
+    judge_host, shown,
+};
 use std::rt::Files;
 
-/// Refuses a configuration that would be refused once the session of this name was typed at: all is read and judged but what is typed, and but whether there is
-/// room for the forks.
+/// Refuses a configuration that would be refused once the session of this name was typed at: all is read and judged but what is typed, and whether there are
+/// frames for all sessions, forked ones too.
 pub fn judge(
     rt: &(impl Files + AllocGlobal),
     outputs: Outputs,
     config: &mut Config,
     name: &str,
+    guard: Guard<'_>,
 ) -> Result<(), Refused> {
     let aside = set_aside(rt, config, name)?;
     let rehearsals = Rehearsals::new(rt);
-    let mut files = MachineFiles::new(rt, outputs, &rehearsals);
+    let mut files = MachineFiles::new(rt, outputs, &rehearsals, guard);
     let judged = judge_host(rt.alloc(), config, &mut files);
     for (session, keys) in config.sessions.iter_mut().zip(aside) {
         if keys.is_some() {
@@ -25,9 +31,59 @@ pub fn judge(
         }
     }
     match judged {
-        Ok(()) => Ok(()),
+        Ok(()) => Ok(check_frames(config)?),
         Err(error) => Err(files.refused(error)),
     }
+}
+
+/// The pages that a session may write that is opened.
+fn own_quota(session: &SessionConfig) -> u16 {
+    match &session.origin {
+        Origin::Opened { quota, .. } => *quota,
+        Origin::Forked { .. } => 0,
+    }
+}
+
+/// The pages that a session may write that is forked: as many as the one that it is forked from.
+fn forked_quota(config: &Config, session: &SessionConfig) -> u16 {
+    match &session.origin {
+        Origin::Opened { .. } => 0,
+        Origin::Forked { parent, .. } => match place_of(config, parent.as_str()) {
+            Some(place) => own_quota(&config.sessions[place]),
+            None => 0,
+        },
+    }
+}
+
+/// The pages that all sessions may write.
+fn quotas_of(config: &Config) -> u128 {
+    let mut quotas: u128 = 0;
+    for session in &config.sessions {
+        let quota = own_quota(session).saturating_add(forked_quota(config, session));
+        quotas = quotas.saturating_add(u128::from(quota));
+    }
+    quotas
+}
+
+/// Refuses a configuration that has too few frames for all sessions, by the first that is forked and finds none: all that are opened have theirs before.
+fn check_frames(config: &Config) -> Result<(), HostError> {
+    let quotas = quotas_of(config);
+    let mut wanted: u128 = 0;
+    for session in &config.sessions {
+        wanted = wanted.saturating_add(u128::from(own_quota(session)));
+    }
+    for session in &config.sessions {
+        let quota = forked_quota(config, session);
+        wanted = wanted.saturating_add(u128::from(quota));
+        if quota > 0 && wanted > u128::from(config.frames) {
+            return Err(HostError::from(RunError::FramesExceeded {
+                name: shown(session.name.as_str()),
+                quotas,
+                frames: config.frames,
+            }));
+        }
+    }
+    Ok(())
 }
 
 /// Takes from the sessions the scripts that are no keys yet: that of the session of this name, which is typed at, and those that wait, which are judged here.

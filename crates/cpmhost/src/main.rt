@@ -5,18 +5,26 @@ ghost use Rattle.std.specs.Prelude.{IfErr};
 ghost use Rattle.cpm_command_line.specs.Line.{HasUsers};
 ghost use Rattle.cpm_host.specs.Refusals.{IsWordRefusal};
 
+mod bounds;
 mod com;
 mod disk;
 mod files;
+mod get;
+mod guard;
+mod held;
 mod judge;
 mod output;
+mod patient;
 mod place;
 mod progress;
+mod record;
 mod refused;
+mod rehearsals;
 mod rehearse;
 mod screen;
 mod typing;
 
+use bounds::check_bounds;
 use com::com;
 use cpm_flags::Cpu;
 use cpm_host::{
@@ -27,19 +35,28 @@ use disk::do_disk;
 use files::{
     MachineFiles, check_file, check_outputs, check_scripts, read_file, write_file, write_scripts,
 };
+use guard::Guard;
+use held::{Machine, hold_images};
 use judge::judge;
 use output::Outputs;
+use patient::{PatientInput, PatientOutput};
 use place::{check_apart, check_asm};
 use progress::{Audience, Form, Teller};
 use refused::{Behind, Refused};
-use rehearse::{Rehearsals, rehearse_all};
+use rehearsals::Rehearsals;
+use rehearse::rehearse_all;
 use screen::Screen;
+use std::env;
 use std::env::Env;
+use std::fs::{File, OpenOptions};
 use std::io::{BufReader, BufWriter, ErrorKind, IsTerminal, Write};
+use std::os::fd::AsRawFd;
 use std::process::{self, ExitCode};
-use std::rt::Files;
-use std::{env, io};
+use std::rt::{Clock, Files};
 use typing::{Terminals, type_in};
+
+/// How many standard streams there are: their numbers are those below.
+const STANDARD_STREAMS: i32 = 3;
 
 /// The words of the command line, of which the first is the program's own name.
 fn arguments(rt: &(impl Env + AllocGlobal)) -> Result<Vec<String>, HostError>
@@ -54,7 +71,7 @@ fn arguments(rt: &(impl Env + AllocGlobal)) -> Result<Vec<String>, HostError>
 
 /// Runs the sessions of the configuration in a file, one of them by the keys of standard input if that is asked.
 fn run_sessions(
-    rt: &(impl Files + Input + Print + Eprint + AllocGlobal),
+    rt: &(impl Machine + Input + Print + Eprint),
     outputs: Outputs,
     task: &RunTask<'_>,
     terminals: Terminals,
@@ -72,44 +89,54 @@ fn read_config(rt: &(impl Files + AllocGlobal), file: &str) -> Result<Config, Ho
 
 /// Runs the sessions of a configuration, of which none was played yet.
 fn run_config(
-    rt: &(impl Files + Input + Print + Eprint + AllocGlobal),
+    rt: &(impl Machine + Input + Print + Eprint),
     outputs: Outputs,
     config: &mut Config,
     rehearsals: &mut Rehearsals,
     task: &RunTask<'_>,
     terminals: Terminals,
 ) -> Result<(), Refused> {
+    let bounds = check_bounds(rt, config, task)?;
     check_outputs(rt, outputs, config)?;
     check_scripts(rt, outputs, config, task.scripts)?;
     check_apart(rt, task.config, config, task)?;
+    let held = hold_images(rt, config)?;
+    let guard = Guard {
+        bounds: &bounds,
+        shows_controls: terminals.shows_controls(task.is_raw),
+        held: &held,
+    };
     if let Some(name) = task.keyboard {
-        judge(rt, outputs, config, name)?;
+        judge(rt, outputs, config, name, guard)?;
         type_in(
             rt,
+            outputs,
             config,
             rehearsals,
             name,
             task.record,
             task.stops_idle,
-            terminals.shows_controls(task.is_raw),
+            guard.shows_controls,
         )?;
     }
     let form = Form::of(task.has_progress, terminals.is_error_terminal);
     rehearse_all(rt, config, rehearsals, task.stops_idle, form)?;
-    play_sessions(rt, outputs, config, rehearsals, form)?;
+    play_sessions(rt, outputs, config, rehearsals, form, guard)?;
+    bounds.check_scripts(rt, config, task.scripts)?;
     write_scripts(rt, outputs, config, rehearsals, task.scripts)?;
     Ok(())
 }
 
 /// Runs the sessions of a configuration, and prints how each ended, and the bytes at which one ended that are no instruction.
 fn play_sessions(
-    rt: &(impl Files + Print + Eprint + AllocGlobal),
+    rt: &(impl Machine + Print + Eprint),
     outputs: Outputs,
     config: &Config,
     rehearsals: &Rehearsals,
     form: Form,
+    guard: Guard<'_>,
 ) -> Result<(), Refused> {
-    let mut files = MachineFiles::new(rt, outputs, rehearsals);
+    let mut files = MachineFiles::new(rt, outputs, rehearsals, guard);
     let mut teller = Teller::new(rt, Audience::Sessions(config), form);
     let ran = run_host(rt.alloc(), config, &mut files, &mut teller);
     teller.end();
@@ -121,24 +148,29 @@ fn play_sessions(
 
 /// Prints how each session ended.
 fn print_report(
-    rt: &(impl Print + Eprint),
+    rt: &(impl Print + Eprint + Clock + AllocGlobal),
     rehearsals: &Rehearsals,
     report: &[SessionReport],
 ) -> Result<(), HostError> {
+    let Ok(mut out) = BufWriter::new(rt.alloc(), PatientOutput::new(rt)) else {
+        return Err(HostError::OutOfMemory);
+    };
     for (place, session) in report.iter().enumerate() {
         let word = waiting_word(rehearsals.is_idle(place));
-        print_session(rt, session, word)?;
+        print_session(rt, &mut out, session, word)?;
     }
     Ok(())
 }
 
-/// Prints how a session ended, with a last word.
-fn print_session(
-    rt: &(impl Print + Eprint),
+/// Prints how a session ended, with a last word, on one line at a time.
+fn print_session<W: Write>(
+    rt: &impl Eprint,
+    out: &mut W,
     session: &SessionReport,
     word: &str,
 ) -> Result<(), HostError> {
-    println!(rt; "{session}{word}").map_err(HostError::OutputUnwritable)?;
+    writeln!(out, "{session}{word}").map_err(HostError::OutputUnwritable)?;
+    out.flush().map_err(HostError::OutputUnwritable)?;
     if let Some(illegal) = session.illegal() {
         let name = session.name.as_str();
         let _ = eprintln!(rt; "{name} {illegal}");
@@ -194,24 +226,24 @@ fn asm_listed(
 }
 
 /// Prints the program in a file as instructions of a processor.
-fn list(rt: &(impl Files + Print + AllocGlobal), file: &str, cpu: Cpu) -> Result<(), HostError> {
+fn list(rt: &(impl Machine + Print), file: &str, cpu: Cpu) -> Result<(), HostError> {
     let program = read_file(rt, file)?;
-    match BufWriter::new(rt.alloc(), io::writer(rt)) {
+    match BufWriter::new(rt.alloc(), PatientOutput::new(rt)) {
         Ok(mut out) => run_list(cpu, program.as_slice(), &mut out),
         Err(_) => Err(HostError::OutOfMemory),
     }
 }
 
 /// Prints that the image in a file is in order.
-fn check(rt: &(impl Files + Print + AllocGlobal), file: &str) -> Result<(), HostError> {
+fn check(rt: &(impl Machine + Print), file: &str) -> Result<(), HostError> {
     let bytes = read_file(rt, file)?;
-    run_check(file, bytes, &mut io::writer(rt))?;
+    run_check(file, bytes, &mut PatientOutput::new(rt))?;
     Ok(())
 }
 
 /// Runs the program in a file as the lines of standard input say, and prints what is answered.
 fn debug(
-    rt: &(impl Files + Input + Print + AllocGlobal),
+    rt: &(impl Machine + Input + Print),
     file: &str,
     cpu: Cpu,
     list: Option<&str>,
@@ -222,19 +254,19 @@ fn debug(
         Some(list) => read_file(rt, list)?,
         None => Vec::new(rt.alloc()),
     };
-    let mut screen = Screen::new(io::writer(rt), terminals.shows_controls(false));
+    let mut screen = Screen::new(PatientOutput::new(rt), terminals.shows_controls(false));
     debug_to(rt, cpu, program, &listing, &mut screen)
 }
 
 /// Runs a program as the lines of standard input say, and writes what is answered.
 fn debug_to<W: Write>(
-    rt: &(impl Input + AllocGlobal),
+    rt: &(impl Input + Clock + AllocGlobal),
     cpu: Cpu,
     program: Vec<u8>,
     listing: &[u8],
     out: &mut W,
 ) -> Result<(), HostError> {
-    match BufReader::new(rt.alloc(), rt.reader()) {
+    match BufReader::new(rt.alloc(), PatientInput::new(rt)) {
         Ok(mut input) => Ok(run_debug(rt.alloc(), cpu, program, listing, &mut input, out)?),
         Err(_) => Err(HostError::OutOfMemory),
     }
@@ -242,7 +274,7 @@ fn debug_to<W: Write>(
 
 /// Does what words ask for, which begin with the program's own name.
 fn do_words(
-    rt: &(impl Files + Input + Print + Eprint + AllocGlobal),
+    rt: &(impl Machine + Input + Print + Eprint),
     outputs: Outputs,
     words: &[&str],
     terminals: Terminals,
@@ -262,8 +294,10 @@ fn do_words(
 }
 
 /// Prints a text of the program's own.
-fn print(rt: &impl Print, text: &str) -> Result<ExitCode, HostError> {
-    rt.print(text).map_err(HostError::OutputUnwritable)?;
+fn print(rt: &(impl Print + Clock), text: &str) -> Result<ExitCode, HostError> {
+    PatientOutput::new(rt)
+        .write_all(text.as_bytes())
+        .map_err(HostError::OutputUnwritable)?;
     Ok(ExitCode::SUCCESS)
 }
 
@@ -289,7 +323,7 @@ fn tell_typed_at(rt: &impl AllocGlobal, line: &[&str]) -> Result<ExitCode, HostE
 
 /// Does a task.
 fn do_task(
-    rt: &(impl Files + Input + Print + Eprint + AllocGlobal),
+    rt: &(impl Machine + Input + Print + Eprint),
     outputs: Outputs,
     task: &Task<'_>,
     terminals: Terminals,
@@ -309,7 +343,7 @@ fn do_task(
 
 /// Does what the words of the command line ask for.
 fn run(
-    rt: &(impl Env + Files + Input + Print + Eprint + AllocGlobal),
+    rt: &(impl Machine + Env + Input + Print + Eprint),
     outputs: Outputs,
     terminals: Terminals,
 ) -> Result<ExitCode, Refused> {
@@ -321,12 +355,26 @@ fn run(
     do_words(rt, outputs, texts.as_slice(), terminals)
 }
 
+/// A file that has the place of a standard stream that is closed, so that no file that is opened later has it.
+fn stand_in(rt: &impl Machine) -> Option<File> {
+    match OpenOptions::new()
+        .read(true)
+        .write(true)
+        .open(rt, "/dev/null")
+    {
+        Ok(file) if file.as_raw_fd() < STANDARD_STREAMS => Some(file),
+        _ => None,
+    }
+}
+
 fn main(rt: HostRuntime) -> ExitCode {
+    let _stand_ins = (stand_in(&rt), stand_in(&rt), stand_in(&rt));
     let terminals = Terminals {
         is_output_terminal: rt.stdout().is_terminal(),
         is_error_terminal: rt.stderr().is_terminal(),
     };
-    match run(&rt, Outputs::new(process::id(rt.process())), terminals) {
+    let outputs = Outputs::draw(&rt, process::id(rt.process()));
+    match run(&rt, outputs, terminals) {
         Ok(code) => code,
         Err(refused) => {
             let _ = eprintln!(rt; "cpmhost: {refused}");

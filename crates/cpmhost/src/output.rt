@@ -1,12 +1,13 @@
 //! Files of the machine that are written whole: what is new is written to a file beside the old one, which then takes its name. So a full
 //! device, a limit on the size of files or a kill leaves the old bytes.
 
-ghost use Rattle.std.specs.Prelude.{◌≡◌};
-
+use crate::held::Mark;
 use std::alloc::{AllocError, Global};
-use std::fs::{OpenFile, OpenOptions};
+use std::fs::{OpenFile, OpenOptions, Permissions};
 use std::io::{ErrorKind, Write};
+use std::os::unix::fs::{MetadataExt, PermissionsExt};
 use std::path::{Path, PathBuf};
+use std::random::RandomSource;
 use std::rt::Files;
 use std::{fs, io};
 
@@ -35,7 +36,7 @@ fn kind_of(rt: &impl Files, path: &str) -> io::Result<Kind> {
 }
 
 /// A path beside another one, of the folder that has that.
-fn beside(alloc: Global, path: &str, name: &str) -> Result<PathBuf, AllocError> {
+fn path_beside(alloc: Global, path: &str, name: &str) -> Result<PathBuf, AllocError> {
     match Path::new(path).parent() {
         Some(folder) => folder.join(alloc, name),
         None => Path::new(name).to_path_buf(alloc),
@@ -43,7 +44,7 @@ fn beside(alloc: Global, path: &str, name: &str) -> Result<PathBuf, AllocError> 
 }
 
 /// Whether a path is of something that the process has open, as `/dev/stdout` is: the link of that names no file.
-fn is_open_already(path: &str) -> bool {
+pub fn is_open_already(path: &str) -> bool {
     Path::new(path).starts_with("/proc")
 }
 
@@ -55,61 +56,170 @@ pub fn target_of(rt: &(impl Files + AllocGlobal), name: &str) -> io::Result<Path
             return Ok(path);
         }
         match fs::read_link(rt, path.as_path()) {
-            Ok(to) => path = beside(rt.alloc(), path.as_path().as_str(), to.as_path().as_str())?,
+            Ok(to) => path = path_beside(
+                rt.alloc(),
+                path.as_path().as_str(),
+                to.as_path().as_str(),
+            )?,
             Err(_) => return Ok(path),
         }
     }
     Err(io::Error::from(ErrorKind::FilesystemLoop))
 }
 
-/// The outputs of this process, by whose number a file that is being written has its name.
+/// How many names are tried for a file beside another one, where there are files of these names.
+const MOST_NAMES: u64 = 16;
+
+/// What a number rises by from one such name to the next.
+const NEXT_NAME: u64 = 0x9E37_79B9_7F4A_7C15;
+
+/// All permissions that a file keeps which is replaced, and those of a file that nobody can execute. Set-user-ID, set-group-ID and the sticky bit are not
+/// among them: they were given to the old bytes.
+const PERMISSIONS: u32 = 0o777;
+
+const PLAIN_PERMISSIONS: u32 = 0o666;
+
+/// The outputs of this process. A file that is being written has a name of a number that was drawn, so that no two processes have one.
 #[derive(Clone, Copy, Drop)]
 pub struct Outputs {
-    process: u32,
+    drawn: u64,
+}
+
+/// A file that is being written: beside the one whose name it takes in the end, or where that is a pipe or a device, that itself.
+#[derive(Drop)]
+pub struct Begun<F: OpenFile + Drop> {
+    pub file: F,
+    beside: Option<Beside>,
+}
+
+/// Where a file is that is being written, and the one that it is to replace.
+#[derive(Drop)]
+struct Beside {
+    path: PathBuf,
+    target: PathBuf,
+}
+
+impl<F: OpenFile + Drop> Begun<F> {
+    /// Where it lies beside another one.
+    pub fn path(&self) -> Option<Path<'_>> {
+        let beside = self.beside.as_ref()?;
+        Some(beside.path.as_path())
+    }
+
+    /// Whether there is a file that it is to replace.
+    pub fn is_to_replace(&self, rt: &impl Files) -> bool {
+        match &self.beside {
+            Some(beside) => fs::metadata(rt, beside.target.as_path()).is_ok(),
+            None => false,
+        }
+    }
+
+    /// Takes the file away where it lies beside another one.
+    pub fn remove(&self, rt: &impl Files) -> io::Result<()> {
+        match &self.beside {
+            Some(beside) => fs::remove_file(rt, beside.path.as_path()),
+            None => Ok(()),
+        }
+    }
+
+    /// Gives it the name of the file that it is to replace, once it is on the device. Where that was read, it must still be what it was then.
+    pub fn take_name(&self, rt: &impl Files, read: Option<Mark>) -> io::Result<()> {
+        let Some(beside) = &self.beside else {
+            return Ok(());
+        };
+        self.file.sync_all()?;
+        let target = beside.target.as_path();
+        if let Some(mark) = read {
+            mark.check(rt, target)?;
+        }
+        fs::rename(rt, beside.path.as_path(), target)
+    }
+
+    /// Gives it those of the permissions of the file that it is to replace that are in a mask. Where that is another user's, it has those of a new file.
+    fn keep_permissions(&self, rt: &impl Files, mask: u32) -> io::Result<()> {
+        let Some(beside) = &self.beside else {
+            return Ok(());
+        };
+        match fs::metadata(rt, beside.target.as_path()) {
+            Ok(old) if old.uid() == self.file.metadata()?.uid() => {
+                self.file
+                    .set_permissions(Permissions::from_mode(old.permissions().mode() & mask))
+            }
+            _ => Ok(()),
+        }
+    }
 }
 
 impl Outputs {
-    /// Those of the process of a number.
-    pub fn new(process: u32) -> Outputs
-        ensures { result.process ≡ process }
-    {
-        Outputs { process }
+    /// Those of a process, whose number serves where the system draws none.
+    pub fn draw(source: &impl RandomSource, process: u32) -> Outputs {
+        let mut bytes = [0; 8];
+        let drawn = match source.fill_bytes(&mut bytes) {
+            Ok(()) => u64::from_ne_bytes(bytes),
+            Err(_) => u64::from(process),
+        };
+        Outputs { drawn }
     }
 
-    /// A new file beside another one, and its path. What an earlier process of this number left there, which was killed, is removed.
+    /// A new file beside the one that it is to replace. A file that is there is left alone.
     fn create_beside<R: Files + AllocGlobal>(
         self,
         rt: &R,
-        target: &str,
-    ) -> io::Result<(R::File, PathBuf)> {
-        let name = format!(in rt.alloc(); ".cpmhost-{}", self.process)?;
-        let path = beside(rt.alloc(), target, name.as_str())?;
-        match fs::File::create_new(rt, path.as_path()) {
-            Err(error) if error.kind() == ErrorKind::AlreadyExists => {
-                fs::remove_file(rt, path.as_path())?;
-                let file = fs::File::create_new(rt, path.as_path())?;
-                Ok((file, path))
+        target: PathBuf,
+    ) -> io::Result<Begun<R::File>> {
+        for place in 0..MOST_NAMES {
+            let number = self.drawn.wrapping_add(place.wrapping_mul(NEXT_NAME));
+            let name = format!(in rt.alloc(); ".cpmhost-{number:016x}")?;
+            let path = path_beside(rt.alloc(), target.as_path().as_str(), name.as_str())?;
+            match fs::File::create_new(rt, path.as_path()) {
+                Ok(file) => {
+                    let beside = Some(Beside { path, target });
+                    return Ok(Begun { file, beside });
+                }
+                Err(error) if error.kind() == ErrorKind::AlreadyExists => {}
+                Err(error) => return Err(error),
             }
-            Err(error) => Err(error),
-            Ok(file) => Ok((file, path)),
         }
+        Err(io::Error::from(ErrorKind::AlreadyExists))
     }
 
-    /// Makes a file of these bytes beside a target, and gives its path. Where that fails there is no such file.
-    fn write_beside(
+    /// Begins to write a file, which stays as it is meanwhile, or a pipe or a device. Of the permissions that the file has it keeps those of a mask.
+    fn begin_with<R: Files + AllocGlobal>(
         self,
-        rt: &(impl Files + AllocGlobal),
-        target: &str,
-        bytes: &[u8],
-    ) -> io::Result<PathBuf> {
-        let (mut file, path) = self.create_beside(rt, target)?;
-        match fill(rt, &mut file, target, bytes) {
-            Ok(()) => Ok(path),
+        rt: &R,
+        name: &str,
+        mask: u32,
+    ) -> io::Result<Begun<R::File>> {
+        let target = target_of(rt, name)?;
+        if !is_replaceable(rt, target.as_path().as_str())? {
+            let file = fs::File::create(rt, target.as_path())?;
+            return Ok(Begun { file, beside: None });
+        }
+        let begun = self.create_beside(rt, target)?;
+        match begun.keep_permissions(rt, mask) {
+            Ok(()) => Ok(begun),
             Err(error) => {
-                let _ = fs::remove_file(rt, path.as_path());
+                let _ = begun.remove(rt);
                 Err(error)
             }
         }
+    }
+
+    /// Begins to write a file, which stays as it is meanwhile, or a pipe or a device.
+    pub fn begin<R: Files + AllocGlobal>(self, rt: &R, name: &str) -> io::Result<Begun<R::File>> {
+        self.begin_with(rt, name, PERMISSIONS)
+    }
+
+    /// Makes a file hold these bytes, which replace all that it held, or leaves it as it was. Where it was read, it must still be what it was then.
+    pub fn replace(
+        self,
+        rt: &(impl Files + AllocGlobal),
+        name: &str,
+        read: Option<Mark>,
+        bytes: &[u8],
+    ) -> io::Result<()> {
+        let begun = self.begin(rt, name)?;
+        finish(rt, begun, read, bytes)
     }
 
     /// Makes a file hold these bytes, which replace all that it held, or leaves it as it was.
@@ -119,31 +229,46 @@ impl Outputs {
         name: &str,
         bytes: &[u8],
     ) -> io::Result<()> {
-        let target = target_of(rt, name)?;
-        let target = target.as_path().as_str();
-        if !is_replaceable(rt, target)? {
-            return fs::write(rt, target, bytes);
-        }
-        let path = self.write_beside(rt, target, bytes)?;
-        match fs::rename(rt, path.as_path(), target) {
-            Ok(()) => Ok(()),
-            Err(error) => {
-                let _ = fs::remove_file(rt, path.as_path());
-                Err(error)
-            }
-        }
+        self.replace(rt, name, None, bytes)
+    }
+
+    /// Makes a file hold these bytes, as `write` does, which nobody can execute then. Of a file that was there it keeps who may read and write it.
+    pub fn write_plain(
+        self,
+        rt: &(impl Files + AllocGlobal),
+        name: &str,
+        bytes: &[u8],
+    ) -> io::Result<()> {
+        let begun = self.begin_with(rt, name, PLAIN_PERMISSIONS)?;
+        finish(rt, begun, None, bytes)
     }
 
     /// Whether a file of this name can be written, before there is anything to write. Nothing is left of the trial.
     pub fn check(self, rt: &(impl Files + AllocGlobal), name: &str) -> io::Result<()> {
         let target = target_of(rt, name)?;
-        let target = target.as_path().as_str();
-        if !is_replaceable(rt, target)? {
+        if !is_replaceable(rt, target.as_path().as_str())? {
             return Ok(());
         }
-        let (_file, path) = self.create_beside(rt, target)?;
-        fs::remove_file(rt, path.as_path())
+        self.create_beside(rt, target)?.remove(rt)
     }
+}
+
+/// Writes these bytes to a file that was begun, down to the device, and gives it its name. Where that fails nothing is left of it.
+fn finish<F: Write + OpenFile + Drop>(
+    rt: &impl Files,
+    begun: Begun<F>,
+    read: Option<Mark>,
+    bytes: &[u8],
+) -> io::Result<()> {
+    let mut begun = begun;
+    let written = match begun.file.write_all(bytes) {
+        Ok(()) => begun.take_name(rt, read),
+        Err(error) => Err(error),
+    };
+    if written.is_err() {
+        let _ = begun.remove(rt);
+    }
+    written
 }
 
 /// Whether the bytes of a path are replaced by a file that takes its name: not where it is a pipe or a device. It fails where it is a
@@ -161,13 +286,4 @@ fn is_replaceable(rt: &impl Files, path: &str) -> io::Result<bool> {
         Kind::Other if Path::new(path).is_dir(rt) => Err(io::Error::from(ErrorKind::IsADirectory)),
         Kind::Other => Ok(false),
     }
-}
-
-/// Writes these bytes to a new file, with the permissions of the one that it is to replace, down to the device.
-fn fill<R: Files>(rt: &R, file: &mut R::File, target: &str, bytes: &[u8]) -> io::Result<()> {
-    if let Ok(old) = fs::metadata(rt, target) {
-        file.set_permissions(old.permissions())?;
-    }
-    file.write_all(bytes)?;
-    file.sync_all()
 }

@@ -1,6 +1,6 @@
 //! Which file of the machine a name is of, by whatever spelling or link.
 
-use crate::disk::Extraction;
+use crate::get::Extraction;
 use crate::output::target_of;
 use crate::refused::{Behind, Refused};
 use cpm_host::{ComTask, Config, HostError, Origin, RunError, RunTask, SessionConfig, shown};

@@ -16,6 +16,14 @@ pub enum Behind {
     Output(ShownWord),
     /// The input of this name is the same file.
     Input(ShownWord),
+    /// The file is there, and is not to be replaced.
+    Present,
+    /// The file lies in none of the folders that a run may use.
+    Outside,
+    /// It lies there, and is a device, a pipe or a folder.
+    NotRegular,
+    /// The name of an output is not of a kind that is taken.
+    NotPlain,
 }
 
 /// Why a command is refused, on one line.
@@ -36,6 +44,10 @@ impl fmt::Display for Refused {
                 f,
                 "{error} over the input '{other}': they are one file"
             ),
+            Behind::Present => write!(f, "{error}: it is there; --force replaces it"),
+            Behind::Outside => write!(f, "{error}: it is not in the folders of --within"),
+            Behind::NotRegular => write!(f, "{error}: it is no regular file, as --within wants"),
+            Behind::NotPlain => write!(f, "{error}: it is no plain name, as --outputs-here wants"),
         }
     }
 }

@@ -1,7 +1,10 @@
 //! What standard output gets of a program's text.
 
-use std::io;
+use std::fs::OpenOptions;
 use std::io::Write;
+use std::os::unix::fs::{FileTypeExt, MetadataExt};
+use std::rt::Files;
+use std::{fs, io};
 
 /// A writer of a program's text. Where it shows control bytes, one that could command a terminal is shown as `cat -v` shows it:
 /// `^[` for ESC, `M-^[` for 9Bh.
@@ -82,4 +85,29 @@ impl<W: Write + Drop> Write for Screen<W> {
     fn flush(&mut self) -> io::Result<()> {
         self.writer.flush()
     }
+}
+
+/// The number of the terminal or other device that a path is of.
+fn device_of(rt: &impl Files, path: &str) -> Option<u64> {
+    match fs::metadata(rt, path) {
+        Ok(found) if found.file_type().is_char_device() => Some(found.rdev()),
+        _ => None,
+    }
+}
+
+/// Whether the file of a name is the terminal of the program, which is its standard output.
+pub fn is_own_terminal(rt: &impl Files, name: &str) -> bool {
+    match device_of(rt, name) {
+        Some(device) => {
+            device_of(rt, "/dev/stdout") == Some(device)
+                || device_of(rt, "/dev/tty") == Some(device)
+        }
+        None => false,
+    }
+}
+
+/// Writes a text to the terminal of a name, with its control bytes as text.
+pub fn write_shown(rt: &impl Files, name: &str, text: &[u8]) -> io::Result<()> {
+    let file = OpenOptions::new().write(true).open(rt, name)?;
+    Screen::new(file, true).write_all(text)
 }

@@ -3,15 +3,18 @@
 ghost use Rattle.std.specs.Prelude.{◌<◌, length};
 
 use crate::disk::read_image;
-use crate::files::{read_file, unwritable};
+use crate::held::Machine;
+use crate::output::Outputs;
+use crate::patient::{PatientInput, PatientOutput};
+use crate::record::record_in;
 use crate::refused::Refused;
-use crate::rehearse::{Rehearsals, last_fork, opening_of, place_of};
+use crate::rehearsals::Rehearsals;
+use crate::rehearse::{last_fork, opening_of, place_of};
 use crate::screen::Screen;
 use cpm_geom::Image;
 use cpm_host::{Config, HostError, LiveResult, MOST_KEYS, SessionStart, shown, type_session};
 use std::io::{BufReader, Write};
-use std::rt::Files;
-use std::{fs, io};
+use std::rt::Clock;
 
 /// Which of the program's own streams are terminals.
 #[derive(Clone, Copy, Debug, Drop)]
@@ -34,53 +37,6 @@ impl Terminals {
     }
 }
 
-/// Where typed keys are recorded: in a file, or nowhere.
-#[derive(Drop)]
-pub struct Record<F: Write + Drop> {
-    file: Option<F>,
-}
-
-/// The record in the file of a name, which is made empty; or none.
-pub fn record_in<R: Files + AllocGlobal>(
-    rt: &R,
-    name: Option<&str>,
-) -> Result<Record<R::File>, Refused> {
-    let Some(name) = name else {
-        return Ok(Record { file: None });
-    };
-    match fs::File::create(rt, name) {
-        Ok(file) => Ok(Record { file: Some(file) }),
-        Err(reason) => Err(Refused::from(unwritable(name, reason))),
-    }
-}
-
-impl<F: Write + Drop> Record<F> {
-    /// How many keys it takes: a script has not more.
-    pub fn most_keys(&self) -> usize {
-        if self.file.is_some() {
-            MOST_KEYS
-        } else {
-            usize::MAX
-        }
-    }
-}
-
-impl<F: Write + Drop> Write for Record<F> {
-    fn write(&mut self, buf: &[u8]) -> io::Result<usize> {
-        match &mut self.file {
-            Some(file) => file.write(buf),
-            None => Ok(buf.len()),
-        }
-    }
-
-    fn flush(&mut self) -> io::Result<()> {
-        match &mut self.file {
-            Some(file) => file.flush(),
-            None => Ok(()),
-        }
-    }
-}
-
 /// Says how typing ends.
 pub fn tell_quit(rt: &impl Eprint) {
     let _ = eprintln!(rt; "cpmhost: keys come from standard input; ^] ends");
@@ -100,7 +56,8 @@ pub fn tell_full(rt: &impl Eprint, keys: usize, most_keys: usize) {
 /// Plays a session of a configuration by itself, by the keys of standard input. The configuration's session then has these keys as its script, and
 /// the steps that were played: a person's session has no limit of steps before.
 pub fn type_in(
-    rt: &(impl Files + Input + Print + Eprint + AllocGlobal),
+    rt: &(impl Machine + Input + Print + Eprint),
+    outputs: Outputs,
     config: &mut Config,
     all: &mut Rehearsals,
     name: &str,
@@ -111,7 +68,7 @@ pub fn type_in(
     let Some(place) = place_of(config, name) else {
         return Err(Refused::from(HostError::NoSession(shown(name))));
     };
-    let typed = type_at(rt, config, place, record, shows_controls)?;
+    let typed = type_at(rt, outputs, config, place, record, shows_controls)?;
     tell_full(rt, typed.keys.len(), MOST_KEYS);
     let steps = typed.steps.max(last_fork(config, name));
     let is_idle = stops_idle && typed.waits;
@@ -124,7 +81,8 @@ pub fn type_in(
 
 /// Plays the session at a place by itself, by the keys of standard input, without a limit of steps.
 fn type_at(
-    rt: &(impl Files + Input + Print + Eprint + AllocGlobal),
+    rt: &(impl Machine + Input + Print + Eprint),
+    outputs: Outputs,
     config: &Config,
     place: usize,
     record: Option<&str>,
@@ -143,32 +101,34 @@ fn type_at(
         opening,
         steps: u64::MAX,
     };
-    typed_by(rt, &system, start, record, shows_controls)
+    typed_by(rt, outputs, &system, start, record, shows_controls)
 }
 
 /// Plays a session by itself, by the keys of standard input.
 fn typed_by(
-    rt: &(impl Files + Input + Print + Eprint + AllocGlobal),
+    rt: &(impl Machine + Input + Print + Eprint),
+    outputs: Outputs,
     system: &Image,
     start: SessionStart<'_>,
     record: Option<&str>,
     shows_controls: bool,
 ) -> Result<LiveResult, Refused> {
-    let mut record = record_in(rt, record)?;
+    let mut record = record_in(rt, outputs, record)?;
     tell_quit(rt);
-    let mut screen = Screen::new(io::writer(rt), shows_controls);
-    Ok(typed_to(rt, system, start, &mut screen, &mut record)?)
+    let mut screen = Screen::new(PatientOutput::new(rt), shows_controls);
+    let typed = typed_to(rt, system, start, &mut screen, &mut record);
+    record.end(rt, typed)
 }
 
 /// Plays a session by itself, by the keys of standard input, and writes what it shows and its keys.
 fn typed_to<W: Write, S: Write>(
-    rt: &(impl Input + AllocGlobal),
+    rt: &(impl Input + Clock + AllocGlobal),
     system: &Image,
     start: SessionStart<'_>,
     out: &mut W,
     record: &mut S,
 ) -> Result<LiveResult, HostError> {
-    match BufReader::new(rt.alloc(), rt.reader()) {
+    match BufReader::new(rt.alloc(), PatientInput::new(rt)) {
         Ok(mut input) => type_session(rt.alloc(), system, start, &mut input, out, record),
         Err(_) => Err(HostError::OutOfMemory),
     }

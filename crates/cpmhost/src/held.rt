@@ -1,0 +1,299 @@
+//! Files that are read and then replaced. A command holds such a file from its reading to its replacement, so that of two commands that change one file
+//! each has what the other one did; and it replaces the file only where that still is what it was when it was read.
+
+use crate::files::unreadable;
+use crate::output::{is_open_already, target_of};
+use crate::refused::Refused;
+use cpm_host::{Config, HostError, Origin, ShownWord, shown};
+use std::alloc::AllocError;
+use std::fs::{File, Metadata, OpenOptions, TryLockError};
+use std::io::ErrorKind;
+use std::os::unix::fs::MetadataExt;
+use std::path::{Path, PathBuf};
+use std::rt::{Clock, Files};
+use std::time::Duration;
+use std::{fs, io, thread};
+
+/// How often a file that another command holds is asked for again, and after how many milliseconds each time: 10 seconds in all.
+const MOST_PAUSES: u32 = 1000;
+
+const PAUSE: u64 = 10;
+
+/// What a command needs of the machine: files that can be held, a clock to wait by, and memory.
+pub trait Machine: Files<File = File> + Clock + AllocGlobal {}
+
+impl Machine for HostRuntime {}
+
+/// What a file was when it was read: which file, how long, and when it was changed last.
+#[derive(Clone, Copy, Debug, PartialEq, Eq, Drop)]
+pub struct Mark {
+    device: u64,
+    node: u64,
+    length: u64,
+    seconds: i64,
+    nanoseconds: i64,
+}
+
+impl Mark {
+    /// That of a file of which the machine tells this.
+    fn of(found: &Metadata) -> Mark {
+        Mark {
+            device: found.dev(),
+            node: found.ino(),
+            length: found.len(),
+            seconds: found.ctime(),
+            nanoseconds: found.ctime_nsec(),
+        }
+    }
+
+    /// Fails where the file of a path is no longer what it was.
+    pub fn check(&self, rt: &impl Files, path: Path<'_>) -> io::Result<()> {
+        match fs::metadata(rt, path) {
+            Ok(found) if Mark::of(&found) == *self => Ok(()),
+            _ => Err(io::Error::new(
+                ErrorKind::Other,
+                "it changed while this command ran; nothing was written to it; run it again",
+            )),
+        }
+    }
+}
+
+/// A file that is held.
+#[derive(Drop)]
+struct Held {
+    /// The name by which it is written.
+    name: String,
+    mark: Mark,
+    /// The file, open, which has the lock.
+    lock: File,
+}
+
+/// The files that a command holds. They are let go when this is dropped.
+#[derive(Drop)]
+pub struct HeldFiles {
+    all: Vec<Held>,
+}
+
+impl HeldFiles {
+    /// What the file of a name was when it was read, if it is held.
+    pub fn mark_of(&self, name: &str) -> Option<Mark> {
+        let found = self.all.iter().find(|held| held.name.as_str() == name)?;
+        Some(found.mark)
+    }
+
+    /// The name of a file that is no longer what it was, if there is one, and what is said of it.
+    pub fn changed(&self, rt: &(impl Files + AllocGlobal)) -> Option<(ShownWord, io::Error)> {
+        for held in &self.all {
+            let name = held.name.as_str();
+            if let Err(reason) = check_name(rt, name, held.mark) {
+                return Some((shown(name), reason));
+            }
+        }
+        None
+    }
+
+    /// Fails where one of the files is no longer what it was: before the first of them is replaced.
+    pub fn check(&self, rt: &(impl Files + AllocGlobal)) -> Result<(), HostError> {
+        match self.changed(rt) {
+            Some((_, reason)) if reason.kind() == ErrorKind::OutOfMemory => {
+                Err(HostError::OutOfMemory)
+            }
+            Some((name, reason)) => Err(HostError::FileUnwritable { name, reason }),
+            None => Ok(()),
+        }
+    }
+}
+
+/// Fails where the file of a name is no longer what it was.
+fn check_name(rt: &(impl Files + AllocGlobal), name: &str, mark: Mark) -> io::Result<()> {
+    let target = target_of(rt, name)?;
+    mark.check(rt, target.as_path())
+}
+
+/// A file that is read and written, by its numbers, and by its place among the names that are written.
+#[derive(Clone, Copy, Debug, PartialEq, Eq, PartialOrd, Ord, Drop)]
+struct Both {
+    device: u64,
+    node: u64,
+    place: usize,
+}
+
+/// What came of an attempt to hold files.
+#[derive(Drop)]
+enum Attempt {
+    Held(Vec<Held>),
+    /// Another command holds the file of this name.
+    Busy(ShownWord),
+}
+
+/// Holds those of the files that are written that are also read, and waits for them where others hold them. It holds all or none of them, so that no two
+/// commands wait for each other.
+pub fn hold(rt: &impl Machine, reads: &[&str], outs: &[&str]) -> Result<HeldFiles, Refused> {
+    let mut attempt = try_hold(rt, reads, outs)?;
+    for _pause in 0..MOST_PAUSES {
+        if let Attempt::Held(_) = &attempt {
+            break;
+        }
+        thread::sleep(rt, Duration::from_millis(PAUSE));
+        attempt = try_hold(rt, reads, outs)?;
+    }
+    match attempt {
+        Attempt::Held(all) => Ok(HeldFiles { all }),
+        Attempt::Busy(name) => Err(Refused::from(HostError::FileUnwritable {
+            name,
+            reason: io::Error::new(
+                ErrorKind::ResourceBusy,
+                "it is held by another command; try again when that has ended",
+            ),
+        })),
+    }
+}
+
+/// Holds the images that a run of a configuration reads and writes.
+pub fn hold_images(rt: &impl Machine, config: &Config) -> Result<HeldFiles, Refused> {
+    let mut reads = Vec::new(rt.alloc());
+    let mut outs = Vec::new(rt.alloc());
+    reads.push(config.system.as_str())?;
+    for session in &config.sessions {
+        if let Origin::Opened { drives, .. } = &session.origin {
+            add_names(&mut reads, drives)?;
+        }
+        if let Some(images) = &session.out {
+            add_names(&mut outs, images)?;
+        }
+    }
+    hold(rt, &reads, &outs)
+}
+
+/// Adds names to a list.
+fn add_names<'a>(all: &mut Vec<&'a str>, names: &'a [String]) -> Result<(), AllocError> {
+    for name in names {
+        all.push(name.as_str())?;
+    }
+    Ok(())
+}
+
+/// Holds all of the files that are read and written, or none where another command holds one of them.
+fn try_hold(rt: &impl Machine, reads: &[&str], outs: &[&str]) -> Result<Attempt, Refused> {
+    let mut all = Vec::new(rt.alloc());
+    for both in &both_of(rt, reads, outs)? {
+        let Some(name) = outs.get(both.place) else {
+            continue;
+        };
+        match held_at(rt, name)? {
+            Some(held) => all.push(held)?,
+            None => return Ok(Attempt::Busy(shown(name))),
+        }
+    }
+    Ok(Attempt::Held(all))
+}
+
+/// The files that are read and written, in the order of their numbers, and each once.
+fn both_of(
+    rt: &(impl Files + AllocGlobal),
+    reads: &[&str],
+    outs: &[&str],
+) -> Result<Vec<Both>, AllocError> {
+    let mut inputs: Vec<Spot> = Vec::new(rt.alloc());
+    for name in reads {
+        if let Some(spot) = spot_of(rt, name)? {
+            inputs.push(spot)?;
+        }
+    }
+    let mut all: Vec<Both> = Vec::new(rt.alloc());
+    for (place, name) in outs.iter().enumerate() {
+        if let Some(spot) = spot_of(rt, name)?
+            && inputs.iter().any(|input| input.is_one_with(&spot))
+        {
+            let Spot { device, node, .. } = spot;
+            all.push(Both {
+                device,
+                node,
+                place,
+            })?;
+        }
+    }
+    all.sort_unstable();
+    all.dedup_by_key(|both| (both.device, both.node));
+    Ok(all)
+}
+
+/// Where a file lies that is replaced where it is written: its path without links, and the numbers of what is there now.
+#[derive(Drop)]
+struct Spot {
+    path: PathBuf,
+    device: u64,
+    node: u64,
+}
+
+impl Spot {
+    /// Whether two are of one file. Its numbers may have changed between two looks at its path, since a command replaced it; and two paths may be of one
+    /// file, by a link.
+    fn is_one_with(&self, other: &Spot) -> bool {
+        self.path.as_path().as_str() == other.path.as_path().as_str()
+            || (self.device == other.device && self.node == other.node)
+    }
+}
+
+/// Where the file of a name lies. None of what is no file of its own, and of what can't be looked at.
+fn spot_of(rt: &(impl Files + AllocGlobal), name: &str) -> Result<Option<Spot>, AllocError> {
+    match spot_at(rt, name) {
+        Ok(spot) => Ok(spot),
+        Err(error) if error.kind() == ErrorKind::OutOfMemory => Err(AllocError),
+        Err(_) => Ok(None),
+    }
+}
+
+/// Where the file of a name lies, and none where it is no file of its own. It fails where it can't be looked at.
+fn spot_at(rt: &(impl Files + AllocGlobal), name: &str) -> io::Result<Option<Spot>> {
+    let target = target_of(rt, name)?;
+    if is_open_already(target.as_path().as_str()) {
+        return Ok(None);
+    }
+    let path = fs::canonicalize(rt, target.as_path())?;
+    let found = fs::metadata(rt, path.as_path())?;
+    if !found.is_file() {
+        return Ok(None);
+    }
+    let (device, node) = (found.dev(), found.ino());
+    Ok(Some(Spot { path, device, node }))
+}
+
+/// The file of a name, held; none where another command holds it, or has just replaced it.
+fn held_at(rt: &impl Machine, name: &str) -> Result<Option<Held>, Refused> {
+    match locked(rt, name) {
+        Ok(Some((mark, lock))) => Ok(Some(Held {
+            name: String::from_str(rt.alloc(), name)?,
+            mark,
+            lock,
+        })),
+        Ok(None) => Ok(None),
+        Err(error) if error.kind() == ErrorKind::NotFound => Ok(None),
+        Err(error) => Err(Refused::from(unreadable(name, error))),
+    }
+}
+
+/// The file of a name, locked where the system can lock it, and what it is. None where another command has the lock, or where the name is of another file by
+/// now, since a command has replaced this one.
+fn locked(rt: &impl Machine, name: &str) -> io::Result<Option<(Mark, File)>> {
+    let target = target_of(rt, name)?;
+    let file = opened(rt, target.as_path())?;
+    if let Err(TryLockError::WouldBlock) = file.try_lock() {
+        return Ok(None);
+    }
+    let mark = Mark::of(&file.metadata()?);
+    let there = fs::metadata(rt, target.as_path())?;
+    if there.dev() == mark.device && there.ino() == mark.node {
+        Ok(Some((mark, file)))
+    } else {
+        Ok(None)
+    }
+}
+
+/// The file of a path, opened for writing too where that may be: some file systems lock no other.
+fn opened(rt: &impl Machine, path: Path<'_>) -> io::Result<File> {
+    match OpenOptions::new().read(true).write(true).open(rt, path) {
+        Ok(file) => Ok(file),
+        Err(_) => fs::open(rt, path),
+    }
+}
