@@ -57,7 +57,7 @@ fn reads_no_more_than_a_file_may_have(rt: HostRuntime) {
 }
 
 /// Compares the statuses and the texts of errors with what is wanted.
-fn same_errors(rt: &HostRuntime, errors: &[(HostError, u8, &str)]) {
+fn same_errors(rt: &(impl Abort + AllocGlobal), errors: &[(HostError, u8, &str)]) {
     for (error, status, wanted) in errors {
         same_at(rt, *wanted, error.status(), *status);
         let text = error.to_string(rt.alloc()).expect(rt, "memory");
