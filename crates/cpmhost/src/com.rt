@@ -48,11 +48,11 @@ pub fn com(
     } else {
         play_script(rt, outputs, task, start, &mut screen, terminals)?
     };
-    let ending = ran.ending;
-    write_drives(rt, outputs, &held, &task.outs, ran.drives)?;
     if terminals.are_one() && !screen.is_at_line_start() {
         let _ = eprintln!(rt);
     }
+    let ending = ran.ending;
+    write_drives(rt, outputs, &held, &task.outs, ran.drives)?;
     tell(rt, ending, waits && task.stops_idle, task.is_quiet);
     Ok(())
 }

@@ -250,7 +250,12 @@ fn spot_at(rt: &(impl Files + AllocGlobal), name: &str) -> io::Result<Option<Spo
     if is_open_already(target.as_path().as_str()) {
         return Ok(None);
     }
-    let path = fs::canonicalize(rt, target.as_path())?;
+    // (where a folder above can't be searched, the path is as it was given)
+    let path = match fs::canonicalize(rt, target.as_path()) {
+        Ok(path) => path,
+        Err(error) if error.kind() == ErrorKind::OutOfMemory => return Err(error),
+        Err(_) => target,
+    };
     let found = fs::metadata(rt, path.as_path())?;
     if !found.is_file() {
         return Ok(None);

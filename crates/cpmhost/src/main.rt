@@ -46,13 +46,14 @@ use refused::{Behind, Refused};
 use rehearsals::Rehearsals;
 use rehearse::rehearse_all;
 use screen::Screen;
-use std::env;
 use std::env::Env;
 use std::fs::{File, OpenOptions};
 use std::io::{BufReader, BufWriter, ErrorKind, IsTerminal, Write};
 use std::os::fd::AsRawFd;
+use std::os::unix::fs::FileTypeExt;
 use std::process::{self, ExitCode};
 use std::rt::{Clock, Files};
+use std::{env, fs, io};
 use typing::{Terminals, type_in};
 
 /// How many standard streams there are: their numbers are those below.
@@ -103,7 +104,7 @@ fn run_config(
     let held = hold_images(rt, config)?;
     let guard = Guard {
         bounds: &bounds,
-        shows_controls: terminals.shows_controls(task.is_raw),
+        shows_controls: !task.is_raw,
         held: &held,
     };
     if let Some(name) = task.keyboard {
@@ -355,13 +356,27 @@ fn run(
     do_words(rt, outputs, texts.as_slice(), terminals)
 }
 
-/// A file that has the place of a standard stream that is closed, so that no file that is opened later has it.
-fn stand_in(rt: &impl Machine) -> Option<File> {
-    match OpenOptions::new()
+/// The device that takes all and has nothing.
+fn null_device(rt: &impl Machine) -> io::Result<File> {
+    let file = OpenOptions::new()
         .read(true)
         .write(true)
-        .open(rt, "/dev/null")
-    {
+        .open(rt, "/dev/null")?;
+    if file.metadata()?.file_type().is_char_device() {
+        Ok(file)
+    } else {
+        Err(io::Error::from(ErrorKind::InvalidInput))
+    }
+}
+
+/// A file that has the place of a standard stream that is closed, so that no file that is opened later has it. Where the machine has no such device, it is
+/// the root folder, to which nothing can be written.
+fn stand_in(rt: &impl Machine) -> Option<File> {
+    let found = match null_device(rt) {
+        Ok(file) => Ok(file),
+        Err(_) => fs::open(rt, "/"),
+    };
+    match found {
         Ok(file) if file.as_raw_fd() < STANDARD_STREAMS => Some(file),
         _ => None,
     }

@@ -5,7 +5,7 @@ use crate::held::Mark;
 use std::alloc::{AllocError, Global};
 use std::fs::{OpenFile, OpenOptions, Permissions};
 use std::io::{ErrorKind, Write};
-use std::os::unix::fs::{MetadataExt, PermissionsExt};
+use std::os::unix::fs::{MetadataExt, PermissionsExt, chown};
 use std::path::{Path, PathBuf};
 use std::random::RandomSource;
 use std::rt::Files;
@@ -43,9 +43,31 @@ fn path_beside(alloc: Global, path: &str, name: &str) -> Result<PathBuf, AllocEr
     }
 }
 
-/// Whether a path is of something that the process has open, as `/dev/stdout` is: the link of that names no file.
+/// Whether a text is a number.
+fn is_number(text: &str) -> bool {
+    !text.is_empty() && text.bytes().all(|byte| byte.is_ascii_digit())
+}
+
+/// Whether a folder has what a process has open, each under its number.
+fn is_folder_of_open_files(folder: &str) -> bool {
+    if folder == "/dev/fd" {
+        return true;
+    }
+    let Some(process) = folder.strip_prefix("/proc/") else {
+        return false;
+    };
+    match process.strip_suffix("/fd") {
+        Some(process) => process == "self" || process == "thread-self" || is_number(process),
+        None => false,
+    }
+}
+
+/// Whether a path is of something that a process has open, as `/dev/stdout` is: the link of that names no file.
 pub fn is_open_already(path: &str) -> bool {
-    Path::new(path).starts_with("/proc")
+    match path.rsplit_once('/') {
+        Some((folder, number)) => is_number(number) && is_folder_of_open_files(folder),
+        None => false,
+    }
 }
 
 /// Where the file of a name lies, once its links are followed.
@@ -140,14 +162,25 @@ impl<F: OpenFile + Drop> Begun<F> {
         let Some(beside) = &self.beside else {
             return Ok(());
         };
-        match fs::metadata(rt, beside.target.as_path()) {
-            Ok(old) if old.uid() == self.file.metadata()?.uid() => {
-                self.file
-                    .set_permissions(Permissions::from_mode(old.permissions().mode() & mask))
-            }
-            _ => Ok(()),
+        let Ok(old) = fs::metadata(rt, beside.target.as_path()) else {
+            return Ok(());
+        };
+        let new = self.file.metadata()?;
+        if old.uid() != new.uid() {
+            return Ok(());
         }
+        let mode = old.permissions().mode() & mask;
+        let has_group = old.gid() == new.gid()
+            || chown(rt, beside.path.as_path(), None, Some(old.gid())).is_ok();
+        let mode = if has_group { mode } else { narrowed(mode) };
+        self.file.set_permissions(Permissions::from_mode(mode))
     }
+}
+
+/// The permissions of a file that can't have the group of the one that it replaces: of its group and of others, each has what both had.
+fn narrowed(mode: u32) -> u32 {
+    let shared = (mode >> 3) & mode & 0o7;
+    (mode & 0o700) | (shared << 3) | shared
 }
 
 impl Outputs {
@@ -192,7 +225,8 @@ impl Outputs {
     ) -> io::Result<Begun<R::File>> {
         let target = target_of(rt, name)?;
         if !is_replaceable(rt, target.as_path().as_str())? {
-            let file = fs::File::create(rt, target.as_path())?;
+            // (what a file has that is open already stays)
+            let file = OpenOptions::new().append(true).open(rt, target.as_path())?;
             return Ok(Begun { file, beside: None });
         }
         let begun = self.create_beside(rt, target)?;

@@ -87,6 +87,9 @@ impl<W: Write + Drop> Write for Screen<W> {
     }
 }
 
+/// The names by which a terminal is found that the program has: as a standard stream of its own, or as that of its session.
+const STREAMS: [&str; 4] = ["/dev/stdin", "/dev/stdout", "/dev/stderr", "/dev/tty"];
+
 /// The number of the terminal or other device that a path is of.
 fn device_of(rt: &impl Files, path: &str) -> Option<u64> {
     match fs::metadata(rt, path) {
@@ -95,13 +98,12 @@ fn device_of(rt: &impl Files, path: &str) -> Option<u64> {
     }
 }
 
-/// Whether the file of a name is the terminal of the program, which is its standard output.
+/// Whether the file of a name is a terminal of the program.
 pub fn is_own_terminal(rt: &impl Files, name: &str) -> bool {
     match device_of(rt, name) {
-        Some(device) => {
-            device_of(rt, "/dev/stdout") == Some(device)
-                || device_of(rt, "/dev/tty") == Some(device)
-        }
+        Some(device) => STREAMS
+            .iter()
+            .any(|stream| device_of(rt, stream) == Some(device)),
         None => false,
     }
 }
