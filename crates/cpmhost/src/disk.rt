@@ -3,7 +3,7 @@
 ghost use Rattle.std.specs.Prelude.{◌≡◌, ◌<◌};
 ghost use Rattle.cpm_command_line.specs.DiskLine.{HasUser};
 
-use crate::files::{read_file, write_file, write_held};
+use crate::files::{read_file, unwritable, write_held};
 use crate::get::{Getting, get};
 use crate::held::{Machine, hold};
 use crate::output::Outputs;
@@ -111,7 +111,9 @@ fn new(
         }));
     }
     let image = new_image(rt.alloc(), is_large)?;
-    write_file(rt, outputs, name, &image.into_bytes())?;
+    outputs
+        .write_new(rt, name, &image.into_bytes())
+        .map_err(|reason| unwritable(name, reason))?;
     Ok(())
 }
 

@@ -58,7 +58,7 @@ pub fn get(
     if how.is_dry {
         tell_all(rt, &all)
     } else {
-        write_all(rt, outputs, &all)
+        write_all(rt, outputs, &all, how.is_forced)
     }
 }
 
@@ -143,17 +143,22 @@ fn tell_all(rt: &(impl Print + Clock), all: &[Extraction]) -> Result<(), Refused
     Ok(())
 }
 
-/// Writes files that were taken out of an image, which nobody can execute then: they are programs of another machine.
+/// Writes files that were taken out of an image, which nobody can execute then: they are programs of another machine. Only if that is forced they replace what
+/// is there by then.
 fn write_all(
     rt: &(impl Files + AllocGlobal),
     outputs: Outputs,
     all: &[Extraction],
+    is_forced: bool,
 ) -> Result<(), Refused> {
     for taken in all {
         let path = taken.path.as_str();
-        outputs
-            .write_plain(rt, path, &taken.bytes)
-            .map_err(|reason| unwritable(path, reason))?;
+        let written = if is_forced {
+            outputs.write_plain(rt, path, &taken.bytes)
+        } else {
+            outputs.write_new(rt, path, &taken.bytes)
+        };
+        written.map_err(|reason| unwritable(path, reason))?;
     }
     Ok(())
 }

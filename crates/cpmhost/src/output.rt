@@ -157,6 +157,22 @@ impl<F: OpenFile + Drop> Begun<F> {
         fs::rename(rt, beside.path.as_path(), target)
     }
 
+    /// Gives it its name, once it is on the device, if nothing has that name by then: by a link, since a renaming would replace what has it.
+    fn take_new_name(&self, rt: &impl Files) -> io::Result<()> {
+        let Some(beside) = &self.beside else {
+            return Ok(());
+        };
+        self.file.sync_all()?;
+        let (path, target) = (beside.path.as_path(), beside.target.as_path());
+        match fs::hard_link(rt, path, target) {
+            Ok(()) => Ok(()),
+            Err(error) if error.kind() == ErrorKind::AlreadyExists => Err(error),
+            // (a file system that has no second names)
+            Err(_) if fs::symlink_metadata(rt, target).is_err() => fs::rename(rt, path, target),
+            Err(error) => Err(error),
+        }
+    }
+
     /// Gives it those of the permissions of the file that it is to replace that are in a mask. Where that is another user's, it has those of a new file.
     fn keep_permissions(&self, rt: &impl Files, mask: u32) -> io::Result<()> {
         let Some(beside) = &self.beside else {
@@ -275,6 +291,22 @@ impl Outputs {
     ) -> io::Result<()> {
         let begun = self.begin_with(rt, name, PLAIN_PERMISSIONS)?;
         finish(rt, begun, None, bytes)
+    }
+
+    /// Makes a new file of these bytes. It fails where there is a file of this name by then.
+    pub fn write_new(
+        self,
+        rt: &(impl Files + AllocGlobal),
+        name: &str,
+        bytes: &[u8],
+    ) -> io::Result<()> {
+        let mut begun = self.begin(rt, name)?;
+        let written = match begun.file.write_all(bytes) {
+            Ok(()) => begun.take_new_name(rt),
+            Err(error) => Err(error),
+        };
+        let _ = begun.remove(rt);
+        written
     }
 
     /// Whether a file of this name can be written, before there is anything to write. Nothing is left of the trial.
